@@ -1,0 +1,2 @@
+pub mod Extent
+pub mod Steps

@@ -1,0 +1,15 @@
+//! What a world of caches is spoken of with: its shape, the steps that it makes and their outcomes.
+#![tactic(auto)]
+
+mod fault;
+mod ids;
+mod shape;
+mod step;
+
+pub use fault::NoMemory;
+pub use ids::{BlockId, CacheId, Place};
+pub use shape::{MOST_BLOCKS, MOST_CACHES, Shape, ShapeFault};
+pub use step::{Ask, CoreAsk, Outcome, Step};
+
+#[cfg(test)]
+mod tests;

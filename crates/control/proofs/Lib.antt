@@ -1,0 +1,3 @@
+pub mod LineSends
+pub mod HomeSends
+pub mod HomeCounts

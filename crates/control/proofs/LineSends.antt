@@ -1,0 +1,77 @@
+use Rattle.std.proofs.Common.{◌≡◌, ◌≤◌, ℕ, ◌+◌, ◌<◌, List, [], ◌∷◌, ◌++◌, length, get_or, drop, refl, sym, ◌∙◌, ap, subst, zero, suc, arith, Option, Some, None}
+use Rattle.base.specs.declared.ids.CacheId.{CacheId}
+use Rattle.network.specs.declared.message.Message.{Message}
+use Rattle.network.specs.Traffic.{Traffic, all_sent}
+use Rattle.network.specs.Room.{Room, HasRoomFor, UsesRoomFor, requests_in, responses_in, forwards_in}
+use Rattle.network.proofs.Sending.{all_sent-append, requests_in-append, responses_in-append, forwards_in-append}
+use Rattle.cache_table.specs.declared.actions.CacheAction.{CacheAction}
+use Rattle.cache_table.specs.declared.actions.CacheAction.TheVariants as action
+use Rattle.control.specs.LineEffect.{line_message, line_messages}
+use Rattle.control.specs.Counting.{requests_of, responses_of, requests_by, responses_by}
+
+-- the messages of the actions from a place on begin with those of the action there
+pub messages-front : (cache : CacheId) (value : ℕ) (to : Option CacheId) (actions : List CacheAction) (i : ℕ) (d : CacheAction) → i < length actions → line_messages cache value to (drop i actions) ≡ line_message cache value to (get_or actions i d) ++ line_messages cache value to (drop (i + 1) actions)
+messages-front cache value to [] i d h = absurd (omega arith)
+messages-front cache value to (a ∷ actions) zero d h = refl
+messages-front cache value to (a ∷ actions) (suc i) d h =
+    let e : suc i + 1 ≡ suc (i + 1) = omega arith in
+    rw e (messages-front cache value to actions i d (omega arith))
+
+requests-of : (cache : CacheId) (value : ℕ) (to : Option CacheId) (a : CacheAction) → requests_in (line_message cache value to a) ≡ requests_of a
+requests-of cache value to action.GetS = refl
+requests-of cache value to action.GetM = refl
+requests-of cache value to action.PutS = refl
+requests-of cache value to action.PutM = refl
+requests-of cache value None action.InvAck = refl
+requests-of cache value (Some c) action.InvAck = refl
+requests-of cache value None action.DataReq = refl
+requests-of cache value (Some c) action.DataReq = refl
+requests-of cache value to action.DataDir = refl
+
+responses-of : (cache : CacheId) (value : ℕ) (to : Option CacheId) (a : CacheAction) → responses_in (line_message cache value to a) ≡ responses_of to a
+responses-of cache value None action.GetS = refl
+responses-of cache value None action.GetM = refl
+responses-of cache value None action.PutS = refl
+responses-of cache value None action.PutM = refl
+responses-of cache value None action.InvAck = refl
+responses-of cache value None action.DataReq = refl
+responses-of cache value None action.DataDir = refl
+responses-of cache value (Some c) action.GetS = refl
+responses-of cache value (Some c) action.GetM = refl
+responses-of cache value (Some c) action.PutS = refl
+responses-of cache value (Some c) action.PutM = refl
+responses-of cache value (Some c) action.InvAck = refl
+responses-of cache value (Some c) action.DataReq = refl
+responses-of cache value (Some c) action.DataDir = refl
+
+forwards-of : (k : ℕ) (cache : CacheId) (value : ℕ) (to : Option CacheId) (a : CacheAction) → forwards_in k (line_message cache value to a) ≡ 0
+forwards-of k cache value to action.GetS = refl
+forwards-of k cache value to action.GetM = refl
+forwards-of k cache value to action.PutS = refl
+forwards-of k cache value to action.PutM = refl
+forwards-of k cache value None action.InvAck = refl
+forwards-of k cache value (Some c) action.InvAck = refl
+forwards-of k cache value None action.DataReq = refl
+forwards-of k cache value (Some c) action.DataReq = refl
+forwards-of k cache value to action.DataDir = refl
+
+-- how many requests, responses and forwards the actions of a line send
+pub requests-by : (cache : CacheId) (value : ℕ) (to : Option CacheId) (actions : List CacheAction) → requests_in (line_messages cache value to actions) ≡ requests_by actions
+requests-by cache value to [] = refl
+requests-by cache value to (a ∷ actions) = omega (arith, requests_in-append (line_message cache value to a) (line_messages cache value to actions), requests-of cache value to a, requests-by cache value to actions)
+
+pub responses-by : (cache : CacheId) (value : ℕ) (to : Option CacheId) (actions : List CacheAction) → responses_in (line_messages cache value to actions) ≡ responses_by to actions
+responses-by cache value to [] = refl
+responses-by cache value to (a ∷ actions) = omega (arith, responses_in-append (line_message cache value to a) (line_messages cache value to actions), responses-of cache value to a, responses-by cache value to actions)
+
+pub forwards-by : (k : ℕ) (cache : CacheId) (value : ℕ) (to : Option CacheId) (actions : List CacheAction) → forwards_in k (line_messages cache value to actions) ≡ 0
+forwards-by k cache value to [] = refl
+forwards-by k cache value to (a ∷ actions) = omega (arith, forwards_in-append k (line_message cache value to a) (line_messages cache value to actions), forwards-of k cache value to a, forwards-by k cache value to actions)
+
+-- room for as many requests and responses is room for what the actions of a line send
+pub room-by : (cache : CacheId) (value : ℕ) (to : Option CacheId) (actions : List CacheAction) (room : Room) → requests_by actions ≤ room.requests → responses_by to actions ≤ room.responses → HasRoomFor (line_messages cache value to actions) room
+room-by cache value to actions room requests responses = record {
+  requests = omega (arith, requests-by cache value to actions, requests);
+  links = λ k. omega (arith, forwards-by k cache value to actions);
+  responses = omega (arith, responses-by cache value to actions, responses);
+}

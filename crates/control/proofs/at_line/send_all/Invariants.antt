@@ -1,0 +1,11 @@
+use Rattle.std.proofs.Common.{◌≡◌, drop}
+use Rattle.network.specs.Traffic.{all_sent}
+use Rattle.network.specs.Room.{HasRoomFor}
+use Rattle.control.specs.LineEffect.{line_messages}
+use Rattle.control.proofs.at_line.send_all.Given as goal
+
+abbrev pub invariant-loop-action : goal.invariant-loop-action
+invariant-loop-action l = record {
+  traffic : all_sent (line_messages l.cache l.value l.to (drop l.action-index l.actions)) l.wires.traffic ≡ all_sent (line_messages l.cache l.value l.to l.actions) l.fn.wires.traffic;
+  room : HasRoomFor (line_messages l.cache l.value l.to (drop l.action-index l.actions)) l.wires.room;
+}

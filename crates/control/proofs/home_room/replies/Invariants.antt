@@ -1,0 +1,9 @@
+use Rattle.std.proofs.Common.{◌≡◌, ◌≤◌, ◌+◌, drop}
+use Rattle.control.specs.Counting.{replies_by}
+use Rattle.control.proofs.home_room.replies.Given as goal
+
+abbrev pub invariant-loop-action : goal.invariant-loop-action
+invariant-loop-action l = record {
+  rest : l.count + replies_by (drop l.action-index l.actions) ≡ replies_by l.actions;
+  few : l.count ≤ l.action-index;
+}

@@ -1,0 +1,11 @@
+pub mod Sharing
+pub mod Events
+pub mod LineEffect
+pub mod Counting
+pub mod HomeEffect
+pub use Rattle.base.specs.Extent
+pub use Rattle.base.specs.Steps
+pub use Rattle.network.specs.Traffic
+pub use Rattle.network.specs.Room
+pub use Rattle.cache_table.specs.Table as CacheCells
+pub use Rattle.directory_table.specs.Table as DirectoryCells

@@ -1,0 +1,132 @@
+ghost use Rattle.std.specs.Prelude.{◌≡◌, true, Some, None};
+ghost use Rattle.control.specs.LineEffect.{is_reader, is_writer, completed, settled, after_settling, taken_in, moved_on, line_completes};
+
+use crate::line::{Completion, Line, LineInput};
+use base::{Ask, Place};
+use cache_table::CacheState;
+use network::Response;
+
+fn may_read(state: CacheState) -> bool
+    ensures { result ≡ is_reader state }
+{
+    match state {
+        CacheState::S | CacheState::SmAd | CacheState::SmA | CacheState::M => true,
+        _ => false,
+    }
+}
+
+fn may_write(state: CacheState) -> bool
+    ensures { result ≡ is_writer state }
+{
+    match state {
+        CacheState::M => true,
+        _ => false,
+    }
+}
+
+fn complete(line: &Line, ask: Ask) -> Option<Completion>
+    ensures { result ≡ completed ask line.now }
+{
+    match ask {
+        Ask::Load => {
+            if may_read(line.state) {
+                return Some(Completion::Load(line.value));
+            }
+        }
+        Ask::Store(value) => {
+            if may_write(line.state) {
+                return Some(Completion::Store(value));
+            }
+        }
+        Ask::Replace => {}
+    }
+    None
+}
+
+/// The line with what a response brings.
+fn take_in(line: Line, input: LineInput) -> Line
+    ensures { result ≡ taken_in input line }
+{
+    match input {
+        LineInput::Response(
+            Response::Data {
+                from: Place::Cache(_),
+                to: _,
+                value,
+                acks: _,
+            },
+        ) => Line { value, ..line },
+        LineInput::Response(
+            Response::Data {
+                from: Place::Dir,
+                to: _,
+                value,
+                acks: more,
+            },
+        ) => {
+            let acks = line.acks.saturating_add(more as i64);
+            Line {
+                value,
+                acks,
+                ..line
+            }
+        }
+        LineInput::Response(Response::InvAck { from: _, to: _ }) => {
+            let acks = line.acks.saturating_sub(1);
+            Line { acks, ..line }
+        }
+        LineInput::Ask(_) => line,
+        LineInput::Forward(_) => line,
+    }
+}
+
+/// The line that took an input in and went to the next state.
+pub(crate) fn move_on(line: Line, input: LineInput, next: CacheState) -> Line
+    ensures { result ≡ moved_on input next line }
+{
+    let mut moved = take_in(line, input);
+    moved.state = next;
+    moved
+}
+
+/// What completes by an input at a line in its new state.
+pub(crate) fn settle(line: &Line, input: LineInput) -> Option<Completion>
+    ensures { result ≡ settled input line.now }
+{
+    match input {
+        LineInput::Ask(ask) => complete(line, ask),
+        LineInput::Forward(_) | LineInput::Response(_) => match line.pending {
+            Some(ask) => complete(line, ask),
+            None => None,
+        },
+    }
+}
+
+/// The line after what completes.
+pub(crate) fn finish(line: &mut Line, input: LineInput, done: Option<Completion>)
+    ensures { line.new ≡ after_settling input done line.old }
+{
+    if let Some(Completion::Store(value)) = done {
+        line.value = value;
+    }
+    match input {
+        LineInput::Ask(Ask::Replace) => {}
+        LineInput::Ask(ask) => {
+            if let None = done {
+                line.pending = Some(ask);
+            }
+        }
+        LineInput::Forward(_) | LineInput::Response(_) => {
+            if let Some(_) = done {
+                line.pending = None;
+            }
+        }
+    }
+}
+
+/// What would complete where an input acts at a line whose cell has this next state.
+pub fn line_completion(line: &Line, input: LineInput, next: CacheState) -> Option<Completion>
+    ensures { result ≡ line_completes input next line.now }
+{
+    settle(&move_on(*line, input, next), input)
+}

@@ -1,0 +1,40 @@
+ghost use Rattle.std.specs.Prelude.{◌≡◌, IfOk};
+ghost use Rattle.control.specs.HomeEffect.{opened_home};
+
+use crate::sharers::Sharers;
+use base::{CacheId, NoMemory};
+use directory_table::DirectoryState;
+use network::Request;
+use std::alloc::Global;
+
+/// A block at the directory.
+#[derive(Drop)]
+pub struct Home {
+    pub state: DirectoryState,
+    pub owner: Option<CacheId>,
+    pub sharers: Sharers,
+    /// The block's value in memory.
+    pub memory: u64,
+}
+
+/// What is put to a home: a request, or the value of a Data.
+#[derive(Clone, Copy, Debug, PartialEq, Eq)]
+pub enum HomeInput {
+    Request(Request),
+    Data(u64),
+}
+
+impl Home {
+    /// A home that nothing has happened to, with this value in memory and room for so many sharers.
+    pub fn open(alloc: Global, caches: u32, memory: u64) -> Result<Home, NoMemory>
+        ensures { IfOk result (λ home. home ≡ opened_home caches memory) }
+    {
+        let sharers = Sharers::open(alloc, caches)?;
+        Ok(Home {
+            state: DirectoryState::I,
+            owner: None,
+            sharers,
+            memory,
+        })
+    }
+}

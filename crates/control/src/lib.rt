@@ -1,0 +1,24 @@
+//! What an event is at a cache line or at a block's home, and what its cell does there.
+//!
+//! Everything here holds for every table: a cell's next state and actions are handed in.
+#![tactic(auto)]
+
+mod at_home;
+mod at_line;
+mod completing;
+mod events;
+mod home;
+mod home_room;
+mod line;
+mod needs;
+mod sharers;
+
+pub use at_home::{home_act, home_perform};
+pub use at_line::{line_act, line_perform, line_reserve};
+pub use completing::line_completion;
+pub use events::{home_event, line_ask_event, line_event};
+pub use home::{Home, HomeInput};
+pub use home_room::{home_needs, home_reserve};
+pub use line::{Completion, Line, LineInput};
+pub use needs::{Needs, line_needs};
+pub use sharers::Sharers;

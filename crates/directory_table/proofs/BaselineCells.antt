@@ -1,0 +1,29 @@
+use Rattle.std.proofs.Common.{◌≡◌, List, get_or, map, refl, ap, ◌∙◌}
+use Rattle.directory_table.specs.declared.state.DirectoryState.{DirectoryState}
+use Rattle.directory_table.specs.declared.state.DirectoryState.TheVariants.{I, S, M, SD}
+use Rattle.directory_table.specs.declared.event.DirectoryEvent.{DirectoryEvent}
+use Rattle.directory_table.specs.declared.event.DirectoryEvent.TheVariants as event
+use Rattle.directory_table.specs.declared.entry.DirectoryEntry.{DirectoryEntry}
+use Rattle.directory_table.specs.declared.entry.DirectoryEntry.TheVariants.{Blank}
+use Rattle.directory_table.specs.Table.{cell, row, event_number}
+use Rattle.directory_table.specs.Baseline.{baseline_cells, baseline_entry, baseline_row, all_events}
+
+row-baseline : (state : DirectoryState) → row baseline_cells state ≡ baseline_row state
+row-baseline I = refl
+row-baseline S = refl
+row-baseline M = refl
+row-baseline SD = refl
+
+at-event : (f : DirectoryEvent → DirectoryEntry) (e : DirectoryEvent) → get_or (map f all_events) (event_number e) Blank ≡ f e
+at-event f event.GetS = refl
+at-event f event.GetM = refl
+at-event f event.PutSNotLast = refl
+at-event f event.PutSLast = refl
+at-event f event.PutMOwner = refl
+at-event f event.PutMNonOwner = refl
+at-event f event.Data = refl
+
+-- the cells of the baseline are those of the table by state and event
+pub cell-baseline : (state : DirectoryState) (event : DirectoryEvent) → cell baseline_cells state event ≡ baseline_entry state event
+cell-baseline state event =
+    ap (λ (r : List DirectoryEntry). get_or r (event_number event) Blank) (row-baseline state) ∙ at-event (baseline_entry state) event

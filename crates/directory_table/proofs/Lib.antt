@@ -1,0 +1,4 @@
+pub mod Pushed
+pub mod Whole
+pub mod BaselineCells
+pub mod Changes

@@ -1,0 +1,43 @@
+use Rattle.std.proofs.Common.{◌≡◌, ℕ, ◌+◌, ◌-◌, ◌<◌, List, [], ◌∷◌, ◌++◌, length, take, set, replicate, refl, ap, sym, ◌∙◌, suc, arith, append_assoc, length-append, add-one}
+use Rattle.directory_table.specs.declared.actions.DirectoryAction.{DirectoryAction}
+use Rattle.directory_table.specs.declared.actions.DirectoryAction.TheVariants.{DataReq}
+use Rattle.directory_table.specs.declared.actions.DirectoryActions.TheInside.{Inside}
+use Rattle.directory_table.specs.Filled.{IsFilled}
+
+-- the item behind the first list is set
+set-append : (xs ys : List DirectoryAction) (y x : DirectoryAction) → set (xs ++ y ∷ ys) (length xs) x ≡ xs ++ x ∷ ys
+set-append [] ys y x = refl
+set-append (z ∷ zs) ys y x = ap (λ l. z ∷ l) (set-append zs ys y x)
+
+-- the first list and the item behind it are taken
+take-append_one : (xs ys : List DirectoryAction) (x : DirectoryAction) → take (suc (length xs)) (xs ++ x ∷ ys) ≡ xs ++ x ∷ []
+take-append_one [] ys x = refl
+take-append_one (z ∷ zs) ys x = ap (λ l. z ∷ l) (take-append_one zs ys x)
+
+-- the rest behind the actions begins with one that an action can replace
+replicate-less : (n : ℕ) → n < 8 → replicate (8 - n) DataReq ≡ DataReq ∷ replicate (8 - (n + 1)) DataReq
+replicate-less n h = let e : 8 - n ≡ suc (8 - (n + 1)) = omega arith in rw e
+
+-- an action is set behind the actions
+pushed-items : (a : Inside) (x : DirectoryAction) → IsFilled a → a.count < 8 → set a.items a.count x ≡ take a.count a.items ++ x ∷ replicate (8 - (a.count + 1)) DataReq
+pushed-items a x h lt =
+    let xs : List DirectoryAction = take a.count a.items in
+    let rest : List DirectoryAction = replicate (8 - (a.count + 1)) DataReq in
+    let e : a.items ≡ xs ++ DataReq ∷ rest = h.rest ∙ ap (λ r. xs ++ r) (replicate-less a.count lt) in
+    ap (λ l. set l a.count x) e ∙ ap (λ n. set (xs ++ DataReq ∷ rest) n x) (sym h.counted) ∙ set-append xs rest DataReq x
+
+-- the actions with the new one are those that were there and then it
+pushed-take : (a : Inside) (x : DirectoryAction) → IsFilled a → a.count < 8 → take (a.count + 1) (set a.items a.count x) ≡ take a.count a.items ++ x ∷ []
+pushed-take a x h lt =
+    let xs : List DirectoryAction = take a.count a.items in
+    let rest : List DirectoryAction = replicate (8 - (a.count + 1)) DataReq in
+    let n : a.count + 1 ≡ suc (length xs) = add-one a.count ∙ ap (λ k. suc k) (sym h.counted) in
+    ap (λ k. take k (set a.items a.count x)) n ∙ ap (λ l. take (suc (length xs)) l) (pushed-items a x h lt) ∙ take-append_one xs rest x
+
+-- with one more action the fields are still filled
+pub filled-pushed : (a : Inside) (x : DirectoryAction) → IsFilled a → a.count < 8 → IsFilled (record { items = set a.items a.count x; count = a.count + 1 })
+filled-pushed a x h lt = record {
+  few = omega arith;
+  counted = ap (λ l. length l) (pushed-take a x h lt) ∙ length-append (take a.count a.items) (x ∷ []) ∙ ap (λ n. n + 1) h.counted;
+  rest = pushed-items a x h lt ∙ sym (append_assoc (take a.count a.items) (x ∷ []) (replicate (8 - (a.count + 1)) DataReq)) ∙ ap (λ l. l ++ replicate (8 - (a.count + 1)) DataReq) (sym (pushed-take a x h lt));
+}

@@ -1,0 +1,73 @@
+ghost use Rattle.std.specs.Prelude.{◌≡◌};
+ghost use Rattle.directory_table.specs.Table.{cell, with_cell, IsWhole, LastChangeHolds};
+ghost use Rattle.directory_table.specs.Baseline.{baseline_cells, baseline_entry};
+
+use crate::baseline::baseline_rows;
+use crate::entry::DirectoryEntry;
+use crate::event::DirectoryEvent;
+use crate::state::DirectoryState;
+use std::marker::Model;
+
+/// The table of a directory's controller: a cell for each state and each event.
+#[derive(Clone, Copy, PartialEq, Eq, Debug)]
+pub struct DirectoryTable {
+    cells: [[DirectoryEntry; 7]; 4],
+}
+
+impl Model for DirectoryTable {
+    ghost use Rattle.directory_table.specs.Table.{Cells, IsWhole};
+
+    ghost Value = { Cells };
+
+    ghost view = { λ t. t.cells };
+
+    ghost invariant = { λ t. IsWhole t.cells };
+
+    ghost inverse = { λ cells. record { cells = cells } };
+}
+
+impl DirectoryTable {
+    /// The table that the protocol starts from (after Primer, section 8.2). The cells of a PutS or a PutM in `S^D` are
+    /// this project's choice.
+    pub fn baseline() -> DirectoryTable
+        ensures table { result ≡ baseline_cells }
+        ensures entries { (state : DirectoryState) (event : DirectoryEvent) →
+            cell result state event ≡ baseline_entry state event }
+    {
+        DirectoryTable {
+            cells: baseline_rows(),
+        }
+    }
+
+    /// What the controller does in this state on this event.
+    pub fn entry(&self, state: DirectoryState, event: DirectoryEvent) -> DirectoryEntry
+        ensures entry { result ≡ cell self.now state event }
+        ensures whole { IsWhole self.now }
+    {
+        let row = &self.cells[state.number()];
+        row[event.number()]
+    }
+
+    /// This table with another entry in one cell.
+    pub fn with(
+        self,
+        state: DirectoryState,
+        event: DirectoryEvent,
+        entry: DirectoryEntry,
+    ) -> DirectoryTable
+        ensures table { result ≡ with_cell self state event entry }
+        ensures here { cell result state event ≡ entry }
+        ensures others { (s : DirectoryState) (e : DirectoryEvent) → ¬ ((s ≡ state) × (e ≡ event)) →
+            cell result s e ≡ cell self s e }
+    {
+        let mut cells = self.cells;
+        cells[state.number()][event.number()] = entry;
+        DirectoryTable { cells }
+    }
+}
+
+/// Where changes are laid over a whole table in order, each cell holds the entry of its last change, or its own if there
+/// is none.
+pub fn entry_after_changes()
+    ensures { LastChangeHolds }
+{}

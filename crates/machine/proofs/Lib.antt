@@ -1,0 +1,3 @@
+pub mod Senders
+pub mod Whole
+pub mod Fitting

@@ -1,0 +1,3 @@
+pub mod Linked
+pub mod Listed
+pub mod Sending

@@ -1,0 +1,5 @@
+pub mod Traffic
+pub mod Links
+pub mod Room
+pub use Rattle.base.specs.Extent
+pub use Rattle.base.specs.Steps

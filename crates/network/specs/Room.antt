@@ -1,0 +1,75 @@
+use Rattle.std.specs.Prelude.{ℕ, ◌+◌, ◌<◌, ◌≤◌, List, [], ◌∷◌, slice_index, ◌==◌, Bool, true, false}
+use Rattle.base.specs.declared.ids.CacheId.{CacheId}
+use Rattle.network.specs.declared.message.Message.{Message}
+use Rattle.network.specs.declared.message.Message.TheVariants as message
+use Rattle.network.specs.Traffic.{Traffic}
+
+-- how many more messages each wire takes without asking for memory
+pub record Room : Type 0 where
+  pub requests : ℕ
+  pub links : List ℕ
+  pub responses : ℕ
+
+-- the wires of a block, as contracts see them
+pub record Wiring : Type 0 where
+  pub traffic : Traffic
+  pub room : Room
+
+abbrev pub one_if : Bool → ℕ
+one_if true = 1
+one_if false = 0
+
+-- how many of these messages are requests
+abbrev pub requests_in : List Message → ℕ
+requests_in [] = 0
+requests_in (message.Request r ∷ ms) = 1 + requests_in ms
+requests_in (message.Forward to f ∷ ms) = requests_in ms
+requests_in (message.Response r ∷ ms) = requests_in ms
+
+-- how many of them go on the link to a cache
+abbrev pub forwards_in : ℕ → List Message → ℕ
+forwards_in cache [] = 0
+forwards_in cache (message.Request r ∷ ms) = forwards_in cache ms
+forwards_in cache (message.Forward to f ∷ ms) = one_if (to.0 == cache) + forwards_in cache ms
+forwards_in cache (message.Response r ∷ ms) = forwards_in cache ms
+
+-- how many of them are responses
+abbrev pub responses_in : List Message → ℕ
+responses_in [] = 0
+responses_in (message.Request r ∷ ms) = responses_in ms
+responses_in (message.Forward to f ∷ ms) = responses_in ms
+responses_in (message.Response r ∷ ms) = 1 + responses_in ms
+
+-- these messages can be sent without asking for memory
+pub record HasRoomFor (messages : List Message) (room : Room) : Type 0 where
+  pub requests : requests_in messages ≤ room.requests
+  pub links : (cache : ℕ) → forwards_in cache messages ≤ slice_index room.links cache
+  pub responses : responses_in messages ≤ room.responses
+
+-- no more room has gone than these messages take
+pub record UsesRoomFor (messages : List Message) (old new : Room) : Type 0 where
+  pub requests : old.requests ≤ new.requests + requests_in messages
+  pub links : (cache : ℕ) → slice_index old.links cache ≤ slice_index new.links cache + forwards_in cache messages
+  pub responses : old.responses ≤ new.responses + responses_in messages
+
+-- how often a cache is listed
+abbrev pub times : ℕ → List CacheId → ℕ
+times cache [] = 0
+times cache (c ∷ cs) = one_if (c.0 == cache) + times cache cs
+
+-- each listed cache is one of so many
+abbrev pub AllBelow : ℕ → List CacheId → Type 0
+AllBelow caches [] = Unit {0}
+AllBelow caches (c ∷ cs) = (c.0 < caches) × AllBelow caches cs
+
+-- there is room for so many requests and responses, and on each link for as many messages as it is listed
+pub record HasPlaces (asking : ℕ) (listed : List CacheId) (answering : ℕ) (room : Room) : Type 0 where
+  pub requests : asking ≤ room.requests
+  pub links : (cache : ℕ) → times cache listed ≤ slice_index room.links cache
+  pub responses : answering ≤ room.responses
+
+-- where the message goes on a link, it is the link to one of so many caches
+abbrev pub HasLinkFor : Message → ℕ → Type 0
+HasLinkFor (message.Forward to f) caches = to.0 < caches
+HasLinkFor (message.Request r) caches = Unit {0}
+HasLinkFor (message.Response r) caches = Unit {0}

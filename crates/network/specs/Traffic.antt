@@ -1,0 +1,56 @@
+use Rattle.std.specs.Prelude.{ℕ, List, [], ◌∷◌, ◌++◌, remove, replicate, slice_index_or, slice_set}
+use Rattle.base.specs.declared.ids.CacheId.{CacheId}
+use Rattle.network.specs.declared.message.Request.{Request}
+use Rattle.network.specs.declared.message.Forward.{Forward}
+use Rattle.network.specs.declared.message.Response.{Response}
+use Rattle.network.specs.declared.message.Message.{Message}
+use Rattle.network.specs.declared.message.Message.TheVariants as message
+
+-- the messages of a block that are on their way: requests and responses in order of sending, and the link to each cache
+pub record Traffic : Type 0 where
+  pub requests : List Request
+  pub links : List (List Forward)
+  pub responses : List Response
+
+-- nothing is on its way
+abbrev pub quiet : ℕ → Traffic
+quiet caches = record { requests = []; links = replicate caches []; responses = [] }
+
+-- what is on the link to a cache, the first message first
+abbrev pub link : Traffic → ℕ → List Forward
+link w cache = slice_index_or w.links cache []
+
+-- after a request was sent
+abbrev pub request_sent : Request → Traffic → Traffic
+request_sent r w = record w { requests = w.requests ++ r ∷ [] }
+
+-- after a message was put on the link to a cache
+abbrev pub forward_sent : ℕ → Forward → Traffic → Traffic
+forward_sent cache f w = record w { links = slice_set w.links cache (link w cache ++ f ∷ []) }
+
+-- after a response was sent
+abbrev pub response_sent : Response → Traffic → Traffic
+response_sent r w = record w { responses = w.responses ++ r ∷ [] }
+
+-- after a message was sent: each wire takes its messages at the end
+abbrev pub sent : Message → Traffic → Traffic
+sent (message.Request r) w = request_sent r w
+sent (message.Forward to f) w = forward_sent to.0 f w
+sent (message.Response r) w = response_sent r w
+
+-- after these messages were sent, in order
+abbrev pub all_sent : List Message → Traffic → Traffic
+all_sent [] w = w
+all_sent (m ∷ ms) w = all_sent ms (sent m w)
+
+-- after a request was taken out, from any place; the others keep their order
+abbrev pub request_taken : ℕ → Traffic → Traffic
+request_taken i w = record w { requests = remove w.requests i }
+
+-- after the first message of a link was taken out
+abbrev pub head_taken : ℕ → Traffic → Traffic
+head_taken cache w = record w { links = slice_set w.links cache (remove (link w cache) 0) }
+
+-- after a response was taken out, from any place; the others keep their order
+abbrev pub response_taken : ℕ → Traffic → Traffic
+response_taken i w = record w { responses = remove w.responses i }

@@ -1,0 +1,15 @@
+//! The messages of a block and the wires on which they travel.
+//!
+//! A block has two networks without order, for requests and for responses, and one link to each
+//! cache that keeps its order (Primer, section 8.2; `docs/PROTOCOL.md` for the link).
+#![tactic(auto)]
+
+mod links;
+mod message;
+mod wires;
+
+pub use message::{Forward, ForwardKind, Message, Request, RequestKind, Response};
+pub use wires::Wires;
+
+#[cfg(test)]
+mod tests;

@@ -1,0 +1,83 @@
+ghost use Rattle.std.specs.Prelude.{◌≡◌, ◌+◌, ◌<◌, ◌≤◌, ◌∷◌, ◌++◌, [], IsOk, IfOk, OnOk, OnErr, IfErr, IfNone, OnSome, length, remove, replicate, slice_get, slice_index, slice_index_or, slice_set};
+ghost use Rattle.network.specs.Links.{KeepsRoom, UsesOnePlace};
+
+use crate::message::Forward;
+use base::{CacheId, NoMemory};
+use std::alloc::Global;
+use std::marker::Model;
+
+/// The links from a block's home to the caches, one for each.
+#[derive(Drop)]
+pub struct Links {
+    links: Vec<Vec<Forward>>,
+}
+
+impl Model for Links {
+    ghost use Rattle.network.specs.Links.{Linked, messages_of, spares};
+
+    ghost Value = { Linked };
+
+    ghost view = { λ l. record { messages = messages_of l.links.items; room = spares l.links.items } };
+}
+
+impl Links {
+    pub fn open(alloc: Global, caches: u32) -> Result<Links, NoMemory>
+        ensures { IfOk result (λ links. links.messages ≡ replicate caches []) }
+    {
+        let mut links = Vec::with_capacity(alloc, caches as usize)?;
+        for _ in 0..caches {
+            links.push(Vec::new(alloc))?;
+        }
+        Ok(Links { links })
+    }
+
+    pub fn head(&self, cache: CacheId) -> Option<Forward>
+        ensures { result ≡ slice_get (slice_index_or self.now.messages cache.0 []) 0 }
+    {
+        self.links.get(cache.0 as usize)?.first().copied()
+    }
+
+    pub fn send(&mut self, cache: CacheId, forward: Forward) -> Result<(), Forward>
+        requires { cache.0 < length self.old.messages }
+        ensures ok { OnOk result (self.new.messages ≡ slice_set self.old.messages cache.0 (slice_index_or self.old.messages cache.0 [] ++ forward ∷ [])) }
+        ensures err { OnErr result (self.new.messages ≡ self.old.messages) }
+        ensures back { IfErr result (λ back. back ≡ forward) }
+        ensures succeeds { 0 < slice_index self.old.room cache.0 → IsOk result }
+        ensures room { UsesOnePlace cache.0 self.old.room self.new.room }
+    {
+        let link = &mut self.links[cache.0 as usize];
+        if let Err(failed) = link.push(forward) {
+            return Err(failed.value);
+        }
+        Ok(())
+    }
+
+    pub fn take_head(&mut self, cache: CacheId) -> Option<Forward>
+        ensures taken { result ≡ slice_get (slice_index_or self.old.messages cache.0 []) 0 }
+        ensures some { OnSome result (self.new.messages ≡ slice_set self.old.messages cache.0 (remove (slice_index_or self.old.messages cache.0 []) 0)) }
+        ensures none { IfNone result (self.new.messages ≡ self.old.messages) }
+        ensures room { KeepsRoom self.old.room self.new.room }
+    {
+        if cache.0 as usize >= self.links.len() {
+            return None;
+        }
+        let link = &mut self.links[cache.0 as usize];
+        if link.is_empty() {
+            return None;
+        }
+        Some(link.remove(0))
+    }
+
+    /// Room for so many more messages on a link.
+    pub fn reserve(&mut self, cache: CacheId, count: usize) -> Result<(), NoMemory>
+        requires { cache.0 < length self.old.messages }
+        ensures messages { self.new.messages ≡ self.old.messages }
+        ensures ok { OnOk result (count ≤ slice_index self.new.room cache.0) }
+        ensures succeeds { count ≤ slice_index self.old.room cache.0 → IsOk result }
+        ensures room { KeepsRoom self.old.room self.new.room }
+    {
+        let link = &mut self.links[cache.0 as usize];
+        link.reserve(count)?;
+        Ok(())
+    }
+}
