@@ -1,2 +1,3 @@
 pub mod Extent
+pub mod Spelling
 pub mod Steps

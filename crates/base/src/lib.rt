@@ -5,6 +5,7 @@ mod fault;
 mod ids;
 mod shape;
 mod step;
+pub mod text;
 
 pub use fault::NoMemory;
 pub use ids::{BlockId, CacheId, Place};

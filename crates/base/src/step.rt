@@ -29,11 +29,20 @@ pub enum Step {
         ask: Ask,
     },
     /// A waiting request is served at the block's home. The requests are counted from 0 in order of sending.
-    Request { block: BlockId, index: u64 },
+    Request {
+        block: BlockId,
+        index: u64,
+    },
     /// The first message on the link from the block's home to a cache is served there.
-    Forward { block: BlockId, cache: CacheId },
+    Forward {
+        block: BlockId,
+        cache: CacheId,
+    },
     /// A response is served at its receiver. The responses are counted from 0 in order of sending.
-    Response { block: BlockId, index: u64 },
+    Response {
+        block: BlockId,
+        index: u64,
+    },
 }
 
 /// What a step did. `docs/PROTOCOL.md` has the order in which a step is tested.

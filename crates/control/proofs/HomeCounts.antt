@@ -1,11 +1,10 @@
-use Rattle.std.proofs.Common.{◌≡◌, ◌≢◌, ◌≤◌, ℕ, ◌+◌, ◌<◌, List, [], ◌∷◌, ◌++◌, length, get_or, set, refl, sym, ◌∙◌, ap, zero, suc, arith, Option, Some, None, Bool, true, false, ◌==◌, ◌&&◌, ◌||◌, not, inl, inr, replicate, if◌then◌else◌, slice_index}
-use Rattle.std.proofs.lemmas.List.{get_or-set_same, get_or-set_other, get_or-replicate, get_or_past, length-replicate}
+use Rattle.std.proofs.Common.{◌≡◌, ◌≢◌, ◌≤◌, ℕ, ◌+◌, ◌<◌, List, [], ◌∷◌, ◌++◌, length, get_or, set, refl, sym, ◌∙◌, ap, zero, suc, arith, Option, Some, None, Bool, true, false, ◌==◌, ◌&&◌, ◌||◌, not, inl, inr, replicate, if◌then◌else◌}
+use Rattle.std.proofs.lemmas.List.{get_or-set_same, get_or-set_other, get_or_past}
 use Rattle.std.proofs.lemmas.Bool.{cases_eq, cases_lt, ne_eqb}
 use Rattle.std.proofs.lemmas.Bool.Decides.{eqb_tells}
 use Rattle.base.specs.declared.ids.CacheId.{CacheId}
 use Rattle.network.specs.declared.message.ForwardKind.{ForwardKind}
 use Rattle.network.specs.declared.message.ForwardKind.TheVariants as forward
-use Rattle.network.specs.declared.message.Message.{Message}
 use Rattle.network.specs.Room.{Room, HasRoomFor, one_if, times, AllBelow, requests_in, responses_in, forwards_in}
 use Rattle.network.proofs.Sending.{requests_in-append, responses_in-append, forwards_in-append}
 use Rattle.directory_table.specs.declared.actions.DirectoryAction.{DirectoryAction}
@@ -13,7 +12,7 @@ use Rattle.directory_table.specs.declared.actions.DirectoryAction.TheVariants as
 use Rattle.control.specs.declared.home.Home.{Home}
 use Rattle.control.specs.Events.{owns}
 use Rattle.control.specs.Sharing.{shares}
-use Rattle.control.specs.HomeEffect.{home_message, home_messages, home_changed, with_owner, with_sharer, owner_message, link_message, invalidation, invalidations, IsAmong, IsBelow}
+use Rattle.control.specs.HomeEffect.{home_message, home_messages, home_changed, with_owner, owner_message, link_message, invalidation, invalidations, IsAmong, IsBelow}
 use Rattle.control.specs.Counting.{replies_of, replies_by, is_sent_to, owner_left, sharer_left, forwards_by, HasRoomToReply, ListsLinks}
 use Rattle.control.proofs.HomeSends.{among-changed}
 
@@ -150,8 +149,8 @@ forwards-by n k from value (a ∷ actions) home h l =
     let home' : Home = home_changed (Some from) value a home in
     let rest : forwards_in k (home_messages (Some from) value actions home') ≡ forwards_by (cache k) from home'.owner (shares home'.sharers k) actions = forwards-by n k from value actions home' (among-changed n (Some from) value a home h l) l in
     let same : forwards_by (cache k) from home'.owner (shares home'.sharers k) actions ≡ forwards_by (cache k) from (owner_left from a home.owner) (sharer_left (cache k) from home.owner a (shares home.sharers k)) actions =
-        ap (λ (o : Option CacheId). forwards_by (cache k) from o (shares home'.sharers k) actions) (owner-left from value a home)
-        ∙ ap (λ (s : Bool). forwards_by (cache k) from (owner_left from a home.owner) s actions) (sharer-left n k from value a home h l) in
+    ap (λ (o : Option CacheId). forwards_by (cache k) from o (shares home'.sharers k) actions) (owner-left from value a home)
+    ∙ ap (λ (s : Bool). forwards_by (cache k) from (owner_left from a home.owner) s actions) (sharer-left n k from value a home h l) in
     omega (arith, forwards_in-append k (home_message (Some from) a home) (home_messages (Some from) value actions home'), message-at k from a home, rest, same)
 
 -- a cache that isn't there owns nothing and is sent nothing
@@ -208,7 +207,7 @@ forwards-past : (n k : ℕ) (from : CacheId) (owner : Option CacheId) (actions :
 forwards-past n k from owner [] le f l = refl
 forwards-past n k from owner (a ∷ actions) le f l =
     let same : forwards_by (cache k) from (owner_left from a owner) (sharer_left (cache k) from owner a false) actions ≡ forwards_by (cache k) from (owner_left from a owner) false actions =
-        ap (λ (s : Bool). forwards_by (cache k) from (owner_left from a owner) s actions) (never-sharer n k from owner a le f l) in
+    ap (λ (s : Bool). forwards_by (cache k) from (owner_left from a owner) s actions) (never-sharer n k from owner a le f l) in
     omega (arith, never-sent n k from owner a le f l, same, forwards-past n k from (owner_left from a owner) actions le f (owner-left-below n from a owner f l))
 
 -- nothing goes on a link that isn't there

@@ -1,10 +1,12 @@
-use Rattle.std.proofs.Common.{◌≡◌, ◌≢◌, ◌≤◌, ℕ, ◌+◌, ◌<◌, List, [], ◌∷◌, ◌++◌, length, get_or, set, drop, refl, sym, ◌∙◌, ap, subst, zero, suc, arith, Option, Some, None, Bool, true, false, ◌==◌, ◌&&◌, ◌||◌, not, inl, inr, replicate, slice_index_or, slice_set}
+use Rattle.std.proofs.Common.{◌≡◌, ℕ, ◌+◌, ◌<◌, List, [], ◌∷◌, ◌++◌, length, get_or, drop, refl, ◌∙◌, zero, suc, arith, Option, Some, None, Bool, true, false}
 use Rattle.std.proofs.lemmas.List.{length-set, length-replicate}
 use Rattle.base.specs.declared.ids.CacheId.{CacheId}
 use Rattle.directory_table.specs.declared.actions.DirectoryAction.{DirectoryAction}
 use Rattle.directory_table.specs.declared.actions.DirectoryAction.TheVariants as action
+use Rattle.directory_table.specs.declared.state.DirectoryState.{DirectoryState}
 use Rattle.control.specs.declared.home.Home.{Home}
-use Rattle.control.specs.HomeEffect.{home_message, home_messages, home_changed, home_moved, with_owner, invalidation, invalidations, IsAmong, IsBelow}
+use Rattle.control.specs.declared.home.HomeInput.{HomeInput}
+use Rattle.control.specs.HomeEffect.{home_message, home_messages, home_changed, home_moved, with_owner, invalidation, invalidations, home_after, sender_of, brought_by, IsAmong, IsBelow}
 
 -- what the actions from a place on make of a home begins with the action there
 pub moved-front : (from : Option CacheId) (value : Option ℕ) (actions : List DirectoryAction) (i : ℕ) (d : DirectoryAction) (home : Home) → i < length actions → home_moved from value (drop i actions) home ≡ home_moved from value (drop (i + 1) actions) (home_changed from value (get_or actions i d) home)
@@ -56,6 +58,16 @@ among-changed n None value action.FwdGetM home h l = h
 among-changed n (Some c) value action.FwdGetM home h l = h
 among-changed n None value action.PutAck home h l = h
 among-changed n (Some c) value action.PutAck home h l = h
+
+-- a home stays among its caches whatever its actions
+pub among-moved : (n : ℕ) (from : Option CacheId) (value : Option ℕ) (actions : List DirectoryAction) (home : Home) → IsAmong n home → IsBelow from n → IsAmong n (home_moved from value actions home)
+among-moved n from value [] home h l = h
+among-moved n from value (a ∷ actions) home h l = among-moved n from value actions (home_changed from value a home) (among-changed n from value a home h l) l
+
+pub among-after : (n : ℕ) (input : HomeInput) (next : DirectoryState) (actions : List DirectoryAction) (home : Home) → IsAmong n home → IsBelow (sender_of input) n → IsAmong n (home_after input next actions home)
+among-after n input next actions home h l =
+    let moved : IsAmong n (home_moved (sender_of input) (brought_by input) actions home) = among-moved n (sender_of input) (brought_by input) actions home h l in
+    record { sharers = moved.sharers; owner = moved.owner }
 
 -- the invalidations from a place on begin with the one there
 pub invalidations-front : (requestor : CacheId) (flags : List Bool) (i j : ℕ) (d : Bool) → i < length flags → invalidations requestor j (drop i flags) ≡ invalidation requestor (record { 0 = j }) (get_or flags i d) ++ invalidations requestor (j + 1) (drop (i + 1) flags)

@@ -1,9 +1,7 @@
-use Rattle.std.proofs.Common.{◌≡◌, ◌≤◌, ℕ, ◌+◌, ◌<◌, List, [], ◌∷◌, ◌++◌, length, get_or, drop, refl, sym, ◌∙◌, ap, subst, zero, suc, arith, Option, Some, None}
+use Rattle.std.proofs.Common.{◌≡◌, ◌≤◌, ℕ, ◌+◌, ◌<◌, List, [], ◌∷◌, ◌++◌, length, get_or, drop, refl, zero, suc, arith, Option, Some, None}
 use Rattle.base.specs.declared.ids.CacheId.{CacheId}
-use Rattle.network.specs.declared.message.Message.{Message}
-use Rattle.network.specs.Traffic.{Traffic, all_sent}
-use Rattle.network.specs.Room.{Room, HasRoomFor, UsesRoomFor, requests_in, responses_in, forwards_in}
-use Rattle.network.proofs.Sending.{all_sent-append, requests_in-append, responses_in-append, forwards_in-append}
+use Rattle.network.specs.Room.{Room, HasRoomFor, requests_in, responses_in, forwards_in}
+use Rattle.network.proofs.Sending.{requests_in-append, responses_in-append, forwards_in-append}
 use Rattle.cache_table.specs.declared.actions.CacheAction.{CacheAction}
 use Rattle.cache_table.specs.declared.actions.CacheAction.TheVariants as action
 use Rattle.control.specs.LineEffect.{line_message, line_messages}

@@ -1,4 +1,4 @@
-use Rattle.std.specs.Prelude.{◌≡◌, ◌<◌, ◌≤◌, ℕ, ◌+◌, length, slice_index, List, [], ◌∷◌, Option, Some, None, Bool, true, false, not, ◌&&◌, ◌||◌, ◌==◌}
+use Rattle.std.specs.Prelude.{◌≡◌, ◌<◌, ◌≤◌, ℕ, ◌+◌, length, slice_index, List, [], ◌∷◌, Option, Some, None, Bool, false, not, ◌&&◌, ◌||◌, ◌==◌}
 use Rattle.base.specs.declared.ids.CacheId.{CacheId}
 use Rattle.network.specs.Room.{Room, one_if, times}
 use Rattle.cache_table.specs.declared.actions.CacheAction.{CacheAction}

@@ -1,4 +1,4 @@
-use Rattle.std.specs.Prelude.{◌≡◌, ◌<◌, ◌≤◌, ℕ, ◌+◌, List, [], ◌∷◌, ◌++◌, Option, Some, None, Bool, true, false, not, ◌&&◌, if◌then◌else◌, ◌==◌, length, replicate, slice_set}
+use Rattle.std.specs.Prelude.{◌≡◌, ◌<◌, ℕ, ◌+◌, List, [], ◌∷◌, ◌++◌, Option, Some, None, Bool, true, false, not, ◌&&◌, if◌then◌else◌, ◌==◌, length, replicate, slice_set}
 use Rattle.base.specs.declared.ids.CacheId.{CacheId}
 use Rattle.base.specs.declared.ids.Place.TheVariants.{Dir, Cache}
 use Rattle.network.specs.declared.message.RequestKind.{RequestKind}
@@ -15,7 +15,7 @@ use Rattle.directory_table.specs.declared.state.DirectoryState.TheVariants as st
 use Rattle.control.specs.declared.home.Home.{Home}
 use Rattle.control.specs.declared.home.HomeInput.{HomeInput}
 use Rattle.control.specs.declared.home.HomeInput.TheVariants as home_input
-use Rattle.control.specs.Sharing.{shares, others_from}
+use Rattle.control.specs.Sharing.{others_from}
 
 -- a home that nothing has happened to
 abbrev pub opened_home : ℕ → ℕ → Home

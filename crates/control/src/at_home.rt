@@ -198,6 +198,8 @@ pub fn home_perform(
     requires room { HasRoomFor (home_sends input actions home.old) wires.old.room }
     ensures home { home.new ≡ home_after input next actions home.old }
     ensures traffic { wires.new.traffic ≡ all_sent (home_sends input actions home.old) wires.old.traffic }
+    ensures among { IsAmong (length wires.new.traffic.links) home.new }
+    ensures links { length wires.new.traffic.links ≡ length wires.old.traffic.links }
 {
     perform_all(
         home,
@@ -227,6 +229,8 @@ pub fn home_act(
     ensures succeeds { HasRoomFor (home_sends input actions home.old) wires.old.room → IsOk result }
     ensures home_kept { OnErr result (home.new ≡ home.old) }
     ensures traffic_kept { OnErr result (wires.new.traffic ≡ wires.old.traffic) }
+    ensures among { IsAmong (length wires.new.traffic.links) home.new }
+    ensures links { length wires.new.traffic.links ≡ length wires.old.traffic.links }
 {
     home_reserve(home, input, actions, wires)?;
     home_perform(home, input, next, actions, wires);

@@ -30,13 +30,7 @@ fn data(from: CacheId, to: Place, value: u64) -> Message
 }
 
 /// Does one action of a line.
-fn send(
-    action: CacheAction,
-    cache: CacheId,
-    value: u64,
-    to: Option<CacheId>,
-    wires: &mut Wires,
-)
+fn send(action: CacheAction, cache: CacheId, value: u64, to: Option<CacheId>, wires: &mut Wires)
     requires { HasRoomFor (line_message cache value to action) wires.old.room }
     ensures traffic { wires.new.traffic ≡ all_sent (line_message cache value to action) wires.old.traffic }
     ensures room { UsesRoomFor (line_message cache value to action) wires.old.room wires.new.room }

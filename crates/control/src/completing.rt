@@ -6,7 +6,8 @@ use base::{Ask, Place};
 use cache_table::CacheState;
 use network::Response;
 
-fn may_read(state: CacheState) -> bool
+/// Whether a cache in this state may read its block: S, SM^AD, SM^A and M.
+pub fn may_read(state: CacheState) -> bool
     ensures { result ≡ is_reader state }
 {
     match state {
@@ -15,7 +16,8 @@ fn may_read(state: CacheState) -> bool
     }
 }
 
-fn may_write(state: CacheState) -> bool
+/// Whether a cache in this state may write its block: M alone.
+pub fn may_write(state: CacheState) -> bool
     ensures { result ≡ is_writer state }
 {
     match state {

@@ -1,5 +1,5 @@
 ghost use Rattle.std.specs.Prelude.{◌≡◌, IfOk};
-ghost use Rattle.control.specs.HomeEffect.{opened_home};
+ghost use Rattle.control.specs.HomeEffect.{opened_home, IsAmong};
 
 use crate::sharers::Sharers;
 use base::{CacheId, NoMemory};
@@ -27,7 +27,8 @@ pub enum HomeInput {
 impl Home {
     /// A home that nothing has happened to, with this value in memory and room for so many sharers.
     pub fn open(alloc: Global, caches: u32, memory: u64) -> Result<Home, NoMemory>
-        ensures { IfOk result (λ home. home ≡ opened_home caches memory) }
+        ensures home { IfOk result (λ home. home ≡ opened_home caches memory) }
+        ensures among { IfOk result (IsAmong caches) }
     {
         let sharers = Sharers::open(alloc, caches)?;
         Ok(Home {
@@ -35,6 +36,19 @@ impl Home {
             owner: None,
             sharers,
             memory,
+        })
+    }
+
+    /// The same home again.
+    pub fn try_clone(&self, alloc: Global) -> Result<Home, NoMemory>
+        ensures { IfOk result (λ home. home ≡ self.now) }
+    {
+        let sharers = self.sharers.try_clone(alloc)?;
+        Ok(Home {
+            state: self.state,
+            owner: self.owner,
+            sharers,
+            memory: self.memory,
         })
     }
 }

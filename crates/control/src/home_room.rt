@@ -52,11 +52,7 @@ fn sends_to(
     }
 }
 
-fn owner_after(
-    from: CacheId,
-    action: DirectoryAction,
-    owner: Option<CacheId>,
-) -> Option<CacheId>
+fn owner_after(from: CacheId, action: DirectoryAction, owner: Option<CacheId>) -> Option<CacheId>
     ensures { result ≡ owner_left from action owner }
 {
     match action {
@@ -87,12 +83,7 @@ fn sharer_after(
 /// How many messages the actions put on the link to a cache.
 ///
 /// Of the home only its owner and this cache's share have to be followed from action to action, so no copy is needed.
-fn forwards_to(
-    cache: CacheId,
-    from: CacheId,
-    home: &Home,
-    actions: &[DirectoryAction],
-) -> usize
+fn forwards_to(cache: CacheId, from: CacheId, home: &Home, actions: &[DirectoryAction]) -> usize
     requires { length actions.now ≤ 8 }
     ensures count { result ≡ forwards_by cache from home.now.owner (shares home.now.sharers cache.0) actions.now }
     ensures few { result ≤ 8 }

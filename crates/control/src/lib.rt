@@ -15,10 +15,13 @@ mod sharers;
 
 pub use at_home::{home_act, home_perform};
 pub use at_line::{line_act, line_perform, line_reserve};
-pub use completing::line_completion;
+pub use completing::{line_completion, may_read, may_write};
 pub use events::{home_event, line_ask_event, line_event};
 pub use home::{Home, HomeInput};
 pub use home_room::{home_needs, home_reserve};
 pub use line::{Completion, Line, LineInput};
 pub use needs::{Needs, line_needs};
 pub use sharers::Sharers;
+
+#[cfg(test)]
+mod tests;

@@ -30,6 +30,14 @@ impl Sharers {
         Ok(Sharers { flags })
     }
 
+    /// The same sharers again.
+    pub fn try_clone(&self, alloc: Global) -> Result<Sharers, NoMemory>
+        ensures { IfOk result (λ sharers. sharers ≡ self.now) }
+    {
+        let flags = Vec::from_slice(alloc, self.flags.as_slice())?;
+        Ok(Sharers { flags })
+    }
+
     pub fn add(&mut self, cache: CacheId)
         requires { cache.0 < length self.old }
         ensures { self.new ≡ slice_set self.old cache.0 true }
@@ -72,14 +80,14 @@ impl Sharers {
         ensures flags { result.now ≡ self.now }
         ensures few { length self.now < 2 ^ 32 }
     {
-        self.flags.as_slice()
+        &self.flags[..]
     }
 
     /// How many sharers there are besides a cache.
     pub fn others(&self, cache: CacheId) -> u32
         ensures { result ≡ others_from 0 cache.0 self.now }
     {
-        count_others(self.flags.as_slice(), cache)
+        count_others(&self.flags, cache)
     }
 
     /// Whether a cache is the only sharer.

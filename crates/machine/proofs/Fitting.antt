@@ -1,4 +1,4 @@
-use Rattle.std.proofs.Common.{◌≡◌, ℕ, ◌<◌, List, [], ◌∷◌, length, refl, sym, subst, Option, Some, None, Bool, true, false, if◌then◌else◌, slice_get, IsSome, zero, suc, arith}
+use Rattle.std.proofs.Common.{◌≡◌, ℕ, ◌<◌, List, [], ◌∷◌, length, refl, subst, Option, Some, None, Bool, true, false, if◌then◌else◌, slice_get, IsSome, zero, suc, arith}
 use Rattle.base.specs.declared.ids.CacheId.{CacheId}
 use Rattle.base.specs.declared.ids.Place.TheVariants.{Dir, Cache}
 use Rattle.base.specs.declared.step.Ask.{Ask}

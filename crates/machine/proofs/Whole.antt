@@ -1,19 +1,17 @@
-use Rattle.std.proofs.Common.{◌≡◌, ℕ, ◌<◌, List, [], ◌∷◌, length, refl, sym, ap, ◌∙◌, Option, slice_set, arith}
+use Rattle.std.proofs.Common.{◌≡◌, ℕ, ◌<◌, List, length, refl, ap, ◌∙◌, slice_set, arith}
 use Rattle.std.proofs.lemmas.List.{length-set}
 use Rattle.base.specs.declared.ids.CacheId.{CacheId}
 use Rattle.network.specs.Traffic.{Traffic, all_sent}
 use Rattle.network.proofs.Sending.{links-all_sent}
 use Rattle.cache_table.specs.declared.actions.CacheAction.{CacheAction}
-use Rattle.cache_table.specs.declared.state.CacheState.{CacheState}
 use Rattle.directory_table.specs.declared.actions.DirectoryAction.{DirectoryAction}
 use Rattle.directory_table.specs.declared.state.DirectoryState.{DirectoryState}
 use Rattle.control.specs.declared.line.Line.{Line}
 use Rattle.control.specs.declared.line.LineInput.{LineInput}
-use Rattle.control.specs.declared.home.Home.{Home}
 use Rattle.control.specs.declared.home.HomeInput.{HomeInput}
-use Rattle.control.specs.LineEffect.{line_sends, line_after, line_completes, taken_in, requestor_of}
-use Rattle.control.specs.HomeEffect.{home_sends, home_after, home_changed, home_moved, sender_of, brought_by, IsAmong, IsBelow}
-use Rattle.control.proofs.HomeSends.{among-changed}
+use Rattle.control.specs.LineEffect.{line_sends, line_after, taken_in, requestor_of}
+use Rattle.control.specs.HomeEffect.{home_sends, home_after, sender_of, brought_by, IsBelow}
+use Rattle.control.proofs.HomeSends.{among-after}
 use Rattle.machine.specs.declared.decision.Origin.{Origin}
 use Rattle.machine.specs.declared.decision.Origin.TheVariants as origin
 use Rattle.machine.specs.declared.decision.Decision.{Decision}
@@ -35,11 +33,6 @@ AllFrom-without n (origin.Request i) w h = AllFrom-remove n w.requests i h
 AllFrom-without n (origin.Head c) w h = h
 AllFrom-without n (origin.Response i) w h = h
 
--- a home stays among its caches
-among-moved : (n : ℕ) (from : Option CacheId) (value : Option ℕ) (actions : List DirectoryAction) (home : Home) → IsAmong n home → IsBelow from n → IsAmong n (home_moved from value actions home)
-among-moved n from value [] home h l = h
-among-moved n from value (a ∷ actions) home h l = among-moved n from value actions (home_changed from value a home) (among-changed n from value a home h l) l
-
 -- a block stays whole where a line acts
 pub whole-at_line : (n : ℕ) (cache : CacheId) (line after : Line) (input : LineInput) (actions : List CacheAction) (from : Origin) (b new : BlockState) → IsWhole n b → cache.0 < n → new.lines ≡ slice_set b.lines cache.0 after → new.home ≡ b.home → new.traffic ≡ all_sent (line_sends cache input actions line) (without from b.traffic) → IsWhole n new
 whole-at_line n cache line after input actions from b new h l lines home traffic = record {
@@ -52,11 +45,10 @@ whole-at_line n cache line after input actions from b new h l lines home traffic
 -- and where its home does
 pub whole-at_home : (n : ℕ) (input : HomeInput) (next : DirectoryState) (actions : List DirectoryAction) (from : Origin) (b new : BlockState) → IsWhole n b → IsBelow (sender_of input) n → new.lines ≡ b.lines → new.home ≡ home_after input next actions b.home → new.traffic ≡ all_sent (home_sends input actions b.home) (without from b.traffic) → IsWhole n new
 whole-at_home n input next actions from b new h l lines home traffic =
-    let moved : IsAmong n (home_moved (sender_of input) (brought_by input) actions b.home) = among-moved n (sender_of input) (brought_by input) actions b.home h.home l in
     record {
       lines = ap length lines ∙ h.lines;
       links = ap (λ (w : Traffic). length w.links) traffic ∙ links-all_sent (home_sends input actions b.home) (without from b.traffic) ∙ links-without from b.traffic ∙ h.links;
-      home = rw home (record { sharers = moved.sharers; owner = moved.owner });
+      home = rw home (among-after n input next actions b.home h.home l);
       requests = rw traffic (AllFrom-all_sent n (home_sends input actions b.home) (without from b.traffic) (home-requests n (sender_of input) (brought_by input) actions b.home) (AllFrom-without n from b.traffic h.requests));
     }
 

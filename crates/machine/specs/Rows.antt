@@ -1,6 +1,5 @@
 use Rattle.std.specs.Prelude.{◌≡◌, ℕ, List, [], ◌∷◌, map, Some, option_and_then, slice_get, negsuc}
 use Rattle.std.specs.Option.{option_map}
-use Rattle.base.specs.Extent.{Extent}
 use Rattle.base.specs.declared.ids.CacheId.{CacheId}
 use Rattle.base.specs.declared.ids.BlockId.{BlockId}
 use Rattle.base.specs.declared.step.Ask.TheVariants as ask

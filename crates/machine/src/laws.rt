@@ -16,23 +16,19 @@ pub fn worked_rows()
     ensures load_from_owner { LoadFromOwner }
     ensures held_forward { HeldForward }
     ensures early_ack { EarlyAck }
-{
-}
+{}
 
 /// A step's outcome is known before anything is done.
 pub fn outcome_is_the_decisions()
     ensures { (tables : Tables) (step : Step) (block : BlockState) → (transition tables step block).outcome ≡ decided_outcome (decision_of tables step block) }
-{
-}
+{}
 
 /// A block stays whole: it keeps a line and a link for each cache, and nobody else is named in it.
 pub fn blocks_stay_whole()
     ensures { (caches : ℕ) (tables : Tables) (step : Step) (block : BlockState) → IsWhole caches block → IsWhole caches (transition tables step block).block }
-{
-}
+{}
 
 /// A step that is held, absent, idle, blank or made in a broken world sends nothing.
 pub fn nothing_sent_by_a_refusal()
     ensures { (tables : Tables) (state : State) (step : Step) → IsRefusal (next tables state step).outcome → sent_by tables state step ≡ [] }
-{
-}
+{}

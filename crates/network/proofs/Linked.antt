@@ -1,8 +1,7 @@
-use Rattle.std.proofs.Common.{◌≡◌, ◌≢◌, ◌≤◌, ◌+◌, ◌-◌, ℕ, ◌<◌, List, [], ◌∷◌, ◌++◌, length, get_or, set, map, refl, ap, ◌∙◌, sym, zero, suc, arith, inl, inr, ◌⊎◌, Vec, Global}
+use Rattle.std.proofs.Common.{◌≡◌, ◌≢◌, ◌≤◌, ◌+◌, ℕ, ◌<◌, List, [], ◌∷◌, ◌++◌, length, get_or, set, take, refl, ap, ◌∙◌, sym, zero, suc, arith, inl, inr, Vec, Global}
 use Rattle.std.proofs.lemmas.Bool.{cases_eq}
-use Rattle.std.proofs.lemmas.List.{map-set, length-map, get_or-set_same, get_or-set_other}
+use Rattle.std.proofs.lemmas.List.{map-set, map-append, take_more, length-map, get_or-set_same, get_or-set_other}
 use Rattle.std.proofs.Math.Seq.{map-set_same}
-use Rattle.std.specs.Vec.{vec_len, vec_capacity}
 use Rattle.network.specs.Links.{KeepsRoom, UsesOnePlace, messages_of, spare, spares}
 use Rattle.network.specs.declared.message.Forward.{Forward}
 
@@ -64,3 +63,12 @@ room-kept vs i old new h is_old less = record {
     at_i =
         let before : get_or (spares vs) i 0 ≡ spare old = spare-at vs i old h ∙ ap spare (sym is_old) in
         omega (arith, before, spare-set vs i new h, less)
+
+-- one more link is copied
+pub messages-more : (vs copies : List (Vec Forward Global)) (i : ℕ) (v w : Vec Forward Global) → i < length vs → v ≡ get_or vs i v → w.items ≡ v.items → messages_of copies ≡ messages_of (take i vs) → messages_of (copies ++ w ∷ []) ≡ messages_of (take (i + 1) vs)
+messages-more vs copies i v w h is_v same so_far =
+    map-append (λ v. v.items) copies (w ∷ [])
+    ∙ ap (λ ms. ms ++ w.items ∷ []) so_far
+    ∙ ap (λ m. messages_of (take i vs) ++ m ∷ []) (same ∙ ap (λ v. v.items) is_v)
+    ∙ sym (map-append (λ v. v.items) (take i vs) (get_or vs i v ∷ []))
+    ∙ ap messages_of (sym (take_more vs i v h))

@@ -1,9 +1,9 @@
-use Rattle.std.proofs.Common.{◌≡◌, ◌≤◌, ℕ, ◌+◌, List, [], ◌∷◌, ◌++◌, length, refl, sym, ◌∙◌, ap, arith, add_assoc}
+use Rattle.std.proofs.Common.{◌≡◌, ℕ, ◌+◌, List, [], ◌∷◌, ◌++◌, length, refl, ◌∙◌, arith}
 use Rattle.std.proofs.lemmas.List.{length-set}
 use Rattle.network.specs.declared.message.Message.{Message}
 use Rattle.network.specs.declared.message.Message.TheVariants as message
 use Rattle.network.specs.Traffic.{Traffic, sent, all_sent}
-use Rattle.network.specs.Room.{Room, HasRoomFor, UsesRoomFor, requests_in, forwards_in, responses_in, one_if}
+use Rattle.network.specs.Room.{Room, HasRoomFor, UsesRoomFor, requests_in, forwards_in, responses_in}
 
 -- messages are sent one list after another
 pub all_sent-append : (ms ns : List Message) (w : Traffic) → all_sent (ms ++ ns) w ≡ all_sent ns (all_sent ms w)

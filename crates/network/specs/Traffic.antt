@@ -1,5 +1,4 @@
-use Rattle.std.specs.Prelude.{ℕ, List, [], ◌∷◌, ◌++◌, remove, replicate, slice_index_or, slice_set}
-use Rattle.base.specs.declared.ids.CacheId.{CacheId}
+use Rattle.std.specs.Prelude.{ℕ, Bool, true, false, ◌&&◌, List, [], ◌∷◌, ◌++◌, remove, replicate, slice_index_or, slice_set}
 use Rattle.network.specs.declared.message.Request.{Request}
 use Rattle.network.specs.declared.message.Forward.{Forward}
 use Rattle.network.specs.declared.message.Response.{Response}
@@ -15,6 +14,20 @@ pub record Traffic : Type 0 where
 -- nothing is on its way
 abbrev pub quiet : ℕ → Traffic
 quiet caches = record { requests = []; links = replicate caches []; responses = [] }
+
+-- whether a list has nothing
+abbrev pub is_nil : {A : Type 0} → List A → Bool
+is_nil [] = true
+is_nil (x ∷ xs) = false
+
+-- whether no link has a message
+abbrev pub all_nil : List (List Forward) → Bool
+all_nil [] = true
+all_nil (l ∷ ls) = is_nil l && all_nil ls
+
+-- whether nothing is on its way
+abbrev pub is_quiet : Traffic → Bool
+is_quiet w = is_nil w.requests && all_nil w.links && is_nil w.responses
 
 -- what is on the link to a cache, the first message first
 abbrev pub link : Traffic → ℕ → List Forward

@@ -1,5 +1,6 @@
 ghost use Rattle.std.specs.Prelude.{◌≡◌, ◌+◌, ◌<◌, ◌≤◌, ◌∷◌, ◌++◌, [], IsOk, IfOk, OnOk, OnErr, IfErr, IfNone, OnSome, length, remove, replicate, slice_get, slice_index, slice_index_or, slice_set};
-ghost use Rattle.network.specs.Links.{KeepsRoom, UsesOnePlace};
+ghost use Rattle.network.specs.Traffic.{all_nil};
+ghost use Rattle.network.specs.Links.{KeepsRoom, UsesOnePlace, messages_of};
 
 use crate::message::Forward;
 use base::{CacheId, NoMemory};
@@ -29,6 +30,20 @@ impl Links {
             links.push(Vec::new(alloc))?;
         }
         Ok(Links { links })
+    }
+
+    pub fn try_clone(&self, alloc: Global) -> Result<Links, NoMemory>
+        ensures { IfOk result (λ links. links.messages ≡ self.now.messages) }
+    {
+        let links = clone_all(alloc, self.links.as_slice())?;
+        Ok(Links { links })
+    }
+
+    /// Whether no link has a message.
+    pub fn is_quiet(&self) -> bool
+        ensures { result ≡ all_nil self.now.messages }
+    {
+        are_empty(self.links.as_slice())
     }
 
     pub fn head(&self, cache: CacheId) -> Option<Forward>
@@ -80,4 +95,25 @@ impl Links {
         link.reserve(count)?;
         Ok(())
     }
+}
+
+fn are_empty(links: &[Vec<Forward>]) -> bool
+    ensures { result ≡ all_nil (messages_of links.now) }
+{
+    for link in links {
+        if !link.is_empty() {
+            return false;
+        }
+    }
+    true
+}
+
+fn clone_all(alloc: Global, links: &[Vec<Forward>]) -> Result<Vec<Vec<Forward>>, NoMemory>
+    ensures { IfOk result (λ copies. messages_of copies.items ≡ messages_of links.now) }
+{
+    let mut copies = Vec::with_capacity(alloc, links.len())?;
+    for link in links {
+        copies.push(Vec::from_slice(alloc, link.as_slice())?)?;
+    }
+    Ok(copies)
 }

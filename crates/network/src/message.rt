@@ -52,7 +52,10 @@ pub enum Response {
         acks: u32,
     },
     /// A copy was given up on an Inv.
-    InvAck { from: CacheId, to: CacheId },
+    InvAck {
+        from: CacheId,
+        to: CacheId,
+    },
 }
 
 /// A message with the wire that it is put on.

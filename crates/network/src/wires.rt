@@ -1,5 +1,5 @@
 ghost use Rattle.std.specs.Prelude.{◌≡◌, ◌<◌, ◌≤◌, ◌∷◌, [], IsOk, IfOk, OnOk, OnErr, IfErr, IfNone, OnSome, length, slice_get, slice_index};
-ghost use Rattle.network.specs.Traffic.{quiet, link, sent, request_sent, forward_sent, response_sent, request_taken, head_taken, response_taken};
+ghost use Rattle.network.specs.Traffic.{quiet, is_quiet, link, sent, request_sent, forward_sent, response_sent, request_taken, head_taken, response_taken};
 ghost use Rattle.network.specs.Room.{HasRoomFor, UsesRoomFor, HasPlaces, AllBelow, times, HasLinkFor};
 ghost use Rattle.network.specs.declared.message.Message.TheVariants as message;
 
@@ -53,6 +53,41 @@ impl Wires {
             links,
             responses: Vec::new(alloc),
         })
+    }
+
+    /// Wires with the same messages.
+    pub fn try_clone(&self, alloc: Global) -> Result<Wires, NoMemory>
+        ensures { IfOk result (λ wires. wires.traffic ≡ self.now.traffic) }
+    {
+        let requests = Vec::from_slice(alloc, self.requests.as_slice())?;
+        let links = self.links.try_clone(alloc)?;
+        let responses = Vec::from_slice(alloc, self.responses.as_slice())?;
+        Ok(Wires {
+            requests,
+            links,
+            responses,
+        })
+    }
+
+    /// Whether nothing is on its way.
+    pub fn is_quiet(&self) -> bool
+        ensures { result ≡ is_quiet self.now.traffic }
+    {
+        self.requests.is_empty() && self.links.is_quiet() && self.responses.is_empty()
+    }
+
+    /// How many requests wait.
+    pub fn request_count(&self) -> u64
+        ensures { result ≡ length self.now.traffic.requests }
+    {
+        self.requests.len() as u64
+    }
+
+    /// How many responses are on their way.
+    pub fn response_count(&self) -> u64
+        ensures { result ≡ length self.now.traffic.responses }
+    {
+        self.responses.len() as u64
     }
 
     /// The request at a place, if there is one.

@@ -1,5 +1,4 @@
-use Rattle.std.proofs.Common.{◌≡◌, ◌<◌, ◌+◌, ◌++◌, ◌∙◌, ap, sym, subst, arith, length, drop, slice_index_or, List, Bool, false}
-use Rattle.base.specs.declared.ids.CacheId.{CacheId}
+use Rattle.std.proofs.Common.{◌≡◌, ◌+◌, ◌++◌, ◌∙◌, ap, sym, subst, arith, length, drop, slice_index_or, List, false}
 use Rattle.network.specs.declared.message.Message.{Message}
 use Rattle.network.specs.Traffic.{Traffic, all_sent}
 use Rattle.network.specs.Room.{HasRoomFor, UsesRoomFor}

@@ -21,7 +21,7 @@ loop-action-preserved c =
     let rest : List DirectoryAction = drop (c.loop-action.action-index + 1) c.args.actions.now in
     let lt : c.loop-action.action-index < length c.args.actions.now = omega arith in
     let front : home_messages c.args.from c.args.value (drop c.loop-action.action-index c.args.actions.now) c.loop-action.home ≡ home_message c.args.from a c.loop-action.home ++ home_messages c.args.from c.args.value rest (home_changed c.args.from c.args.value a c.loop-action.home) =
-        messages-front c.args.from c.args.value c.args.actions.now c.loop-action.action-index DataReq c.loop-action.home lt in
+    messages-front c.args.from c.args.value c.args.actions.now c.loop-action.action-index DataReq c.loop-action.home lt in
     record {
       links = ap (λ (w : Traffic). length w.links) c.perform.ensures.traffic ∙ links-all_sent (home_message c.args.from a c.loop-action.home) c.loop-action.wires.traffic ∙ c.loop-action.invariant.links;
       among = subst (λ (h : Home). IsAmong (length c.args.wires.now.traffic.links) h) (sym c.perform.ensures.home) (among-changed (length c.args.wires.now.traffic.links) c.args.from c.args.value a c.loop-action.home c.loop-action.invariant.among c.requires.sender);

@@ -1,8 +1,5 @@
-use Rattle.std.proofs.Common.{sym, subst, arith, length, List, Some}
-use Rattle.network.specs.Room.{Room, HasRoomFor}
-use Rattle.directory_table.specs.declared.actions.DirectoryAction.{DirectoryAction}
+use Rattle.std.proofs.Common.{arith, length, Some}
 use Rattle.control.specs.HomeEffect.{value_in}
-use Rattle.control.specs.Counting.{HasRoomToReply}
 use Rattle.control.proofs.HomeCounts.{nothing-sent, room-to-send, room-to-reply}
 use Rattle.control.proofs.home_room.home_reserve.Goals as goal
 

@@ -1,6 +1,4 @@
-use Rattle.std.proofs.Common.{◌≡◌, ◌<◌, ◌++◌, ℕ, replicate, ap, sym, ◌∙◌, subst, arith, length, List}
-use Rattle.base.specs.declared.ids.CacheId.{CacheId}
-use Rattle.network.specs.Room.{times, AllBelow}
+use Rattle.std.proofs.Common.{◌≡◌, ◌++◌, ℕ, replicate, arith, length}
 use Rattle.control.specs.Sharing.{shares}
 use Rattle.control.specs.Counting.{forwards_by}
 use Rattle.control.proofs.HomeCounts.{listed-each, listed-rest, AllBelow-append, AllBelow-replicate}

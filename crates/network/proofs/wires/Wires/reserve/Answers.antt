@@ -1,5 +1,4 @@
-use Rattle.std.proofs.Common.{◌∙◌, ◌<◌, arith, ap, length, slice_index_or}
-use Rattle.network.specs.Room.{UsesRoomFor}
+use Rattle.std.proofs.Common.{◌∙◌, arith, ap, length}
 use Rattle.network.specs.Traffic.{Traffic}
 use Rattle.network.proofs.Listed.{AllBelow-get_or, room-more}
 use Rattle.network.proofs.wires.Wires.reserve.Goals as goal

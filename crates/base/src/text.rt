@@ -1,0 +1,8 @@
+//! Steps and outcomes as text: words with one blank between two.
+
+mod outcomes;
+mod steps;
+mod words;
+
+pub use steps::spells_one_step;
+pub use words::{cut, number_of, small_number_of};

@@ -1,0 +1,128 @@
+ghost use Rattle.std.specs.Prelude.{◌≡◌, MatchOption, codes};
+ghost use Rattle.base.specs.Spelling.{words, ask_words, IsSpelled, IsNoAsk, IsNoStep, IsStepLine, IsStepBehind, IsNoStepBehind, SpellsOneStep};
+
+use crate::ids::{BlockId, CacheId};
+use crate::step::{Ask, Step};
+use crate::text::words::{cut, only_number, small_and_number, small_number_of, two_small_numbers};
+use std::fmt;
+
+impl Step {
+    /// The step that a line is the text of: words with exactly one blank between two and none at the ends.
+    ///
+    /// `None` comes for every line that is the text of no step.
+    pub fn read(line: &[u8]) -> Option<Step>
+        ensures { MatchOption result (IsNoStep line.now) (λ s. IsStepLine line.now s) }
+    {
+        let (word, rest) = cut(line);
+        let rest = rest?;
+        if word == b"ask".as_slice() {
+            ask_step(rest)
+        } else if word == b"request".as_slice() {
+            request_step(rest)
+        } else if word == b"forward".as_slice() {
+            forward_step(rest)
+        } else if word == b"response".as_slice() {
+            response_step(rest)
+        } else {
+            None
+        }
+    }
+}
+
+/// The step that a line spells behind the word `ask`.
+fn ask_step(line: &[u8]) -> Option<Step>
+    ensures { MatchOption result (IsNoStepBehind (codes "ask") line.now) (λ s. IsStepBehind (codes "ask") line.now s) }
+{
+    let (cache, rest) = cut(line);
+    let (block, rest) = cut(rest?);
+    let ask = ask_of(rest?)?;
+    Some(Step::Ask {
+        cache: CacheId(small_number_of(cache)?),
+        block: BlockId(small_number_of(block)?),
+        ask,
+    })
+}
+
+/// What a core asks, in these words.
+fn ask_of(line: &[u8]) -> Option<Ask>
+    ensures { MatchOption result (IsNoAsk line.now) (λ ask. IsSpelled line.now (ask_words ask)) }
+{
+    let (word, rest) = cut(line);
+    match rest {
+        Some(value) => {
+            if word == b"store".as_slice() {
+                Some(Ask::Store(only_number(value)?))
+            } else {
+                None
+            }
+        }
+        None => {
+            if word == b"load".as_slice() {
+                Some(Ask::Load)
+            } else if word == b"replace".as_slice() {
+                Some(Ask::Replace)
+            } else {
+                None
+            }
+        }
+    }
+}
+
+/// The step that a line spells behind the word `request`.
+fn request_step(line: &[u8]) -> Option<Step>
+    ensures { MatchOption result (IsNoStepBehind (codes "request") line.now) (λ s. IsStepBehind (codes "request") line.now s) }
+{
+    let (block, index) = small_and_number(line)?;
+    Some(Step::Request {
+        block: BlockId(block),
+        index,
+    })
+}
+
+/// The step that a line spells behind the word `forward`.
+fn forward_step(line: &[u8]) -> Option<Step>
+    ensures { MatchOption result (IsNoStepBehind (codes "forward") line.now) (λ s. IsStepBehind (codes "forward") line.now s) }
+{
+    let (block, cache) = two_small_numbers(line)?;
+    Some(Step::Forward {
+        block: BlockId(block),
+        cache: CacheId(cache),
+    })
+}
+
+/// The step that a line spells behind the word `response`.
+fn response_step(line: &[u8]) -> Option<Step>
+    ensures { MatchOption result (IsNoStepBehind (codes "response") line.now) (λ s. IsStepBehind (codes "response") line.now s) }
+{
+    let (block, index) = small_and_number(line)?;
+    Some(Step::Response {
+        block: BlockId(block),
+        index,
+    })
+}
+
+impl fmt::Display for Ask {
+    fn fmt<W: fmt::Write>(&self, f: &mut fmt::Formatter<W>) -> fmt::Result {
+        match *self {
+            Ask::Load => write!(f, "load"),
+            Ask::Store(value) => write!(f, "store {value}"),
+            Ask::Replace => write!(f, "replace"),
+        }
+    }
+}
+
+impl fmt::Display for Step {
+    fn fmt<W: fmt::Write>(&self, f: &mut fmt::Formatter<W>) -> fmt::Result {
+        match *self {
+            Step::Ask { cache, block, ask } => write!(f, "ask {} {} {ask}", cache.0, block.0),
+            Step::Request { block, index } => write!(f, "request {} {index}", block.0),
+            Step::Forward { block, cache } => write!(f, "forward {} {}", block.0, cache.0),
+            Step::Response { block, index } => write!(f, "response {} {index}", block.0),
+        }
+    }
+}
+
+/// A line is the text of one step at most.
+pub fn spells_one_step()
+    ensures { SpellsOneStep }
+{}

@@ -1,0 +1,27 @@
+use base::MOST_CACHES;
+use clap::{Arg, ArgAction, Command, value_parser};
+use std::alloc::{AllocError, Global};
+
+fn caches<'a>(alloc: Global) -> Arg<'a> {
+    Arg::new(alloc, "caches")
+        .long("caches")
+        .value_name("C")
+        .help("How many caches the world has, 1 to 1024")
+        .required(true)
+        .action(ArgAction::Set)
+        .value_parser(value_parser!(u32).range(1..=MOST_CACHES as i64))
+}
+
+fn play<'a>(alloc: Global) -> Result<Command<'a>, AllocError> {
+    Command::new(alloc, "play")
+        .about("Reads steps, one a line, and prints what each of them did")
+        .arg(caches(alloc))
+}
+
+/// The command line of `msi`.
+pub fn msi<'a>(alloc: Global) -> Result<Command<'a>, AllocError> {
+    Command::new(alloc, "msi")
+        .about("Plays steps of a directory MSI cache-coherence protocol")
+        .subcommand_required(true)
+        .subcommand(play(alloc)?)
+}

@@ -1,0 +1,43 @@
+//! `msi`: plays steps of a directory MSI protocol.
+#![tactic(auto)]
+
+mod commands;
+mod fault;
+mod files;
+mod lines;
+mod play;
+mod serve;
+
+use files::Disk;
+use serve::serve;
+use std::alloc::{AllocError, Global};
+use std::process::ExitCode;
+use std::{env, io};
+
+#[cfg(test)]
+mod tests;
+
+fn words(rt: &HostRuntime) -> io::Result<Vec<String>> {
+    let mut words = Vec::new(rt.alloc());
+    for word in env::args(rt)? {
+        words.push(word)?;
+    }
+    Ok(words)
+}
+
+fn main(rt: HostRuntime) -> ExitCode {
+    let Ok(words) = words(&rt) else {
+        let _ = eprintln!(rt; "msi: no memory");
+        return ExitCode::from(3);
+    };
+    let mut disk = Disk::new(&rt);
+    let code = serve(
+        rt.alloc(),
+        words.as_slice(),
+        &mut disk,
+        rt.stdin(),
+        rt.stdout(),
+        rt.stderr(),
+    );
+    ExitCode::from(code)
+}

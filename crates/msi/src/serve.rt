@@ -1,0 +1,74 @@
+use crate::commands;
+use crate::fault::Fault;
+use crate::files::Files;
+use crate::play::play;
+use base::Shape;
+use clap::ArgMatches;
+use clap::error::ErrorKind;
+use std::alloc::Global;
+use std::io::{Read, Write};
+
+/// Serves the words of a command line over these files and streams, and answers the exit status:
+/// 0 where all went well, 2 for bad words or input, 3 for device and memory.
+pub fn serve<F: Files, I: Read + Drop, O: Write + Drop, E: Write + Drop>(
+    alloc: Global,
+    words: &[String],
+    files: &mut F,
+    input: I,
+    output: O,
+    errors: E,
+) -> u8 {
+    let mut output = output;
+    let mut errors = errors;
+    let Ok(msi) = commands::msi(alloc) else {
+        return refuse(&Fault::NoMemory, &mut errors);
+    };
+    let matches = match msi.try_get_matches_from(words) {
+        Ok(matches) => matches,
+        Err(error) => {
+            if error.kind() == ErrorKind::OutOfMemory {
+                return refuse(&Fault::NoMemory, &mut errors);
+            }
+            if error.use_stderr() {
+                let _ = write!(errors, "{error}");
+                return 2;
+            }
+            if write!(output, "{error}").is_err() || output.flush().is_err() {
+                return refuse(&Fault::Device, &mut errors);
+            }
+            return 0;
+        }
+    };
+    match dispatch(alloc, &matches, files, input, output) {
+        Ok(()) => 0,
+        Err(fault) => refuse(&fault, &mut errors),
+    }
+}
+
+/// Prints a fault, and answers its exit status.
+fn refuse<E: Write>(fault: &Fault, errors: &mut E) -> u8 {
+    let _ = writeln!(errors, "{fault}");
+    fault.status()
+}
+
+fn dispatch<F: Files, I: Read + Drop, O: Write + Drop>(
+    alloc: Global,
+    matches: &ArgMatches<'_>,
+    _files: &mut F,
+    input: I,
+    output: O,
+) -> Result<(), Fault> {
+    match matches.subcommand() {
+        Some(("play", options)) => play(alloc, shape(options)?, input, output),
+        _ => Ok(()),
+    }
+}
+
+fn shape(options: &ArgMatches<'_>) -> Result<Shape, Fault> {
+    Ok(Shape::new(number(options, "caches"), 1)?)
+}
+
+/// The number that an option was given, which `clap` has tested.
+fn number(options: &ArgMatches<'_>, name: &str) -> u32 {
+    options.get_one::<u32>(name).unwrap_or(0)
+}

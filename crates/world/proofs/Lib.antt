@@ -1,0 +1,4 @@
+pub mod Keeping
+pub mod Histories
+pub mod Running
+pub mod Listing

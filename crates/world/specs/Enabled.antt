@@ -1,0 +1,63 @@
+use Rattle.std.specs.Prelude.{ℕ, ◌+◌, List, [], ◌∷◌, ◌++◌, Bool, if◌then◌else◌}
+use Rattle.base.specs.declared.ids.BlockId.{BlockId}
+use Rattle.base.specs.declared.step.Step.{Step}
+use Rattle.base.specs.declared.step.Step.TheVariants as step
+use Rattle.network.specs.declared.message.Request.{Request}
+use Rattle.network.specs.declared.message.Forward.{Forward}
+use Rattle.network.specs.declared.message.Response.{Response}
+use Rattle.machine.specs.Tables.{Tables}
+use Rattle.machine.specs.Block.{BlockState}
+use Rattle.machine.specs.Transition.{transition}
+use Rattle.machine.specs.Machine.{State}
+use Rattle.world.specs.Looks.{is_held}
+
+-- whether a step would be held in its block
+abbrev pub held_in : Tables → Step → BlockState → Bool
+held_in tables s b = is_held (transition tables s b).outcome
+
+-- a step, unless it would be held
+abbrev pub unless_held : Tables → Step → BlockState → List Step
+unless_held tables s b = if held_in tables s b then [] else (s ∷ [])
+
+-- the requests of a block that wouldn't be held, of those from a place on
+abbrev pub requests_from : Tables → BlockId → BlockState → ℕ → List Request → List Step
+requests_from tables block b i [] = []
+requests_from tables block b i (r ∷ rs) = unless_held tables (step.Request block i) b ++ requests_from tables block b (i + 1) rs
+
+-- the head of a link that wouldn't be held, if the link has a message
+abbrev pub head_from : Tables → BlockId → BlockState → ℕ → List Forward → List Step
+head_from tables block b cache [] = []
+head_from tables block b cache (f ∷ fs) = unless_held tables (step.Forward block (record { 0 = cache })) b
+
+-- the heads of links that wouldn't be held, of those from a cache on
+abbrev pub heads_from : Tables → BlockId → BlockState → ℕ → List (List Forward) → List Step
+heads_from tables block b cache [] = []
+heads_from tables block b cache (l ∷ ls) = head_from tables block b cache l ++ heads_from tables block b (cache + 1) ls
+
+-- the responses of a block that wouldn't be held, of those from a place on
+abbrev pub responses_from : Tables → BlockId → BlockState → ℕ → List Response → List Step
+responses_from tables block b i [] = []
+responses_from tables block b i (r ∷ rs) = unless_held tables (step.Response block i) b ++ responses_from tables block b (i + 1) rs
+
+-- the three kinds of delivery of a block
+abbrev pub requests_in : Tables → BlockId → BlockState → List Step
+requests_in tables block b = requests_from tables block b 0 b.traffic.requests
+
+abbrev pub heads_in : Tables → BlockId → BlockState → List Step
+heads_in tables block b = heads_from tables block b 0 b.traffic.links
+
+abbrev pub responses_in : Tables → BlockId → BlockState → List Step
+responses_in tables block b = responses_from tables block b 0 b.traffic.responses
+
+-- what there is of each block, of those from a number on
+abbrev pub of_each : (BlockId → BlockState → List Step) → ℕ → List BlockState → List Step
+of_each f i [] = []
+of_each f i (b ∷ bs) = f (record { 0 = i }) b ++ of_each f (i + 1) bs
+
+-- the deliveries that wouldn't be held: requests by block and place, then heads by block and cache, then responses by block and place
+abbrev pub all_enabled : Tables → List BlockState → List Step
+all_enabled tables bs = of_each (requests_in tables) 0 bs ++ of_each (heads_in tables) 0 bs ++ of_each (responses_in tables) 0 bs
+
+-- in a broken world there are none
+abbrev pub enabled_steps : Tables → State → List Step
+enabled_steps tables s = if s.broken then [] else all_enabled tables s.blocks

@@ -1,0 +1,11 @@
+pub mod Kept
+pub mod View
+pub mod Runs
+pub mod Looks
+pub mod Enabled
+pub use Rattle.base.specs.Extent
+pub use Rattle.base.specs.Steps
+pub use Rattle.control.specs.Sharing
+pub use Rattle.machine.specs.Tables
+pub use Rattle.machine.specs.Block
+pub use Rattle.machine.specs.Machine

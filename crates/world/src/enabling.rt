@@ -1,0 +1,62 @@
+ghost use Rattle.std.specs.Prelude.{◌≡◌, ◌<◌, ◌^◌, ◌++◌, OnOk, length};
+ghost use Rattle.world.specs.Enabled.{of_each, requests_in, heads_in, responses_in};
+ghost use Rattle.world.specs.View.{states};
+
+use crate::block::Block;
+use crate::tables::Tables;
+use crate::worlds::World;
+use base::{BlockId, NoMemory, Step};
+use std::alloc::Global;
+
+impl World {
+    ghost use Rattle.std.specs.Prelude.{◌≡◌, IfOk};
+    ghost use Rattle.world.specs.Enabled.{enabled_steps};
+
+    /// The deliveries that are there and wouldn't be held: the requests by block and place, then
+    /// the heads of links by block and cache, then the responses by block and place. A broken
+    /// world has none.
+    pub fn enabled(&self, alloc: Global) -> Result<Vec<Step>, NoMemory>
+        ensures { IfOk result (λ steps. steps.items ≡ enabled_steps self.now.tables self.now.state) }
+    {
+        let mut steps = Vec::new(alloc);
+        if self.met_blank {
+            return Ok(steps);
+        }
+        let _limit = self.shape.blocks();
+        let blocks = self.blocks.as_slice();
+        list_requests(blocks, &self.tables, &mut steps)?;
+        list_heads(blocks, &self.tables, &mut steps)?;
+        list_responses(blocks, &self.tables, &mut steps)?;
+        Ok(steps)
+    }
+}
+
+fn list_requests(blocks: &[Block], tables: &Tables, steps: &mut Vec<Step>) -> Result<(), NoMemory>
+    requires { length blocks.now < 2 ^ 32 }
+    ensures { OnOk result (steps.new.items ≡ steps.old.items ++ of_each (requests_in tables.now) 0 (states blocks.now)) }
+{
+    for (i, block) in blocks.iter().enumerate() {
+        block.push_requests(tables, BlockId(i as u32), steps)?;
+    }
+    Ok(())
+}
+
+fn list_heads(blocks: &[Block], tables: &Tables, steps: &mut Vec<Step>) -> Result<(), NoMemory>
+    requires { length blocks.now < 2 ^ 32 }
+    ensures { OnOk result (steps.new.items ≡ steps.old.items ++ of_each (heads_in tables.now) 0 (states blocks.now)) }
+{
+    for (i, block) in blocks.iter().enumerate() {
+        block.push_heads(tables, BlockId(i as u32), steps)?;
+    }
+    Ok(())
+}
+
+fn list_responses(blocks: &[Block], tables: &Tables, steps: &mut Vec<Step>) -> Result<(), NoMemory>
+    requires { length blocks.now < 2 ^ 32 }
+    ensures { OnOk result (steps.new.items ≡ steps.old.items ++ of_each (responses_in tables.now) 0 (states blocks.now)) }
+{
+    for (i, block) in blocks.iter().enumerate() {
+        block.push_responses(tables, BlockId(i as u32), steps)?;
+    }
+    Ok(())
+}

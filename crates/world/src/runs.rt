@@ -1,0 +1,49 @@
+use crate::worlds::World;
+use base::{Outcome, Step};
+use thiserror::Error;
+
+/// Memory was refused in a run: exactly the first `done` steps were made.
+#[derive(Clone, Copy, Debug, PartialEq, Eq, Error)]
+#[error("no memory after {done} steps")]
+pub struct RunStop {
+    pub done: usize,
+}
+
+impl World {
+    ghost use Rattle.std.specs.Prelude.{◌<◌, IfErr, OnOk, length, take};
+    ghost use Rattle.world.specs.View.{LeadsOn};
+    ghost use Rattle.world.specs.Runs.{IsRun};
+
+    /// Makes these steps, and appends an outcome for each.
+    ///
+    /// Where memory is refused exactly the first `done` steps stand, and their outcomes are appended.
+    pub fn run(&mut self, steps: &[Step], outcomes: &mut Vec<Outcome>) -> Result<(), RunStop>
+        ensures ok { OnOk result (IsRun self.old steps.now outcomes.old.items self.new outcomes.new.items) }
+        ensures err { IfErr result (λ stop. IsRun self.old (take stop.done steps.now) outcomes.old.items self.new outcomes.new.items) }
+        ensures done { IfErr result (λ stop. stop.done < length steps.now) }
+        ensures history { OnOk result (LeadsOn self.old steps.now self.new) }
+        ensures history_so_far { IfErr result (λ stop. LeadsOn self.old (take stop.done steps.now) self.new) }
+    {
+        match self.advance_all(steps, outcomes) {
+            Ok(()) => return Ok(()),
+            Err(stop) => return Err(stop),
+        }
+    }
+
+    fn advance_all(&mut self, steps: &[Step], outcomes: &mut Vec<Outcome>) -> Result<(), RunStop>
+        ensures ok { OnOk result (IsRun self.old steps.now outcomes.old.items self.new outcomes.new.items) }
+        ensures err { IfErr result (λ stop. IsRun self.old (take stop.done steps.now) outcomes.old.items self.new outcomes.new.items) }
+        ensures done { IfErr result (λ stop. stop.done < length steps.now) }
+    {
+        for (i, step) in steps.iter().enumerate() {
+            if let Err(_) = outcomes.reserve(1) {
+                return Err(RunStop { done: i });
+            }
+            let Ok(outcome) = self.advance(*step) else {
+                return Err(RunStop { done: i });
+            };
+            outcomes.push_reserved(outcome);
+        }
+        Ok(())
+    }
+}
