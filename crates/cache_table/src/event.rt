@@ -23,7 +23,7 @@ pub enum CacheEvent {
     PutAck,
     /// `Data-Dir-Zero`: Data from the directory, after which no Inv-Ack is awaited.
     DataDirZero,
-    /// `Data-Dir-More`: Data from the directory, after which Inv-Acks are awaited.
+    /// `Data-Dir-More`: Data from the directory, after which the Inv-Acks announced and those counted differ.
     DataDirMore,
     /// `Data-Owner`: Data from the cache that was the owner.
     DataOwner,

@@ -16,7 +16,7 @@ pub enum DirectoryEvent {
     PutMOwner,
     /// `PutM-NonOwner`: a cache that isn't the owner, or no longer is, gives up its copy.
     PutMNonOwner,
-    /// `Data`: Data from the cache that was the owner.
+    /// `Data`: a response to the home. In the protocol it is the Data of the cache that was the owner.
     Data,
 }
 

@@ -9,6 +9,7 @@ mod actions;
 mod baseline;
 mod entry;
 mod event;
+mod names;
 mod state;
 mod table;
 

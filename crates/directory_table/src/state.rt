@@ -8,7 +8,7 @@ pub enum DirectoryState {
     I,
     /// `S`: the sharers may have copies to read, and memory has the value.
     S,
-    /// `M`: the owner has the only copy, and memory may be out of date.
+    /// `M`: the owner has the only copy or is about to get it, and memory may be out of date.
     M,
     /// `S^D`: the owner was told to share its copy, and the home waits for its Data.
     SD,

@@ -1,4 +1,4 @@
-use base::MOST_CACHES;
+use base::{MOST_BLOCKS, MOST_CACHES};
 use clap::{Arg, ArgAction, Command, value_parser};
 use std::alloc::{AllocError, Global};
 
@@ -12,10 +12,25 @@ fn caches<'a>(alloc: Global) -> Arg<'a> {
         .value_parser(value_parser!(u32).range(1..=MOST_CACHES as i64))
 }
 
+fn blocks<'a>(alloc: Global) -> Arg<'a> {
+    Arg::new(alloc, "blocks")
+        .long("blocks")
+        .value_name("B")
+        .help("How many blocks the world has, 1 to 4096")
+        .default_value("1")
+        .action(ArgAction::Set)
+        .value_parser(value_parser!(u32).range(1..=MOST_BLOCKS as i64))
+}
+
 fn play<'a>(alloc: Global) -> Result<Command<'a>, AllocError> {
     Command::new(alloc, "play")
         .about("Reads steps, one a line, and prints what each of them did")
-        .arg(caches(alloc))
+        .arg(caches(alloc))?
+        .arg(blocks(alloc))
+}
+
+fn tables<'a>(alloc: Global) -> Command<'a> {
+    Command::new(alloc, "tables").about("Prints the cells of both controller tables, one a line")
 }
 
 /// The command line of `msi`.
@@ -23,5 +38,6 @@ pub fn msi<'a>(alloc: Global) -> Result<Command<'a>, AllocError> {
     Command::new(alloc, "msi")
         .about("Plays steps of a directory MSI cache-coherence protocol")
         .subcommand_required(true)
-        .subcommand(play(alloc)?)
+        .subcommand(play(alloc)?)?
+        .subcommand(tables(alloc))
 }

@@ -7,6 +7,7 @@ mod files;
 mod lines;
 mod play;
 mod serve;
+mod tables;
 
 use files::Disk;
 use serve::serve;

@@ -2,11 +2,13 @@ use crate::commands;
 use crate::fault::Fault;
 use crate::files::Files;
 use crate::play::play;
+use crate::tables::print_tables;
 use base::Shape;
 use clap::ArgMatches;
 use clap::error::ErrorKind;
 use std::alloc::Global;
 use std::io::{Read, Write};
+use world::Tables;
 
 /// Serves the words of a command line over these files and streams, and answers the exit status:
 /// 0 where all went well, 2 for bad words or input, 3 for device and memory.
@@ -60,12 +62,13 @@ fn dispatch<F: Files, I: Read + Drop, O: Write + Drop>(
 ) -> Result<(), Fault> {
     match matches.subcommand() {
         Some(("play", options)) => play(alloc, shape(options)?, input, output),
+        Some(("tables", _)) => print_tables(alloc, &Tables::baseline(), output),
         _ => Ok(()),
     }
 }
 
 fn shape(options: &ArgMatches<'_>) -> Result<Shape, Fault> {
-    Ok(Shape::new(number(options, "caches"), 1)?)
+    Ok(Shape::new(number(options, "caches"), number(options, "blocks"))?)
 }
 
 /// The number that an option was given, which `clap` has tested.

@@ -86,6 +86,10 @@ fn rows_are_played(rt: HostRuntime) -> Result<(), Fail> {
             "sent\nmoved\nload 0 0\n",
         ),
         (
+            "ask 0 0 store 7\nrequest 0 0\nresponse 0 0\nask 1 0 load\nrequest 0 0\nforward 0 0\nresponse 0 0\nresponse 0 0\n",
+            "sent\nmoved\nstore 0 7\nsent\nmoved\nmoved\nload 1 7\nmoved\n",
+        ),
+        (
             "ask 0 0 store 7\nrequest 0 0\nask 1 0 load\nrequest 0 0\nforward 0 0\nresponse 0 0\nforward 0 0\nresponse 0 0\nresponse 0 0\n",
             "sent\nmoved\nsent\nmoved\nheld\nstore 0 7\nmoved\nload 1 7\nmoved\n",
         ),
@@ -99,6 +103,47 @@ fn rows_are_played(rt: HostRuntime) -> Result<(), Fail> {
         let served = run(rt.alloc(), "msi play --caches 2", input)?;
         expect(&rt, &served, 0, output, "");
     }
+    Ok(())
+}
+
+#[test]
+fn blocks_of_a_world(rt: HostRuntime) -> Result<(), Fail> {
+    let steps =
+        "ask 0 4095 store 3\nask 0 4096 load\nrequest 4095 0\nresponse 4095 0\nask 0 4095 load\n";
+    let served = run(rt.alloc(), "msi play --caches 1 --blocks 4096", steps)?;
+    expect(
+        &rt,
+        &served,
+        0,
+        "sent\nabsent\nmoved\nstore 0 3\nload 0 3\n",
+        "",
+    );
+    Ok(())
+}
+
+#[test]
+fn cells_of_the_tables(rt: HostRuntime) -> Result<(), Fail> {
+    let served = run(rt.alloc(), "msi tables", "")?;
+    assert_eq!(rt; served.status, 0);
+    let Ok(text) = str::from_utf8(served.output.as_slice()) else {
+        return Err(Fail::from("the cells aren't text"));
+    };
+    assert_eq!(rt; text.lines().count(), 160);
+    assert!(rt;
+        text.starts_with("cell cache I Load act IS^D gets\ncell cache I Store act IM^AD getm\n")
+    );
+    for line in [
+        "\ncell cache IS^D Inv stall\n",
+        "\ncell cache SM^AD Data-Owner blank\n",
+        "\ncell cache IM^AD Data-Dir-More act IM^A\n",
+        "\ncell cache M Fwd-GetS act S data-req data-dir\n",
+        "\ncell cache II^A Last-Inv-Ack blank\ncell directory I GetS act S data-req add-req\n",
+        "\ncell directory S GetM act M data-acks inv-sharers clear-sharers set-owner\n",
+        "\ncell directory S^D PutM-Owner blank\n",
+    ] {
+        assert!(rt; text.contains(line), "no line {line:?}");
+    }
+    assert!(rt; text.ends_with("cell directory S^D Data act S copy-data\n"));
     Ok(())
 }
 
@@ -128,6 +173,8 @@ fn bad_words_and_help(rt: HostRuntime) -> Result<(), Fail> {
         "msi play --caches 0",
         "msi play --caches 1025",
         "msi play --caches two",
+        "msi play --caches 2 --blocks 0",
+        "msi play --caches 2 --blocks 4097",
         "msi play --caches 2 --colour",
     ] {
         let served = run(alloc, line, "")?;

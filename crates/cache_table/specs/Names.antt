@@ -1,0 +1,58 @@
+use Rattle.std.specs.Prelude.{◌≢◌, ℕ, List, codes}
+use Rattle.cache_table.specs.declared.state.CacheState.{CacheState}
+use Rattle.cache_table.specs.declared.state.CacheState.TheVariants as state
+use Rattle.cache_table.specs.declared.event.CacheEvent.{CacheEvent}
+use Rattle.cache_table.specs.declared.event.CacheEvent.TheVariants as event
+use Rattle.cache_table.specs.declared.actions.CacheAction.{CacheAction}
+use Rattle.cache_table.specs.declared.actions.CacheAction.TheVariants as action
+
+-- how a state is spelled
+abbrev pub state_name : CacheState → List ℕ
+state_name state.I = codes "I"
+state_name state.IsD = codes "IS^D"
+state_name state.ImAd = codes "IM^AD"
+state_name state.ImA = codes "IM^A"
+state_name state.S = codes "S"
+state_name state.SmAd = codes "SM^AD"
+state_name state.SmA = codes "SM^A"
+state_name state.M = codes "M"
+state_name state.MiA = codes "MI^A"
+state_name state.SiA = codes "SI^A"
+state_name state.IiA = codes "II^A"
+
+-- no state is spelled so
+abbrev pub IsNoState : List ℕ → Type 0
+IsNoState text = (s : CacheState) → text ≢ state_name s
+
+-- how an event is spelled
+abbrev pub event_name : CacheEvent → List ℕ
+event_name event.Load = codes "Load"
+event_name event.Store = codes "Store"
+event_name event.Replacement = codes "Replacement"
+event_name event.FwdGetS = codes "Fwd-GetS"
+event_name event.FwdGetM = codes "Fwd-GetM"
+event_name event.Inv = codes "Inv"
+event_name event.PutAck = codes "Put-Ack"
+event_name event.DataDirZero = codes "Data-Dir-Zero"
+event_name event.DataDirMore = codes "Data-Dir-More"
+event_name event.DataOwner = codes "Data-Owner"
+event_name event.InvAck = codes "Inv-Ack"
+event_name event.LastInvAck = codes "Last-Inv-Ack"
+
+-- no event is spelled so
+abbrev pub IsNoEvent : List ℕ → Type 0
+IsNoEvent text = (e : CacheEvent) → text ≢ event_name e
+
+-- how an action is spelled
+abbrev pub action_name : CacheAction → List ℕ
+action_name action.GetS = codes "gets"
+action_name action.GetM = codes "getm"
+action_name action.PutS = codes "puts"
+action_name action.PutM = codes "putm"
+action_name action.InvAck = codes "inv-ack"
+action_name action.DataReq = codes "data-req"
+action_name action.DataDir = codes "data-dir"
+
+-- no action is spelled so
+abbrev pub IsNoAction : List ℕ → Type 0
+IsNoAction text = (a : CacheAction) → text ≢ action_name a

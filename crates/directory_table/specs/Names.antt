@@ -1,0 +1,52 @@
+use Rattle.std.specs.Prelude.{◌≢◌, ℕ, List, codes}
+use Rattle.directory_table.specs.declared.state.DirectoryState.{DirectoryState}
+use Rattle.directory_table.specs.declared.state.DirectoryState.TheVariants as state
+use Rattle.directory_table.specs.declared.event.DirectoryEvent.{DirectoryEvent}
+use Rattle.directory_table.specs.declared.event.DirectoryEvent.TheVariants as event
+use Rattle.directory_table.specs.declared.actions.DirectoryAction.{DirectoryAction}
+use Rattle.directory_table.specs.declared.actions.DirectoryAction.TheVariants as action
+
+-- how a state is spelled
+abbrev pub state_name : DirectoryState → List ℕ
+state_name state.I = codes "I"
+state_name state.S = codes "S"
+state_name state.M = codes "M"
+state_name state.SD = codes "S^D"
+
+-- no state is spelled so
+abbrev pub IsNoState : List ℕ → Type 0
+IsNoState text = (s : DirectoryState) → text ≢ state_name s
+
+-- how an event is spelled
+abbrev pub event_name : DirectoryEvent → List ℕ
+event_name event.GetS = codes "GetS"
+event_name event.GetM = codes "GetM"
+event_name event.PutSNotLast = codes "PutS-NotLast"
+event_name event.PutSLast = codes "PutS-Last"
+event_name event.PutMOwner = codes "PutM-Owner"
+event_name event.PutMNonOwner = codes "PutM-NonOwner"
+event_name event.Data = codes "Data"
+
+-- no event is spelled so
+abbrev pub IsNoEvent : List ℕ → Type 0
+IsNoEvent text = (e : DirectoryEvent) → text ≢ event_name e
+
+-- how an action is spelled
+abbrev pub action_name : DirectoryAction → List ℕ
+action_name action.DataReq = codes "data-req"
+action_name action.DataAcks = codes "data-acks"
+action_name action.InvSharers = codes "inv-sharers"
+action_name action.FwdGetS = codes "fwd-gets"
+action_name action.FwdGetM = codes "fwd-getm"
+action_name action.PutAck = codes "put-ack"
+action_name action.AddReq = codes "add-req"
+action_name action.AddOwner = codes "add-owner"
+action_name action.RemoveReq = codes "remove-req"
+action_name action.ClearSharers = codes "clear-sharers"
+action_name action.ClearOwner = codes "clear-owner"
+action_name action.SetOwner = codes "set-owner"
+action_name action.CopyData = codes "copy-data"
+
+-- no action is spelled so
+abbrev pub IsNoAction : List ℕ → Type 0
+IsNoAction text = (a : DirectoryAction) → text ≢ action_name a
