@@ -1,4 +1,7 @@
-use Rattle.std.specs.Prelude.{◌≢◌, ℕ, List, codes}
+use Rattle.std.specs.Prelude.{◌≢◌, ℕ, List, [], ◌∷◌, Option, codes}
+use Rattle.std.specs.List.{find}
+use Rattle.std.specs.Str.{bytes_eq}
+use Rattle.cache_table.specs.Baseline.{all_states, all_events}
 use Rattle.cache_table.specs.declared.state.CacheState.{CacheState}
 use Rattle.cache_table.specs.declared.state.CacheState.TheVariants as state
 use Rattle.cache_table.specs.declared.event.CacheEvent.{CacheEvent}
@@ -20,6 +23,10 @@ state_name state.MiA = codes "MI^A"
 state_name state.SiA = codes "SI^A"
 state_name state.IiA = codes "II^A"
 
+-- the state that is spelled so, if there is one
+abbrev pub state_named : List ℕ → Option CacheState
+state_named text = find (λ s. bytes_eq (state_name s) text) all_states
+
 -- no state is spelled so
 abbrev pub IsNoState : List ℕ → Type 0
 IsNoState text = (s : CacheState) → text ≢ state_name s
@@ -39,6 +46,10 @@ event_name event.DataOwner = codes "Data-Owner"
 event_name event.InvAck = codes "Inv-Ack"
 event_name event.LastInvAck = codes "Last-Inv-Ack"
 
+-- the event that is spelled so, if there is one
+abbrev pub event_named : List ℕ → Option CacheEvent
+event_named text = find (λ e. bytes_eq (event_name e) text) all_events
+
 -- no event is spelled so
 abbrev pub IsNoEvent : List ℕ → Type 0
 IsNoEvent text = (e : CacheEvent) → text ≢ event_name e
@@ -52,6 +63,16 @@ action_name action.PutM = codes "putm"
 action_name action.InvAck = codes "inv-ack"
 action_name action.DataReq = codes "data-req"
 action_name action.DataDir = codes "data-dir"
+
+-- all actions
+abbrev pub all_actions : List CacheAction
+all_actions =
+    action.GetS ∷ action.GetM ∷ action.PutS ∷ action.PutM ∷
+    action.InvAck ∷ action.DataReq ∷ action.DataDir ∷ []
+
+-- the action that is spelled so, if there is one
+abbrev pub action_named : List ℕ → Option CacheAction
+action_named text = find (λ a. bytes_eq (action_name a) text) all_actions
 
 -- no action is spelled so
 abbrev pub IsNoAction : List ℕ → Type 0

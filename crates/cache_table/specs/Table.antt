@@ -5,6 +5,7 @@ use Rattle.cache_table.specs.declared.state.CacheState.TheVariants.{I, IsD, ImAd
 use Rattle.cache_table.specs.declared.event.CacheEvent.{CacheEvent}
 use Rattle.cache_table.specs.declared.event.CacheEvent.TheVariants.{Load, Store, Replacement, FwdGetS, FwdGetM, Inv, PutAck, DataDirZero, DataDirMore, DataOwner, InvAck, LastInvAck}
 use Rattle.cache_table.specs.declared.entry.CacheEntry.{CacheEntry}
+use Rattle.cache_table.specs.declared.change.CacheChange.{CacheChange}
 use Rattle.cache_table.specs.declared.entry.CacheEntry.TheVariants.{Blank}
 
 -- the number of a state's row, counted from 0
@@ -63,28 +64,22 @@ pub record IsWhole (cells : Cells) : Type 0 where
   pub rows : length cells ≡ 11
   pub columns : AllTwelve cells
 
--- a state and an event, and the entry that their cell is to have
-pub record Change : Type 0 where
-  pub state : CacheState
-  pub event : CacheEvent
-  pub entry : CacheEntry
-
 -- these cells after these changes, made in order
-abbrev pub laid_over : List Change → Cells → Cells
+abbrev pub laid_over : List CacheChange → Cells → Cells
 laid_over [] cells = cells
 laid_over (change ∷ later) cells = laid_over later (with_cell cells change.state change.event change.entry)
 
 -- whether a change is of the cell of this state and this event
-abbrev pub is_of : Change → CacheState → CacheEvent → Bool
+abbrev pub is_of : CacheChange → CacheState → CacheEvent → Bool
 is_of change state event =
     (state_number change.state == state_number state) && (event_number change.event == event_number event)
 
 -- the entry that a change gives the cell of this state and this event, if it is of that cell
-abbrev pub entry_given : Change → CacheState → CacheEvent → Option CacheEntry
+abbrev pub entry_given : CacheChange → CacheState → CacheEvent → Option CacheEntry
 entry_given change state event = if is_of change state event then Some change.entry else None
 
 -- the entry that the last change of this state and this event gives, if there is such a change
-abbrev pub last_entry : List Change → CacheState → CacheEvent → Option CacheEntry
+abbrev pub last_entry : List CacheChange → CacheState → CacheEvent → Option CacheEntry
 last_entry [] state event = None
 last_entry (change ∷ later) state event =
     option_or (last_entry later state event) (entry_given change state event)
@@ -92,5 +87,5 @@ last_entry (change ∷ later) state event =
 -- where changes are laid over a whole table, each cell holds the entry of its last change, or its own if there is none
 abbrev pub LastChangeHolds : Type 0
 LastChangeHolds =
-    (cells : Cells) (changes : List Change) (state : CacheState) (event : CacheEvent) → IsWhole cells →
+    (cells : Cells) (changes : List CacheChange) (state : CacheState) (event : CacheEvent) → IsWhole cells →
     cell (laid_over changes cells) state event ≡ unwrap_or (last_entry changes state event) (cell cells state event)

@@ -7,6 +7,7 @@
 
 mod actions;
 mod baseline;
+mod change;
 mod entry;
 mod event;
 mod names;
@@ -14,6 +15,7 @@ mod state;
 mod table;
 
 pub use actions::{CacheAction, CacheActions};
+pub use change::CacheChange;
 pub use entry::CacheEntry;
 pub use event::CacheEvent;
 pub use state::CacheState;

@@ -6,7 +6,7 @@ use std::fmt;
 
 impl CacheState {
     ghost use Rattle.std.specs.Prelude.{◌≡◌, MatchOption};
-    ghost use Rattle.cache_table.specs.Names.{state_name, IsNoState};
+    ghost use Rattle.cache_table.specs.Names.{state_name, state_named, IsNoState};
 
     /// All states, in the order of a table's rows.
     pub const ALL: [CacheState; 11] = [
@@ -44,7 +44,8 @@ impl CacheState {
 
     /// The state that is spelled so. `None` comes exactly where none is.
     pub fn named(text: &str) -> Option<CacheState>
-        ensures { MatchOption result (IsNoState text.now) (λ state. text.now ≡ state_name state) }
+        ensures spelled { MatchOption result (IsNoState text.now) (λ state. text.now ≡ state_name state) }
+        ensures named { result ≡ state_named text.now }
     {
         match text {
             "I" => Some(CacheState::I),
@@ -65,7 +66,7 @@ impl CacheState {
 
 impl CacheEvent {
     ghost use Rattle.std.specs.Prelude.{◌≡◌, MatchOption};
-    ghost use Rattle.cache_table.specs.Names.{event_name, IsNoEvent};
+    ghost use Rattle.cache_table.specs.Names.{event_name, event_named, IsNoEvent};
 
     /// All events, in the order of a table's columns.
     pub const ALL: [CacheEvent; 12] = [
@@ -105,7 +106,8 @@ impl CacheEvent {
 
     /// The event that is spelled so. `None` comes exactly where none is.
     pub fn named(text: &str) -> Option<CacheEvent>
-        ensures { MatchOption result (IsNoEvent text.now) (λ event. text.now ≡ event_name event) }
+        ensures spelled { MatchOption result (IsNoEvent text.now) (λ event. text.now ≡ event_name event) }
+        ensures named { result ≡ event_named text.now }
     {
         match text {
             "Load" => Some(CacheEvent::Load),
@@ -127,7 +129,7 @@ impl CacheEvent {
 
 impl CacheAction {
     ghost use Rattle.std.specs.Prelude.{◌≡◌, MatchOption};
-    ghost use Rattle.cache_table.specs.Names.{action_name, IsNoAction};
+    ghost use Rattle.cache_table.specs.Names.{action_name, action_named, IsNoAction};
 
     /// All actions, in order.
     pub const ALL: [CacheAction; 7] = [
@@ -157,7 +159,8 @@ impl CacheAction {
 
     /// The action that is spelled so. `None` comes exactly where none is.
     pub fn named(text: &str) -> Option<CacheAction>
-        ensures { MatchOption result (IsNoAction text.now) (λ action. text.now ≡ action_name action) }
+        ensures spelled { MatchOption result (IsNoAction text.now) (λ action. text.now ≡ action_name action) }
+        ensures named { result ≡ action_named text.now }
     {
         match text {
             "gets" => Some(CacheAction::GetS),

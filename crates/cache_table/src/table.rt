@@ -1,8 +1,9 @@
 ghost use Rattle.std.specs.Prelude.{◌≡◌};
-ghost use Rattle.cache_table.specs.Table.{cell, with_cell, IsWhole, LastChangeHolds};
+ghost use Rattle.cache_table.specs.Table.{cell, laid_over, with_cell, IsWhole, LastChangeHolds};
 ghost use Rattle.cache_table.specs.Baseline.{baseline_cells, baseline_entry};
 
 use crate::baseline::baseline_rows;
+use crate::change::CacheChange;
 use crate::entry::CacheEntry;
 use crate::event::CacheEvent;
 use crate::state::CacheState;
@@ -57,6 +58,17 @@ impl CacheTable {
         let mut cells = self.cells;
         cells[state.number()][event.number()] = entry;
         CacheTable { cells }
+    }
+
+    /// This table after these changes, made in order.
+    pub fn with_changes(self, changes: &[CacheChange]) -> CacheTable
+        ensures { result ≡ laid_over changes.now self }
+    {
+        let mut table = self;
+        for change in changes {
+            table = table.with(change.state, change.event, change.entry);
+        }
+        table
     }
 }
 

@@ -9,8 +9,9 @@ use Rattle.directory_table.specs.declared.state.DirectoryState.TheVariants.{I, S
 use Rattle.directory_table.specs.declared.event.DirectoryEvent.{DirectoryEvent}
 use Rattle.directory_table.specs.declared.event.DirectoryEvent.TheVariants as event
 use Rattle.directory_table.specs.declared.entry.DirectoryEntry.{DirectoryEntry}
+use Rattle.directory_table.specs.declared.change.DirectoryChange.{DirectoryChange}
 use Rattle.directory_table.specs.declared.entry.DirectoryEntry.TheVariants.{Blank}
-use Rattle.directory_table.specs.Table.{Cells, IsWhole, Change, LastChangeHolds, cell, with_cell, row, state_number, event_number, laid_over, last_entry, entry_given}
+use Rattle.directory_table.specs.Table.{Cells, IsWhole, LastChangeHolds, cell, with_cell, row, state_number, event_number, laid_over, last_entry, entry_given}
 use Rattle.directory_table.specs.Baseline.{all_states, all_events}
 use Rattle.directory_table.proofs.Whole.{row-length, IsWhole-set}
 
@@ -86,7 +87,7 @@ cell-with_cell_other cells state event entry s e whole other =
     other-place cells (state_number state) (event_number event) (state_number s) (event_number e) entry Blank (has-row cells state whole) (λ same_row same_column. other (same-state s state same_row, same-event e event same_column)) (cases_eq (state_number s) (state_number state))
 
 -- what a change gives is in its cell, by whether it is of the state and whether it is of the event
-after-change : (cells : Cells) (change : Change) (state : DirectoryState) (event : DirectoryEvent) → IsWhole cells →
+after-change : (cells : Cells) (change : DirectoryChange) (state : DirectoryState) (event : DirectoryEvent) → IsWhole cells →
     (((state_number change.state == state_number state) ≡ true) × (state_number change.state ≡ state_number state)) ⊎ (((state_number change.state == state_number state) ≡ false) × (state_number change.state ≢ state_number state)) →
     (((event_number change.event == event_number event) ≡ true) × (event_number change.event ≡ event_number event)) ⊎ (((event_number change.event == event_number event) ≡ false) × (event_number change.event ≢ event_number event)) →
     cell (with_cell cells change.state change.event change.entry) state event ≡ unwrap_or (entry_given change state event) (cell cells state event)
@@ -98,7 +99,7 @@ after-change cells change state event whole (inr (state_test, other_row)) _ =
     rw state_test (other-place cells (state_number change.state) (event_number change.event) (state_number state) (event_number event) change.entry Blank (has-row cells change.state whole) (λ same_row _. other_row (sym same_row)) (inr (λ same_row. other_row (sym same_row))))
 
 -- what a change gives is in its cell, and the others are as they were
-cell-change : (cells : Cells) (change : Change) (state : DirectoryState) (event : DirectoryEvent) → IsWhole cells →
+cell-change : (cells : Cells) (change : DirectoryChange) (state : DirectoryState) (event : DirectoryEvent) → IsWhole cells →
     cell (with_cell cells change.state change.event change.entry) state event ≡ unwrap_or (entry_given change state event) (cell cells state event)
 cell-change cells change state event whole =
     after-change cells change state event whole (eqb_tells (state_number change.state) (state_number state)) (eqb_tells (event_number change.event) (event_number event))
@@ -114,7 +115,7 @@ IsWhole-with_cell cells state event entry whole =
     IsWhole-set cells (state_number state) (event_number event) entry whole (state_number-small state)
 
 -- a whole table is whole after changes
-pub IsWhole-laid_over : (cells : Cells) (changes : List Change) → IsWhole cells → IsWhole (laid_over changes cells)
+pub IsWhole-laid_over : (cells : Cells) (changes : List DirectoryChange) → IsWhole cells → IsWhole (laid_over changes cells)
 IsWhole-laid_over cells [] whole = whole
 IsWhole-laid_over cells (change ∷ later) whole =
     IsWhole-laid_over (with_cell cells change.state change.event change.entry) later (IsWhole-with_cell cells change.state change.event change.entry whole)

@@ -1,3 +1,4 @@
+pub mod Named
 pub mod Pushed
 pub mod Whole
 pub mod BaselineCells

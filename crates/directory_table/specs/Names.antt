@@ -1,4 +1,7 @@
-use Rattle.std.specs.Prelude.{◌≢◌, ℕ, List, codes}
+use Rattle.std.specs.Prelude.{◌≢◌, ℕ, List, [], ◌∷◌, Option, codes}
+use Rattle.std.specs.List.{find}
+use Rattle.std.specs.Str.{bytes_eq}
+use Rattle.directory_table.specs.Baseline.{all_states, all_events}
 use Rattle.directory_table.specs.declared.state.DirectoryState.{DirectoryState}
 use Rattle.directory_table.specs.declared.state.DirectoryState.TheVariants as state
 use Rattle.directory_table.specs.declared.event.DirectoryEvent.{DirectoryEvent}
@@ -13,6 +16,10 @@ state_name state.S = codes "S"
 state_name state.M = codes "M"
 state_name state.SD = codes "S^D"
 
+-- the state that is spelled so, if there is one
+abbrev pub state_named : List ℕ → Option DirectoryState
+state_named text = find (λ s. bytes_eq (state_name s) text) all_states
+
 -- no state is spelled so
 abbrev pub IsNoState : List ℕ → Type 0
 IsNoState text = (s : DirectoryState) → text ≢ state_name s
@@ -26,6 +33,10 @@ event_name event.PutSLast = codes "PutS-Last"
 event_name event.PutMOwner = codes "PutM-Owner"
 event_name event.PutMNonOwner = codes "PutM-NonOwner"
 event_name event.Data = codes "Data"
+
+-- the event that is spelled so, if there is one
+abbrev pub event_named : List ℕ → Option DirectoryEvent
+event_named text = find (λ e. bytes_eq (event_name e) text) all_events
 
 -- no event is spelled so
 abbrev pub IsNoEvent : List ℕ → Type 0
@@ -46,6 +57,16 @@ action_name action.ClearSharers = codes "clear-sharers"
 action_name action.ClearOwner = codes "clear-owner"
 action_name action.SetOwner = codes "set-owner"
 action_name action.CopyData = codes "copy-data"
+
+-- all actions
+abbrev pub all_actions : List DirectoryAction
+all_actions =
+    action.DataReq ∷ action.DataAcks ∷ action.InvSharers ∷ action.FwdGetS ∷ action.FwdGetM ∷ action.PutAck ∷ action.AddReq ∷
+    action.AddOwner ∷ action.RemoveReq ∷ action.ClearSharers ∷ action.ClearOwner ∷ action.SetOwner ∷ action.CopyData ∷ []
+
+-- the action that is spelled so, if there is one
+abbrev pub action_named : List ℕ → Option DirectoryAction
+action_named text = find (λ a. bytes_eq (action_name a) text) all_actions
 
 -- no action is spelled so
 abbrev pub IsNoAction : List ℕ → Type 0

@@ -5,6 +5,7 @@ use Rattle.directory_table.specs.declared.state.DirectoryState.TheVariants.{I, S
 use Rattle.directory_table.specs.declared.event.DirectoryEvent.{DirectoryEvent}
 use Rattle.directory_table.specs.declared.event.DirectoryEvent.TheVariants.{GetS, GetM, PutSNotLast, PutSLast, PutMOwner, PutMNonOwner, Data}
 use Rattle.directory_table.specs.declared.entry.DirectoryEntry.{DirectoryEntry}
+use Rattle.directory_table.specs.declared.change.DirectoryChange.{DirectoryChange}
 use Rattle.directory_table.specs.declared.entry.DirectoryEntry.TheVariants.{Blank}
 
 -- the number of a state's row, counted from 0
@@ -51,28 +52,22 @@ pub record IsWhole (cells : Cells) : Type 0 where
   pub rows : length cells ≡ 4
   pub columns : AllSeven cells
 
--- a state and an event, and the entry that their cell is to have
-pub record Change : Type 0 where
-  pub state : DirectoryState
-  pub event : DirectoryEvent
-  pub entry : DirectoryEntry
-
 -- these cells after these changes, made in order
-abbrev pub laid_over : List Change → Cells → Cells
+abbrev pub laid_over : List DirectoryChange → Cells → Cells
 laid_over [] cells = cells
 laid_over (change ∷ later) cells = laid_over later (with_cell cells change.state change.event change.entry)
 
 -- whether a change is of the cell of this state and this event
-abbrev pub is_of : Change → DirectoryState → DirectoryEvent → Bool
+abbrev pub is_of : DirectoryChange → DirectoryState → DirectoryEvent → Bool
 is_of change state event =
     (state_number change.state == state_number state) && (event_number change.event == event_number event)
 
 -- the entry that a change gives the cell of this state and this event, if it is of that cell
-abbrev pub entry_given : Change → DirectoryState → DirectoryEvent → Option DirectoryEntry
+abbrev pub entry_given : DirectoryChange → DirectoryState → DirectoryEvent → Option DirectoryEntry
 entry_given change state event = if is_of change state event then Some change.entry else None
 
 -- the entry that the last change of this state and this event gives, if there is such a change
-abbrev pub last_entry : List Change → DirectoryState → DirectoryEvent → Option DirectoryEntry
+abbrev pub last_entry : List DirectoryChange → DirectoryState → DirectoryEvent → Option DirectoryEntry
 last_entry [] state event = None
 last_entry (change ∷ later) state event =
     option_or (last_entry later state event) (entry_given change state event)
@@ -80,5 +75,5 @@ last_entry (change ∷ later) state event =
 -- where changes are laid over a whole table, each cell holds the entry of its last change, or its own if there is none
 abbrev pub LastChangeHolds : Type 0
 LastChangeHolds =
-    (cells : Cells) (changes : List Change) (state : DirectoryState) (event : DirectoryEvent) → IsWhole cells →
+    (cells : Cells) (changes : List DirectoryChange) (state : DirectoryState) (event : DirectoryEvent) → IsWhole cells →
     cell (laid_over changes cells) state event ≡ unwrap_or (last_entry changes state event) (cell cells state event)

@@ -7,6 +7,7 @@
 
 mod actions;
 mod baseline;
+mod change;
 mod entry;
 mod event;
 mod names;
@@ -14,6 +15,7 @@ mod state;
 mod table;
 
 pub use actions::{DirectoryAction, DirectoryActions};
+pub use change::DirectoryChange;
 pub use entry::DirectoryEntry;
 pub use event::DirectoryEvent;
 pub use state::DirectoryState;

@@ -6,7 +6,7 @@ use std::fmt;
 
 impl DirectoryState {
     ghost use Rattle.std.specs.Prelude.{◌≡◌, MatchOption};
-    ghost use Rattle.directory_table.specs.Names.{state_name, IsNoState};
+    ghost use Rattle.directory_table.specs.Names.{state_name, state_named, IsNoState};
 
     /// All states, in the order of a table's rows.
     pub const ALL: [DirectoryState; 4] = [
@@ -30,7 +30,8 @@ impl DirectoryState {
 
     /// The state that is spelled so. `None` comes exactly where none is.
     pub fn named(text: &str) -> Option<DirectoryState>
-        ensures { MatchOption result (IsNoState text.now) (λ state. text.now ≡ state_name state) }
+        ensures spelled { MatchOption result (IsNoState text.now) (λ state. text.now ≡ state_name state) }
+        ensures named { result ≡ state_named text.now }
     {
         match text {
             "I" => Some(DirectoryState::I),
@@ -44,7 +45,7 @@ impl DirectoryState {
 
 impl DirectoryEvent {
     ghost use Rattle.std.specs.Prelude.{◌≡◌, MatchOption};
-    ghost use Rattle.directory_table.specs.Names.{event_name, IsNoEvent};
+    ghost use Rattle.directory_table.specs.Names.{event_name, event_named, IsNoEvent};
 
     /// All events, in the order of a table's columns.
     pub const ALL: [DirectoryEvent; 7] = [
@@ -74,7 +75,8 @@ impl DirectoryEvent {
 
     /// The event that is spelled so. `None` comes exactly where none is.
     pub fn named(text: &str) -> Option<DirectoryEvent>
-        ensures { MatchOption result (IsNoEvent text.now) (λ event. text.now ≡ event_name event) }
+        ensures spelled { MatchOption result (IsNoEvent text.now) (λ event. text.now ≡ event_name event) }
+        ensures named { result ≡ event_named text.now }
     {
         match text {
             "GetS" => Some(DirectoryEvent::GetS),
@@ -91,7 +93,7 @@ impl DirectoryEvent {
 
 impl DirectoryAction {
     ghost use Rattle.std.specs.Prelude.{◌≡◌, MatchOption};
-    ghost use Rattle.directory_table.specs.Names.{action_name, IsNoAction};
+    ghost use Rattle.directory_table.specs.Names.{action_name, action_named, IsNoAction};
 
     /// All actions, in order.
     pub const ALL: [DirectoryAction; 13] = [
@@ -133,7 +135,8 @@ impl DirectoryAction {
 
     /// The action that is spelled so. `None` comes exactly where none is.
     pub fn named(text: &str) -> Option<DirectoryAction>
-        ensures { MatchOption result (IsNoAction text.now) (λ action. text.now ≡ action_name action) }
+        ensures spelled { MatchOption result (IsNoAction text.now) (λ action. text.now ≡ action_name action) }
+        ensures named { result ≡ action_named text.now }
     {
         match text {
             "data-req" => Some(DirectoryAction::DataReq),

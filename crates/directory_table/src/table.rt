@@ -1,8 +1,9 @@
 ghost use Rattle.std.specs.Prelude.{◌≡◌};
-ghost use Rattle.directory_table.specs.Table.{cell, with_cell, IsWhole, LastChangeHolds};
+ghost use Rattle.directory_table.specs.Table.{cell, laid_over, with_cell, IsWhole, LastChangeHolds};
 ghost use Rattle.directory_table.specs.Baseline.{baseline_cells, baseline_entry};
 
 use crate::baseline::baseline_rows;
+use crate::change::DirectoryChange;
 use crate::entry::DirectoryEntry;
 use crate::event::DirectoryEvent;
 use crate::state::DirectoryState;
@@ -63,6 +64,17 @@ impl DirectoryTable {
         let mut cells = self.cells;
         cells[state.number()][event.number()] = entry;
         DirectoryTable { cells }
+    }
+
+    /// This table after these changes, made in order.
+    pub fn with_changes(self, changes: &[DirectoryChange]) -> DirectoryTable
+        ensures { result ≡ laid_over changes.now self }
+    {
+        let mut table = self;
+        for change in changes {
+            table = table.with(change.state, change.event, change.entry);
+        }
+        table
     }
 }
 

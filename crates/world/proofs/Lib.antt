@@ -1,3 +1,4 @@
+pub mod Overriding
 pub mod Keeping
 pub mod Histories
 pub mod Running

@@ -3,6 +3,9 @@ pub mod View
 pub mod Runs
 pub mod Looks
 pub mod Enabled
+pub mod Written
+pub mod Overrides
+pub mod Seen
 pub use Rattle.base.specs.Extent
 pub use Rattle.base.specs.Steps
 pub use Rattle.control.specs.Sharing

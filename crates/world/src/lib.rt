@@ -4,10 +4,12 @@
 mod block;
 mod enabling;
 mod looks;
+mod overrides;
 mod runs;
 mod tables;
 mod worlds;
 
+pub use overrides::TablesFault;
 pub use runs::RunStop;
 pub use tables::Tables;
 pub use worlds::{OpenFault, World};

@@ -1,7 +1,7 @@
-use crate::{OpenFault, Tables, World};
+use crate::{OpenFault, Tables, TablesFault, World};
 use base::{Ask, BlockId, CacheId, Outcome, Place, Shape, Step};
-use cache_table::{CacheEntry, CacheEvent, CacheState};
-use directory_table::DirectoryState;
+use cache_table::{CacheAction, CacheActions, CacheEntry, CacheEvent, CacheState};
+use directory_table::{DirectoryEntry, DirectoryEvent, DirectoryState};
 use std::alloc::Global;
 use std::test::Fail;
 
@@ -190,5 +190,128 @@ fn an_opening_of_another_length(rt: HostRuntime) -> Result<(), Fail> {
     assert_eq!(rt; two.shape(), shape);
     assert_eq!(rt; two.home(BlockId(1)), Some((DirectoryState::I, None, 4)));
     assert_eq!(rt; two.line(CacheId(1), BLOCK), None);
+    Ok(())
+}
+
+#[test]
+fn overrides_lie_over_the_baseline(rt: HostRuntime) -> Result<(), Fail> {
+    let alloc = rt.alloc();
+    let acks = CacheEntry::Act {
+        next: CacheState::IsD,
+        actions: CacheActions::of(&[CacheAction::InvAck]).ok_or("one action is refused")?,
+    };
+    let mut answers_at_once = Tables::baseline();
+    answers_at_once.cache = answers_at_once
+        .cache
+        .with(CacheState::IsD, CacheEvent::Inv, acks);
+    let mut on_both_sides = answers_at_once;
+    on_both_sides.cache = on_both_sides
+        .cache
+        .with(CacheState::M, CacheEvent::FwdGetS, CacheEntry::Blank);
+    on_both_sides.directory = on_both_sides.directory.with(
+        DirectoryState::I,
+        DirectoryEvent::GetS,
+        DirectoryEntry::Stall,
+    );
+    let rows = [
+        ("{}", Tables::baseline()),
+        (r#"{"cache":[],"directory":[]}"#, Tables::baseline()),
+        (
+            r#"{"cache":[{"state":"S","event":"Store","entry":"stall"}],"cache":[]}"#,
+            Tables::baseline(),
+        ),
+        (
+            r#"{"cache":[{"state":"IS^D","event":"Inv","entry":{"next":"IS^D","do":["inv-ack"]}}]}"#,
+            answers_at_once,
+        ),
+        (
+            r#" {"directory": [{"entry": "stall", "event": "GetS", "state": "I"}],
+                 "cache": [{"entry": {"do": ["inv-ack"], "next": "IS^D"}, "event": "Inv", "state": "IS^D"},
+                           {"state": "M", "event": "Fwd-GetS", "entry": "blank"}]}"#,
+            on_both_sides,
+        ),
+    ];
+    for (text, tables) in rows {
+        assert_eq!(rt;
+            Tables::from_json(alloc, text.as_bytes()),
+            Ok(tables),
+            "at {text}"
+        );
+    }
+    Ok(())
+}
+
+#[test]
+fn refused_overrides(rt: HostRuntime) -> Result<(), Fail> {
+    let rows = [
+        ("", TablesFault::NotJson),
+        ("{} {}", TablesFault::NotJson),
+        ("[]", TablesFault::BadShape),
+        (r#"{"cache":{}}"#, TablesFault::BadShape),
+        (r#"{"caches":[]}"#, TablesFault::BadShape),
+        (
+            r#"{"cache":[{"state":"X","event":"Inv","entry":"stall"}],"directory":0}"#,
+            TablesFault::BadShape,
+        ),
+        (
+            r#"{"cache":[{"state":"S","event":"Inv"}]}"#,
+            TablesFault::BadShape,
+        ),
+        (
+            r#"{"cache":[{"state":"S","event":"Inv","entry":"stall","by":1}]}"#,
+            TablesFault::BadShape,
+        ),
+        (
+            r#"{"cache":[{"state":"S","event":"Inv","entry":"wait"}]}"#,
+            TablesFault::BadShape,
+        ),
+        (
+            r#"{"cache":[{"state":"X","event":"Y","entry":{"next":"S","do":[1]}}]}"#,
+            TablesFault::BadShape,
+        ),
+        (
+            r#"{"cache":[{"state":"S","event":"Inv","entry":{"next":"I","do":["puts","puts","puts","puts","puts","puts","puts","puts","puts"]}}]}"#,
+            TablesFault::BadShape,
+        ),
+        (
+            r#"{"cache":[{"state":"X","event":"Inv","entry":"stall"}]}"#,
+            TablesFault::UnknownState,
+        ),
+        (
+            r#"{"cache":[{"state":"S","event":"Y","entry":{"next":"X","do":["z"]}}]}"#,
+            TablesFault::UnknownState,
+        ),
+        (
+            r#"{"directory":[{"state":"IS^D","event":"GetS","entry":"stall"}]}"#,
+            TablesFault::UnknownState,
+        ),
+        (
+            r#"{"cache":[{"state":"S","event":"GetS","entry":{"next":"I","do":["z"]}}]}"#,
+            TablesFault::UnknownEvent,
+        ),
+        (
+            r#"{"directory":[{"state":"I","event":"GetS","entry":{"next":"S","do":["putm"]}}]}"#,
+            TablesFault::UnknownAction,
+        ),
+        (
+            r#"{"cache":[{"state":"S","event":"Inv","entry":"stall"},{"state":"S","event":"Inv","entry":"stall"}]}"#,
+            TablesFault::SameCellTwice,
+        ),
+        (
+            r#"{"cache":[{"state":"S","event":"Inv","entry":"stall"},{"state":"S","event":"Inv","entry":{"next":"S","do":["z"]}}]}"#,
+            TablesFault::UnknownAction,
+        ),
+        (
+            r#"{"directory":[0],"cache":[{"state":"S","event":"Y","entry":"stall"},{"state":"X","event":"Inv","entry":"stall"}]}"#,
+            TablesFault::UnknownEvent,
+        ),
+    ];
+    for (text, fault) in rows {
+        assert_eq!(rt;
+            Tables::from_json(rt.alloc(), text.as_bytes()),
+            Err(fault),
+            "at {text}"
+        );
+    }
     Ok(())
 }

@@ -1,0 +1,9 @@
+use Rattle.std.proofs.Common.{rules, sym}
+use Rattle.cache_table.specs.Names.{event_name, IsNoEvent}
+use Rattle.cache_table.specs.Baseline.{all_events}
+use Rattle.cache_table.proofs.Named.{find_none}
+use Rattle.cache_table.proofs.event.CacheEvent.named.Goals as goal
+
+-- src/names.rt:108:5
+pub returns-in_default-clause-named : goal.returns-in_default-clause-named
+returns-in_default-clause-named c = let none : IsNoEvent c.args.text.now = search rules in sym (find_none event_name c.args.text.now all_events none)

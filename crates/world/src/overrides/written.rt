@@ -1,0 +1,129 @@
+ghost use Rattle.std.specs.Prelude.{◌≡◌, IfSome, option_map, codes};
+ghost use Rattle.serde_json.specs.View.{view, items_view};
+ghost use Rattle.world.specs.Written.{are_texts, has_keys, present, side_at, text_at, written_act, written_cell, written_entry, written_sides, written_word};
+ghost use Rattle.world.specs.Seen.{HasFew, seen_cell, seen_entry, seen_sides, text};
+
+use serde_json::Value;
+
+/// The entry of a cell as it is written. `S` is a state, or its name.
+#[derive(Clone, Copy)]
+pub enum WrittenEntry<'a, S> {
+    Blank,
+    Stall,
+    Act { next: S, actions: &'a [Value] },
+}
+
+/// A cell as it is written, before its names are looked up.
+#[derive(Clone, Copy)]
+pub struct WrittenCell<'a> {
+    pub state: &'a str,
+    pub event: &'a str,
+    pub entry: WrittenEntry<'a, &'a str>,
+}
+
+/// The cells of both sides.
+#[derive(Clone, Copy)]
+pub struct WrittenSides<'a> {
+    pub cache: &'a [Value],
+    pub directory: &'a [Value],
+}
+
+pub fn written_sides(value: &Value) -> Option<WrittenSides<'_>>
+    ensures { option_map seen_sides result ≡ written_sides (view value.now) }
+{
+    if !has_keys(value, present(value, "cache") + present(value, "directory")) {
+        return None;
+    }
+    Some(WrittenSides {
+        cache: side_at(value, "cache")?,
+        directory: side_at(value, "directory")?,
+    })
+}
+
+pub fn written_cell(value: &Value) -> Option<WrittenCell<'_>>
+    ensures cell { option_map seen_cell result ≡ written_cell (view value.now) }
+    ensures few { IfSome result (λ c. HasFew c.entry) }
+{
+    if !has_keys(value, 3) {
+        return None;
+    }
+    Some(WrittenCell {
+        state: text_at(value, "state")?,
+        event: text_at(value, "event")?,
+        entry: written_entry(value.get("entry")?)?,
+    })
+}
+
+fn written_entry(value: &Value) -> Option<WrittenEntry<'_, &str>>
+    ensures entry { option_map (seen_entry text) result ≡ written_entry (view value.now) }
+    ensures few { IfSome result HasFew }
+{
+    match value.as_str() {
+        Some("blank") => Some(WrittenEntry::Blank),
+        Some("stall") => Some(WrittenEntry::Stall),
+        Some(_) => None,
+        None => written_act(value),
+    }
+}
+
+#[tactic(auto, using(crate::proofs::Overriding::counts))]
+fn written_act(value: &Value) -> Option<WrittenEntry<'_, &str>>
+    ensures entry { option_map (seen_entry text) result ≡ written_act (view value.now) }
+    ensures few { IfSome result HasFew }
+{
+    if !has_keys(value, 2) {
+        return None;
+    }
+    let next = text_at(value, "next")?;
+    let actions = value.get("do")?.as_array()?.as_slice();
+    if actions.len() > 8 || !are_texts(actions) {
+        return None;
+    }
+    Some(WrittenEntry::Act { next, actions })
+}
+
+/// Whether each value is a text.
+fn are_texts(values: &[Value]) -> bool
+    ensures { result ≡ are_texts (items_view values.now) }
+{
+    for value in values {
+        if !value.is_string() {
+            return false;
+        }
+    }
+    true
+}
+
+/// Whether the value is an object of so many keys.
+#[tactic(auto, using(crate::proofs::Overriding::counts))]
+fn has_keys(value: &Value, count: usize) -> bool
+    ensures { result ≡ has_keys count (view value.now) }
+{
+    match value.as_object() {
+        Some(members) => members.len() == count,
+        None => false,
+    }
+}
+
+/// How often the key is there, which is once at most.
+fn present(value: &Value, key: &str) -> usize
+    ensures { result ≡ present key.now (view value.now) }
+{
+    usize::from(value.get(key).is_some())
+}
+
+fn text_at<'a>(value: &'a Value, key: &str) -> Option<&'a str>
+    ensures { option_map (λ t. t.now) result ≡ text_at key.now (view value.now) }
+{
+    value.get(key)?.as_str()
+}
+
+/// The values of the array at the key, or none where the key isn't there.
+fn side_at<'a>(value: &'a Value, key: &str) -> Option<&'a [Value]>
+    ensures { option_map (λ vs. items_view vs.now) result ≡ side_at key.now (view value.now) }
+{
+    match value.get(key) {
+        Some(side) => Some(side.as_array()?.as_slice()),
+        None => Some(&[]),
+    }
+}
