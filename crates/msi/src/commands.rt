@@ -22,15 +22,26 @@ fn blocks<'a>(alloc: Global) -> Arg<'a> {
         .value_parser(value_parser!(u32).range(1..=MOST_BLOCKS as i64))
 }
 
+fn overrides<'a>(alloc: Global) -> Arg<'a> {
+    Arg::new(alloc, "tables")
+        .long("tables")
+        .value_name("FILE")
+        .help("A file of cells, in JSON, that replace those of the protocol's own tables")
+        .action(ArgAction::Set)
+}
+
 fn play<'a>(alloc: Global) -> Result<Command<'a>, AllocError> {
     Command::new(alloc, "play")
         .about("Reads steps, one a line, and prints what each of them did")
         .arg(caches(alloc))?
-        .arg(blocks(alloc))
+        .arg(blocks(alloc))?
+        .arg(overrides(alloc))
 }
 
-fn tables<'a>(alloc: Global) -> Command<'a> {
-    Command::new(alloc, "tables").about("Prints the cells of both controller tables, one a line")
+fn tables<'a>(alloc: Global) -> Result<Command<'a>, AllocError> {
+    Command::new(alloc, "tables")
+        .about("Prints the cells of both controller tables, one a line")
+        .arg(overrides(alloc))
 }
 
 /// The command line of `msi`.
@@ -39,5 +50,5 @@ pub fn msi<'a>(alloc: Global) -> Result<Command<'a>, AllocError> {
         .about("Plays steps of a directory MSI cache-coherence protocol")
         .subcommand_required(true)
         .subcommand(play(alloc)?)?
-        .subcommand(tables(alloc))
+        .subcommand(tables(alloc)?)
 }

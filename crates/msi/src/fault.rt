@@ -1,7 +1,9 @@
+use crate::files::LoadFault;
 use base::{NoMemory, ShapeFault};
 use std::alloc::AllocError;
-use std::io;
+use std::{fmt, io};
 use thiserror::Error;
+use world::TablesFault;
 
 /// Why a command ends early. Its text is what `msi` prints on standard error.
 #[derive(Debug, Drop, Error)]
@@ -12,6 +14,9 @@ pub enum Fault {
     /// The numbers of caches and blocks aren't a shape.
     #[error("msi: {0}")]
     Shape(ShapeFault),
+    /// The overrides of the tables are refused.
+    #[error("msi: tables refused {0}")]
+    Tables(Refusal),
     /// A read or a write failed.
     #[error("msi: device")]
     Device,
@@ -24,8 +29,26 @@ impl Fault {
     /// The exit status: 2 for bad input, 3 for device and memory.
     pub fn status(&self) -> u8 {
         match self {
-            Fault::NotAStep(_) | Fault::Shape(_) => 2,
+            Fault::NotAStep(_) | Fault::Shape(_) | Fault::Tables(..) => 2,
             Fault::Device | Fault::NoMemory => 3,
+        }
+    }
+}
+
+/// A refusal of overrides, which shows its number and its name.
+#[derive(Clone, Copy, Debug, PartialEq, Eq)]
+pub struct Refusal(TablesFault);
+
+impl fmt::Display for Refusal {
+    fn fmt<W: fmt::Write>(&self, f: &mut fmt::Formatter<W>) -> fmt::Result {
+        match self.0 {
+            TablesFault::NotJson => write!(f, "1 NotJson"),
+            TablesFault::BadShape => write!(f, "2 BadShape"),
+            TablesFault::UnknownState => write!(f, "3 UnknownState"),
+            TablesFault::UnknownEvent => write!(f, "4 UnknownEvent"),
+            TablesFault::UnknownAction => write!(f, "5 UnknownAction"),
+            TablesFault::SameCellTwice => write!(f, "6 SameCellTwice"),
+            TablesFault::NoMemory => write!(f, "7 NoMemory"),
         }
     }
 }
@@ -33,6 +56,24 @@ impl Fault {
 impl From<ShapeFault> for Fault {
     fn from(fault: ShapeFault) -> Fault {
         Fault::Shape(fault)
+    }
+}
+
+impl From<TablesFault> for Fault {
+    fn from(fault: TablesFault) -> Fault {
+        match fault {
+            TablesFault::NoMemory => Fault::NoMemory,
+            fault => Fault::Tables(Refusal(fault)),
+        }
+    }
+}
+
+impl From<LoadFault> for Fault {
+    fn from(fault: LoadFault) -> Fault {
+        match fault {
+            LoadFault::Device => Fault::Device,
+            LoadFault::NoMemory => Fault::NoMemory,
+        }
     }
 }
 

@@ -5,16 +5,18 @@ use std::alloc::Global;
 use std::io::{BufWriter, Read, Write};
 use world::{OpenFault, Tables, World};
 
-/// Plays the steps of the input in a world that has just been opened with every block at 0.
+/// Plays the steps of the input in a world that has just been opened with every block at 0,
+/// under these tables.
 ///
 /// What was printed before a fault stands.
 pub fn play<I: Read + Drop, O: Write + Drop>(
     alloc: Global,
     shape: Shape,
+    tables: Tables,
     input: I,
     output: O,
 ) -> Result<(), Fault> {
-    let mut world = open(alloc, shape)?;
+    let mut world = open(alloc, shape, tables)?;
     let mut lines = Lines::new(alloc, input)?;
     let mut output = BufWriter::new(alloc, output)?;
     let played = play_all(&mut world, &mut lines, &mut output);
@@ -22,9 +24,9 @@ pub fn play<I: Read + Drop, O: Write + Drop>(
     played
 }
 
-fn open(alloc: Global, shape: Shape) -> Result<World, Fault> {
+fn open(alloc: Global, shape: Shape, tables: Tables) -> Result<World, Fault> {
     let opening = vec![in alloc; 0; shape.blocks() as usize]?;
-    match World::open(alloc, shape, Tables::baseline(), opening) {
+    match World::open(alloc, shape, tables, opening) {
         Ok(world) => Ok(world),
         Err(OpenFault::NoMemory) => Err(Fault::NoMemory),
         Err(OpenFault::OpeningLength) => unreachable!(),

@@ -56,19 +56,36 @@ fn refuse<E: Write>(fault: &Fault, errors: &mut E) -> u8 {
 fn dispatch<F: Files, I: Read + Drop, O: Write + Drop>(
     alloc: Global,
     matches: &ArgMatches<'_>,
-    _files: &mut F,
+    files: &mut F,
     input: I,
     output: O,
 ) -> Result<(), Fault> {
     match matches.subcommand() {
-        Some(("play", options)) => play(alloc, shape(options)?, input, output),
-        Some(("tables", _)) => print_tables(alloc, &Tables::baseline(), output),
+        Some(("play", options)) => {
+            let shape = shape(options)?;
+            let tables = tables(alloc, options, files)?;
+            play(alloc, shape, tables, input, output)
+        }
+        Some(("tables", options)) => print_tables(alloc, &tables(alloc, options, files)?, output),
         _ => Ok(()),
     }
 }
 
 fn shape(options: &ArgMatches<'_>) -> Result<Shape, Fault> {
     Ok(Shape::new(number(options, "caches"), number(options, "blocks"))?)
+}
+
+/// The protocol's own tables, with the cells of the named file laid over them where one is named.
+fn tables<F: Files>(
+    alloc: Global,
+    options: &ArgMatches<'_>,
+    files: &mut F,
+) -> Result<Tables, Fault> {
+    let Some(name) = options.get_str("tables") else {
+        return Ok(Tables::baseline());
+    };
+    let bytes = files.load(name)?;
+    Ok(Tables::from_json(alloc, bytes.as_slice())?)
 }
 
 /// The number that an option was given, which `clap` has tested.

@@ -6,14 +6,45 @@ use std::io::Write;
 use std::process::Abort;
 use std::test::Fail;
 
-#[derive(Drop)]
-struct NoFiles;
+mod cells;
+mod rows;
 
-impl Files for NoFiles {
-    fn load(&mut self, _name: &str) -> Result<Vec<u8>, LoadFault> {
+use cells::CELLS;
+use rows::ROWS;
+
+/// Files by their names and their texts.
+#[derive(Drop)]
+struct Shelf {
+    alloc: Global,
+    files: &'static [(&'static str, &'static str)],
+}
+
+impl Files for Shelf {
+    fn load(&mut self, name: &str) -> Result<Vec<u8>, LoadFault> {
+        for (file, text) in self.files {
+            if *file == name {
+                return match String::from_str(self.alloc, text) {
+                    Ok(text) => Ok(text.into_bytes()),
+                    Err(_) => Err(LoadFault::NoMemory),
+                };
+            }
+        }
         Err(LoadFault::Device)
     }
 }
+
+const FILES: [(&str, &str); 4] = [
+    ("empty.json", "{}"),
+    (
+        "fwd-gets-blank.json",
+        r#"{"cache":[{"state":"M","event":"Fwd-GetS","entry":"blank"}]}"#,
+    ),
+    ("not.json", "{"),
+    (
+        "twice.json",
+        r#"{"cache":[{"state":"S","event":"Inv","entry":"stall"},{"state":"S","event":"Inv","entry":"stall"}]}"#,
+    ),
+];
 
 /// A device that takes so many bytes and then fails.
 #[derive(Drop)]
@@ -59,7 +90,10 @@ fn run(alloc: Global, line: &str, input: &str) -> Result<Served, AllocError> {
     let status = serve(
         alloc,
         words.as_slice(),
-        &mut NoFiles,
+        &mut Shelf {
+            alloc,
+            files: &FILES,
+        },
         input.as_bytes(),
         &mut output,
         &mut errors,
@@ -79,30 +113,20 @@ fn expect(rt: &impl Abort, served: &Served, status: u8, output: &str, errors: &s
 
 #[test]
 fn rows_are_played(rt: HostRuntime) -> Result<(), Fail> {
-    let rows = [
-        ("", ""),
-        (
-            "ask 0 0 load\nrequest 0 0\nresponse 0 0\n",
-            "sent\nmoved\nload 0 0\n",
-        ),
-        (
-            "ask 0 0 store 7\nrequest 0 0\nresponse 0 0\nask 1 0 load\nrequest 0 0\nforward 0 0\nresponse 0 0\nresponse 0 0\n",
-            "sent\nmoved\nstore 0 7\nsent\nmoved\nmoved\nload 1 7\nmoved\n",
-        ),
-        (
-            "ask 0 0 store 7\nrequest 0 0\nask 1 0 load\nrequest 0 0\nforward 0 0\nresponse 0 0\nforward 0 0\nresponse 0 0\nresponse 0 0\n",
-            "sent\nmoved\nsent\nmoved\nheld\nstore 0 7\nmoved\nload 1 7\nmoved\n",
-        ),
-        (
-            "ask 0 0 load\nrequest 0 0\nask 1 0 store 5\nrequest 0 0\nforward 0 0\nresponse 0 0\nforward 0 0\nresponse 0 1\nresponse 0 0\n",
-            "sent\nmoved\nsent\nmoved\nheld\nload 0 0\nmoved\nmoved\nstore 1 5\n",
-        ),
-        ("\n\nask 0 0 replace\n\nask 0 0 store 1", "idle\nsent\n"),
-    ];
-    for (input, output) in rows {
-        let served = run(rt.alloc(), "msi play --caches 2", input)?;
-        expect(&rt, &served, 0, output, "");
+    let alloc = rt.alloc();
+    for row in ROWS {
+        let line = format!(in alloc; "msi play --caches {}", row.caches)?;
+        let served = run(alloc, line.as_str(), row.steps)?;
+        expect(&rt, &served, 0, row.outcomes, "");
     }
+    Ok(())
+}
+
+#[test]
+fn empty_lines_are_skipped(rt: HostRuntime) -> Result<(), Fail> {
+    let steps = "\n\nask 0 0 replace\n\nask 0 0 store 1";
+    let served = run(rt.alloc(), "msi play --caches 2", steps)?;
+    expect(&rt, &served, 0, "idle\nsent\n", "");
     Ok(())
 }
 
@@ -123,27 +147,47 @@ fn blocks_of_a_world(rt: HostRuntime) -> Result<(), Fail> {
 
 #[test]
 fn cells_of_the_tables(rt: HostRuntime) -> Result<(), Fail> {
-    let served = run(rt.alloc(), "msi tables", "")?;
-    assert_eq!(rt; served.status, 0);
+    let alloc = rt.alloc();
+    assert_eq!(rt; CELLS.lines().count(), 160);
+    for line in ["msi tables", "msi tables --tables empty.json"] {
+        expect(&rt, &run(alloc, line, "")?, 0, CELLS, "");
+    }
+    let served = run(alloc, "msi tables --tables fwd-gets-blank.json", "")?;
     let Ok(text) = str::from_utf8(served.output.as_slice()) else {
         return Err(Fail::from("the cells aren't text"));
     };
-    assert_eq!(rt; text.lines().count(), 160);
-    assert!(rt;
-        text.starts_with("cell cache I Load act IS^D gets\ncell cache I Store act IM^AD getm\n")
-    );
-    for line in [
-        "\ncell cache IS^D Inv stall\n",
-        "\ncell cache SM^AD Data-Owner blank\n",
-        "\ncell cache IM^AD Data-Dir-More act IM^A\n",
-        "\ncell cache M Fwd-GetS act S data-req data-dir\n",
-        "\ncell cache II^A Last-Inv-Ack blank\ncell directory I GetS act S data-req add-req\n",
-        "\ncell directory S GetM act M data-acks inv-sharers clear-sharers set-owner\n",
-        "\ncell directory S^D PutM-Owner blank\n",
-    ] {
-        assert!(rt; text.contains(line), "no line {line:?}");
+    for (found, own) in text.lines().zip(CELLS.lines()) {
+        let cell = "cell cache M Fwd-GetS ";
+        if own.starts_with(cell) {
+            assert_eq!(rt; found, "cell cache M Fwd-GetS blank");
+        } else {
+            assert_eq!(rt; found, own);
+        }
     }
-    assert!(rt; text.ends_with("cell directory S^D Data act S copy-data\n"));
+    assert_eq!(rt; text.lines().count(), 160);
+    Ok(())
+}
+
+#[test]
+fn other_tables(rt: HostRuntime) -> Result<(), Fail> {
+    let alloc = rt.alloc();
+    let steps =
+        "ask 0 0 store 7\nrequest 0 0\nresponse 0 0\nask 1 0 load\nrequest 0 0\nforward 0 0\nask 0 0 load\n";
+    let line = "msi play --caches 2 --tables fwd-gets-blank.json";
+    let served = run(alloc, line, steps)?;
+    let outcomes = "sent\nmoved\nstore 0 7\nsent\nmoved\nblank\nbroken\n";
+    expect(&rt, &served, 0, outcomes, "");
+    for (file, status, errors) in [
+        ("not.json", 2, "msi: tables refused 1 NotJson\n"),
+        ("twice.json", 2, "msi: tables refused 6 SameCellTwice\n"),
+        ("missing.json", 3, "msi: device\n"),
+    ] {
+        for command in ["msi play --caches 2", "msi tables"] {
+            let line = format!(in alloc; "{command} --tables {file}")?;
+            let served = run(alloc, line.as_str(), "no step\n")?;
+            expect(&rt, &served, status, "", errors);
+        }
+    }
     Ok(())
 }
 
@@ -199,7 +243,10 @@ fn a_device_that_fails(rt: HostRuntime) -> Result<(), Fail> {
     let status = serve(
         alloc,
         words.as_slice(),
-        &mut NoFiles,
+        &mut Shelf {
+            alloc,
+            files: &FILES,
+        },
         "ask 0 0 load\n".as_bytes(),
         Short { left: 3 },
         &mut errors,
