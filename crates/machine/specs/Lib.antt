@@ -2,6 +2,7 @@ pub mod Tables
 pub mod Block
 pub mod Transition
 pub mod Machine
+pub mod Completions
 pub mod Rows
 pub use Rattle.base.specs.Extent
 pub use Rattle.base.specs.Steps

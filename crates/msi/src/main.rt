@@ -4,6 +4,7 @@
 mod commands;
 mod fault;
 mod files;
+mod finding;
 mod lines;
 mod play;
 mod serve;

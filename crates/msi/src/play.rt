@@ -1,12 +1,14 @@
 use crate::fault::Fault;
+use crate::finding::Finding;
 use crate::lines::{Lines, MOST_BYTES};
 use base::{Shape, Step};
+use monitor::Watch;
 use std::alloc::Global;
 use std::io::{BufWriter, Read, Write};
 use world::{OpenFault, Tables, World};
 
 /// Plays the steps of the input in a world that has just been opened with every block at 0,
-/// under these tables.
+/// under these tables, up to the first violation.
 ///
 /// What was printed before a fault stands.
 pub fn play<I: Read + Drop, O: Write + Drop>(
@@ -15,19 +17,20 @@ pub fn play<I: Read + Drop, O: Write + Drop>(
     tables: Tables,
     input: I,
     output: O,
-) -> Result<(), Fault> {
-    let mut world = open(alloc, shape, tables)?;
+) -> Result<Finding, Fault> {
+    let (mut world, mut watch) = open(alloc, shape, tables)?;
     let mut lines = Lines::new(alloc, input)?;
     let mut output = BufWriter::new(alloc, output)?;
-    let played = play_all(&mut world, &mut lines, &mut output);
+    let played = play_all(&mut world, &mut watch, &mut lines, &mut output);
     output.flush()?;
     played
 }
 
-fn open(alloc: Global, shape: Shape, tables: Tables) -> Result<World, Fault> {
+fn open(alloc: Global, shape: Shape, tables: Tables) -> Result<(World, Watch), Fault> {
     let opening = vec![in alloc; 0; shape.blocks() as usize]?;
+    let watch = Watch::open(alloc, opening.as_slice())?;
     match World::open(alloc, shape, tables, opening) {
-        Ok(world) => Ok(world),
+        Ok(world) => Ok((world, watch)),
         Err(OpenFault::NoMemory) => Err(Fault::NoMemory),
         Err(OpenFault::OpeningLength) => unreachable!(),
     }
@@ -35,9 +38,10 @@ fn open(alloc: Global, shape: Shape, tables: Tables) -> Result<World, Fault> {
 
 fn play_all<I: Read + Drop, O: Write>(
     world: &mut World,
+    watch: &mut Watch,
     lines: &mut Lines<I>,
     output: &mut O,
-) -> Result<(), Fault> {
+) -> Result<Finding, Fault> {
     for _ in 0..u64::MAX {
         if lines.may_wait() {
             output.flush()?;
@@ -52,8 +56,12 @@ fn play_all<I: Read + Drop, O: Write>(
         let step = step_of(line).ok_or(Fault::NotAStep(lines.number()))?;
         let outcome = world.step(step)?;
         writeln!(output, "{outcome}")?;
+        if let Some(violation) = watch.see(world, step, outcome) {
+            writeln!(output, "violation {violation}")?;
+            return Ok(Finding::Violation);
+        }
     }
-    Ok(())
+    Ok(Finding::Nothing)
 }
 
 fn step_of(line: &[u8]) -> Option<Step> {

@@ -1,6 +1,7 @@
 use crate::commands;
 use crate::fault::Fault;
 use crate::files::Files;
+use crate::finding::Finding;
 use crate::play::play;
 use crate::tables::print_tables;
 use base::Shape;
@@ -11,7 +12,7 @@ use std::io::{Read, Write};
 use world::Tables;
 
 /// Serves the words of a command line over these files and streams, and answers the exit status:
-/// 0 where all went well, 2 for bad words or input, 3 for device and memory.
+/// 0 where all went well, 1 where a violation was found, 2 for bad words or input, 3 for device and memory.
 pub fn serve<F: Files, I: Read + Drop, O: Write + Drop, E: Write + Drop>(
     alloc: Global,
     words: &[String],
@@ -42,7 +43,7 @@ pub fn serve<F: Files, I: Read + Drop, O: Write + Drop, E: Write + Drop>(
         }
     };
     match dispatch(alloc, &matches, files, input, output) {
-        Ok(()) => 0,
+        Ok(finding) => finding.status(),
         Err(fault) => refuse(&fault, &mut errors),
     }
 }
@@ -59,15 +60,18 @@ fn dispatch<F: Files, I: Read + Drop, O: Write + Drop>(
     files: &mut F,
     input: I,
     output: O,
-) -> Result<(), Fault> {
+) -> Result<Finding, Fault> {
     match matches.subcommand() {
         Some(("play", options)) => {
             let shape = shape(options)?;
             let tables = tables(alloc, options, files)?;
             play(alloc, shape, tables, input, output)
         }
-        Some(("tables", options)) => print_tables(alloc, &tables(alloc, options, files)?, output),
-        _ => Ok(()),
+        Some(("tables", options)) => {
+            print_tables(alloc, &tables(alloc, options, files)?, output)?;
+            Ok(Finding::Nothing)
+        }
+        _ => Ok(Finding::Nothing),
     }
 }
 

@@ -6,45 +6,32 @@ use std::io::Write;
 use std::process::Abort;
 use std::test::Fail;
 
+mod broken;
 mod cells;
 mod rows;
 
+use broken::BROKEN;
 use cells::CELLS;
 use rows::ROWS;
 
-/// Files by their names and their texts.
+/// The one file `table.json`, with its text.
 #[derive(Drop)]
-struct Shelf {
+struct OneFile {
     alloc: Global,
-    files: &'static [(&'static str, &'static str)],
+    text: &'static str,
 }
 
-impl Files for Shelf {
+impl Files for OneFile {
     fn load(&mut self, name: &str) -> Result<Vec<u8>, LoadFault> {
-        for (file, text) in self.files {
-            if *file == name {
-                return match String::from_str(self.alloc, text) {
-                    Ok(text) => Ok(text.into_bytes()),
-                    Err(_) => Err(LoadFault::NoMemory),
-                };
-            }
+        if name != "table.json" {
+            return Err(LoadFault::Device);
         }
-        Err(LoadFault::Device)
+        match String::from_str(self.alloc, self.text) {
+            Ok(text) => Ok(text.into_bytes()),
+            Err(_) => Err(LoadFault::NoMemory),
+        }
     }
 }
-
-const FILES: [(&str, &str); 4] = [
-    ("empty.json", "{}"),
-    (
-        "fwd-gets-blank.json",
-        r#"{"cache":[{"state":"M","event":"Fwd-GetS","entry":"blank"}]}"#,
-    ),
-    ("not.json", "{"),
-    (
-        "twice.json",
-        r#"{"cache":[{"state":"S","event":"Inv","entry":"stall"},{"state":"S","event":"Inv","entry":"stall"}]}"#,
-    ),
-];
 
 /// A device that takes so many bytes and then fails.
 #[derive(Drop)]
@@ -84,16 +71,23 @@ fn words(alloc: Global, line: &str) -> Result<Vec<String>, AllocError> {
 }
 
 fn run(alloc: Global, line: &str, input: &str) -> Result<Served, AllocError> {
+    run_over(alloc, line, "{}", input)
+}
+
+/// What a command line comes to where the file `table.json` has this text.
+fn run_over(
+    alloc: Global,
+    line: &str,
+    text: &'static str,
+    input: &str,
+) -> Result<Served, AllocError> {
     let words = words(alloc, line)?;
     let mut output = Vec::new(alloc);
     let mut errors = Vec::new(alloc);
     let status = serve(
         alloc,
         words.as_slice(),
-        &mut Shelf {
-            alloc,
-            files: &FILES,
-        },
+        &mut OneFile { alloc, text },
         input.as_bytes(),
         &mut output,
         &mut errors,
@@ -149,10 +143,15 @@ fn blocks_of_a_world(rt: HostRuntime) -> Result<(), Fail> {
 fn cells_of_the_tables(rt: HostRuntime) -> Result<(), Fail> {
     let alloc = rt.alloc();
     assert_eq!(rt; CELLS.lines().count(), 160);
-    for line in ["msi tables", "msi tables --tables empty.json"] {
+    for line in ["msi tables", "msi tables --tables table.json"] {
         expect(&rt, &run(alloc, line, "")?, 0, CELLS, "");
     }
-    let served = run(alloc, "msi tables --tables fwd-gets-blank.json", "")?;
+    let served = run_over(
+        alloc,
+        "msi tables --tables table.json",
+        r#"{"cache":[{"state":"M","event":"Fwd-GetS","entry":"blank"}]}"#,
+        "",
+    )?;
     let Ok(text) = str::from_utf8(served.output.as_slice()) else {
         return Err(Fail::from("the cells aren't text"));
     };
@@ -169,22 +168,59 @@ fn cells_of_the_tables(rt: HostRuntime) -> Result<(), Fail> {
 }
 
 #[test]
-fn other_tables(rt: HostRuntime) -> Result<(), Fail> {
+fn broken_tables_are_found_out(rt: HostRuntime) -> Result<(), Fail> {
     let alloc = rt.alloc();
-    let steps =
-        "ask 0 0 store 7\nrequest 0 0\nresponse 0 0\nask 1 0 load\nrequest 0 0\nforward 0 0\nask 0 0 load\n";
-    let line = "msi play --caches 2 --tables fwd-gets-blank.json";
-    let served = run(alloc, line, steps)?;
-    let outcomes = "sent\nmoved\nstore 0 7\nsent\nmoved\nblank\nbroken\n";
-    expect(&rt, &served, 0, outcomes, "");
-    for (file, status, errors) in [
-        ("not.json", 2, "msi: tables refused 1 NotJson\n"),
-        ("twice.json", 2, "msi: tables refused 6 SameCellTwice\n"),
-        ("missing.json", 3, "msi: device\n"),
+    for broken in BROKEN {
+        let line = format!(in alloc; "msi play --caches {} --tables table.json", broken.caches)?;
+        let served = run_over(alloc, line.as_str(), broken.table, broken.steps)?;
+        assert_eq!(rt; served.status, 1, "at {}", broken.table);
+        let Ok(text) = str::from_utf8(served.output.as_slice()) else {
+            return Err(Fail::from("the outcomes aren't text"));
+        };
+        assert_eq!(rt; text.lines().last(), Some(broken.violation));
+        assert_eq!(rt; text.lines().count(), broken.steps.lines().count() + 1);
+        let own = format!(in alloc; "msi play --caches {}", broken.caches)?;
+        assert_eq!(rt;
+            run(alloc, own.as_str(), broken.steps)?.status,
+            0,
+            "at {}",
+            broken.table
+        );
+    }
+    Ok(())
+}
+
+#[test]
+fn what_follows_a_violation_is_not_read(rt: HostRuntime) -> Result<(), Fail> {
+    let served = run_over(
+        rt.alloc(),
+        "msi play --caches 1 --tables table.json",
+        r#"{"cache":[{"state":"I","event":"Load","entry":"blank"}]}"#,
+        "ask 0 0 load\nask 0 0 load\nno step\n",
+    )?;
+    let outcomes = "blank\nviolation blank cache 0 block 0\n";
+    expect(&rt, &served, 1, outcomes, "");
+    Ok(())
+}
+
+#[test]
+fn refused_tables(rt: HostRuntime) -> Result<(), Fail> {
+    let alloc = rt.alloc();
+    let twice =
+        r#"{"cache":[{"state":"S","event":"Inv","entry":"stall"},{"state":"S","event":"Inv","entry":"stall"}]}"#;
+    for (file, text, status, errors) in [
+        ("table.json", "{", 2, "msi: tables refused 1 NotJson\n"),
+        (
+            "table.json",
+            twice,
+            2,
+            "msi: tables refused 6 SameCellTwice\n",
+        ),
+        ("missing.json", "{}", 3, "msi: device\n"),
     ] {
         for command in ["msi play --caches 2", "msi tables"] {
             let line = format!(in alloc; "{command} --tables {file}")?;
-            let served = run(alloc, line.as_str(), "no step\n")?;
+            let served = run_over(alloc, line.as_str(), text, "no step\n")?;
             expect(&rt, &served, status, "", errors);
         }
     }
@@ -243,10 +279,7 @@ fn a_device_that_fails(rt: HostRuntime) -> Result<(), Fail> {
     let status = serve(
         alloc,
         words.as_slice(),
-        &mut Shelf {
-            alloc,
-            files: &FILES,
-        },
+        &mut OneFile { alloc, text: "{}" },
         "ask 0 0 load\n".as_bytes(),
         Short { left: 3 },
         &mut errors,

@@ -1,0 +1,3 @@
+pub mod Findings
+pub mod Histories
+pub mod Blanks

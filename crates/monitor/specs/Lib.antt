@@ -1,0 +1,10 @@
+pub use Rattle.machine.specs.Completions
+pub mod Scenes
+pub mod Finding
+pub mod Watching
+pub use Rattle.base.specs.Steps
+pub use Rattle.control.specs.LineEffect
+pub use Rattle.machine.specs.Tables
+pub use Rattle.machine.specs.Machine
+pub use Rattle.world.specs.View
+pub use Rattle.world.specs.Looks

@@ -1,0 +1,171 @@
+ghost use Rattle.std.specs.Prelude.{◌≡◌, ◌≢◌, ◌+◌, ◌^◌, ◌<◌, ◌≤◌, ◌↔◌, ℕ, IfSome, IsTrue, MatchOption, None, Option};
+ghost use Rattle.base.specs.Steps.{block_of};
+ghost use Rattle.base.specs.declared.step.Outcome.{Outcome};
+ghost use Rattle.machine.specs.Machine.{State};
+ghost use Rattle.world.specs.View.{line_at};
+ghost use Rattle.monitor.specs.Scenes.{Answers, IsLookedAt, Reads, Writes, scene_in};
+ghost use Rattle.monitor.specs.Finding.{AnswersWithin, IsLeastFrom, NoneFrom};
+
+use crate::violation::Violation;
+use base::{BlockId, CacheId, Outcome, Place, Step};
+use control::{may_read, may_write};
+use world::World;
+
+/// What is wrong after a step, where a load of its block ought to have returned the value `due`.
+pub(crate) fn find(
+    world: &World,
+    step: Step,
+    outcome: Outcome,
+    due: Option<u64>,
+) -> Option<Violation>
+    ensures { Answers (scene_in world.now.state step outcome due) result }
+{
+    if !is_looked_at(outcome) {
+        return None;
+    }
+    if let Some(found) = find_blank(world, step, outcome) {
+        return Some(found);
+    }
+    if let Some(found) = find_shared(world, step) {
+        return Some(found);
+    }
+    find_stale(step, outcome, due)
+}
+
+/// The block that a step is about.
+pub(crate) fn block_of(step: Step) -> BlockId
+    ensures { result.0 ≡ block_of step }
+{
+    match step {
+        Step::Ask {
+            cache: _,
+            block,
+            ask: _,
+        } => block,
+        Step::Request { block, index: _ } => block,
+        Step::Forward { block, cache: _ } => block,
+        Step::Response { block, index: _ } => block,
+    }
+}
+
+fn is_looked_at(outcome: Outcome) -> bool
+    ensures { IsTrue result ↔ IsLookedAt outcome }
+{
+    match outcome {
+        Outcome::Held | Outcome::Absent | Outcome::Idle | Outcome::Broken => false,
+        _ => true,
+    }
+}
+
+/// The blank cell that the step met.
+fn find_blank(world: &World, step: Step, outcome: Outcome) -> Option<Violation>
+    ensures { (due : Option ℕ) → AnswersWithin (scene_in world.now.state step outcome due) 0 1 result }
+{
+    match outcome {
+        Outcome::Blank => {
+            let at = world.at(step)?;
+            Some(Violation::Blank {
+                at,
+                block: block_of(step),
+            })
+        }
+        _ => None,
+    }
+}
+
+/// The writer of the step's block that isn't alone.
+fn find_shared(world: &World, step: Step) -> Option<Violation>
+    ensures { (outcome : Outcome) (due : Option ℕ) → IsLookedAt outcome → AnswersWithin (scene_in world.now.state step outcome due) 1 3 result }
+{
+    let block = block_of(step);
+    let first = writer_from(world, block, 0)?;
+    if let Some(second) = writer_from(world, block, first.0 + 1) {
+        return Some(Violation::SecondWriter {
+            block,
+            first,
+            second,
+        });
+    }
+    let reader = reader_beside(world, block, first)?;
+    Some(Violation::WriterBesideReader {
+        block,
+        writer: first,
+        reader,
+    })
+}
+
+/// The load by the step that returned another value than this one.
+fn find_stale(step: Step, outcome: Outcome, due: Option<u64>) -> Option<Violation>
+    ensures { (state : State) → AnswersWithin (scene_in state step outcome due) 3 4 result }
+{
+    match (outcome, due) {
+        (
+            Outcome::Load {
+                cache: _,
+                value: got,
+            },
+            Some(due),
+        ) if got != due => Some(Violation::StaleLoad {
+            block: block_of(step),
+            got,
+            due,
+        }),
+        _ => None,
+    }
+}
+
+/// The least cache from a number on that may write a block.
+fn writer_from(world: &World, block: BlockId, from: u32) -> Option<CacheId>
+    ensures writer { MatchOption result
+        (NoneFrom (λ c. Writes world.now.state block.0 c) from)
+        (λ cache. IsLeastFrom (λ c. Writes world.now.state block.0 c) from cache.0) }
+    ensures small { IfSome result (λ cache. cache.0 + 1 < 2 ^ 32) }
+{
+    for number in from..caches_of(world, block) {
+        if writes(world, CacheId(number), block) {
+            return Some(CacheId(number));
+        }
+    }
+    None
+}
+
+/// The least cache but one that may read a block.
+fn reader_beside(world: &World, block: BlockId, writer: CacheId) -> Option<CacheId>
+    ensures { MatchOption result
+        (NoneFrom (λ c. (c ≢ writer.0) × Reads world.now.state block.0 c) 0)
+        (λ cache. IsLeastFrom (λ c. (c ≢ writer.0) × Reads world.now.state block.0 c) 0 cache.0) }
+{
+    for number in 0..caches_of(world, block) {
+        if number != writer.0 && reads(world, CacheId(number), block) {
+            return Some(CacheId(number));
+        }
+    }
+    None
+}
+
+/// How many caches there are. From that number on none has a line for the block.
+fn caches_of(world: &World, block: BlockId) -> u32
+    ensures { (cache : ℕ) → result ≤ cache → line_at world.now.state cache block.0 ≡ None }
+{
+    let caches = world.shape().caches();
+    let _none = world.line(CacheId(caches), block);
+    caches
+}
+
+fn writes(world: &World, cache: CacheId, block: BlockId) -> bool
+    ensures { IsTrue result ↔ Writes world.now.state block.0 cache.0 }
+{
+    match world.line(cache, block) {
+        Some(line) => may_write(line.state),
+        None => false,
+    }
+}
+
+fn reads(world: &World, cache: CacheId, block: BlockId) -> bool
+    ensures { IsTrue result ↔ Reads world.now.state block.0 cache.0 }
+{
+    match world.line(cache, block) {
+        Some(line) => may_read(line.state),
+        None => false,
+    }
+}

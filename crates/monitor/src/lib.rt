@@ -1,0 +1,17 @@
+//! Watches a world from outside: the value that each block ought to have, and the first thing that is wrong after a step.
+#![tactic(auto)]
+
+mod finding;
+mod laws;
+mod violation;
+mod watch;
+
+pub use laws::{
+    blank_has_a_place, due_is_the_last_store, nothing_wrong_where_nothing_was_done,
+    one_violation_at_most, watch_knows_what_is_due,
+};
+pub use violation::Violation;
+pub use watch::Watch;
+
+#[cfg(test)]
+mod tests;

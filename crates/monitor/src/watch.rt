@@ -1,0 +1,64 @@
+use crate::finding::{block_of, find};
+use crate::violation::Violation;
+use base::{BlockId, NoMemory, Outcome, Step};
+use std::alloc::Global;
+use std::marker::Model;
+use world::World;
+
+/// The value that each block ought to have, noted from the outcomes of steps alone.
+#[derive(Drop)]
+pub struct Watch {
+    values: Vec<u64>,
+}
+
+impl Model for Watch {
+    ghost use Rattle.std.specs.Prelude.{ℕ, List};
+
+    ghost Value = { List ℕ };
+
+    ghost view = { λ w. w.values.items };
+}
+
+impl Watch {
+    ghost use Rattle.std.specs.Prelude.{◌≡◌, [], IfOk, slice_get};
+    ghost use Rattle.base.specs.Steps.{block_of};
+    ghost use Rattle.world.specs.View.{View};
+    ghost use Rattle.monitor.specs.Scenes.{Answers, scene_in};
+    ghost use Rattle.monitor.specs.Watching.{AnswersHistory, HasSeen, SeesNext, noted};
+
+    /// A watch over blocks that have their opening values, and to which nothing has happened.
+    pub fn open(alloc: Global, opening: &[u64]) -> Result<Watch, NoMemory>
+        ensures values { IfOk result (λ watch. watch ≡ opening.now) }
+        ensures seen { IfOk result (λ watch. (world : View) → HasSeen world opening.now [] watch) }
+    {
+        Ok(Watch {
+            values: Vec::from_slice(alloc, opening)?,
+        })
+    }
+
+    /// Notes a step, and answers what is wrong after it.
+    ///
+    /// The world is that after the step, and the outcome is the one that the step had. The watch has to see each step:
+    /// what a load ought to return is the value of the last store that it has seen, or the opening value.
+    pub fn see(&mut self, world: &World, step: Step, outcome: Outcome) -> Option<Violation>
+        ensures noted { self.new ≡ noted self.old (block_of step) outcome }
+        ensures violation { Answers (scene_in world.now.state step outcome (slice_get self.old (block_of step))) result }
+        ensures history { AnswersHistory world.now self.old step outcome result }
+        ensures seen { SeesNext world.now self.old step outcome self.new }
+    {
+        let block = block_of(step);
+        let due = self.values.get(block.0 as usize).copied();
+        self.note(block, outcome);
+        find(world, step, outcome, due)
+    }
+
+    fn note(&mut self, block: BlockId, outcome: Outcome)
+        ensures { self.new ≡ noted self.old block.0 outcome }
+    {
+        if let Outcome::Store { cache: _, value } = outcome {
+            if let Some(latest) = self.values.get_mut(block.0 as usize) {
+                *latest = value;
+            }
+        }
+    }
+}

@@ -1,0 +1,18 @@
+/// What a command found, where nothing went wrong with the command itself.
+#[derive(Clone, Copy, Debug, PartialEq, Eq)]
+pub enum Finding {
+    /// There is nothing to find, or nothing was found.
+    Nothing,
+    /// A violation was found, and printed.
+    Violation,
+}
+
+impl Finding {
+    /// The exit status.
+    pub fn status(self) -> u8 {
+        match self {
+            Finding::Nothing => 0,
+            Finding::Violation => 1,
+        }
+    }
+}
