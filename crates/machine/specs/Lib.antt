@@ -2,8 +2,11 @@ pub mod Tables
 pub mod Block
 pub mod Transition
 pub mod Machine
-pub mod Completions
 pub mod Rows
+pub mod Completions
+pub mod Coherence
+pub mod Unstuck
+pub mod CoherenceRows
 pub use Rattle.base.specs.Extent
 pub use Rattle.base.specs.Steps
 pub use Rattle.network.specs.Traffic

@@ -1,12 +1,16 @@
-ghost use Rattle.std.specs.Prelude.{◌≡◌, ℕ, []};
+ghost use Rattle.std.specs.Prelude.{◌≡◌, ℕ, List, [], length};
+ghost use Rattle.base.specs.Extent.{Extent, IsWithinLimits};
 ghost use Rattle.base.specs.declared.ids.CacheId.{CacheId};
 ghost use Rattle.base.specs.declared.step.Outcome.{Outcome};
 ghost use Rattle.base.specs.declared.step.Step.{Step};
 ghost use Rattle.machine.specs.declared.decision.Decision.{Decision};
-ghost use Rattle.machine.specs.Tables.{Tables};
+ghost use Rattle.machine.specs.Tables.{Tables, baseline};
+ghost use Rattle.machine.specs.Coherence.{Safe};
+ghost use Rattle.machine.specs.Unstuck.{Unstuck};
+ghost use Rattle.machine.specs.CoherenceRows.{StoreThenLoad, StaleLoadIsRefused, EarlyLoadIsRefused, OneWriterOrManyReaders};
 ghost use Rattle.machine.specs.Block.{BlockState, IsWhole};
 ghost use Rattle.machine.specs.Transition.{decision_of, decided_outcome, messages_of, transition};
-ghost use Rattle.machine.specs.Machine.{State, IsRefusal, next, sent_by};
+ghost use Rattle.machine.specs.Machine.{State, IsRefusal, next, opened, after, sent_by};
 ghost use Rattle.machine.specs.Rows.{NothingHappens, LoadFromMemory, LoadFromOwner, HeldForward, EarlyAck};
 
 /// Runs of the protocol's own tables, worked out step by step.
@@ -31,4 +35,25 @@ pub fn blocks_stay_whole()
 /// A step that is held, absent, idle, blank or made in a broken world sends nothing.
 pub fn nothing_sent_by_a_refusal()
     ensures { (tables : Tables) (state : State) (step : Step) → IsRefusal (next tables state step).outcome → sent_by tables state step ≡ [] }
+{}
+
+/// What the definitions of coherence accept and refuse, worked out by hand.
+pub fn worked_judgements()
+    ensures store_then_load { StoreThenLoad }
+    ensures stale_load { StaleLoadIsRefused }
+    ensures early_load { EarlyLoadIsRefused }
+    ensures one_writer_or_many_readers { OneWriterOrManyReaders }
+{}
+
+/// Under the protocol's own tables every run of every world is safe: each block always has one
+/// writer or many readers, no step meets a blank cell, and each load returns the value of the last
+/// store to its block, or the opening value.
+pub fn safe()
+    ensures { (shape : Extent) (opening : List ℕ) (steps : List Step) → IsWithinLimits shape → length opening ≡ shape.blocks → Safe shape baseline opening steps }
+{}
+
+/// Nor does such a run ever get stuck: in each state that it reaches a block with messages on their
+/// way has one that can be delivered, and in a block without any no ask waits and none is held.
+pub fn unstuck()
+    ensures { (shape : Extent) (opening : List ℕ) (steps : List Step) → IsWithinLimits shape → length opening ≡ shape.blocks → Unstuck baseline (after baseline (opened shape opening) steps).state }
 {}

@@ -9,5 +9,6 @@ mod laws;
 
 pub use decision::{Decision, Origin};
 pub use laws::{
-    blocks_stay_whole, nothing_sent_by_a_refusal, outcome_is_the_decisions, worked_rows,
+    blocks_stay_whole, nothing_sent_by_a_refusal, outcome_is_the_decisions, safe, unstuck,
+    worked_judgements, worked_rows,
 };

@@ -6,5 +6,6 @@ pub use Rattle.base.specs.Steps
 pub use Rattle.control.specs.LineEffect
 pub use Rattle.machine.specs.Tables
 pub use Rattle.machine.specs.Machine
+pub use Rattle.machine.specs.Coherence
 pub use Rattle.world.specs.View
 pub use Rattle.world.specs.Looks

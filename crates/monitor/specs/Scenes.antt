@@ -1,13 +1,12 @@
 -- What there is to see after a step, and what is wrong in it.
-use Rattle.std.specs.Prelude.{◌≡◌, ◌≢◌, ◌<◌, ℕ, Option, Some, None, IsSomeAnd, IsTrue}
+use Rattle.std.specs.Prelude.{◌≡◌, ◌≢◌, ◌<◌, ℕ, Option, Some, None}
 use Rattle.base.specs.Steps.{block_of}
 use Rattle.base.specs.declared.ids.Place.{Place}
 use Rattle.base.specs.declared.step.Step.{Step}
 use Rattle.base.specs.declared.step.Outcome.{Outcome}
 use Rattle.base.specs.declared.step.Outcome.TheVariants as outcome
-use Rattle.control.specs.LineEffect.{is_reader, is_writer}
 use Rattle.machine.specs.Machine.{State}
-use Rattle.world.specs.View.{line_at}
+use Rattle.machine.specs.Coherence.{Reads, Writes}
 use Rattle.world.specs.Looks.{place_at}
 use Rattle.monitor.specs.declared.violation.Violation.{Violation}
 use Rattle.monitor.specs.declared.violation.Violation.TheVariants.{Blank, SecondWriter, WriterBesideReader, StaleLoad}
@@ -22,14 +21,6 @@ pub record Scene : Type 0 where
 -- what there is to see in a state after this step
 abbrev pub scene_in : State → Step → Outcome → Option ℕ → Scene
 scene_in state step outcome due = record { step = step; outcome = outcome; state = state; due = due }
-
--- in this state a cache may read a block: its line is in S, SM^AD, SM^A or M
-abbrev pub Reads : State → ℕ → ℕ → Type 0
-Reads state block cache = IsSomeAnd (line_at state cache block) (λ line. IsTrue (is_reader line.state))
-
--- in this state a cache may write a block: its line is in M
-abbrev pub Writes : State → ℕ → ℕ → Type 0
-Writes state block cache = IsSomeAnd (line_at state cache block) (λ line. IsTrue (is_writer line.state))
 
 -- a number is the least of those for which a fact holds
 pub record IsLeast (P : ℕ → Type 0) (n : ℕ) : Type 0 where
@@ -57,14 +48,14 @@ pub record MetBlank (scene : Scene) (at : Place) : Type 0 where
 -- these are the two least writers of the step's block
 pub record HasTwoWriters (scene : Scene) (first second : ℕ) : Type 0 where
   pub looked_at : IsLookedAt scene.outcome
-  pub least : IsLeast (λ c. Writes scene.state (block_of scene.step) c) first
-  pub next : IsLeast (λ c. (first < c) × Writes scene.state (block_of scene.step) c) second
+  pub least : IsLeast (λ c. Writes scene.state c (block_of scene.step)) first
+  pub next : IsLeast (λ c. (first < c) × Writes scene.state c (block_of scene.step)) second
 
 -- these are the least writer of the step's block, and the least reader that is another cache
 pub record HasReaderBeside (scene : Scene) (writer reader : ℕ) : Type 0 where
   pub looked_at : IsLookedAt scene.outcome
-  pub writes : IsLeast (λ c. Writes scene.state (block_of scene.step) c) writer
-  pub beside : IsLeast (λ c. (c ≢ writer) × Reads scene.state (block_of scene.step) c) reader
+  pub writes : IsLeast (λ c. Writes scene.state c (block_of scene.step)) writer
+  pub beside : IsLeast (λ c. (c ≢ writer) × Reads scene.state c (block_of scene.step)) reader
 
 -- the step completed a load, with another value than was due
 pub record IsStale (scene : Scene) (got due : ℕ) : Type 0 where

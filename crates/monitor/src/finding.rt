@@ -2,8 +2,8 @@ ghost use Rattle.std.specs.Prelude.{◌≡◌, ◌≢◌, ◌+◌, ◌^◌, ◌<
 ghost use Rattle.base.specs.Steps.{block_of};
 ghost use Rattle.base.specs.declared.step.Outcome.{Outcome};
 ghost use Rattle.machine.specs.Machine.{State};
-ghost use Rattle.world.specs.View.{line_at};
-ghost use Rattle.monitor.specs.Scenes.{Answers, IsLookedAt, Reads, Writes, scene_in};
+ghost use Rattle.machine.specs.Coherence.{Reads, Writes, line_at};
+ghost use Rattle.monitor.specs.Scenes.{Answers, IsLookedAt, scene_in};
 ghost use Rattle.monitor.specs.Finding.{AnswersWithin, IsLeastFrom, NoneFrom};
 
 use crate::violation::Violation;
@@ -117,8 +117,8 @@ fn find_stale(step: Step, outcome: Outcome, due: Option<u64>) -> Option<Violatio
 /// The least cache from a number on that may write a block.
 fn writer_from(world: &World, block: BlockId, from: u32) -> Option<CacheId>
     ensures writer { MatchOption result
-        (NoneFrom (λ c. Writes world.now.state block.0 c) from)
-        (λ cache. IsLeastFrom (λ c. Writes world.now.state block.0 c) from cache.0) }
+        (NoneFrom (λ c. Writes world.now.state c block.0) from)
+        (λ cache. IsLeastFrom (λ c. Writes world.now.state c block.0) from cache.0) }
     ensures small { IfSome result (λ cache. cache.0 + 1 < 2 ^ 32) }
 {
     for number in from..caches_of(world, block) {
@@ -132,8 +132,8 @@ fn writer_from(world: &World, block: BlockId, from: u32) -> Option<CacheId>
 /// The least cache but one that may read a block.
 fn reader_beside(world: &World, block: BlockId, writer: CacheId) -> Option<CacheId>
     ensures { MatchOption result
-        (NoneFrom (λ c. (c ≢ writer.0) × Reads world.now.state block.0 c) 0)
-        (λ cache. IsLeastFrom (λ c. (c ≢ writer.0) × Reads world.now.state block.0 c) 0 cache.0) }
+        (NoneFrom (λ c. (c ≢ writer.0) × Reads world.now.state c block.0) 0)
+        (λ cache. IsLeastFrom (λ c. (c ≢ writer.0) × Reads world.now.state c block.0) 0 cache.0) }
 {
     for number in 0..caches_of(world, block) {
         if number != writer.0 && reads(world, CacheId(number), block) {
@@ -153,7 +153,7 @@ fn caches_of(world: &World, block: BlockId) -> u32
 }
 
 fn writes(world: &World, cache: CacheId, block: BlockId) -> bool
-    ensures { IsTrue result ↔ Writes world.now.state block.0 cache.0 }
+    ensures { IsTrue result ↔ Writes world.now.state cache.0 block.0 }
 {
     match world.line(cache, block) {
         Some(line) => may_write(line.state),
@@ -162,7 +162,7 @@ fn writes(world: &World, cache: CacheId, block: BlockId) -> bool
 }
 
 fn reads(world: &World, cache: CacheId, block: BlockId) -> bool
-    ensures { IsTrue result ↔ Reads world.now.state block.0 cache.0 }
+    ensures { IsTrue result ↔ Reads world.now.state cache.0 block.0 }
 {
     match world.line(cache, block) {
         Some(line) => may_read(line.state),

@@ -12,9 +12,10 @@ use Rattle.machine.specs.Tables.{Tables}
 use Rattle.machine.specs.Block.{BlockState, opened_block}
 use Rattle.machine.specs.Transition.{decision_of, transition}
 use Rattle.machine.specs.Machine.{State}
+use Rattle.machine.specs.Coherence.{line_at}
 use Rattle.machine.proofs.Whole.{lines-carried_out}
 use Rattle.world.specs.Kept.{Kept}
-use Rattle.world.specs.View.{AllLined, IsShaped, StepsAt, states, rooms_of, line_at}
+use Rattle.world.specs.View.{AllLined, IsShaped, StepsAt, states, rooms_of}
 
 -- what a function makes of the element at a place
 slice_get-map_at : {A B : Type 0} (f : A → B) (xs : List A) (i : ℕ) (d : A) → i < length xs → slice_get (map f xs) i ≡ Some (f (get_or xs i d))

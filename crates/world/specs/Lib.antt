@@ -3,6 +3,7 @@ pub mod View
 pub mod Runs
 pub mod Looks
 pub mod Enabled
+pub mod Coherent
 pub mod Written
 pub mod Overrides
 pub mod Seen
@@ -12,3 +13,5 @@ pub use Rattle.control.specs.Sharing
 pub use Rattle.machine.specs.Tables
 pub use Rattle.machine.specs.Block
 pub use Rattle.machine.specs.Machine
+pub use Rattle.machine.specs.Coherence
+pub use Rattle.machine.specs.Unstuck

@@ -1,4 +1,4 @@
-use Rattle.std.specs.Prelude.{◌≡◌, ℕ, List, [], ◌∷◌, ◌++◌, Option, Some, None, Bool, false, option_and_then, slice_get, slice_set, length, map}
+use Rattle.std.specs.Prelude.{◌≡◌, ℕ, List, [], ◌∷◌, ◌++◌, Option, Some, None, Bool, false, slice_get, slice_set, length, map}
 use Rattle.std.specs.Option.{option_map, option_map_or}
 use Rattle.base.specs.Extent.{Extent}
 use Rattle.base.specs.Steps.{block_of}
@@ -8,7 +8,6 @@ use Rattle.base.specs.declared.step.Outcome.{Outcome}
 use Rattle.network.specs.declared.message.Message.{Message}
 use Rattle.network.specs.Room.{Room, HasRoomFor}
 use Rattle.directory_table.specs.declared.state.DirectoryState.{DirectoryState}
-use Rattle.control.specs.declared.line.Line.{Line}
 use Rattle.control.specs.Sharing.{shares}
 use Rattle.machine.specs.Tables.{Tables}
 use Rattle.machine.specs.Block.{BlockState}
@@ -65,10 +64,6 @@ pub record ComesOfAt (tables : Tables) (step : Step) (number : ℕ) (blocks : Li
 -- whatever led to the old world, followed by these steps, leads to the new one
 abbrev pub LeadsOn : View → List Step → View → Type 0
 LeadsOn old steps new = (opening : List ℕ) (before : List Step) → IsHistory old.shape old.tables opening before old.state → IsHistory new.shape new.tables opening (before ++ steps) new.state
-
--- the line of a cache for a block, if both are there
-abbrev pub line_at : State → ℕ → ℕ → Option Line
-line_at s cache block = option_and_then (λ b. slice_get b.lines cache) (slice_get s.blocks block)
 
 -- state, owner and memory of a block's home, if the block is there
 abbrev pub home_at : State → ℕ → Option (DirectoryState × Option CacheId × ℕ)

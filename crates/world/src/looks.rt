@@ -11,7 +11,8 @@ use directory_table::DirectoryState;
 impl World {
     ghost use Rattle.std.specs.Prelude.{◌≡◌, ◌<◌, ◌↔◌, IsSome, IsTrue};
     ghost use Rattle.machine.specs.Machine.{next};
-    ghost use Rattle.world.specs.View.{line_at, home_at, shares_at};
+    ghost use Rattle.machine.specs.Coherence.{line_at};
+    ghost use Rattle.world.specs.View.{home_at, shares_at};
     ghost use Rattle.world.specs.Looks.{latest_at, readers_of, writer_of, all_quiet, place_at};
 
     /// How many caches and blocks there are.

@@ -11,6 +11,7 @@ pub struct RunStop {
 
 impl World {
     ghost use Rattle.std.specs.Prelude.{◌<◌, IfErr, OnOk, length, take};
+    ghost use Rattle.world.specs.Coherent.{HasBeenSafe, IsUnstuck};
     ghost use Rattle.world.specs.View.{LeadsOn};
     ghost use Rattle.world.specs.Runs.{IsRun};
 
@@ -23,7 +24,10 @@ impl World {
         ensures done { IfErr result (λ stop. stop.done < length steps.now) }
         ensures history { OnOk result (LeadsOn self.old steps.now self.new) }
         ensures history_so_far { IfErr result (λ stop. LeadsOn self.old (take stop.done steps.now) self.new) }
+        ensures safe { HasBeenSafe self.new }
+        ensures unstuck { IsUnstuck self.new }
     {
+        let _limit = self.shape.blocks();
         match self.advance_all(steps, outcomes) {
             Ok(()) => return Ok(()),
             Err(stop) => return Err(stop),

@@ -60,6 +60,7 @@ impl Model for World {
 impl World {
     ghost use Rattle.std.specs.Prelude.{◌≡◌, ◌≢◌, ◌↔◌, ◌∷◌, [], IfOk, IsOk, IsErrOf, OnErr, OnOk, length};
     ghost use Rattle.machine.specs.Machine.{IsHistory, next, opened, sent_by};
+    ghost use Rattle.world.specs.Coherent.{HasBeenSafe, IsUnstuck};
     ghost use Rattle.world.specs.View.{HasRoomToStep, LeadsOn, stepped};
     ghost use Rattle.world.specs.declared.worlds.OpenFault.TheVariants as fault;
 
@@ -77,6 +78,8 @@ impl World {
         ensures tables { IfOk result (λ world. world.tables ≡ tables) }
         ensures state { IfOk result (λ world. world.state ≡ opened shape opening.items) }
         ensures history { IfOk result (λ world. IsHistory world.shape world.tables opening.items [] world.state) }
+        ensures safe { IfOk result HasBeenSafe }
+        ensures unstuck { IfOk result IsUnstuck }
         ensures opening_length { IsErrOf result fault.OpeningLength ↔ (length opening.items ≢ shape.blocks) }
     {
         if opening.len() != shape.blocks() as usize {
@@ -100,12 +103,15 @@ impl World {
     pub fn step(&mut self, step: Step) -> Result<Outcome, NoMemory>
         ensures ok { IfOk result (λ what. next self.old.tables self.old.state step ≡ stepped self.new.state what) }
         ensures history { OnOk result (LeadsOn self.old (step ∷ []) self.new) }
+        ensures safe { HasBeenSafe self.new }
+        ensures unstuck { IsUnstuck self.new }
         ensures shape { self.new.shape ≡ self.old.shape }
         ensures tables { self.new.tables ≡ self.old.tables }
         ensures err { OnErr result (self.new.state ≡ self.old.state) }
         ensures succeeds { HasRoomToStep self.old step → IsOk result }
         ensures sends_nothing { sent_by self.old.tables self.old.state step ≡ [] → IsOk result }
     {
+        let _limit = self.shape.blocks();
         let outcome = self.advance(step)?;
         Ok(outcome)
     }

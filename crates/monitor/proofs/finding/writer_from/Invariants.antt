@@ -1,6 +1,6 @@
 use Rattle.std.proofs.Common.{ℕ, ◌<◌, ◌≤◌}
-use Rattle.monitor.specs.Scenes.{Writes}
+use Rattle.machine.specs.Coherence.{Writes}
 use Rattle.monitor.proofs.finding.writer_from.Given as goal
 
 abbrev pub invariant-loop-number : goal.invariant-loop-number
-invariant-loop-number l = (n : ℕ) → l.from ≤ n → n < l.number → ¬ Writes l.world.state l.block.0 n
+invariant-loop-number l = (n : ℕ) → l.from ≤ n → n < l.number → ¬ Writes l.world.state n l.block.0

@@ -1,0 +1,21 @@
+-- The headline, carried from the machine's runs to a world's histories.
+use Rattle.std.proofs.Common.{◌≡◌, ◌∙◌, ℕ, List, ap, sym}
+use Rattle.base.specs.Extent.{Extent, IsWithinLimits}
+use Rattle.base.specs.declared.step.Step.{Step}
+use Rattle.machine.specs.Tables.{Tables, baseline}
+use Rattle.machine.specs.Machine.{State, IsHistory, opened, after}
+use Rattle.machine.specs.Coherence.{Safe}
+use Rattle.machine.specs.Unstuck.{Unstuck}
+use Rattle.machine.proofs.Safety.{safe}
+use Rattle.machine.proofs.Progress.{unstuck}
+
+-- each history under the protocol's own tables is one of the machine's runs
+pub been-safe : (shape : Extent) (tables : Tables) (state : State) → IsWithinLimits shape →
+    (opening : List ℕ) (steps : List Step) → tables ≡ baseline → IsHistory shape tables opening steps state → Safe shape tables opening steps
+been-safe shape tables state within opening steps own history = rw own (safe shape opening steps within)
+
+pub not-stuck : (shape : Extent) (tables : Tables) (state : State) → IsWithinLimits shape →
+    (opening : List ℕ) (steps : List Step) → tables ≡ baseline → IsHistory shape tables opening steps state → Unstuck tables state
+not-stuck shape tables state within opening steps own history =
+    let leads : (after baseline (opened shape opening) steps).state ≡ state = ap (λ t. (after t (opened shape opening) steps).state) (sym own) ∙ history.leads in
+    rw (own, ← leads) (unstuck shape opening steps within)
