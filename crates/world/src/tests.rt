@@ -160,6 +160,24 @@ fn deliveries_in_their_order(rt: HostRuntime) -> Result<(), Fail> {
 }
 
 #[test]
+fn a_held_inv_gets_stuck(rt: HostRuntime) -> Result<(), Fail> {
+    let alloc = rt.alloc();
+    let mut tables = Tables::baseline();
+    tables.cache = tables
+        .cache
+        .with(CacheState::SiA, CacheEvent::Inv, CacheEntry::Stall);
+    let mut world = opened(alloc, 2, tables)?;
+    let made =
+        "ask 0 0 load,request 0 0,response 0 0,ask 0 0 replace,ask 1 0 store 5,request 0 1,response 0 0,request 0 0,forward 0 0";
+    let mut found = Vec::new(alloc);
+    world.run(steps(alloc, made)?.as_slice(), &mut found)?;
+    let came = "sent,moved,load 0 0,sent,sent,moved,moved,moved,held";
+    assert_eq!(rt; found.as_slice(), outcomes(alloc, came)?.as_slice());
+    assert!(rt; world.enabled(alloc)?.is_empty() && !world.empty());
+    Ok(())
+}
+
+#[test]
 fn a_blank_breaks_the_world(rt: HostRuntime) -> Result<(), Fail> {
     let mut tables = Tables::baseline();
     tables.cache = tables
