@@ -1,3 +1,4 @@
+pub mod Ends
 pub mod Extent
 pub mod Spelling
 pub mod Steps

@@ -45,6 +45,23 @@ pub enum Step {
     },
 }
 
+impl Step {
+    ghost use Rattle.std.specs.Prelude.{◌≡◌};
+    ghost use Rattle.base.specs.Steps.{block_of};
+
+    /// The block that the step is about.
+    pub fn block(&self) -> BlockId
+        ensures { result.0 ≡ block_of self.now }
+    {
+        match *self {
+            Step::Ask { block, .. }
+            | Step::Request { block, .. }
+            | Step::Forward { block, .. }
+            | Step::Response { block, .. } => block,
+        }
+    }
+}
+
 /// What a step did. `docs/PROTOCOL.md` has the order in which a step is tested.
 #[derive(Clone, Copy, Debug, PartialEq, Eq)]
 pub enum Outcome {

@@ -1,5 +1,8 @@
 use crate::text::{cut, number_of, small_number_of, spells_one_step};
-use crate::{Ask, BlockId, CacheId, Outcome, Shape, ShapeFault, Step};
+use crate::{
+    Ask, BlockId, Buffer, CacheId, Failed, Faltering, FromRead, Outcome, Shape, ShapeFault, Sink,
+    Source, Step, ToWrite, put_all,
+};
 use std::test::Fail;
 
 #[test]
@@ -204,4 +207,79 @@ fn words_and_numbers(rt: HostRuntime) {
     assert_eq!(rt; small_number_of(b"4294967295"), Some(4294967295));
     assert_eq!(rt; small_number_of(b"4294967296"), None);
     spells_one_step();
+}
+
+#[test]
+fn blocks_of_steps(rt: HostRuntime) {
+    for (line, block) in [
+        ("ask 1 2 load", 2),
+        ("request 3 1", 3),
+        ("forward 4 1", 4),
+        ("response 5 1", 5),
+    ] {
+        let step = Step::read(line.as_bytes());
+        assert_eq!(rt; step.map(|s| s.block()), Some(BlockId(block)), "at {line}");
+    }
+}
+
+/// Pulls until nothing is left, three bytes a call at most. It answers what came, and whether the source failed.
+fn pull_all<S: Source>(rt: HostRuntime, source: &mut S) -> Result<(Vec<u8>, bool), Fail> {
+    let mut found = Vec::new(rt.alloc());
+    let mut buffer = [0u8; 3];
+    for _ in 0..100 {
+        match source.pull(&mut buffer) {
+            Ok(0) => return Ok((found, false)),
+            Ok(n) => found.extend_from_slice(&buffer[..n])?,
+            Err(Failed) => return Ok((found, true)),
+        }
+    }
+    Err(Fail::from("a source doesn't end"))
+}
+
+#[test]
+fn sources_of_bytes(rt: HostRuntime) -> Result<(), Fail> {
+    let text = b"steps and outcomes".as_slice();
+    let (found, failed) = pull_all(rt, &mut { text })?;
+    assert_eq!(rt; (found.as_slice(), failed), (text, false));
+    let (found, failed) = pull_all(rt, &mut FromRead::new(text))?;
+    assert_eq!(rt; (found.as_slice(), failed), (text, false));
+    for (most, calls, whole, failed) in [
+        (1, 100, 18, false),
+        (2, 4, 8, true),
+        (7, 4, 12, true),
+        (1, 0, 0, true),
+    ] {
+        let (found, fails) = pull_all(rt, &mut Faltering::over(text, most, calls))?;
+        assert_eq!(rt;
+            (found.as_slice(), fails),
+            (&text[..whole], failed),
+            "at {most} {calls}"
+        );
+    }
+    Ok(())
+}
+
+#[test]
+fn sinks_of_bytes(rt: HostRuntime) -> Result<(), Fail> {
+    let text = b"steps and outcomes".as_slice();
+    for (most, calls, written) in [
+        (1, 18, None),
+        (1, 17, Some(17)),
+        (7, 2, Some(14)),
+        (200, 1, None),
+        (200, 0, Some(0)),
+    ] {
+        let mut sink = Faltering::over(Buffer::open(rt.alloc()), most, calls);
+        let put = put_all(&mut sink, text);
+        assert_eq!(rt; put.err().map(|f| f.written), written, "at {most} {calls}");
+        assert_eq!(rt;
+            sink.end().bytes(),
+            &text[..written.unwrap_or(18)],
+            "at {most} {calls}"
+        );
+    }
+    let mut out = Vec::new(rt.alloc());
+    assert!(rt; put_all(&mut ToWrite::new(&mut out), text).is_ok());
+    assert_eq!(rt; out.as_slice(), text);
+    Ok(())
 }

@@ -32,22 +32,6 @@ pub(crate) fn find(
     find_stale(step, outcome, due)
 }
 
-/// The block that a step is about.
-pub(crate) fn block_of(step: Step) -> BlockId
-    ensures { result.0 ≡ block_of step }
-{
-    match step {
-        Step::Ask {
-            cache: _,
-            block,
-            ask: _,
-        } => block,
-        Step::Request { block, index: _ } => block,
-        Step::Forward { block, cache: _ } => block,
-        Step::Response { block, index: _ } => block,
-    }
-}
-
 fn is_looked_at(outcome: Outcome) -> bool
     ensures { IsTrue result ↔ IsLookedAt outcome }
 {
@@ -66,7 +50,7 @@ fn find_blank(world: &World, step: Step, outcome: Outcome) -> Option<Violation>
             let at = world.at(step)?;
             Some(Violation::Blank {
                 at,
-                block: block_of(step),
+                block: step.block(),
             })
         }
         _ => None,
@@ -77,7 +61,7 @@ fn find_blank(world: &World, step: Step, outcome: Outcome) -> Option<Violation>
 fn find_shared(world: &World, step: Step) -> Option<Violation>
     ensures { (outcome : Outcome) (due : Option ℕ) → IsLookedAt outcome → AnswersWithin (scene_in world.now.state step outcome due) 1 3 result }
 {
-    let block = block_of(step);
+    let block = step.block();
     let first = writer_from(world, block, 0)?;
     if let Some(second) = writer_from(world, block, first.0 + 1) {
         return Some(Violation::SecondWriter {
@@ -106,7 +90,7 @@ fn find_stale(step: Step, outcome: Outcome, due: Option<u64>) -> Option<Violatio
             },
             Some(due),
         ) if got != due => Some(Violation::StaleLoad {
-            block: block_of(step),
+            block: step.block(),
             got,
             due,
         }),

@@ -1,4 +1,4 @@
-use crate::finding::{block_of, find};
+use crate::finding::find;
 use crate::violation::Violation;
 use base::{BlockId, NoMemory, Outcome, Step};
 use std::alloc::Global;
@@ -46,7 +46,7 @@ impl Watch {
         ensures history { AnswersHistory world.now self.old step outcome result }
         ensures seen { SeesNext world.now self.old step outcome self.new }
     {
-        let block = block_of(step);
+        let block = step.block();
         let due = self.values.get(block.0 as usize).copied();
         self.note(block, outcome);
         find(world, step, outcome, due)

@@ -210,6 +210,25 @@ fn refused_tables(rt: HostRuntime) -> Result<(), Fail> {
         r#"{"cache":[{"state":"S","event":"Inv","entry":"stall"},{"state":"S","event":"Inv","entry":"stall"}]}"#;
     for (file, text, status, errors) in [
         ("table.json", "{", 2, "msi: tables refused 1 NotJson\n"),
+        ("table.json", "[]", 2, "msi: tables refused 2 BadShape\n"),
+        (
+            "table.json",
+            r#"{"cache":[{"state":"X","event":"Inv","entry":"stall"}]}"#,
+            2,
+            "msi: tables refused 3 UnknownState\n",
+        ),
+        (
+            "table.json",
+            r#"{"cache":[{"state":"S","event":"GetS","entry":"stall"}]}"#,
+            2,
+            "msi: tables refused 4 UnknownEvent\n",
+        ),
+        (
+            "table.json",
+            r#"{"directory":[{"state":"I","event":"GetS","entry":{"next":"S","do":["putm"]}}]}"#,
+            2,
+            "msi: tables refused 5 UnknownAction\n",
+        ),
         (
             "table.json",
             twice,

@@ -3,7 +3,7 @@ ghost use Rattle.world.specs.Looks.{all_quiet};
 ghost use Rattle.world.specs.View.{states};
 
 use crate::block::Block;
-use crate::worlds::{World, block_number};
+use crate::worlds::World;
 use base::{BlockId, CacheId, Outcome, Place, Shape, Step};
 use control::Line;
 use directory_table::DirectoryState;
@@ -103,7 +103,7 @@ impl World {
         if self.broken() {
             return false;
         }
-        match self.blocks.get(block_number(step) as usize) {
+        match self.blocks.get(step.block().0 as usize) {
             Some(block) => block.is_held(&self.tables, step),
             None => false,
         }
@@ -113,7 +113,7 @@ impl World {
     pub fn at(&self, step: Step) -> Option<Place>
         ensures { result ≡ place_at self.now.state step }
     {
-        self.blocks.get(block_number(step) as usize)?.place(step)
+        self.blocks.get(step.block().0 as usize)?.place(step)
     }
 }
 

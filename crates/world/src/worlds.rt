@@ -131,7 +131,7 @@ impl World {
         if self.met_blank {
             return Ok(Outcome::Broken);
         }
-        let number = block_number(step) as usize;
+        let number = step.block().0 as usize;
         if number >= self.blocks.len() {
             return Ok(Outcome::Absent);
         }
@@ -164,7 +164,7 @@ impl World {
         if self.met_blank {
             return Ok(Outcome::Broken);
         }
-        let number = block_number(step) as usize;
+        let number = step.block().0 as usize;
         if number >= self.blocks.len() {
             return Ok(Outcome::Absent);
         }
@@ -193,21 +193,6 @@ fn clone_blocks(alloc: Global, blocks: &[Block]) -> Result<Vec<Block>, NoMemory>
         copies.push(block.try_clone(alloc)?)?;
     }
     Ok(copies)
-}
-
-pub(crate) fn block_number(step: Step) -> u32
-    ensures { result ≡ block_of step }
-{
-    match step {
-        Step::Ask {
-            cache: _,
-            block,
-            ask: _,
-        } => block.0,
-        Step::Request { block, index: _ } => block.0,
-        Step::Forward { block, cache: _ } => block.0,
-        Step::Response { block, index: _ } => block.0,
-    }
 }
 
 fn breaks(outcome: Outcome) -> bool

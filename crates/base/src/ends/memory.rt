@@ -1,0 +1,157 @@
+use super::{Failed, Sink, Source};
+use std::alloc::Global;
+
+/// A slice is a source that never fails: its front goes out, and it becomes the rest.
+impl Source for &[u8] {
+    ghost use Rattle.std.specs.Prelude.{Some, false};
+
+    ghost left = { λ s. Some s.now };
+
+    ghost has_failed = { λ _. false };
+
+    fn pull(&mut self, buffer: &mut [u8]) -> Result<usize, Failed> {
+        let n = buffer.len().min(self.len());
+        let (front, rest) = self.split_at(n);
+        buffer[..n].copy_from_slice(front);
+        *self = rest;
+        Ok(n)
+    }
+}
+
+/// A sink in memory. A call fails where there was no memory for its bytes.
+#[derive(Debug, Drop)]
+pub struct Buffer {
+    bytes: Vec<u8>,
+    failed: bool,
+}
+
+impl Buffer {
+    ghost use Rattle.std.specs.Prelude.{◌≡◌, [], Some, false};
+
+    /// An empty buffer. It takes no memory.
+    pub fn open(alloc: Global) -> Buffer
+        ensures taken { ⟦<Buffer as Sink>⟧.taken result ≡ Some [] }
+        ensures mark { ⟦<Buffer as Sink>⟧.has_failed result ≡ false }
+    {
+        Buffer {
+            bytes: Vec::new(alloc),
+            failed: false,
+        }
+    }
+
+    /// The bytes that it has taken.
+    pub fn bytes(&self) -> &[u8]
+        ensures { ⟦<Buffer as Sink>⟧.taken self.now ≡ Some result.now }
+    {
+        self.bytes.as_slice()
+    }
+}
+
+impl Sink for Buffer {
+    ghost use Rattle.std.specs.Prelude.{Some};
+
+    ghost taken = { λ b. Some b.bytes.items };
+
+    ghost has_failed = { λ b. b.failed };
+
+    fn put(&mut self, bytes: &[u8]) -> Result<usize, Failed> {
+        match self.bytes.extend_from_slice(bytes) {
+            Ok(()) => Ok(bytes.len()),
+            Err(_) => {
+                self.failed = true;
+                Err(Failed)
+            }
+        }
+    }
+}
+
+/// An end that gives or takes little at a time, and fails at one of its calls: a device for tests.
+#[derive(Debug, Drop)]
+pub struct Faltering<E> {
+    end: E,
+    most: usize,
+    calls_left: u64,
+    failed: bool,
+}
+
+impl<E> Faltering<E> {
+    ghost use Rattle.std.specs.Prelude.{◌≡◌, ◌||◌, false};
+
+    /// Lays it over an end: each call gives or takes at most `most` bytes, but at least one, and the call after
+    /// `calls` others fails, as do all behind it.
+    pub fn over(end: E, most: usize, calls: u64) -> Faltering<E>
+        ensures end { result.end ≡ end }
+        ensures mark { result.failed ≡ false }
+    {
+        Faltering {
+            end,
+            most,
+            calls_left: calls,
+            failed: false,
+        }
+    }
+
+    /// The end below.
+    pub fn end(&self) -> &E
+        ensures { result.now ≡ self.now.end }
+    {
+        &self.end
+    }
+
+    /// Whether this call fails. It counts the call.
+    fn falters(&mut self) -> bool
+        ensures end { self.new.end ≡ self.old.end }
+        ensures mark { self.new.failed ≡ (result || self.old.failed) }
+    {
+        match self.calls_left.checked_sub(1) {
+            Some(left) => {
+                self.calls_left = left;
+                false
+            }
+            None => {
+                self.failed = true;
+                true
+            }
+        }
+    }
+}
+
+impl<E: Source> Source for Faltering<E> {
+    ghost left = { λ f. E.left f.end };
+
+    ghost has_failed = { λ f. f.failed };
+
+    fn pull(&mut self, buffer: &mut [u8]) -> Result<usize, Failed> {
+        if self.falters() {
+            return Err(Failed);
+        }
+        let most = self.most.max(1).min(buffer.len());
+        match self.end.pull(&mut buffer[..most]) {
+            Ok(n) => Ok(n),
+            Err(_) => {
+                self.failed = true;
+                Err(Failed)
+            }
+        }
+    }
+}
+
+impl<E: Sink> Sink for Faltering<E> {
+    ghost taken = { λ f. E.taken f.end };
+
+    ghost has_failed = { λ f. f.failed };
+
+    fn put(&mut self, bytes: &[u8]) -> Result<usize, Failed> {
+        if self.falters() {
+            return Err(Failed);
+        }
+        let most = self.most.max(1).min(bytes.len());
+        match self.end.put(&bytes[..most]) {
+            Ok(n) => Ok(n),
+            Err(_) => {
+                self.failed = true;
+                Err(Failed)
+            }
+        }
+    }
+}
