@@ -1,0 +1,238 @@
+-- Where an offer of several children is.
+use Rattle.std.proofs.Common.{◌≡◌, ℕ, zero, suc, ◌+◌, ◌-◌, ◌<◌, ◌≤◌, List, [], ◌∷◌, ◌++◌, Option, Some, None, Bool, true, false, cond, nat_lt, length, drop, take, map, slice_get, slice_set, IfSome, refl, sym, ap, ◌∙◌, subst, arith, add-one}
+use Rattle.std.proofs.lemmas.Bool.Decides.{nat_tests}
+use Rattle.base.specs.declared.step.CoreAsk.{CoreAsk}
+use Rattle.scenario.specs.declared.tree.Scenario.{Scenario}
+use Rattle.scenario.specs.Tree.{Tree, Trees, Cons, Seq, Both, plain, plain_all, trees_of}
+use Rattle.scenario.specs.Taking.{offers, offers_in_turn, offers_of_all, ends}
+use Rattle.scenario.specs.Rests.{rest, rest_in_turn, rest_of_one, rest_of_all, row_of, past, IsPlaceInTurn, IsPlaceAmong, Leaves, LeavesInTurn}
+
+pub past_none : (n i : ℕ) → past n i ≡ None → i < n
+past_none n i e = by_case (nat_lt i n) refl
+  where
+    by_case : (t : Bool) → nat_lt i n ≡ t → i < n
+    by_case true q = grind (arith, nat_tests)
+    by_case false q = let e' : cond false None (Some (i - n)) ≡ None = subst (λ t. cond t None (Some (i - n)) ≡ None) q e in absurd (cc e')
+
+pub past_some : (n i r : ℕ) → past n i ≡ Some r → (n ≤ i) × (r ≡ i - n)
+past_some n i r e = by_case (nat_lt i n) refl
+  where
+    by_case : (t : Bool) → nat_lt i n ≡ t → (n ≤ i) × (r ≡ i - n)
+    by_case true q = let e' : cond true None (Some (i - n)) ≡ Some r = subst (λ t. cond t None (Some (i - n)) ≡ Some r) q e in absurd (cc e')
+    by_case false q = let e' : cond false None (Some (i - n)) ≡ Some r = subst (λ t. cond t None (Some (i - n)) ≡ Some r) q e in (grind (arith, nat_tests), cc e')
+
+pub get_front : {X : Type 0} (xs ys : List X) (i : ℕ) → i < length xs → slice_get (xs ++ ys) i ≡ slice_get xs i
+get_front [] ys i h = absurd (omega arith)
+get_front (x ∷ xs) ys zero h = refl
+get_front (x ∷ xs) ys (suc i) h = get_front xs ys i (omega arith)
+
+pub get_behind : {X : Type 0} (xs ys : List X) (i : ℕ) → length xs ≤ i → slice_get (xs ++ ys) i ≡ slice_get ys (i - length xs)
+get_behind [] ys i h = ap (slice_get ys) (omega arith)
+get_behind (x ∷ xs) ys zero h = absurd (omega arith)
+get_behind (x ∷ xs) ys (suc i) h = get_behind xs ys i (omega arith) ∙ ap (slice_get ys) (omega arith)
+
+pub is_below : (i n : ℕ) → i < n → nat_lt i n ≡ true
+is_below i n h = grind (arith, nat_tests)
+
+pub isnt_below : (i n : ℕ) → n ≤ i → nat_lt i n ≡ false
+isnt_below i n h = grind (arith, nat_tests)
+
+drop_next : {X : Type 0} (xs : List X) (i : ℕ) (x : X) → slice_get xs i ≡ Some x → drop i xs ≡ x ∷ drop (suc i) xs
+drop_next [] i x e = absurd (cc e)
+drop_next (y ∷ xs) zero x e = let e' : y ≡ x = cc e in ap (λ z. z ∷ xs) e'
+drop_next (y ∷ xs) (suc i) x e = drop_next xs i x e
+
+pub drop_here : {X : Type 0} (xs : List X) (i : ℕ) (x : X) → slice_get xs i ≡ Some x → drop i xs ≡ x ∷ drop (i + 1) xs
+drop_here xs i x e = rw add-one (drop_next xs i x e)
+
+set_here : {X : Type 0} (xs : List X) (i : ℕ) (x y : X) → slice_get xs i ≡ Some x → drop i (slice_set xs i y) ≡ y ∷ drop (suc i) xs
+set_here [] i x y e = absurd (cc e)
+set_here (z ∷ xs) zero x y e = refl
+set_here (z ∷ xs) (suc i) x y e = set_here xs i x y e
+
+-- ---- children in turn
+
+-- the child from which an offer is
+in_child : (t : Tree) (ts : Trees) (i : ℕ) → i < length (offers t) → (slice_get (offers_in_turn (Cons t ts)) i ≡ slice_get (offers t) i) × (rest_in_turn (Cons t ts) i ≡ row_of (Cons (rest t i) ts))
+in_child t ts i h = (get_front (offers t) _ i h, ap (λ b. cond b (row_of (Cons (rest t i) ts)) (rest_in_turn ts (i - length (offers t)))) (is_below i (length (offers t)) h))
+
+-- and where it is in none of the first child's
+behind_child : (t : Tree) (ts : Trees) (i : ℕ) → length (offers t) ≤ i → ends t ≡ true → (slice_get (offers_in_turn (Cons t ts)) i ≡ slice_get (offers_in_turn ts) (i - length (offers t))) × (rest_in_turn (Cons t ts) i ≡ rest_in_turn ts (i - length (offers t)))
+behind_child t ts i h end = (
+  get_behind (offers t) _ i h ∙ ap (λ b. slice_get (cond b (offers_in_turn ts) []) (i - length (offers t))) end,
+  ap (λ b. cond b (row_of (Cons (rest t i) ts)) (rest_in_turn ts (i - length (offers t)))) (isnt_below i (length (offers t)) h),
+)
+
+pub found_in_turn : {A : Type 0} (ss : List (Scenario A)) (at i rest' : ℕ) (s : Scenario A) → slice_get ss i ≡ Some s → past (length (offers (plain s))) rest' ≡ None
+    → slice_get (offers_in_turn (plain_all ss)) at ≡ slice_get (offers_in_turn (plain_all (drop i ss))) rest'
+    → rest_in_turn (plain_all ss) at ≡ rest_in_turn (plain_all (drop i ss)) rest'
+    → IsPlaceInTurn ss at i rest'
+found_in_turn ss at i rest' s e none p q =
+    let here = ap plain_all (drop_here ss i s e) in
+    let low = past_none (length (offers (plain s))) rest' none in
+    let c = in_child (plain s) (plain_all (drop (i + 1) ss)) rest' low in
+    rw e (
+      low,
+      p ∙ (ap (λ ts. slice_get (offers_in_turn ts) rest') here ∙ c.0),
+      q ∙ (ap (λ ts. rest_in_turn ts rest') here ∙ c.1),
+    )
+
+pub passed_in_turn : {A : Type 0} (ss : List (Scenario A)) (at i rest' r : ℕ) (s : Scenario A) → slice_get ss i ≡ Some s → past (length (offers (plain s))) rest' ≡ Some r → ends (plain s) ≡ true
+    → slice_get (offers_in_turn (plain_all ss)) at ≡ slice_get (offers_in_turn (plain_all (drop i ss))) rest'
+    → rest_in_turn (plain_all ss) at ≡ rest_in_turn (plain_all (drop i ss)) rest'
+    → (slice_get (offers_in_turn (plain_all ss)) at ≡ slice_get (offers_in_turn (plain_all (drop (i + 1) ss))) r) × (rest_in_turn (plain_all ss) at ≡ rest_in_turn (plain_all (drop (i + 1) ss)) r)
+passed_in_turn ss at i rest' r s e some end p q =
+    let here = ap plain_all (drop_here ss i s e) in
+    let high = past_some (length (offers (plain s))) rest' r some in
+    let c = behind_child (plain s) (plain_all (drop (i + 1) ss)) rest' high.0 end in (
+      rw high.1 (p ∙ (ap (λ ts. slice_get (offers_in_turn ts) rest') here ∙ c.0)),
+      rw high.1 (q ∙ (ap (λ ts. rest_in_turn ts rest') here ∙ c.1)),
+    )
+
+-- ---- children at once
+
+in_some_child : (t : Tree) (ts : Trees) (i : ℕ) → i < length (offers t) → (slice_get (offers_of_all (Cons t ts)) i ≡ slice_get (offers t) i) × (rest_of_one (Cons t ts) i ≡ rest t i) × (rest_of_all (Cons t ts) i ≡ Cons (rest t i) ts)
+in_some_child t ts i h =
+    let e = is_below i (length (offers t)) h in (
+      get_front (offers t) _ i h,
+      ap (λ b. cond b (rest t i) (rest_of_one ts (i - length (offers t)))) e,
+      ap (λ b. cond b (Cons (rest t i) ts) (Cons t (rest_of_all ts (i - length (offers t))))) e,
+    )
+
+behind_some_child : (t : Tree) (ts : Trees) (i : ℕ) → length (offers t) ≤ i → (slice_get (offers_of_all (Cons t ts)) i ≡ slice_get (offers_of_all ts) (i - length (offers t))) × (rest_of_one (Cons t ts) i ≡ rest_of_one ts (i - length (offers t))) × (rest_of_all (Cons t ts) i ≡ Cons t (rest_of_all ts (i - length (offers t))))
+behind_some_child t ts i h =
+    let e = isnt_below i (length (offers t)) h in (
+      get_behind (offers t) _ i h,
+      ap (λ b. cond b (rest t i) (rest_of_one ts (i - length (offers t)))) e,
+      ap (λ b. cond b (Cons (rest t i) ts) (Cons t (rest_of_all ts (i - length (offers t))))) e,
+    )
+
+-- the first children stay before what is made of the others
+abbrev pub before : List Tree → Trees → Trees
+before [] ts = ts
+before (t ∷ front) ts = Cons t (before front ts)
+
+before-set : (front : List Tree) (t u : Tree) (behind : List Tree) → before front (Cons u (trees_of behind)) ≡ trees_of (slice_set (front ++ t ∷ behind) (length front) u)
+before-set [] t u behind = refl
+before-set (x ∷ front) t u behind = ap (Cons x) (before-set front t u behind)
+
+take_next : {X : Type 0} (xs : List X) (i : ℕ) (x : X) → slice_get xs i ≡ Some x → take (suc i) xs ≡ take i xs ++ x ∷ []
+take_next [] i x e = absurd (cc e)
+take_next (y ∷ xs) zero x e = let e' : y ≡ x = cc e in ap (λ z. z ∷ []) e'
+take_next (y ∷ xs) (suc i) x e = ap (λ zs. y ∷ zs) (take_next xs i x e)
+
+before-more : (front : List Tree) (t : Tree) (ts : Trees) → before (front ++ t ∷ []) ts ≡ before front (Cons t ts)
+before-more [] t ts = refl
+before-more (x ∷ front) t ts = ap (Cons x) (before-more front t ts)
+
+split_here : {X : Type 0} (xs : List X) (i : ℕ) (x : X) → slice_get xs i ≡ Some x → take i xs ++ x ∷ drop (suc i) xs ≡ xs
+split_here [] i x e = absurd (cc e)
+split_here (y ∷ xs) zero x e = let e' : y ≡ x = cc e in ap (λ z. z ∷ xs) (sym e')
+split_here (y ∷ xs) (suc i) x e = ap (λ zs. y ∷ zs) (split_here xs i x e)
+
+short_front : {X : Type 0} (xs : List X) (i : ℕ) (x : X) → slice_get xs i ≡ Some x → length (take i xs) ≡ i
+short_front [] i x e = absurd (cc e)
+short_front (y ∷ xs) zero x e = refl
+short_front (y ∷ xs) (suc i) x e = ap suc (short_front xs i x e)
+
+map_split : {A : Type 0} (front : List (Scenario A)) (s : Scenario A) (behind : List (Scenario A)) (u : Tree) → before (map plain front) (Cons u (plain_all behind)) ≡ trees_of (slice_set (map plain (front ++ s ∷ behind)) (length front) u)
+map_split [] s behind u = refl
+map_split (x ∷ front) s behind u = ap (Cons (plain x)) (map_split front s behind u)
+
+map_more : {A : Type 0} (front : List (Scenario A)) (s : Scenario A) (ts : Trees) → before (map plain (front ++ s ∷ [])) ts ≡ before (map plain front) (Cons (plain s) ts)
+map_more [] s ts = refl
+map_more (x ∷ front) s ts = ap (Cons (plain x)) (map_more front s ts)
+
+-- as far as the children before i: what offer `at` of all is, is what offer rest' of the children from i on is
+abbrev pub AtAmong : {A : Type 0} → List (Scenario A) → ℕ → ℕ → ℕ → Type 0
+AtAmong ss at i rest' = (slice_get (offers_of_all (plain_all ss)) at ≡ slice_get (offers_of_all (plain_all (drop i ss))) rest')
+    × (rest_of_one (plain_all ss) at ≡ rest_of_one (plain_all (drop i ss)) rest')
+    × (rest_of_all (plain_all ss) at ≡ before (map plain (take i ss)) (rest_of_all (plain_all (drop i ss)) rest'))
+
+pub found_among : {A : Type 0} (ss : List (Scenario A)) (at i rest' : ℕ) (s : Scenario A) → slice_get ss i ≡ Some s → past (length (offers (plain s))) rest' ≡ None → AtAmong ss at i rest' → IsPlaceAmong ss at i rest'
+found_among ss at i rest' s e none h =
+    let here = ap plain_all (drop_here ss i s e) in
+    let low = past_none (length (offers (plain s))) rest' none in
+    let c = in_some_child (plain s) (plain_all (drop (i + 1) ss)) rest' low in
+    let whole : before (map plain (take i ss)) (Cons (rest (plain s) rest') (plain_all (drop (i + 1) ss))) ≡ trees_of (slice_set (map plain ss) i (rest (plain s) rest')) = rw add-one (
+      map_split (take i ss) s (drop (suc i) ss) (rest (plain s) rest') ∙ (ap (λ xs. trees_of (slice_set (map plain xs) (length (take i ss)) (rest (plain s) rest'))) (split_here ss i s e) ∙ ap (λ n. trees_of (slice_set (map plain ss) n (rest (plain s) rest'))) (short_front ss i s e))) in
+    rw e (
+      low,
+      h.0 ∙ (ap (λ ts. slice_get (offers_of_all ts) rest') here ∙ c.0),
+      h.1 ∙ (ap (λ ts. rest_of_one ts rest') here ∙ c.1),
+      h.2 ∙ (ap (λ ts. before (map plain (take i ss)) (rest_of_all ts rest')) here ∙ (ap (before (map plain (take i ss))) c.2 ∙ whole)),
+    )
+
+pub passed_among : {A : Type 0} (ss : List (Scenario A)) (at i rest' r : ℕ) (s : Scenario A) → slice_get ss i ≡ Some s → past (length (offers (plain s))) rest' ≡ Some r → AtAmong ss at i rest' → AtAmong ss at (i + 1) r
+passed_among ss at i rest' r s e some h =
+    let here = ap plain_all (drop_here ss i s e) in
+    let high = past_some (length (offers (plain s))) rest' r some in
+    let c = behind_some_child (plain s) (plain_all (drop (i + 1) ss)) rest' high.0 in
+    let longer : take (i + 1) ss ≡ take i ss ++ s ∷ [] = rw add-one (take_next ss i s e) in
+    rw high.1 (
+      h.0 ∙ (ap (λ ts. slice_get (offers_of_all ts) rest') here ∙ c.0),
+      h.1 ∙ (ap (λ ts. rest_of_one ts rest') here ∙ c.1),
+      h.2 ∙ (ap (λ ts. before (map plain (take i ss)) (rest_of_all ts rest')) here ∙ (ap (before (map plain (take i ss))) c.2 ∙ (sym (map_more (take i ss) s (rest_of_all (plain_all (drop (i + 1) ss)) (rest' - length (offers (plain s))))) ∙ ap (λ xs. before (map plain xs) (rest_of_all (plain_all (drop (i + 1) ss)) (rest' - length (offers (plain s))))) (sym longer)))),
+    )
+
+-- ---- what stands after a child's offer is taken
+
+-- a child that stands for the same tree
+pub same_child : {A : Type 0} (ss : List (Scenario A)) (j : ℕ) (s t : Scenario A) → slice_get ss j ≡ Some s → plain t ≡ plain s → plain_all (slice_set ss j t) ≡ plain_all ss
+same_child [] j s t e p = absurd (cc e)
+same_child (u ∷ ss) zero s t e p = let e' : u ≡ s = cc e in ap (λ x. Cons x (plain_all ss)) (p ∙ ap plain (sym e'))
+same_child (u ∷ ss) (suc j) s t e p = ap (Cons (plain u)) (same_child ss j s t e p)
+
+map_set : {A : Type 0} (ss : List (Scenario A)) (j : ℕ) (t : Scenario A) → slice_set (map plain ss) j (plain t) ≡ map plain (slice_set ss j t)
+map_set [] j t = refl
+map_set (s ∷ ss) zero t = refl
+map_set (s ∷ ss) (suc j) t = ap (λ ts. plain s ∷ ts) (map_set ss j t)
+
+pub row_of_others : {A : Type 0} (ss : List (Scenario A)) → (length ss ≡ 1 → ⊥) → row_of (plain_all ss) ≡ Seq (plain_all ss)
+row_of_others [] others = refl
+row_of_others (s ∷ []) others = absurd (others refl)
+row_of_others (s ∷ t ∷ ss) others = refl
+
+abbrev HereInTurn : {A : Type 0} → List (Scenario A) → ℕ → ℕ → ℕ → Scenario A → Type 0
+HereInTurn ss i j k s = (k < length (offers (plain s)))
+    × (slice_get (offers_in_turn (plain_all ss)) i ≡ slice_get (offers (plain s)) k)
+    × (rest_in_turn (plain_all ss) i ≡ row_of (Cons (rest (plain s) k) (plain_all (drop (j + 1) ss))))
+
+abbrev HereAmong : {A : Type 0} → List (Scenario A) → ℕ → ℕ → ℕ → Scenario A → Type 0
+HereAmong ss i j k s = (k < length (offers (plain s)))
+    × (slice_get (offers_of_all (plain_all ss)) i ≡ slice_get (offers (plain s)) k)
+    × (rest_of_one (plain_all ss) i ≡ rest (plain s) k)
+    × (rest_of_all (plain_all ss) i ≡ trees_of (slice_set (map plain ss) j (rest (plain s) k)))
+
+pub leaves_in_turn : {A : Type 0} (ss new : List (Scenario A)) (at j k : ℕ) (s t : Scenario A) (r : Option CoreAsk) → slice_get ss j ≡ Some s → IsPlaceInTurn ss at j k → Leaves (plain s) k r (plain t)
+    → new ≡ drop j (slice_set ss j t) → LeavesInTurn (plain_all ss) at r (plain_all new)
+leaves_in_turn ss new at j k s t None e place takes n =
+    let here = subst (λ (o : Option _). IfSome o (λ u. HereInTurn ss at j k u)) e place in
+    absurd (omega (arith, here.0, takes.0))
+leaves_in_turn ss new at j k s t (Some ask) e place takes n =
+    let here = subst (λ (o : Option _). IfSome o (λ u. HereInTurn ss at j k u)) e place in
+    let left_is : plain_all new ≡ Cons (plain t) (plain_all (drop (j + 1) ss)) = rw (n, set_here ss j s t e, add-one) refl in (
+      here.1 ∙ takes.0,
+      ap row_of (left_is ∙ ap (λ x. Cons x (plain_all (drop (j + 1) ss))) takes.1) ∙ sym here.2,
+    )
+
+pub leaves_among : {A : Type 0} (ss : List (Scenario A)) (at j k : ℕ) (s t : Scenario A) (r : Option CoreAsk) → slice_get ss j ≡ Some s → IsPlaceAmong ss at j k → Leaves (plain s) k r (plain t)
+    → Leaves (Both (plain_all ss)) at r (Both (plain_all (slice_set ss j t)))
+leaves_among ss at j k s t None e place takes =
+    let here = subst (λ (o : Option _). IfSome o (λ u. HereAmong ss at j k u)) e place in
+    absurd (omega (arith, here.0, takes.0))
+leaves_among ss at j k s t (Some ask) e place takes =
+    let here = subst (λ (o : Option _). IfSome o (λ u. HereAmong ss at j k u)) e place in (
+      here.1 ∙ takes.0,
+      ap Both (ap trees_of (sym (map_set ss j t) ∙ ap (slice_set (map plain ss) j) takes.1) ∙ sym here.3),
+    )
+
+pub leaves_of_any : {A : Type 0} (ss : List (Scenario A)) (at j k : ℕ) (s t : Scenario A) (ask : CoreAsk) → slice_get ss j ≡ Some s → IsPlaceAmong ss at j k → Leaves (plain s) k (Some ask) (plain t)
+    → (slice_get (offers_of_all (plain_all ss)) at ≡ Some ask) × (plain t ≡ rest_of_one (plain_all ss) at)
+leaves_of_any ss at j k s t ask e place takes =
+    let here = subst (λ (o : Option _). IfSome o (λ u. HereAmong ss at j k u)) e place in (here.1 ∙ takes.0, takes.1 ∙ sym here.2)
+
+-- a child offers what is at its place
+pub not_refused : {A : Type 0} (ss : List (Scenario A)) (at j k : ℕ) (s t : Scenario A) → slice_get ss j ≡ Some s → IsPlaceAmong ss at j k → Leaves (plain s) k None (plain t) → ⊥
+not_refused ss at j k s t e place takes =
+    let here = subst (λ (o : Option _). IfSome o (λ u. HereAmong ss at j k u)) e place in absurd (omega (arith, here.0, takes.0))

@@ -1,0 +1,18 @@
+use Rattle.std.proofs.Common.{Some, ap, sym, ◌∙◌, rules, arith}
+use Rattle.std.proofs.lemmas.Grind.{common_steps}
+use Rattle.std.proofs.lemmas.Option.{slice_get-get_or}
+use Rattle.scenario.proofs.Places.{found_in_turn, passed_in_turn}
+use Rattle.scenario.proofs.taking.place_in_turn.Goals as goal
+
+pub returns-in-None-clause-place : goal.returns-in-None-clause-place
+returns-in-None-clause-place g c =
+    let i = c.loop-i.invariant in
+    let at = slice_get-get_or c.args.children.now c.loop-i.i c.index-children-i.result c.loop-i-test.true ∙ ap Some (sym c.index-children-i.is) in
+    found_in_turn c.args.children.now c.args.at c.loop-i.i c.loop-i.rest c.index-children-i.result at (sym c.skip.ensures ∙ c.in-None.is) i.1 i.2
+
+pub loop-i-preserved : goal.loop-i-preserved
+loop-i-preserved g c =
+    let i = c.loop-i.invariant in
+    let at = slice_get-get_or c.args.children.now c.loop-i.i c.index-children-i.result c.loop-i-test.true ∙ ap Some (sym c.index-children-i.is) in
+    let more = passed_in_turn c.args.children.now c.args.at c.loop-i.i c.loop-i.rest c.in-Some.behind c.index-children-i.result at (sym c.skip.ensures ∙ c.in-Some.is) (search rules) i.1 i.2 in
+    (grind (arith, common_steps), more.0, more.1)
