@@ -9,5 +9,6 @@ mod tree;
 
 pub use laws::{
     alike_trees_have_the_same_words, alike_trees_stay_alike, offers_reach_the_words,
+    trees_stay_shallow,
 };
 pub use tree::Scenario;

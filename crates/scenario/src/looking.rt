@@ -54,10 +54,10 @@ fn offers_of_tree<A: Allocator>(
             offers_of_all(children.as_slice(), out)
         }
         Scenario::Times(turns, child) => {
-            if *turns == 0 {
-                return Ok(());
+            if *turns > 0 {
+                offers_of_tree(child, out)?;
             }
-            offers_of_tree(child, out)
+            Ok(())
         }
     }
 }

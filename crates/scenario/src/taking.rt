@@ -5,6 +5,7 @@ ghost use Rattle.scenario.specs.Tree as tree;
 ghost use Rattle.scenario.specs.Tree.{plain, plain_all};
 ghost use Rattle.scenario.specs.Taking.{offers, offers_in_turn, offers_of_all};
 ghost use Rattle.scenario.specs.Alike.{Takes};
+ghost use Rattle.scenario.specs.Limits.{reach};
 ghost use Rattle.scenario.specs.Rests.{IsPlaceAmong, IsPlaceInTurn, Leaves, LeavesInTurn, LeavesTurn, past, row_of};
 
 use crate::copying::copy_one;
@@ -31,6 +32,7 @@ impl<A: Allocator + Clone> Scenario<A> {
     pub fn take(&mut self, alloc: A, at: usize) -> Result<Option<CoreAsk>, NoMemory>
         ensures ok { IfOk result (λ taken. Takes (plain self.old) at taken (plain self.new)) }
         ensures err { OnErr result (plain self.new ≡ plain self.old) }
+        ensures shallow { reach (plain self.new) ≤ reach (plain self.old) }
     {
         let taken = take_one(self, alloc, at)?;
         Ok(taken)
