@@ -75,7 +75,7 @@ mutual
   reach-in_turn : (ts : Trees) (i : ℕ) → reach (rest_in_turn ts i) ≤ reach_in_turn ts
   reach-in_turn Nil i = omega arith
   reach-in_turn (Cons t ts) i =
-    either
+      either
       (λ b. reach (cond b (row_of (Cons (rest t i) ts)) (rest_in_turn ts (i - length (offers t)))) ≤ reach_in_turn (Cons t ts))
       (nat_lt i (length (offers t)))
       (first-less (rest t i) t ts (reach-rest t i))
@@ -84,9 +84,9 @@ mutual
   reach-of_one : (ts : Trees) (i : ℕ) → reach (rest_of_one ts i) ≤ 1 + farthest ts
   reach-of_one Nil i = omega arith
   reach-of_one (Cons t ts) i =
-    let h = reach-rest t i in
-    let k = reach-of_one ts (i - length (offers t)) in
-    either
+      let h = reach-rest t i in
+      let k = reach-of_one ts (i - length (offers t)) in
+      either
       (λ b. reach (cond b (rest t i) (rest_of_one ts (i - length (offers t)))) ≤ 1 + farthest (Cons t ts))
       (nat_lt i (length (offers t)))
       (grind (arith, h))
@@ -95,9 +95,9 @@ mutual
   reach-of_all : (ts : Trees) (i : ℕ) → farthest (rest_of_all ts i) ≤ farthest ts
   reach-of_all Nil i = omega arith
   reach-of_all (Cons t ts) i =
-    let h = reach-rest t i in
-    let k = reach-of_all ts (i - length (offers t)) in
-    either
+      let h = reach-rest t i in
+      let k = reach-of_all ts (i - length (offers t)) in
+      either
       (λ b. farthest (cond b (Cons (rest t i) ts) (Cons t (rest_of_all ts (i - length (offers t))))) ≤ farthest (Cons t ts))
       (nat_lt i (length (offers t)))
       (grind (arith, h))

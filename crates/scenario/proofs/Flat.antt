@@ -109,7 +109,7 @@ mutual
   flat-rest_in_turn : (ts : Trees) (i : ℕ) → flat (rest_in_turn ts i) ≡ row_of (flats (left_in_turn ts i))
   flat-rest_in_turn Nil i = refl
   flat-rest_in_turn (Cons t ts) i =
-    by_test
+      by_test
       (λ b. flat (cond b (row_of (Cons (rest t i) ts)) (rest_in_turn ts (i - length (offers t)))) ≡ row_of (flats (cond b (Cons (left t i) ts) (left_in_turn ts (i - length (offers t))))))
       i
       (length (offers t))
@@ -119,7 +119,7 @@ mutual
   flat-rest_of_one : (ts : Trees) (i : ℕ) → flat (rest_of_one ts i) ≡ flat (left_of_one ts i)
   flat-rest_of_one Nil i = refl
   flat-rest_of_one (Cons t ts) i =
-    by_test
+      by_test
       (λ b. flat (cond b (rest t i) (rest_of_one ts (i - length (offers t)))) ≡ flat (cond b (left t i) (left_of_one ts (i - length (offers t)))))
       i
       (length (offers t))
@@ -129,7 +129,7 @@ mutual
   flats-rest_of_all : (ts : Trees) (i : ℕ) → flats (rest_of_all ts i) ≡ flats (left_of_all ts i)
   flats-rest_of_all Nil i = refl
   flats-rest_of_all (Cons t ts) i =
-    by_test
+      by_test
       (λ b. flats (cond b (Cons (rest t i) ts) (Cons t (rest_of_all ts (i - length (offers t))))) ≡ flats (cond b (Cons (left t i) ts) (Cons t (left_of_all ts (i - length (offers t))))))
       i
       (length (offers t))
@@ -168,41 +168,41 @@ mutual
   flats-in_turn : (ts : Trees) (i : ℕ) → flats (left_in_turn ts i) ≡ flats (left_in_turn (flats ts) i)
   flats-in_turn Nil i = refl
   flats-in_turn (Cons t ts) i =
-    subst
+      subst
       (λ n. flats (left_in_turn (Cons t ts) i) ≡ flats (in_turn_by n (flat t) (flats ts) i))
       (ap length (sym (offers-flat t)))
       (by_test
-        (λ b. flats (cond b (Cons (left t i) ts) (left_in_turn ts (i - length (offers t)))) ≡ flats (cond b (Cons (left (flat t) i) (flats ts)) (left_in_turn (flats ts) (i - length (offers t)))))
-        i
-        (length (offers t))
-        (λ h. rw (flat-left t i h, flats-flats ts) refl)
-        (flats-in_turn ts (i - length (offers t))))
+      (λ b. flats (cond b (Cons (left t i) ts) (left_in_turn ts (i - length (offers t)))) ≡ flats (cond b (Cons (left (flat t) i) (flats ts)) (left_in_turn (flats ts) (i - length (offers t)))))
+      i
+      (length (offers t))
+      (λ h. rw (flat-left t i h, flats-flats ts) refl)
+      (flats-in_turn ts (i - length (offers t))))
 
   flat-of_one : (ts : Trees) (i : ℕ) → flat (left_of_one ts i) ≡ flat (left_of_one (flats ts) i)
   flat-of_one Nil i = refl
   flat-of_one (Cons t ts) i =
-    subst
+      subst
       (λ n. flat (left_of_one (Cons t ts) i) ≡ flat (of_one_by n (flat t) (flats ts) i))
       (ap length (sym (offers-flat t)))
       (by_test
-        (λ b. flat (cond b (left t i) (left_of_one ts (i - length (offers t)))) ≡ flat (cond b (left (flat t) i) (left_of_one (flats ts) (i - length (offers t)))))
-        i
-        (length (offers t))
-        (λ h. flat-left t i h)
-        (flat-of_one ts (i - length (offers t))))
+      (λ b. flat (cond b (left t i) (left_of_one ts (i - length (offers t)))) ≡ flat (cond b (left (flat t) i) (left_of_one (flats ts) (i - length (offers t)))))
+      i
+      (length (offers t))
+      (λ h. flat-left t i h)
+      (flat-of_one ts (i - length (offers t))))
 
   flats-of_all : (ts : Trees) (i : ℕ) → flats (left_of_all ts i) ≡ flats (left_of_all (flats ts) i)
   flats-of_all Nil i = refl
   flats-of_all (Cons t ts) i =
-    subst
+      subst
       (λ n. flats (left_of_all (Cons t ts) i) ≡ flats (of_all_by n (flat t) (flats ts) i))
       (ap length (sym (offers-flat t)))
       (by_test
-        (λ b. flats (cond b (Cons (left t i) ts) (Cons t (left_of_all ts (i - length (offers t))))) ≡ flats (cond b (Cons (left (flat t) i) (flats ts)) (Cons (flat t) (left_of_all (flats ts) (i - length (offers t))))))
-        i
-        (length (offers t))
-        (λ h. rw (flat-left t i h, flats-flats ts) refl)
-        (rw (flat-flat t, flats-of_all ts (i - length (offers t))) refl))
+      (λ b. flats (cond b (Cons (left t i) ts) (Cons t (left_of_all ts (i - length (offers t))))) ≡ flats (cond b (Cons (left (flat t) i) (flats ts)) (Cons (flat t) (left_of_all (flats ts) (i - length (offers t))))))
+      i
+      (length (offers t))
+      (λ h. rw (flat-left t i h, flats-flats ts) refl)
+      (rw (flat-flat t, flats-of_all ts (i - length (offers t))) refl))
 
 abbrev follow_if : Bool → Tree → List ℕ → Option Tree
 follow_if b t path = if b then followed t path else None
@@ -216,14 +216,14 @@ alike-flat s t e [] =
 alike-flat s t e (i ∷ path) =
     let same_offers : offers s ≡ offers t = sym (offers-flat s) ∙ (ap offers e ∙ offers-flat t) in
     subst
-      (λ os. option_map seen (followed s (i ∷ path)) ≡ option_map seen (follow_if (nat_lt i (length os)) (left t i) path))
-      same_offers
-      (by_test
-        (λ b. option_map seen (follow_if b (left s i) path) ≡ option_map seen (follow_if b (left t i) path))
-        i
-        (length (offers s))
-        (λ h. alike-flat (left s i) (left t i) (flat-left s i h ∙ (ap (λ u. flat (left u i)) e ∙ sym (flat-left t i (subst (λ os. i < length os) same_offers h)))) path)
-        refl)
+    (λ os. option_map seen (followed s (i ∷ path)) ≡ option_map seen (follow_if (nat_lt i (length os)) (left t i) path))
+    same_offers
+    (by_test
+    (λ b. option_map seen (follow_if b (left s i) path) ≡ option_map seen (follow_if b (left t i) path))
+    i
+    (length (offers s))
+    (λ h. alike-flat (left s i) (left t i) (flat-left s i h ∙ (ap (λ u. flat (left u i)) e ∙ sym (flat-left t i (subst (λ os. i < length os) same_offers h)))) path)
+    refl)
 
 -- what the code leaves is alike to what is left
 pub leaves_takes : (old : Tree) (i : ℕ) (r : Option CoreAsk) (new : Tree) → Leaves old i r new → Takes old i r new

@@ -155,7 +155,7 @@ found_among ss at i rest' s e none h =
     let low = past_none (length (offers (plain s))) rest' none in
     let c = in_some_child (plain s) (plain_all (drop (i + 1) ss)) rest' low in
     let whole : before (map plain (take i ss)) (Cons (rest (plain s) rest') (plain_all (drop (i + 1) ss))) ≡ trees_of (slice_set (map plain ss) i (rest (plain s) rest')) = rw add-one (
-      map_split (take i ss) s (drop (suc i) ss) (rest (plain s) rest') ∙ (ap (λ xs. trees_of (slice_set (map plain xs) (length (take i ss)) (rest (plain s) rest'))) (split_here ss i s e) ∙ ap (λ n. trees_of (slice_set (map plain ss) n (rest (plain s) rest'))) (short_front ss i s e))) in
+    map_split (take i ss) s (drop (suc i) ss) (rest (plain s) rest') ∙ (ap (λ xs. trees_of (slice_set (map plain xs) (length (take i ss)) (rest (plain s) rest'))) (split_here ss i s e) ∙ ap (λ n. trees_of (slice_set (map plain ss) n (rest (plain s) rest'))) (short_front ss i s e))) in
     rw e (
       low,
       h.0 ∙ (ap (λ ts. slice_get (offers_of_all ts) rest') here ∙ c.0),

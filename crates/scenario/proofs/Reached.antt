@@ -138,28 +138,28 @@ mutual
   ask-in (Seq ts) i ask w e rest = ask-joined ts i ask w e rest
   ask-in (Any ts) i ask w e rest = ask-of_one ts i ask w e rest
   ask-in (Times n t) i ask w e rest =
-    let turn = some_turn (n == 0) (offers t) i ask e in
-    let first = ask-in t i ask rest.0 turn.1 rest.3 in
-    let others : Repeats (n - 1) (IsWord t) rest.1 = subst (Repeats (n - 1) (IsWord t)) (sym (rest.4.2 ∙ (ap (λ z. rest.4.0 ++ z) rest.4.4 ∙ nothing_more rest.4.0))) rest.4.3 in
-    subst (λ z. Repeats n (IsWord t) (ask ∷ z)) (sym rest.2) (turn-first n (IsWord t) (ask ∷ rest.0) rest.1 turn.0 first others)
+      let turn = some_turn (n == 0) (offers t) i ask e in
+      let first = ask-in t i ask rest.0 turn.1 rest.3 in
+      let others : Repeats (n - 1) (IsWord t) rest.1 = subst (Repeats (n - 1) (IsWord t)) (sym (rest.4.2 ∙ (ap (λ z. rest.4.0 ++ z) rest.4.4 ∙ nothing_more rest.4.0))) rest.4.3 in
+      subst (λ z. Repeats n (IsWord t) (ask ∷ z)) (sym rest.2) (turn-first n (IsWord t) (ask ∷ rest.0) rest.1 turn.0 first others)
   ask-in (Both ts) i ask w e rest = ask-interleaved ts i ask w e rest
 
   ask-joined : (ts : Trees) (i : ℕ) (ask : CoreAsk) (w : List CoreAsk) → slice_get (offers_in_turn ts) i ≡ Some ask → IsJoined (left_in_turn ts i) w → IsJoined ts (ask ∷ w)
   ask-joined Nil i ask w e = λ rest. absurd (cc e)
   ask-joined (Cons t ts) i ask w e =
-    by_test
+      by_test
       (λ b. IsJoined (cond b (Cons (left t i) ts) (left_in_turn ts (i - length (offers t)))) w → IsJoined (Cons t ts) (ask ∷ w))
       i
       (length (offers t))
       (λ h rest. (ask ∷ rest.0, rest.1, ap (λ z. ask ∷ z) rest.2, ask-in t i ask rest.0 (sym (get_front (offers t) _ i h) ∙ e) rest.3, rest.4))
       (λ h rest.
-        let other = passed (ends t) (offers_in_turn ts) (i - length (offers t)) ask (sym (get_behind (offers t) _ i h) ∙ e) in
-        ([], ask ∷ w, refl, nothing-in t other.0, ask-joined ts (i - length (offers t)) ask w other.1 rest))
+      let other = passed (ends t) (offers_in_turn ts) (i - length (offers t)) ask (sym (get_behind (offers t) _ i h) ∙ e) in
+      ([], ask ∷ w, refl, nothing-in t other.0, ask-joined ts (i - length (offers t)) ask w other.1 rest))
 
   ask-of_one : (ts : Trees) (i : ℕ) (ask : CoreAsk) (w : List CoreAsk) → slice_get (offers_of_all ts) i ≡ Some ask → IsWord (left_of_one ts i) w → IsWordOfOne ts (ask ∷ w)
   ask-of_one Nil i ask w e = λ rest. absurd (cc e)
   ask-of_one (Cons t ts) i ask w e =
-    by_test
+      by_test
       (λ b. IsWord (cond b (left t i) (left_of_one ts (i - length (offers t)))) w → IsWordOfOne (Cons t ts) (ask ∷ w))
       i
       (length (offers t))
@@ -169,7 +169,7 @@ mutual
   ask-interleaved : (ts : Trees) (i : ℕ) (ask : CoreAsk) (w : List CoreAsk) → slice_get (offers_of_all ts) i ≡ Some ask → IsInterleaved (left_of_all ts i) w → IsInterleaved ts (ask ∷ w)
   ask-interleaved Nil i ask w e = λ rest. absurd (cc e)
   ask-interleaved (Cons t ts) i ask w e =
-    by_test
+      by_test
       (λ b. IsInterleaved (cond b (Cons (left t i) ts) (Cons t (left_of_all ts (i - length (offers t))))) w → IsInterleaved (Cons t ts) (ask ∷ w))
       i
       (length (offers t))
@@ -311,12 +311,12 @@ mutual
   of_one-out : (ts : Trees) (ask : CoreAsk) (w : List CoreAsk) → IsWordOfOne ts (ask ∷ w) → ContinuedOfOne ts ask w
   of_one-out Nil ask w e = absurd e
   of_one-out (Cons t ts) ask w (inl e) =
-    let here = ask-out t ask w e in
-    let h = among (offers t) here.0 ask here.1 in
-    (here.0, get_front (offers t) _ here.0 h ∙ here.1, subst (λ u. IsWord u w) (sym (one_in_front t ts here.0 h)) here.2)
+      let here = ask-out t ask w e in
+      let h = among (offers t) here.0 ask here.1 in
+      (here.0, get_front (offers t) _ here.0 h ∙ here.1, subst (λ u. IsWord u w) (sym (one_in_front t ts here.0 h)) here.2)
   of_one-out (Cons t ts) ask w (inr e) =
-    let there = of_one-out ts ask w e in
-    (length (offers t) + there.0, get_far (offers t) _ there.0 ∙ there.1, subst (λ u. IsWord u w) (sym (one_behind t ts there.0)) there.2)
+      let there = of_one-out ts ask w e in
+      (length (offers t) + there.0, get_far (offers t) _ there.0 ∙ there.1, subst (λ u. IsWord u w) (sym (one_behind t ts there.0)) there.2)
 
   interleaved-out : (ts : Trees) (ask : CoreAsk) (w : List CoreAsk) → IsInterleaved ts (ask ∷ w) → ContinuedOfAll ts ask w
   interleaved-out Nil ask w e = absurd (cc e)

@@ -1,6 +1,10 @@
 pub mod Alike
+pub mod Form
 pub mod Limits
+pub mod Refusals
 pub mod Rests
+pub mod Saving
 pub mod Taking
 pub mod Tree
+pub mod Walk
 pub mod Words

@@ -1,12 +1,18 @@
-//! What ties offers, what is left and words together.
+//! What ties offers, what is left and words together, and what the form of scenarios in JSON comes to.
 
-ghost use Rattle.std.specs.Prelude.{◌≡◌, ◌↔◌, ◌∷◌, ◌+◌, ◌<◌, ◌≤◌, [], ℕ, List, Some, slice_get, length, true};
+ghost use Rattle.std.specs.Prelude.{List, None, Some, [], length, slice_get, true, ℕ, ◌+◌, ◌<◌, ◌↔◌, ◌∷◌, ◌≡◌, ◌≢◌, ◌≤◌};
+ghost use Rattle.serde_json.specs.Data.{Data};
+ghost use Rattle.base.specs.Extent.{Extent};
 ghost use Rattle.base.specs.declared.step.CoreAsk.{CoreAsk};
-ghost use Rattle.scenario.specs.Tree.{Tree};
-ghost use Rattle.scenario.specs.Taking.{ends, left, offers};
 ghost use Rattle.scenario.specs.Alike.{Alike};
-ghost use Rattle.scenario.specs.Limits.{depth, reach};
+ghost use Rattle.scenario.specs.Form.{IsJson, shown};
+ghost use Rattle.scenario.specs.Limits.{IsWithin, depth, reach};
+ghost use Rattle.scenario.specs.Refusals.{IsRefusal, first_fault};
+ghost use Rattle.scenario.specs.Taking.{ends, left, offers};
+ghost use Rattle.scenario.specs.Tree.{Tree};
 ghost use Rattle.scenario.specs.Words.{IsWord};
+ghost use Rattle.scenario.specs.declared.reading.ScenarioFault.{ScenarioFault};
+ghost use Rattle.scenario.specs.declared.reading.ScenarioFault.TheVariants.{NoMemory};
 
 /// Taking offers reaches every word of a tree and nothing else: the empty list is a word exactly where the tree may end,
 /// and an ask in front of others exactly where it is offered and the others are a word of what is then left.
@@ -33,4 +39,29 @@ pub fn alike_trees_have_the_same_words()
 pub fn trees_stay_shallow()
     ensures deep { (t : Tree) → depth t ≤ reach t }
     ensures shallow { (t : Tree) → reach t ≤ 1 + depth t }
+{}
+
+/// A text is the text of one tree at most, whatever the shape.
+pub fn a_text_is_of_one_tree()
+    ensures value { (one other : Tree) → shown one ≡ shown other → one ≡ other }
+    ensures text { (bytes : List ℕ) (one other : Tree) → IsJson bytes (shown one) → IsJson bytes (shown other) → one ≡ other }
+{}
+
+/// A text of a tree within the limits is refused only for want of memory. So what is read is exactly these trees.
+pub fn trees_within_are_read()
+    ensures value { (shape : Extent) (tree : Tree) → IsWithin shape tree → first_fault shape (shown tree) ≡ None }
+    ensures text { (shape : Extent) (bytes : List ℕ) (tree : Tree) (fault : ScenarioFault) →
+        IsWithin shape tree → IsJson bytes (shown tree) → IsRefusal shape bytes fault → fault ≡ NoMemory }
+{}
+
+/// JSON without a first fault is the text of a tree.
+pub fn json_without_fault_is_a_tree()
+    ensures { (shape : Extent) (bytes : List ℕ) (value : Data) →
+        IsJson bytes value → first_fault shape value ≡ None → (tree : Tree) × (value ≡ shown tree) }
+{}
+
+/// A text has one refusal at most, beside the want of memory.
+pub fn one_refusal_at_most()
+    ensures { (shape : Extent) (bytes : List ℕ) (one other : ScenarioFault) →
+        IsRefusal shape bytes one → IsRefusal shape bytes other → one ≢ NoMemory → other ≢ NoMemory → one ≡ other }
 {}

@@ -2,13 +2,25 @@
 #![tactic(auto)]
 
 mod copying;
+mod forms;
 mod laws;
 mod looking;
+mod measuring;
+mod reading;
 mod taking;
 mod tree;
+mod writing;
 
 pub use laws::{
-    alike_trees_have_the_same_words, alike_trees_stay_alike, offers_reach_the_words,
-    trees_stay_shallow,
+    a_text_is_of_one_tree, alike_trees_have_the_same_words, alike_trees_stay_alike,
+    json_without_fault_is_a_tree, offers_reach_the_words, one_refusal_at_most, trees_stay_shallow,
+    trees_within_are_read,
 };
+pub use reading::{DEEPEST, LONGEST, ScenarioFault};
 pub use tree::Scenario;
+pub use writing::SaveFault;
+
+#[cfg(test)]
+mod reading_tests;
+#[cfg(test)]
+mod taking_tests;

@@ -41,10 +41,7 @@ pub(crate) fn tree_may_end<A: Allocator>(tree: &Scenario<A>) -> bool
 
 #[cycle(offering)]
 #[tactic(auto, using(crate::proofs::Children::children))]
-fn offers_of_tree<A: Allocator>(
-    tree: &Scenario<A>,
-    out: &mut Vec<CoreAsk>,
-) -> Result<(), NoMemory>
+fn offers_of_tree<A: Allocator>(tree: &Scenario<A>, out: &mut Vec<CoreAsk>) -> Result<(), NoMemory>
     ensures { OnOk result (out.new.items ≡ out.old.items ++ offers (plain tree.now)) }
 {
     match tree {

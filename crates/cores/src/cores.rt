@@ -1,0 +1,130 @@
+use base::{Ask, CacheId, NoMemory};
+use std::alloc::Global;
+use std::marker::Model;
+
+/// What one core has asked.
+#[derive(Clone, Copy)]
+struct Core {
+    outstanding: Option<Ask>,
+    issued: u64,
+    finished: u64,
+}
+
+/// What each of some cores has outstanding: one load or store at most.
+#[derive(Drop)]
+pub struct Cores {
+    cores: Vec<Core>,
+}
+
+impl Model for Core {
+    ghost use Rattle.cores.specs.Cores as spec;
+
+    ghost Value = { spec.Core };
+
+    ghost view = { λ c. record { outstanding = c.outstanding; issued = c.issued; finished = c.finished } };
+
+    ghost inverse = { λ c. record { outstanding = c.outstanding; issued = c.issued; finished = c.finished } };
+}
+
+impl Core {
+    ghost use Rattle.std.specs.Prelude.{◌≡◌};
+    ghost use Rattle.cores.specs.Cores.{finishing, issuing};
+
+    fn issue(&mut self, ask: Ask)
+        ensures { self.new ≡ issuing ask self.old }
+    {
+        self.outstanding = Some(ask);
+        self.issued = self.issued.saturating_add(1);
+    }
+
+    fn counts(&self) -> (u64, u64)
+        ensures issued { result.0 ≡ self.now.issued }
+        ensures finished { result.1 ≡ self.now.finished }
+    {
+        (self.issued, self.finished)
+    }
+
+    fn finish(&mut self)
+        ensures { self.new ≡ finishing self.old }
+    {
+        self.outstanding = None;
+        self.finished = self.finished.saturating_add(1);
+    }
+}
+
+impl Model for Cores {
+    ghost use Rattle.std.specs.Prelude.{List};
+    ghost use Rattle.cores.specs.Cores as spec;
+
+    ghost Value = { List spec.Core };
+
+    ghost view = { λ c. c.cores.items };
+
+    ghost invariant = { λ c. spec.AreCounted c.cores.items };
+}
+
+impl Cores {
+    ghost use Rattle.std.specs.Prelude.{◌≡◌, ◌≤◌, ◌+◌, true, false, IfOk, get_or, replicate};
+    ghost use Rattle.cores.specs.Cores.{AreCounted, Completes, finishing, idle, is_free, issuing, with_core};
+
+    /// So many cores, none of which has asked anything.
+    pub fn open(alloc: Global, n: u32) -> Result<Cores, NoMemory>
+        ensures { IfOk result (λ cores. cores ≡ replicate n idle) }
+    {
+        let core = Core {
+            outstanding: None,
+            issued: 0,
+            finished: 0,
+        };
+        let mut cores = Vec::with_capacity(alloc, n as usize)?;
+        for _ in 0..n {
+            cores.push_reserved(core);
+        }
+        Ok(Cores { cores })
+    }
+
+    /// Whether nothing of the core is outstanding. A core that isn't there is free.
+    pub fn free(&self, core: CacheId) -> bool
+        ensures { result ≡ is_free self.now core.0 }
+    {
+        let number = core.0 as usize;
+        number >= self.cores.len() || self.cores[number].outstanding.is_none()
+    }
+
+    /// The core issues a load or a store. Where the core isn't there, nothing changes.
+    pub fn issue(&mut self, core: CacheId, ask: Ask)
+        requires free { is_free self.old core.0 ≡ true }
+        requires completes { Completes ask }
+        ensures { self.new ≡ with_core self.old core.0 (issuing ask) }
+    {
+        let number = core.0 as usize;
+        if number < self.cores.len() {
+            self.cores[number].issue(ask);
+        }
+    }
+
+    /// What the core has outstanding finishes.
+    pub fn finish(&mut self, core: CacheId)
+        requires { is_free self.old core.0 ≡ false }
+        ensures { self.new ≡ with_core self.old core.0 finishing }
+    {
+        let number = core.0 as usize;
+        if number < self.cores.len() {
+            self.cores[number].finish();
+        }
+    }
+
+    /// How many loads and stores the core has issued, and how many of them have finished, each counted up to
+    /// `u64::MAX`. They differ by one at most. A core that isn't there has issued none.
+    pub fn counts(&self, core: CacheId) -> (u64, u64)
+        ensures issued { result.0 ≡ (get_or self.now core.0 idle).issued }
+        ensures finished { result.1 ≡ (get_or self.now core.0 idle).finished }
+        ensures one_apart { (result.1 ≤ result.0) × (result.0 ≤ result.1 + 1) }
+    {
+        let number = core.0 as usize;
+        if number >= self.cores.len() {
+            return (0, 0);
+        }
+        self.cores[number].counts()
+    }
+}

@@ -1,0 +1,11 @@
+//! One outstanding operation a core.
+#![tactic(auto)]
+
+mod cores;
+mod laws;
+
+pub use cores::Cores;
+pub use laws::a_core_is_free_between_its_asks;
+
+#[cfg(test)]
+mod tests;

@@ -1,0 +1,23 @@
+-- The levels that are left on the way down.
+use Rattle.std.proofs.Common.{◌≡◌, ◌-◌, ◌<◌, ℕ, zero, suc, refl, ap, arith, List, [], ◌∷◌, length, Some, Result}
+use Rattle.serde_json.specs.Data.{Data}
+use Rattle.serde_json.specs.View.{items_view}
+use Rattle.serde_json.specs.declared.value.Value.{Value}
+use Rattle.base.specs.Extent.{Extent}
+use Rattle.scenario.specs.Tree.{Tree, Any, trees_of}
+use Rattle.scenario.specs.Refusals.{node_of, any}
+use Rattle.scenario.specs.Walk.{tree_at, tree_of, trees_behind, over}
+use Rattle.scenario.specs.declared.reading.ScenarioFault.{ScenarioFault}
+use Rattle.scenario.proofs.Children.{plain-Seq, plain-Any, plain-Both}
+
+pub tree_at_level : (shape : Extent) (n : ℕ) (d : Data) → 0 < n → tree_at shape n d ≡ tree_of shape (tree_at shape (n - 1)) (node_of d)
+tree_at_level shape zero d p = absurd (omega arith)
+tree_at_level shape (suc n) d p = let e : n ≡ suc n - 1 = omega arith in ap (λ k. tree_of shape (tree_at shape k) (node_of d)) e
+
+-- a choice of some values isn't one of none
+pub tree_of_choice : (shape : Extent) (tree : Data → Result Tree ScenarioFault) (vs : List Value) → 0 < length vs →
+    tree_of shape tree (Some (any (items_view vs))) ≡ over (λ ts. Any (trees_of ts)) (trees_behind tree [] (items_view vs))
+tree_of_choice shape tree [] p = absurd (omega arith)
+tree_of_choice shape tree (v ∷ vs) p = refl
+
+pub ruleset walking = (tree_at_level, tree_of_choice, plain-Seq, plain-Any, plain-Both)

@@ -1,0 +1,13 @@
+//! What can happen next in a world under a scenario, and the dice that choose.
+#![tactic(auto)]
+
+mod choosing;
+mod dice;
+mod laws;
+
+pub use choosing::{Choice, choices};
+pub use dice::Dice;
+pub use laws::{alike_trees_give_the_same_choices, draws_follow_the_words, first_words};
+
+#[cfg(test)]
+mod tests;
