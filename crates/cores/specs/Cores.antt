@@ -1,5 +1,5 @@
 -- What each core has outstanding, and how much it has issued and finished.
-use Rattle.std.specs.Prelude.{◌≡◌, ◌+◌, ◌-◌, ◌^◌, ℕ, Bool, true, ⊤, min, is_none, if◌then◌else◌, ◌<◌, nat_lt, List, length, get_or, slice_set, Option, Some, None}
+use Rattle.std.specs.Prelude.{◌≡◌, ◌+◌, ◌-◌, ◌^◌, ℕ, Bool, ⊤, min, is_none, if◌then◌else◌, ◌<◌, nat_lt, List, length, get_or, slice_set, Option, Some, None}
 use Rattle.base.specs.declared.step.Ask.{Ask}
 use Rattle.base.specs.declared.step.Ask.TheVariants.{Load, Store, Replace}
 

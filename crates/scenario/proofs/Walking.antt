@@ -1,5 +1,5 @@
 -- The levels that are left on the way down.
-use Rattle.std.proofs.Common.{◌≡◌, ◌-◌, ◌<◌, ℕ, zero, suc, refl, ap, arith, List, [], ◌∷◌, length, Some, Result}
+use Rattle.std.proofs.Common.{◌≡◌, ◌-◌, ◌<◌, ℕ, zero, suc, refl, ap, arith, List, [], ◌∷◌, length, Some, Result, Ok, ◌∙◌}
 use Rattle.serde_json.specs.Data.{Data}
 use Rattle.serde_json.specs.View.{items_view}
 use Rattle.serde_json.specs.declared.value.Value.{Value}
@@ -19,5 +19,11 @@ pub tree_of_choice : (shape : Extent) (tree : Data → Result Tree ScenarioFault
     tree_of shape tree (Some (any (items_view vs))) ≡ over (λ ts. Any (trees_of ts)) (trees_behind tree [] (items_view vs))
 tree_of_choice shape tree [] p = absurd (omega arith)
 tree_of_choice shape tree (v ∷ vs) p = refl
+
+-- what a choice of some values is built of
+pub choice_level : (shape : Extent) (n : ℕ) (d : Data) (vs : List Value) (ts : List Tree) → 0 < n → node_of d ≡ Some (any (items_view vs)) → 0 < length vs
+    → trees_behind (tree_at shape (n - 1)) [] (items_view vs) ≡ Ok ts → tree_at shape n d ≡ Ok (Any (trees_of ts))
+choice_level shape n d vs ts level form some below =
+    tree_at_level shape n d level ∙ ap (tree_of shape (tree_at shape (n - 1))) form ∙ tree_of_choice shape (tree_at shape (n - 1)) vs some ∙ ap (over (λ us. Any (trees_of us))) below
 
 pub ruleset walking = (tree_at_level, tree_of_choice, plain-Seq, plain-Any, plain-Both)

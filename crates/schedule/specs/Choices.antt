@@ -1,5 +1,5 @@
 -- What can happen next: an ask that is offered, or a message that is delivered.
-use Rattle.std.specs.Prelude.{◌≡◌, ℕ, ◌+◌, Bool, not, ◌&&◌, if◌then◌else◌, List, [], ◌∷◌, ◌++◌, map}
+use Rattle.std.specs.Prelude.{ℕ, ◌+◌, Bool, not, ◌&&◌, if◌then◌else◌, List, [], ◌∷◌, ◌++◌, map}
 use Rattle.base.specs.declared.step.CoreAsk.{CoreAsk}
 use Rattle.base.specs.declared.step.Step.{Step}
 use Rattle.base.specs.declared.step.Step.TheVariants as step

@@ -1,4 +1,4 @@
-use Rattle.scenario.proofs.Depths.{depth-reach, reach-depth, reach-rest}
+use Rattle.scenario.proofs.Depths.{depth-reach, reach-depth}
 use Rattle.scenario.proofs.laws.trees_stay_shallow.Goals as goal
 
 pub returns-clause-deep : goal.returns-clause-deep
