@@ -11,6 +11,15 @@ fn read(alloc: Global, text: &[u8]) -> Result<Scenario<Global>, ScenarioFault> {
     Scenario::read(alloc, alloc, text, shape)
 }
 
+/// Why the text is refused, if it is, but for want of memory.
+fn fault_of(alloc: Global, text: &[u8]) -> Result<Option<ScenarioFault>, Fail> {
+    match read(alloc, text) {
+        Ok(_) => Ok(None),
+        Err(ScenarioFault::NoMemory) => Err(Fail::from("NoMemory")),
+        Err(fault) => Ok(Some(fault)),
+    }
+}
+
 /// What comes before so many times, then the inner text, and then what comes behind so many times.
 fn nested(
     alloc: Global,
@@ -33,7 +42,7 @@ fn nested(
 const LOAD: &str = r#"{"block":0,"core":0,"op":"load"}"#;
 
 #[test]
-fn texts_that_are_refused(rt: HostRuntime) {
+fn texts_that_are_refused(rt: HostRuntime) -> Result<(), Fail> {
     let refused = [
         ("", ScenarioFault::NotJson),
         ("{", ScenarioFault::NotJson),
@@ -119,15 +128,16 @@ fn texts_that_are_refused(rt: HostRuntime) {
     ];
     for (text, fault) in refused {
         assert_eq!(rt;
-            read(rt.alloc(), text.as_bytes()).err(),
+            fault_of(rt.alloc(), text.as_bytes())?,
             Some(fault),
             "at {text}"
         );
     }
     assert_eq!(rt;
-        read(rt.alloc(), b"{\"\xff\":[]}").err(),
+        fault_of(rt.alloc(), b"{\"\xff\":[]}")?,
         Some(ScenarioFault::NotJson)
     );
+    Ok(())
 }
 
 #[test]
@@ -149,7 +159,7 @@ fn numbers_that_are_refused(rt: HostRuntime) -> Result<(), Fail> {
             format!(in alloc; r#"{{"times":{number},"of":{{"seq":[]}}}}"#)?,
         ] {
             assert_eq!(rt;
-                read(alloc, text.as_bytes()).err(),
+                fault_of(alloc, text.as_bytes())?,
                 Some(ScenarioFault::BadShape),
                 "at {text}"
             );
@@ -166,7 +176,7 @@ fn numbers_that_are_refused(rt: HostRuntime) -> Result<(), Fail> {
     ] {
         let text = format!(in alloc; r#"{{"op":"store","core":0,"block":0,"value":{number}}}"#)?;
         assert_eq!(rt;
-            read(alloc, text.as_bytes()).err(),
+            fault_of(alloc, text.as_bytes())?,
             Some(ScenarioFault::BadShape),
             "at {text}"
         );
@@ -175,7 +185,7 @@ fn numbers_that_are_refused(rt: HostRuntime) -> Result<(), Fail> {
 }
 
 #[test]
-fn the_first_fault_of_a_text(rt: HostRuntime) {
+fn the_first_fault_of_a_text(rt: HostRuntime) -> Result<(), Fail> {
     let refused = [
         (
             r#"{"seq":[{"op":"load","core":2,"block":0},{"any":[]}]}"#,
@@ -201,11 +211,12 @@ fn the_first_fault_of_a_text(rt: HostRuntime) {
     ];
     for (text, fault) in refused {
         assert_eq!(rt;
-            read(rt.alloc(), text.as_bytes()).err(),
+            fault_of(rt.alloc(), text.as_bytes())?,
             Some(fault),
             "at {text}"
         );
     }
+    Ok(())
 }
 
 #[test]
@@ -258,7 +269,7 @@ fn levels_and_lengths(rt: HostRuntime) -> Result<(), Fail> {
         ),
     ];
     for (text, fault) in rows {
-        assert_eq!(rt; read(alloc, text.as_bytes()).err(), fault, "at {text}");
+        assert_eq!(rt; fault_of(alloc, text.as_bytes())?, fault, "at {text}");
     }
     Ok(())
 }
@@ -280,11 +291,9 @@ const TEXTS: [&str; 9] = [
 fn texts_read_and_written(rt: HostRuntime) -> Result<(), Fail> {
     let alloc = rt.alloc();
     for text in TEXTS {
-        let Ok(scenario) = read(alloc, text.as_bytes()) else {
-            return Err(Fail::from("the text of a scenario isn't read"));
-        };
+        let scenario = read(alloc, text.as_bytes())?;
         let mut sink = Buffer::open(alloc);
-        assert_eq!(rt; scenario.write(alloc, &mut sink), Ok(()), "at {text}");
+        scenario.write(alloc, &mut sink)?;
         assert_eq!(rt; sink.bytes(), text.as_bytes(), "at {text}");
     }
     Ok(())
@@ -299,11 +308,9 @@ fn other_spellings_of_a_text(rt: HostRuntime) -> Result<(), Fail> {
         r#"{"op":"load","core":9,"block":2,"value":7,"op":"store","core":1}"#,
     ];
     for text in spelled {
-        let Ok(scenario) = read(alloc, text.as_bytes()) else {
-            return Err(Fail::from("a spelling isn't read"));
-        };
+        let scenario = read(alloc, text.as_bytes())?;
         let mut sink = Buffer::open(alloc);
-        assert_eq!(rt; scenario.write(alloc, &mut sink), Ok(()), "at {text}");
+        scenario.write(alloc, &mut sink)?;
         assert_eq!(rt;
             sink.bytes(),
             br#"{"block":2,"core":1,"op":"store","value":7}"#.as_slice(),
@@ -317,13 +324,14 @@ fn other_spellings_of_a_text(rt: HostRuntime) -> Result<(), Fail> {
 fn sinks_that_fail_on_the_way(rt: HostRuntime) -> Result<(), Fail> {
     let alloc = rt.alloc();
     let text = TEXTS[6].as_bytes();
-    let Ok(scenario) = read(alloc, text) else {
-        return Err(Fail::from("the text of a scenario isn't read"));
-    };
+    let scenario = read(alloc, text)?;
     for (most, enough) in [(1, 133), (7, 19), (200, 1)] {
         for calls in 0..=enough {
             let mut sink = Faltering::over(Buffer::open(alloc), most, calls);
             let written = scenario.write(alloc, &mut sink);
+            if written == Err(SaveFault::NoMemory) {
+                return Err(Fail::from("NoMemory"));
+            }
             let out = sink.end().bytes();
             let count = out.len() as u64;
             assert!(rt; text.starts_with(out), "at {most} {calls}");

@@ -25,21 +25,14 @@ fn letter(ask: CoreAsk) -> Option<char> {
 }
 
 fn read(alloc: Global, text: &str) -> Result<Scenario<Global>, Fail> {
-    let Ok(shape) = Shape::new(2, 1) else {
-        return Err(Fail::from("a shape within the limits is refused"));
-    };
-    match Scenario::read(alloc, alloc, text.as_bytes(), shape) {
-        Ok(scenario) => Ok(scenario),
-        Err(_) => Err(Fail::from("a scenario is refused")),
-    }
+    let shape = Shape::new(2, 1)?;
+    Ok(Scenario::read(alloc, alloc, text.as_bytes(), shape)?)
 }
 
 /// The offers as letters.
 fn offered<A: Allocator>(alloc: Global, tree: &Scenario<A>) -> Result<String, Fail> {
     let mut asks = Vec::new(alloc);
-    if tree.offers(&mut asks).is_err() {
-        return Err(Fail::from("no memory for the offers"));
-    }
+    tree.offers(&mut asks)?;
     let mut letters = String::new(alloc);
     for ask in &asks {
         letters.push(letter(*ask).unwrap_or('?'))?;
@@ -58,9 +51,7 @@ fn follow<A: Allocator + Clone>(
     for (offers, ends, at, taken) in moments {
         assert_eq!(rt; offered(heap, tree)?.as_str(), *offers);
         assert_eq!(rt; tree.may_end(), *ends);
-        let Ok(ask) = tree.take(alloc.clone()?, *at) else {
-            return Err(Fail::from("no memory to take an offer"));
-        };
+        let ask = tree.take(alloc.clone()?, *at)?;
         assert_eq!(rt; ask.and_then(letter), *taken);
     }
     Ok(())
@@ -76,9 +67,7 @@ fn follow_in_both(
     let source = read(heap, text)?;
     let bump = Bump::new(heap);
     {
-        let Ok(mut copy) = source.copy_in(&bump) else {
-            return Err(Fail::from("no memory for a copy"));
-        };
+        let mut copy = source.copy_in(&bump)?;
         follow(rt, heap, &mut copy, &bump, moments)?;
     }
     let mut source = source;
@@ -131,12 +120,35 @@ fn a_long_scenario_stays_shallow(rt: HostRuntime) -> Result<(), Fail> {
     let text = format!(in rt.alloc(); r#"{{"times":1000,"of":{{"times":100,"of":{LOAD}}}}}"#)?;
     let mut tree = read(rt.alloc(), text.as_str())?;
     for _ in 0..100_000 {
-        let Ok(ask) = tree.take(rt.alloc(), 0) else {
-            return Err(Fail::from("no memory to take an offer"));
-        };
+        let ask = tree.take(rt.alloc(), 0)?;
         assert_eq!(rt; ask.and_then(letter), Some('L'));
     }
     assert_eq!(rt; offered(rt.alloc(), &tree)?.as_str(), "");
     assert!(rt; tree.may_end());
+    Ok(())
+}
+
+#[test]
+fn a_refused_take_changes_nothing(rt: HostRuntime) -> Result<(), Fail> {
+    let heap = rt.alloc();
+    let text = format!(in heap; r#"{{"times":100,"of":{{"seq":[{LOAD},{STORE}]}}}}"#)?;
+    let source = read(heap, text.as_str())?;
+    let bump = Bump::new(heap);
+    let mut tree = source.copy_in(&bump)?;
+    let mut refused = false;
+    for turn in 0..200 {
+        bump.set_allocation_limit(Some(bump.allocated_bytes()));
+        let before = offered(heap, &tree)?;
+        let mut taken = tree.take(&bump, 0);
+        if taken.is_err() {
+            refused = true;
+            assert_eq!(rt; offered(heap, &tree)?.as_str(), before.as_str());
+            bump.set_allocation_limit(None);
+            taken = tree.take(&bump, 0);
+        }
+        let ask = if turn % 2 == 0 { 'L' } else { 'S' };
+        assert_eq!(rt; taken.ok().flatten().and_then(letter), Some(ask));
+    }
+    assert!(rt; refused);
     Ok(())
 }

@@ -18,13 +18,8 @@ fn ask(core: u32, ask: Ask) -> CoreAsk {
 
 /// A world of two caches and one block that opens at 0.
 fn opened(alloc: Global) -> Result<World, Fail> {
-    let Ok(shape) = Shape::new(2, 1) else {
-        return Err(Fail::from("a shape within the limits is refused"));
-    };
-    match World::open(alloc, shape, Tables::baseline(), vec![in alloc; 0; 1]?) {
-        Ok(world) => Ok(world),
-        Err(_) => Err(Fail::from("a world isn't opened")),
-    }
+    let shape = Shape::new(2, 1)?;
+    Ok(World::open(alloc, shape, Tables::baseline(), vec![in alloc; 0; 1]?)?)
 }
 
 /// What can happen next, where these cores are busy.
@@ -40,10 +35,7 @@ fn listed(
             cores.issue(CacheId(*core), Ask::Load);
         }
     }
-    match choices(alloc, world, &cores, scenario) {
-        Ok(choices) => Ok(choices),
-        Err(_) => Err(Fail::from("no memory for the choices")),
-    }
+    Ok(choices(alloc, world, &cores, scenario)?)
 }
 
 fn play(world: &mut World, steps: &[&str]) -> Result<(), Fail> {
@@ -51,9 +43,7 @@ fn play(world: &mut World, steps: &[&str]) -> Result<(), Fail> {
         let Some(step) = Step::read(line.as_bytes()) else {
             return Err(Fail::from("the text of a step isn't read"));
         };
-        if world.step(step).is_err() {
-            return Err(Fail::from("no memory for a step"));
-        }
+        world.step(step)?;
     }
     Ok(())
 }
