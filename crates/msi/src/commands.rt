@@ -44,11 +44,18 @@ fn tables<'a>(alloc: Global) -> Result<Command<'a>, AllocError> {
         .arg(overrides(alloc))
 }
 
+fn replay<'a>(alloc: Global) -> Command<'a> {
+    Command::new(alloc, "replay").about(
+        "Reads a recording, makes its steps again and compares their outcomes",
+    )
+}
+
 /// The command line of `msi`.
 pub fn msi<'a>(alloc: Global) -> Result<Command<'a>, AllocError> {
     Command::new(alloc, "msi")
-        .about("Plays steps of a directory MSI cache-coherence protocol")
+        .about("Plays steps of a directory MSI cache-coherence protocol, and replays recordings")
         .subcommand_required(true)
         .subcommand(play(alloc)?)?
+        .subcommand(replay(alloc))?
         .subcommand(tables(alloc)?)
 }

@@ -1,5 +1,6 @@
 use crate::files::LoadFault;
 use base::{NoMemory, ShapeFault};
+use record::{ReadFault, ReadKind};
 use std::alloc::AllocError;
 use std::{fmt, io};
 use thiserror::Error;
@@ -17,6 +18,9 @@ pub enum Fault {
     /// The overrides of the tables are refused.
     #[error("msi: tables refused {0}")]
     Tables(Refusal),
+    /// The recording is refused at a line, counted from 1.
+    #[error("msi: recording line {0} refused {1}")]
+    Recording(u64, LineRefusal),
     /// A read or a write failed.
     #[error("msi: device")]
     Device,
@@ -29,7 +33,7 @@ impl Fault {
     /// The exit status: 2 for bad input, 3 for device and memory.
     pub fn status(&self) -> u8 {
         match self {
-            Fault::NotAStep(_) | Fault::Shape(_) | Fault::Tables(..) => 2,
+            Fault::NotAStep(_) | Fault::Shape(_) | Fault::Tables(_) | Fault::Recording(..) => 2,
             Fault::Device | Fault::NoMemory => 3,
         }
     }
@@ -49,6 +53,35 @@ impl fmt::Display for Refusal {
             TablesFault::UnknownAction => write!(f, "5 UnknownAction"),
             TablesFault::SameCellTwice => write!(f, "6 SameCellTwice"),
             TablesFault::NoMemory => write!(f, "7 NoMemory"),
+        }
+    }
+}
+
+/// A refusal of a line of a recording, which shows its number and its name.
+#[derive(Clone, Copy, Debug, PartialEq, Eq)]
+pub struct LineRefusal(ReadKind);
+
+impl fmt::Display for LineRefusal {
+    fn fmt<W: fmt::Write>(&self, f: &mut fmt::Formatter<W>) -> fmt::Result {
+        match self.0 {
+            ReadKind::BadHeader => write!(f, "1 BadHeader"),
+            ReadKind::BadLine => write!(f, "2 BadLine"),
+            ReadKind::Truncated => write!(f, "3 Truncated"),
+            ReadKind::CountDiffers => write!(f, "4 CountDiffers"),
+            ReadKind::BadOutcome => write!(f, "5 BadOutcome"),
+            ReadKind::OverLimit => write!(f, "6 OverLimit"),
+            ReadKind::NoMemory => write!(f, "7 NoMemory"),
+            ReadKind::Device => write!(f, "8 Device"),
+        }
+    }
+}
+
+impl From<ReadFault> for Fault {
+    fn from(fault: ReadFault) -> Fault {
+        match fault.kind {
+            ReadKind::NoMemory => Fault::NoMemory,
+            ReadKind::Device => Fault::Device,
+            kind => Fault::Recording(fault.line, LineRefusal(kind)),
         }
     }
 }

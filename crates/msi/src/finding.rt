@@ -5,6 +5,8 @@ pub enum Finding {
     Nothing,
     /// A violation was found, and printed.
     Violation,
+    /// A recording tells of another outcome than its step has, which was printed.
+    Difference,
 }
 
 impl Finding {
@@ -12,7 +14,7 @@ impl Finding {
     pub fn status(self) -> u8 {
         match self {
             Finding::Nothing => 0,
-            Finding::Violation => 1,
+            Finding::Violation | Finding::Difference => 1,
         }
     }
 }

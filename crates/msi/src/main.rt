@@ -1,4 +1,4 @@
-//! `msi`: plays steps of a directory MSI protocol.
+//! `msi`: plays steps of a directory MSI protocol, and replays recordings of them.
 #![tactic(auto)]
 
 mod commands;
@@ -7,6 +7,7 @@ mod files;
 mod finding;
 mod lines;
 mod play;
+mod replay;
 mod serve;
 mod tables;
 

@@ -3,6 +3,7 @@ use crate::fault::Fault;
 use crate::files::Files;
 use crate::finding::Finding;
 use crate::play::play;
+use crate::replay::replay;
 use crate::tables::print_tables;
 use base::Shape;
 use clap::ArgMatches;
@@ -12,7 +13,7 @@ use std::io::{Read, Write};
 use world::Tables;
 
 /// Serves the words of a command line over these files and streams, and answers the exit status:
-/// 0 where all went well, 1 where a violation was found, 2 for bad words or input, 3 for device and memory.
+/// 0 where all went well, 1 where a violation or a difference was found, 2 for bad words or input, 3 for device and memory.
 pub fn serve<F: Files, I: Read + Drop, O: Write + Drop, E: Write + Drop>(
     alloc: Global,
     words: &[String],
@@ -67,6 +68,7 @@ fn dispatch<F: Files, I: Read + Drop, O: Write + Drop>(
             let tables = tables(alloc, options, files)?;
             play(alloc, shape, tables, input, output)
         }
+        Some(("replay", _)) => replay(alloc, input, output),
         Some(("tables", options)) => {
             print_tables(alloc, &tables(alloc, options, files)?, output)?;
             Ok(Finding::Nothing)

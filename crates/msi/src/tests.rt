@@ -307,3 +307,68 @@ fn a_device_that_fails(rt: HostRuntime) -> Result<(), Fail> {
     assert_eq!(rt; errors.as_slice(), b"msi: device\n".as_slice());
     Ok(())
 }
+
+/// A recording of a load from the owner. The entry 6 is told as given.
+fn recording(alloc: Global, told: &str) -> Result<String, AllocError> {
+    format!(in alloc;
+        "msi-recording 1\nshape 2 1\nopening 0\ncells 0\nentries 8\nask 0 0 store 7 = sent\nrequest 0 0 = moved\nresponse 0 0 = store 0 7\nask 1 0 load = sent\nrequest 0 0 = moved\nforward 0 0 = moved\nresponse 0 0 = {told}\nresponse 0 0 = moved\nend\n"
+    )
+}
+
+#[test]
+fn recordings_are_replayed(rt: HostRuntime) -> Result<(), Fail> {
+    let alloc = rt.alloc();
+    let same = recording(alloc, "load 1 7")?;
+    expect(
+        &rt,
+        &run(alloc, "msi replay", same.as_str())?,
+        0,
+        "same 8\n",
+        "",
+    );
+    let other = recording(alloc, "load 1 6")?;
+    let differs = "differs 6 told load 1 6 found load 1 7\n";
+    expect(
+        &rt,
+        &run(alloc, "msi replay", other.as_str())?,
+        1,
+        differs,
+        "",
+    );
+    let broken =
+        "msi-recording 1\nshape 2 1\nopening 0\ncells 1\ncell cache I Load act S\nentries 4\nask 0 0 store 7 = sent\nrequest 0 0 = moved\nresponse 0 0 = store 0 7\nask 1 0 load = load 1 0\nend\n";
+    let violation = "same 4\nviolation 3 writer 0 beside reader 1 block 0\n";
+    expect(&rt, &run(alloc, "msi replay", broken)?, 1, violation, "");
+    Ok(())
+}
+
+#[test]
+fn refused_recordings(rt: HostRuntime) -> Result<(), Fail> {
+    let alloc = rt.alloc();
+    for (text, refusal) in [
+        ("", "line 1 refused 3 Truncated"),
+        ("msi-recording 9\n", "line 1 refused 1 BadHeader"),
+        ("msi-recording 1\nshape 01 1\n", "line 2 refused 2 BadLine"),
+        ("msi-recording 1\nshape 0 1\n", "line 2 refused 6 OverLimit"),
+        (
+            "msi-recording 1\nshape 1 1\nopening 0\ncells 0\nentries 1\nend\n",
+            "line 6 refused 4 CountDiffers",
+        ),
+        (
+            "msi-recording 1\nshape 1 1\nopening 0\ncells 0\nentries 1\nrequest 0 0 = lost\n",
+            "line 6 refused 5 BadOutcome",
+        ),
+    ] {
+        let errors = format!(in alloc; "msi: recording {refusal}\n")?;
+        expect(
+            &rt,
+            &run(alloc, "msi replay", text)?,
+            2,
+            "",
+            errors.as_str(),
+        );
+    }
+    let served = run(alloc, "msi replay --caches 2", "")?;
+    assert_eq!(rt; served.status, 2);
+    Ok(())
+}

@@ -1,0 +1,16 @@
+pub mod Spots
+pub mod Names
+pub mod Words
+pub mod Outs
+pub mod Changed
+pub mod Whole
+pub mod Replays
+pub mod Streams
+pub mod Openings
+pub mod Shapes
+pub mod Texts
+pub mod Actions
+pub mod Splitting
+pub mod Steps
+pub mod Alike
+pub mod Safety

@@ -1,0 +1,204 @@
+-- What a replay keeps, entry by entry.
+use Rattle.std.proofs.Common.{◌≡◌, ◌≢◌, ◌⊎◌, ◌<◌, ◌≤◌, ◌+◌, ℕ, zero, suc, List, [], ◌∷◌, ◌++◌, Option, Some, None, length, take, map, slice_get, get_or, refl, ap, sym, subst, ◌∙◌, inl, inr, arith}
+use Rattle.std.proofs.lemmas.List.{take_more, map_push, take_all, take-append-le, take-map, length-map, length-take-le}
+use Rattle.base.specs.Extent.{Extent}
+use Rattle.base.specs.declared.step.Step.{Step}
+use Rattle.base.specs.declared.step.Outcome.{Outcome}
+use Rattle.machine.specs.Tables.{Tables}
+use Rattle.machine.specs.Machine.{State, Next, next, opened, state_after, outcomes_of}
+use Rattle.world.specs.View.{View, stepped}
+use Rattle.monitor.specs.declared.violation.Violation.{Violation}
+use Rattle.monitor.specs.Scenes.{Scene, HasNone, IsViolation, Answers}
+use Rattle.monitor.specs.Watching.{HasSeen, LeadTo, AnswersHistory, SeesNext, AreDue, completions_of, made_after, scene_after}
+use Rattle.record.specs.declared.recording.Entry.{Entry}
+use Rattle.record.specs.Kept.{Kept, steps_of}
+use Rattle.record.specs.Replaying.{IsFirstToDiffer, HasNoViolation, AnswersFirst, first_of}
+
+-- the steps of entries
+abbrev pub steps_in : List Entry → List Step
+steps_in entries = map (λ e. e.step) entries
+
+-- the outcomes of entries
+abbrev pub outcomes_in : List Entry → List Outcome
+outcomes_in entries = map (λ e. e.outcome) entries
+
+-- the entries so far have been made as they are told
+pub record IsSoFar (r : Kept) (done : List Entry) (world : View) (watch : List ℕ) (entries : List Entry) (violation : Option (ℕ × Violation)) : Type 0 where
+  pub shape : world.shape ≡ r.shape
+  pub tables : world.tables ≡ r.tables
+  pub state : world.state ≡ state_after r.tables (opened r.shape r.opening) (steps_in done)
+  pub seen : HasSeen world r.opening (steps_in done) watch
+  pub same : entries ≡ done
+  pub legal : outcomes_in done ≡ outcomes_of r.tables (opened r.shape r.opening) (steps_in done)
+  pub first : AnswersFirst r.shape r.tables r.opening (steps_in done) violation
+
+-- an element of a list with one more is one of the list, or that one
+get-push : {X : Type 0} (xs : List X) (x y : X) (k : ℕ) → slice_get (xs ++ x ∷ []) k ≡ Some y → ((slice_get xs k ≡ Some y) × (k < length xs)) ⊎ ((k ≡ length xs) × (x ≡ y))
+get-push [] x y zero e = inr (refl, cc)
+get-push [] x y (suc k) e = absurd (cc)
+get-push (z ∷ xs) x y zero e = inl (e, omega arith)
+get-push (z ∷ xs) x y (suc k) e = elim (get-push xs x y k e) [
+  | inl h ↦ inl (h.0, let lt = h.1 in omega (arith, lt))
+  | inr h ↦ inr (ap suc h.0, h.1)
+]
+
+get-pushed : {X : Type 0} (xs : List X) (x : X) → slice_get (xs ++ x ∷ []) (length xs) ≡ Some x
+get-pushed [] x = refl
+get-pushed (z ∷ xs) x = get-pushed xs x
+
+get-kept : {X : Type 0} (xs : List X) (x y : X) (k : ℕ) → slice_get xs k ≡ Some y → slice_get (xs ++ x ∷ []) k ≡ Some y
+get-kept [] x y k e = absurd (cc)
+get-kept (z ∷ xs) x y zero e = e
+get-kept (z ∷ xs) x y (suc k) e = get-kept xs x y k e
+
+get-low : {X : Type 0} (xs : List X) (y : X) (k : ℕ) → slice_get xs k ≡ Some y → k < length xs
+get-low [] y k e = absurd (cc)
+get-low (z ∷ xs) y zero e = omega arith
+get-low (z ∷ xs) y (suc k) e = let lt = get-low xs y k e in omega (arith, lt)
+
+take-whole : {X : Type 0} (xs ys : List X) → take (length xs) (xs ++ ys) ≡ xs
+take-whole xs ys = take-append-le (length xs) xs ys (omega arith) ∙ take_all (length xs) xs (omega arith)
+
+-- a step that isn't the last shows what it showed
+scene-kept : (shape : Extent) (tables : Tables) (opening : List ℕ) (steps : List Step) (step : Step) (k : ℕ) (s : Step) → k < length steps → scene_after shape tables opening (take k steps) s ≡ scene_after shape tables opening (take k (steps ++ step ∷ [])) s
+scene-kept shape tables opening steps step k s low = ap (λ (front : List Step). scene_after shape tables opening front s) (sym (take-append-le k steps (step ∷ []) (omega arith)))
+
+-- the last step is made after the others
+scene-last : (shape : Extent) (tables : Tables) (opening : List ℕ) (steps : List Step) (step : Step) (k : ℕ) → k ≡ length steps → scene_after shape tables opening steps step ≡ scene_after shape tables opening (take k (steps ++ step ∷ [])) step
+scene-last shape tables opening steps step k is = ap (λ (front : List Step). scene_after shape tables opening front step) (sym (ap (λ n. take n (steps ++ step ∷ [])) is ∙ take-whole steps (step ∷ [])))
+
+-- the steps of a list with one more show no violation below a number
+none-below : (shape : Extent) (tables : Tables) (opening : List ℕ) (steps : List Step) (step : Step) (n k : ℕ) (s : Step) → n ≤ length steps →
+    ((j : ℕ) (t : Step) → j < n → slice_get steps j ≡ Some t → HasNone (scene_after shape tables opening (take j steps) t)) → k < n → slice_get (steps ++ step ∷ []) k ≡ Some s → HasNone (scene_after shape tables opening (take k (steps ++ step ∷ [])) s)
+none-below shape tables opening steps step n k s fits none low e =
+    elim (get-push steps step s k e) [
+      | inl h ↦ subst HasNone (scene-kept shape tables opening steps step k s h.1) (none k s low h.0)
+      | inr h ↦ absurd (let at = h.0 in omega (arith, at, low, fits))
+    ]
+
+none-last : (shape : Extent) (tables : Tables) (opening : List ℕ) (steps : List Step) (step : Step) → HasNoViolation shape tables opening steps → HasNone (scene_after shape tables opening steps step) → HasNoViolation shape tables opening (steps ++ step ∷ [])
+none-last shape tables opening steps step none last k s e =
+    elim (get-push steps step s k e) [
+      | inl h ↦ subst HasNone (scene-kept shape tables opening steps step k s h.1) (none k s h.0)
+      | inr h ↦ subst (λ (t : Step). HasNone (scene_after shape tables opening (take k (steps ++ step ∷ [])) t)) h.1 (subst HasNone (scene-last shape tables opening steps step k h.0) last)
+    ]
+
+-- one more step
+pub first-push : (shape : Extent) (tables : Tables) (opening : List ℕ) (steps : List Step) (step : Step) (n : ℕ) (found : Option (ℕ × Violation)) (seen : Option Violation) → n ≡ length steps → AnswersFirst shape tables opening steps found → Answers (scene_after shape tables opening steps step) seen → AnswersFirst shape tables opening (steps ++ step ∷ []) (first_of found n seen)
+first-push shape tables opening steps step n None None is none last = none-last shape tables opening steps step none last
+first-push shape tables opening steps step n None (Some violation) is none last = record {
+  shown = record {
+    step = step;
+    there = ap (slice_get (steps ++ step ∷ [])) is ∙ get-pushed steps step;
+    shown = subst (λ (scene : Scene). IsViolation scene violation) (scene-last shape tables opening steps step n is) last;
+  };
+  first = λ k s low e. none-below shape tables opening steps step n k s (omega (arith, is)) (λ j t below at. none j t at) low e;
+}
+first-push shape tables opening steps step n (Some (k, violation)) seen is before last =
+    let low = get-low steps before.shown.step k before.shown.there in
+    record {
+      shown = record {
+        step = before.shown.step;
+        there = get-kept steps step before.shown.step k before.shown.there;
+        shown = subst (λ (scene : Scene). IsViolation scene violation) (scene-kept shape tables opening steps step k before.shown.step low) before.shown.shown;
+      };
+      first = λ j s below e. none-below shape tables opening steps step k j s (omega (arith, low)) before.first below e;
+    }
+
+outcome-at : (tables : Tables) (s : State) (steps : List Step) (k : ℕ) (step : Step) → slice_get steps k ≡ Some step → slice_get (outcomes_of tables s steps) k ≡ Some (next tables (state_after tables s (take k steps)) step).outcome
+outcome-at tables s [] k step e = absurd (cc)
+outcome-at tables s (x ∷ xs) zero step e = let same : x ≡ step = cc in ap (λ (t : Step). Some (next tables s t).outcome) same
+outcome-at tables s (x ∷ xs) (suc k) step e = outcome-at tables (next tables s x).state xs k step e
+
+outcomes-take : (tables : Tables) (s : State) (steps : List Step) (k : ℕ) → take k (outcomes_of tables s steps) ≡ outcomes_of tables s (take k steps)
+outcomes-take tables s steps zero = refl
+outcomes-take tables s [] (suc k) = refl
+outcomes-take tables s (x ∷ xs) (suc k) = ap (λ os. (next tables s x).outcome ∷ os) (outcomes-take tables (next tables s x).state xs k)
+
+get-map : {X Y : Type 0} (f : X → Y) (xs : List X) (k : ℕ) (d : X) → k < length xs → slice_get (map f xs) k ≡ Some (f (get_or xs k d))
+get-map f [] k d low = absurd (omega (arith, low))
+get-map f (x ∷ xs) zero d low = refl
+get-map f (x ∷ xs) (suc k) d low = get-map f xs k d (omega (arith, low))
+
+-- the outcome that a step has behind those so far
+found-here : (r : Kept) (done : List Entry) (world new : View) (watch : List ℕ) (entries : List Entry) (violation : Option (ℕ × Violation)) (step : Step) (what : Outcome) → IsSoFar r done world watch entries violation → next world.tables world.state step ≡ stepped new.state what → next r.tables (state_after r.tables (opened r.shape r.opening) (steps_in done)) step ≡ stepped new.state what
+found-here r done world new watch entries violation step what h made =
+    ap (λ (t : Tables). next t (state_after r.tables (opened r.shape r.opening) (steps_in done)) step) (sym h.tables) ∙ ap (λ (s : State). next world.tables s step) (sym h.state) ∙ made
+
+-- the first entry that differs
+pub differs-here : (r : Kept) (k : ℕ) (d : Entry) (world new : View) (watch : List ℕ) (entries : List Entry) (violation : Option (ℕ × Violation)) (what : Outcome) → k < length r.entries → IsSoFar r (take k r.entries) world watch entries violation → next world.tables world.state (get_or r.entries k d).step ≡ stepped new.state what → what ≢ (get_or r.entries k d).outcome → IsFirstToDiffer r k (get_or r.entries k d).outcome what
+differs-here r k d world new watch entries violation what low h made other =
+    let s : State = opened r.shape r.opening in
+    let front : take k (steps_of r) ≡ steps_in (take k r.entries) = take-map (λ (e : Entry). e.step) k r.entries in
+    record {
+      is_told = get-map (λ (e : Entry). e.outcome) r.entries k d low;
+      is_found = outcome-at r.tables s (steps_of r) k (get_or r.entries k d).step (get-map (λ (e : Entry). e.step) r.entries k d low)
+          ∙ ap (λ (steps : List Step). Some (next r.tables (state_after r.tables s steps) (get_or r.entries k d).step).outcome) front
+          ∙ ap (λ (n : Next). Some n.outcome) (found-here r (take k r.entries) world new watch entries violation (get_or r.entries k d).step what h made);
+      differs = λ same. other (sym same);
+      first = take-map (λ (e : Entry). e.outcome) k r.entries ∙ h.legal ∙ ap (outcomes_of r.tables s) (sym front) ∙ sym (outcomes-take r.tables s (steps_of r) k);
+    }
+
+state-push : (tables : Tables) (s : State) (xs : List Step) (step : Step) → state_after tables s (xs ++ step ∷ []) ≡ (next tables (state_after tables s xs) step).state
+state-push tables s [] step = refl
+state-push tables s (x ∷ xs) step = state-push tables (next tables s x).state xs step
+
+outcomes-push : (tables : Tables) (s : State) (xs : List Step) (step : Step) → outcomes_of tables s (xs ++ step ∷ []) ≡ outcomes_of tables s xs ++ (next tables (state_after tables s xs) step).outcome ∷ []
+outcomes-push tables s [] step = refl
+outcomes-push tables s (x ∷ xs) step = ap (λ os. (next tables s x).outcome ∷ os) (outcomes-push tables (next tables s x).state xs step)
+
+-- one entry more, whose outcome is as told
+pub push-so-far : (r : Kept) (done : List Entry) (e : Entry) (world new : View) (old_watch watch : List ℕ) (entries : List Entry) (violation : Option (ℕ × Violation)) (seen : Option Violation) (what : Outcome) (n : ℕ) →
+    n ≡ length done → IsSoFar r done world old_watch entries violation → next world.tables world.state e.step ≡ stepped new.state what → new.shape ≡ world.shape → new.tables ≡ world.tables → what ≡ e.outcome →
+    AnswersHistory new old_watch e.step what seen → SeesNext new old_watch e.step what watch →
+    IsSoFar r (done ++ e ∷ []) new watch (entries ++ record { step = e.step; outcome = what } ∷ []) (first_of violation n seen)
+push-so-far r done e world new old_watch watch entries violation seen what n is h made shape tables told answers sees =
+    let s : State = opened r.shape r.opening in
+    let steps : steps_in (done ++ e ∷ []) ≡ steps_in done ++ e.step ∷ [] = map_push (λ (e : Entry). e.step) done e in
+    let here = found-here r done world new old_watch entries violation e.step what h made in
+    let new_shape : new.shape ≡ r.shape = shape ∙ h.shape in
+    let new_tables : new.tables ≡ r.tables = tables ∙ h.tables in
+    let has_seen : HasSeen new r.opening (steps_in done) old_watch =
+    subst (λ (x : Extent). AreDue r.opening (completions_of x new.tables r.opening (steps_in done)) old_watch) (sym shape)
+    (subst (λ (t : Tables). AreDue r.opening (completions_of world.shape t r.opening (steps_in done)) old_watch) (sym tables) h.seen) in
+    let leads : LeadTo r.opening (steps_in done) e.step what new =
+    ap (λ (x : Extent). made_after x new.tables r.opening (steps_in done) e.step) new_shape ∙ ap (λ (t : Tables). made_after r.shape t r.opening (steps_in done) e.step) new_tables ∙ here in
+    let scene : Answers (scene_after r.shape r.tables r.opening (steps_in done) e.step) seen =
+    subst (λ (x : Extent). Answers (scene_after x r.tables r.opening (steps_in done) e.step) seen) new_shape
+    (subst (λ (t : Tables). Answers (scene_after new.shape t r.opening (steps_in done) e.step) seen) new_tables (answers r.opening (steps_in done) has_seen leads)) in
+    record {
+      shape = new_shape;
+      tables = new_tables;
+      state = ap (λ (n : Next). n.state) (sym here) ∙ sym (state-push r.tables s (steps_in done) e.step) ∙ ap (state_after r.tables s) (sym steps);
+      seen = subst (λ (l : List Step). HasSeen new r.opening l watch) (sym steps) (sees r.opening (steps_in done) has_seen leads);
+      same = ap (λ l. l ++ record { step = e.step; outcome = what } ∷ []) h.same ∙ ap (λ o. let x : Entry = record { step = e.step; outcome = o } in done ++ x ∷ []) told;
+      legal = map_push (λ (e : Entry). e.outcome) done e ∙ ap (λ os. os ++ e.outcome ∷ []) h.legal ∙ ap (λ o. outcomes_of r.tables s (steps_in done) ++ o ∷ []) (sym told ∙ ap (λ (n : Next). n.outcome) (sym here))
+          ∙ sym (outcomes-push r.tables s (steps_in done) e.step) ∙ ap (outcomes_of r.tables s) (sym steps);
+      first = subst (λ (l : List Step). AnswersFirst r.shape r.tables r.opening l (first_of violation n seen)) (sym steps)
+          (first-push r.shape r.tables r.opening (steps_in done) e.step n violation seen (is ∙ sym (length-map done (λ (e : Entry). e.step))) h.first scene);
+    }
+
+pub one-more : (r : Kept) (k : ℕ) (d : Entry) (world new : View) (old_watch watch : List ℕ) (entries : List Entry) (violation : Option (ℕ × Violation)) (seen : Option Violation) (what : Outcome) →
+    k < length r.entries → IsSoFar r (take k r.entries) world old_watch entries violation → next world.tables world.state (get_or r.entries k d).step ≡ stepped new.state what → new.shape ≡ world.shape → new.tables ≡ world.tables → what ≡ (get_or r.entries k d).outcome →
+    AnswersHistory new old_watch (get_or r.entries k d).step what seen → SeesNext new old_watch (get_or r.entries k d).step what watch →
+    IsSoFar r (take (k + 1) r.entries) new watch (entries ++ record { step = (get_or r.entries k d).step; outcome = what } ∷ []) (first_of violation k seen)
+one-more r k d world new old_watch watch entries violation seen what low h made shape tables told answers sees =
+    subst (λ (done : List Entry). IsSoFar r done new watch (entries ++ record { step = (get_or r.entries k d).step; outcome = what } ∷ []) (first_of violation k seen)) (sym (take_more r.entries k d low))
+    (push-so-far r (take k r.entries) (get_or r.entries k d) world new old_watch watch entries violation seen what k (sym (length-take-le k r.entries (omega (arith, low)))) h made shape tables told answers sees)
+
+-- the same, of equal entries
+pub differs-told : (r : Kept) (told : List Entry) → told ≡ r.entries → (k : ℕ) (d : Entry) (world new : View) (watch : List ℕ) (entries : List Entry) (violation : Option (ℕ × Violation)) (what : Outcome) → k < length told → IsSoFar r (take k told) world watch entries violation → next world.tables world.state (get_or told k d).step ≡ stepped new.state what → what ≢ (get_or told k d).outcome → IsFirstToDiffer r k (get_or told k d).outcome what
+differs-told r told is = subst (λ (told : List Entry). (k : ℕ) (d : Entry) (world new : View) (watch : List ℕ) (entries : List Entry) (violation : Option (ℕ × Violation)) (what : Outcome) → k < length told → IsSoFar r (take k told) world watch entries violation → next world.tables world.state (get_or told k d).step ≡ stepped new.state what → what ≢ (get_or told k d).outcome → IsFirstToDiffer r k (get_or told k d).outcome what) (sym is) (differs-here r)
+
+pub one-more-told : (r : Kept) (told : List Entry) → told ≡ r.entries → (k : ℕ) (d : Entry) (world new : View) (old_watch watch : List ℕ) (entries : List Entry) (violation : Option (ℕ × Violation)) (seen : Option Violation) (what : Outcome) →
+    k < length told → IsSoFar r (take k told) world old_watch entries violation → next world.tables world.state (get_or told k d).step ≡ stepped new.state what → new.shape ≡ world.shape → new.tables ≡ world.tables → what ≡ (get_or told k d).outcome →
+    AnswersHistory new old_watch (get_or told k d).step what seen → SeesNext new old_watch (get_or told k d).step what watch →
+    IsSoFar r (take (k + 1) told) new watch (entries ++ record { step = (get_or told k d).step; outcome = what } ∷ []) (first_of violation k seen)
+one-more-told r told is = subst (λ (told : List Entry). (k : ℕ) (d : Entry) (world new : View) (old_watch watch : List ℕ) (entries : List Entry) (violation : Option (ℕ × Violation)) (seen : Option Violation) (what : Outcome) →
+    k < length told → IsSoFar r (take k told) world old_watch entries violation → next world.tables world.state (get_or told k d).step ≡ stepped new.state what → new.shape ≡ world.shape → new.tables ≡ world.tables → what ≡ (get_or told k d).outcome →
+    AnswersHistory new old_watch (get_or told k d).step what seen → SeesNext new old_watch (get_or told k d).step what watch →
+    IsSoFar r (take (k + 1) told) new watch (entries ++ record { step = (get_or told k d).step; outcome = what } ∷ []) (first_of violation k seen)) (sym is) (one-more r)
+
+pub same-so-far : (r : Kept) (done : List Entry) (world : View) (watch : List ℕ) (entries es : List Entry) (violation v : Option (ℕ × Violation)) → es ≡ entries → v ≡ violation → IsSoFar r done world watch entries violation → IsSoFar r done world watch es v
+same-so-far r done world watch entries es violation v e f h =
+    subst (λ (x : List Entry). IsSoFar r done world watch x v) (sym e) (subst (λ (x : Option (ℕ × Violation)). IsSoFar r done world watch entries x) (sym f) h)

@@ -1,0 +1,20 @@
+use Rattle.std.proofs.Common.{◌≡◌, ◌++◌, ◌∙◌, ap, sym, map, rules}
+use Rattle.base.specs.Spelling.{words}
+use Rattle.cache_table.specs.Names.{action_name}
+use Rattle.record.specs.Reading.{words_behind}
+use Rattle.record.proofs.Openings.{cut-words}
+use Rattle.record.proofs.Actions.{no-name, more-words}
+use Rattle.record.proofs.cell_parsing.cache_actions_of.Goals as goal
+
+pub returns-in_default-cache_action_of-clause-actions : goal.returns-in_default-cache_action_of-clause-actions
+returns-in_default-cache_action_of-clause-actions c = λ others few is.
+    let here : words_behind c.loop-rest.rest ≡ words c.in-Some.text.now = ap words_behind c.in-Some.is in
+    let next = cut-words c.cut.result.1 (words c.in-Some.text.now) c.cut.result.0.now c.cut.ensures in
+    no-name action_name c.loop-rest.actions others c.cut.result.0.now (words_behind c.cut.result.1) (search rules)
+    (ap (λ l. map action_name c.loop-rest.actions ++ l) (sym (here ∙ next)) ∙ sym c.loop-rest.invariant.0 ∙ is)
+
+pub returns-in-Some-rest-clause-actions : goal.returns-in-Some-rest-clause-actions
+returns-in-Some-rest-clause-actions c = λ others few is.
+    let here : words_behind c.loop-rest.rest ≡ words c.in-Some-rest.field-0.now = ap words_behind c.in-Some-rest.is in
+    more-words action_name c.loop-rest.actions others c.in-Some-rest.field-0.now (search rules) few
+    (ap (λ l. map action_name c.loop-rest.actions ++ l) (sym here) ∙ sym c.loop-rest.invariant.0 ∙ is)

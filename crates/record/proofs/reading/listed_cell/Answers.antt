@@ -1,0 +1,16 @@
+use Rattle.std.proofs.Common.{◌∙◌, sym, arith, ap}
+use Rattle.record.specs.Cells.{spot_number}
+use Rattle.record.proofs.Alike.{in-order, differs}
+use Rattle.record.proofs.reading.listed_cell.Goals as goal
+
+pub returns-then-is_baseline : goal.returns-then-is_baseline
+returns-then-is_baseline c = λ other listed spelled.
+    let same = sym c.in_ok-cell.ensures.cell ∙ spelled in
+    let no = differs c.args.from c.in_ok-cell.cell other same listed in
+    cc (no, c.is_baseline.ensures, c.if-is_baseline.true)
+
+pub returns-then-spot_number-from : goal.returns-then-spot_number-from
+returns-then-spot_number-from c = λ other listed spelled.
+    let same = sym c.in_ok-cell.ensures.cell ∙ spelled in
+    let order = in-order c.args.from c.in_ok-cell.cell other same listed in
+    absurd (omega (arith, order, c.spot_number.ensures.number, c.if-spot_number-from.true, ap spot_number c.spot.ensures))

@@ -1,0 +1,11 @@
+use Rattle.std.proofs.Common.{◌≤◌, ◌+◌, ◌-◌}
+use Rattle.record.specs.Grammar.{cells_due}
+use Rattle.record.specs.Reading.{HasRead, stream}
+use Rattle.record.proofs.reading.read_cells.Given as goal
+
+abbrev pub invariant-loop-index : goal.invariant-loop-index
+invariant-loop-index g l = record {
+  so_far : HasRead (stream l.fn.lines (g.S.Source.left l.fn.source)) (stream l.lines (g.S.Source.left l.source)) l.fn.lines.number l.lines.number (cells_due l.count 0) (cells_due (l.count - l.index) l.from);
+  few : l.lines.number ≤ l.fn.lines.number + l.index;
+  place : l.from ≤ 160;
+}

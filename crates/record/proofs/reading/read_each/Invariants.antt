@@ -1,0 +1,10 @@
+use Rattle.std.proofs.Common.{◌≤◌, ◌+◌, ◌-◌}
+use Rattle.record.specs.Grammar.{entries_due}
+use Rattle.record.specs.Reading.{HasRead, stream}
+use Rattle.record.proofs.reading.read_each.Given as goal
+
+abbrev pub invariant-loop-index : goal.invariant-loop-index
+invariant-loop-index g l = record {
+  so_far : HasRead (stream l.fn.lines (g.S.Source.left l.fn.source)) (stream l.lines (g.S.Source.left l.source)) l.fn.lines.number l.lines.number (entries_due l.count) (entries_due (l.count - l.index));
+  few : l.lines.number ≤ l.fn.lines.number + l.index;
+}

@@ -1,0 +1,27 @@
+use Rattle.std.proofs.Common.{◌≡◌, ◌∙◌, ◌∷◌, [], ap, sym, subst, refl, codes, List, ℕ, rules}
+use Rattle.std.specs.Fmt.{decimal}
+use Rattle.base.specs.Spelling.{words}
+use Rattle.record.specs.Grammar.{entry_count, entries_due, end_line}
+use Rattle.record.specs.Reading.{IsBadCount, stream}
+use Rattle.record.proofs.Steps.{one-line, stop-refused, line-refused, refused-same, then-refused, then-read, entry_count-more, entries-count-fault}
+use Rattle.record.proofs.reading.read_entries.Goals as goal
+
+pub returns-in-Err-clause-err : goal.returns-in-Err-clause-err
+returns-in-Err-clause-err g c = stop-refused _ _ _ c.in-Err.fault.line entry_count c.in-Err.fault.kind entry_count-more c.in-Err.ensures.place c.in-Err.ensures.err
+
+pub returns-in-Err-count_of-clause-err : goal.returns-in-Err-count_of-clause-err
+returns-in-Err-count_of-clause-err g c =
+    let name : c.as_slice.result.now ≡ codes "entries" = search rules in
+    refused-same _ _ _ entry_count c.refused.result c.number.result c.in-Err-count_of.kind c.refused.ensures (
+    line-refused _ _ c.args.lines.now c.next.new.self c.number.result entry_count c.in-Err-count_of.kind c.in_default.ensures.ok c.number.ensures
+    (entries-count-fault (words c.next.new.self.line) c.in-Err-count_of.kind (subst (λ (n : List ℕ). IsBadCount n 1000000 (words c.next.new.self.line) c.in-Err-count_of.kind) name (subst (λ (l : List ℕ). IsBadCount c.as_slice.result.now 1000000 (words l) c.in-Err-count_of.kind) c.line.ensures c.in-Err-count_of.ensures.err))))
+
+pub returns-in-Ok-read_each-clause-ok : goal.returns-in-Ok-read_each-clause-ok
+returns-in-Ok-read_each-clause-ok g c =
+    let name : c.as_slice.result.now ≡ codes "entries" = search rules in
+    then-read _ (stream c.next.new.self (g.S.Source.left c.next.new.source)) _ _ c.next.new.self.number _ entry_count (entries_due c.in-Ok.count) end_line (one-line _ (stream c.next.new.self (g.S.Source.left c.next.new.source)) c.args.lines.now c.next.new.self entry_count (entries_due c.in-Ok.count) c.in_default.ensures.ok (c.in-Ok.count, c.in-Ok.ensures.ok.0, ap words (sym c.line.ensures) ∙ c.in-Ok.ensures.ok.1 ∙ ap (λ (n : List ℕ). n ∷ decimal c.in-Ok.count ∷ []) name, refl)) c.in-Ok-read_each.ensures.ok
+
+pub returns-in-Err-read_each-clause-err : goal.returns-in-Err-read_each-clause-err
+returns-in-Err-read_each-clause-err g c =
+    let name : c.as_slice.result.now ≡ codes "entries" = search rules in
+    then-refused _ (stream c.next.new.self (g.S.Source.left c.next.new.source)) _ _ c.next.new.self.number c.in-Err-read_each.fault.line entry_count (entries_due c.in-Ok.count) c.in-Err-read_each.fault.kind (one-line _ (stream c.next.new.self (g.S.Source.left c.next.new.source)) c.args.lines.now c.next.new.self entry_count (entries_due c.in-Ok.count) c.in_default.ensures.ok (c.in-Ok.count, c.in-Ok.ensures.ok.0, ap words (sym c.line.ensures) ∙ c.in-Ok.ensures.ok.1 ∙ ap (λ (n : List ℕ). n ∷ decimal c.in-Ok.count ∷ []) name, refl)) c.in-Err-read_each.ensures.err

@@ -1,0 +1,16 @@
+use Rattle.std.proofs.Common.{refl, rules}
+use Rattle.record.specs.declared.fault.ReadKind.TheVariants.{BadHeader}
+use Rattle.record.specs.Grammar.{header, shape_line}
+use Rattle.record.proofs.Steps.{one-line, stop-refused, line-refused, refused-same, header-more}
+use Rattle.record.proofs.reading.read_header.Goals as goal
+
+pub returns-in-Err-clause-err : goal.returns-in-Err-clause-err
+returns-in-Err-clause-err g c = stop-refused _ _ _ c.in-Err.fault.line header c.in-Err.fault.kind header-more c.in-Err.ensures.place c.in-Err.ensures.err
+
+pub returns-then-is_header-clause-ok : goal.returns-then-is_header-clause-ok
+returns-then-is_header-clause-ok g c = one-line _ _ c.args.lines.now c.next.new.self header shape_line c.in_default.ensures.ok (search rules, refl)
+
+pub returns-else-is_header-clause-err : goal.returns-else-is_header-clause-err
+returns-else-is_header-clause-err g c =
+    refused-same _ _ _ header c.refused.result c.number.result BadHeader c.refused.ensures (
+    line-refused _ _ c.args.lines.now c.next.new.self c.number.result header BadHeader c.in_default.ensures.ok c.number.ensures (refl, search rules))

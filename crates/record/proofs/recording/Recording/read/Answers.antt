@@ -1,0 +1,24 @@
+use Rattle.record.specs.Grammar.{header, shape_line, opening_line, cell_count, entry_count, end_line, nothing}
+use Rattle.record.specs.Reading.{stream}
+use Rattle.record.proofs.Steps.{then-read, then-refused, from-start}
+use Rattle.record.proofs.recording.Recording.read.Goals as goal
+
+pub returns-in-Err-read_shape-clause-fault : goal.returns-in-Err-read_shape-clause-fault
+returns-in-Err-read_shape-clause-fault g c = then-refused (g.S.Source.left c.args.source.now) (stream c.read_header.new.lines (g.S.Source.left c.read_header.new.source)) _ 0 c.read_header.new.lines.number c.in-Err-read_shape.fault.line header shape_line c.in-Err-read_shape.fault.kind (from-start c.open-lines.result (g.S.Source.left c.args.source.now) (stream c.read_header.new.lines (g.S.Source.left c.read_header.new.source)) c.read_header.new.lines.number header shape_line c.open-lines.ensures c.in_default.ensures.ok) c.in-Err-read_shape.ensures.err
+
+pub returns-in-Err-read_opening-clause-fault : goal.returns-in-Err-read_opening-clause-fault
+returns-in-Err-read_opening-clause-fault g c = then-refused (g.S.Source.left c.args.source.now) (stream c.read_shape.new.lines (g.S.Source.left c.read_shape.new.source)) _ 0 c.read_shape.new.lines.number c.in-Err-read_opening.fault.line header (opening_line c.in-Ok.shape) c.in-Err-read_opening.fault.kind (then-read (g.S.Source.left c.args.source.now) (stream c.read_header.new.lines (g.S.Source.left c.read_header.new.source)) (stream c.read_shape.new.lines (g.S.Source.left c.read_shape.new.source)) 0 c.read_header.new.lines.number c.read_shape.new.lines.number header shape_line (opening_line c.in-Ok.shape) (from-start c.open-lines.result (g.S.Source.left c.args.source.now) (stream c.read_header.new.lines (g.S.Source.left c.read_header.new.source)) c.read_header.new.lines.number header shape_line c.open-lines.ensures c.in_default.ensures.ok) c.in-Ok.ensures.ok) c.in-Err-read_opening.ensures.err
+
+pub returns-in-Err-read_tables-clause-fault : goal.returns-in-Err-read_tables-clause-fault
+returns-in-Err-read_tables-clause-fault g c = then-refused (g.S.Source.left c.args.source.now) (stream c.read_opening.new.lines (g.S.Source.left c.read_opening.new.source)) _ 0 c.read_opening.new.lines.number c.in-Err-read_tables.fault.line header cell_count c.in-Err-read_tables.fault.kind (then-read (g.S.Source.left c.args.source.now) (stream c.read_shape.new.lines (g.S.Source.left c.read_shape.new.source)) (stream c.read_opening.new.lines (g.S.Source.left c.read_opening.new.source)) 0 c.read_shape.new.lines.number c.read_opening.new.lines.number header (opening_line c.in-Ok.shape) cell_count (then-read (g.S.Source.left c.args.source.now) (stream c.read_header.new.lines (g.S.Source.left c.read_header.new.source)) (stream c.read_shape.new.lines (g.S.Source.left c.read_shape.new.source)) 0 c.read_header.new.lines.number c.read_shape.new.lines.number header shape_line (opening_line c.in-Ok.shape) (from-start c.open-lines.result (g.S.Source.left c.args.source.now) (stream c.read_header.new.lines (g.S.Source.left c.read_header.new.source)) c.read_header.new.lines.number header shape_line c.open-lines.ensures c.in_default.ensures.ok) c.in-Ok.ensures.ok) c.in-Ok-read_opening.ensures.ok) c.in-Err-read_tables.ensures.err
+
+pub returns-in-Err-read_entries-clause-fault : goal.returns-in-Err-read_entries-clause-fault
+returns-in-Err-read_entries-clause-fault g c = then-refused (g.S.Source.left c.args.source.now) (stream c.read_tables.new.lines (g.S.Source.left c.read_tables.new.source)) _ 0 c.read_tables.new.lines.number c.in-Err-read_entries.fault.line header entry_count c.in-Err-read_entries.fault.kind (then-read (g.S.Source.left c.args.source.now) (stream c.read_opening.new.lines (g.S.Source.left c.read_opening.new.source)) (stream c.read_tables.new.lines (g.S.Source.left c.read_tables.new.source)) 0 c.read_opening.new.lines.number c.read_tables.new.lines.number header cell_count entry_count (then-read (g.S.Source.left c.args.source.now) (stream c.read_shape.new.lines (g.S.Source.left c.read_shape.new.source)) (stream c.read_opening.new.lines (g.S.Source.left c.read_opening.new.source)) 0 c.read_shape.new.lines.number c.read_opening.new.lines.number header (opening_line c.in-Ok.shape) cell_count (then-read (g.S.Source.left c.args.source.now) (stream c.read_header.new.lines (g.S.Source.left c.read_header.new.source)) (stream c.read_shape.new.lines (g.S.Source.left c.read_shape.new.source)) 0 c.read_header.new.lines.number c.read_shape.new.lines.number header shape_line (opening_line c.in-Ok.shape) (from-start c.open-lines.result (g.S.Source.left c.args.source.now) (stream c.read_header.new.lines (g.S.Source.left c.read_header.new.source)) c.read_header.new.lines.number header shape_line c.open-lines.ensures c.in_default.ensures.ok) c.in-Ok.ensures.ok) c.in-Ok-read_opening.ensures.ok) c.in-Ok-read_tables.ensures.ok) c.in-Err-read_entries.ensures.err
+
+pub returns-clause-fault : goal.returns-clause-fault
+returns-clause-fault g c = then-refused (g.S.Source.left c.args.source.now) (stream c.read_entries.new.lines (g.S.Source.left c.read_entries.new.source)) _ 0 c.read_entries.new.lines.number c.in-Err-read_end.fault.line header end_line c.in-Err-read_end.fault.kind (then-read (g.S.Source.left c.args.source.now) (stream c.read_tables.new.lines (g.S.Source.left c.read_tables.new.source)) (stream c.read_entries.new.lines (g.S.Source.left c.read_entries.new.source)) 0 c.read_tables.new.lines.number c.read_entries.new.lines.number header entry_count end_line (then-read (g.S.Source.left c.args.source.now) (stream c.read_opening.new.lines (g.S.Source.left c.read_opening.new.source)) (stream c.read_tables.new.lines (g.S.Source.left c.read_tables.new.source)) 0 c.read_opening.new.lines.number c.read_tables.new.lines.number header cell_count entry_count (then-read (g.S.Source.left c.args.source.now) (stream c.read_shape.new.lines (g.S.Source.left c.read_shape.new.source)) (stream c.read_opening.new.lines (g.S.Source.left c.read_opening.new.source)) 0 c.read_shape.new.lines.number c.read_opening.new.lines.number header (opening_line c.in-Ok.shape) cell_count (then-read (g.S.Source.left c.args.source.now) (stream c.read_header.new.lines (g.S.Source.left c.read_header.new.source)) (stream c.read_shape.new.lines (g.S.Source.left c.read_shape.new.source)) 0 c.read_header.new.lines.number c.read_shape.new.lines.number header shape_line (opening_line c.in-Ok.shape) (from-start c.open-lines.result (g.S.Source.left c.args.source.now) (stream c.read_header.new.lines (g.S.Source.left c.read_header.new.source)) c.read_header.new.lines.number header shape_line c.open-lines.ensures c.in_default.ensures.ok) c.in-Ok.ensures.ok) c.in-Ok-read_opening.ensures.ok) c.in-Ok-read_tables.ensures.ok) c.in_default-read_entries.ensures.ok) c.in-Err-read_end.ensures.err
+
+pub returns-in-Ok-read_end-clause-whole : goal.returns-in-Ok-read_end-clause-whole
+returns-in-Ok-read_end-clause-whole g c =
+    let all = then-read (g.S.Source.left c.args.source.now) (stream c.read_entries.new.lines (g.S.Source.left c.read_entries.new.source)) (g.S.Source.left c.read_end.new.source) 0 c.read_entries.new.lines.number c.read_end.new.lines.number header end_line nothing (then-read (g.S.Source.left c.args.source.now) (stream c.read_tables.new.lines (g.S.Source.left c.read_tables.new.source)) (stream c.read_entries.new.lines (g.S.Source.left c.read_entries.new.source)) 0 c.read_tables.new.lines.number c.read_entries.new.lines.number header entry_count end_line (then-read (g.S.Source.left c.args.source.now) (stream c.read_opening.new.lines (g.S.Source.left c.read_opening.new.source)) (stream c.read_tables.new.lines (g.S.Source.left c.read_tables.new.source)) 0 c.read_opening.new.lines.number c.read_tables.new.lines.number header cell_count entry_count (then-read (g.S.Source.left c.args.source.now) (stream c.read_shape.new.lines (g.S.Source.left c.read_shape.new.source)) (stream c.read_opening.new.lines (g.S.Source.left c.read_opening.new.source)) 0 c.read_shape.new.lines.number c.read_opening.new.lines.number header (opening_line c.in-Ok.shape) cell_count (then-read (g.S.Source.left c.args.source.now) (stream c.read_header.new.lines (g.S.Source.left c.read_header.new.source)) (stream c.read_shape.new.lines (g.S.Source.left c.read_shape.new.source)) 0 c.read_header.new.lines.number c.read_shape.new.lines.number header shape_line (opening_line c.in-Ok.shape) (from-start c.open-lines.result (g.S.Source.left c.args.source.now) (stream c.read_header.new.lines (g.S.Source.left c.read_header.new.source)) c.read_header.new.lines.number header shape_line c.open-lines.ensures c.in_default.ensures.ok) c.in-Ok.ensures.ok) c.in-Ok-read_opening.ensures.ok) c.in-Ok-read_tables.ensures.ok) c.in_default-read_entries.ensures.ok) c.in-Ok-read_end.ensures.ok in
+    record { lines = all.lines; follow = all.follow; read = all.taken; end = c.in-Ok-read_end.ensures.end }

@@ -1,0 +1,14 @@
+use Rattle.std.proofs.Common.{◌∙◌, ap, sym, arith, true, false}
+use Rattle.record.specs.Cells.{all_spots}
+use Rattle.record.specs.Text.{is_changed}
+use Rattle.record.proofs.Changed.{count-more}
+use Rattle.record.proofs.writing.count_changed.Goals as goal
+use Rattle.record.proofs.writing.count_changed.Goals.{then-is_changed, else-is_changed}
+
+pub loop-number-preserved : goal.loop-number-preserved
+loop-number-preserved c =
+    let at = ap (is_changed c.args.tables.now) (sym c.spot_at.ensures) ∙ sym c.is_changed.ensures in
+    elim c.if-is_changed.branch [
+      | then-is_changed w ↦ (let more = count-more c.args.tables.now all_spots c.loop-number.number c.spot_at.result true (omega arith) (at ∙ w.if-is_changed.true) in omega (arith, more, w.count-is, c.loop-number.invariant.0), omega (arith, w.count-is))
+      | else-is_changed w ↦ (let more = count-more c.args.tables.now all_spots c.loop-number.number c.spot_at.result false (omega arith) (at ∙ w.if-is_changed.false) in omega (arith, more, w.count-is, c.loop-number.invariant.0), omega (arith, w.count-is))
+    ]

@@ -1,0 +1,77 @@
+-- The cells of both tables, in the order in which they are printed, and how they are spelled.
+use Rattle.std.specs.Prelude.{ℕ, ◌+◌, ◌*◌, ◌≤◌, length, List, [], ◌∷◌, ◌++◌, codes, map}
+use Rattle.std.specs.List.{flat_map}
+use Rattle.cache_table.specs.declared.entry.CacheEntry.{CacheEntry}
+use Rattle.cache_table.specs.declared.entry.CacheEntry.TheVariants as cache_entry
+use Rattle.cache_table.specs.Table as cache_table
+use Rattle.cache_table.specs.Baseline as cache_baseline
+use Rattle.cache_table.specs.Names as cache_names
+use Rattle.directory_table.specs.declared.entry.DirectoryEntry.{DirectoryEntry}
+use Rattle.directory_table.specs.declared.entry.DirectoryEntry.TheVariants as directory_entry
+use Rattle.directory_table.specs.Table as directory_table
+use Rattle.directory_table.specs.Baseline as directory_baseline
+use Rattle.directory_table.specs.Names as directory_names
+use Rattle.machine.specs.Tables.{Tables}
+use Rattle.record.specs.declared.cells.Spot.{Spot}
+use Rattle.record.specs.declared.cells.Spot.TheVariants as spot
+use Rattle.record.specs.declared.cells.Cell.{Cell}
+use Rattle.record.specs.declared.cells.Cell.TheVariants as cell
+
+-- the places of the cache's cells, by state and then by event
+abbrev pub cache_spots : List Spot
+cache_spots = flat_map (λ state. map (λ event. spot.Cache state event) cache_baseline.all_events) cache_baseline.all_states
+
+-- the places of the directory's cells, by state and then by event
+abbrev pub directory_spots : List Spot
+directory_spots = flat_map (λ state. map (λ event. spot.Directory state event) directory_baseline.all_events) directory_baseline.all_states
+
+-- the places of all cells, in order: the cache's before the directory's
+abbrev pub all_spots : List Spot
+all_spots = cache_spots ++ directory_spots
+
+-- the number of a place among all places, counted from 0
+abbrev pub spot_number : Spot → ℕ
+spot_number (spot.Cache state event) = cache_table.state_number state * 12 + cache_table.event_number event
+spot_number (spot.Directory state event) = 132 + directory_table.state_number state * 7 + directory_table.event_number event
+
+-- the cell at a place of these tables
+abbrev pub cell_at : Tables → Spot → Cell
+cell_at tables (spot.Cache state event) = cell.Cache state event (cache_table.cell tables.cache state event)
+cell_at tables (spot.Directory state event) = cell.Directory state event (directory_table.cell tables.directory state event)
+
+-- the place of a cell
+abbrev pub spot_of : Cell → Spot
+spot_of (cell.Cache state event entry) = spot.Cache state event
+spot_of (cell.Directory state event entry) = spot.Directory state event
+
+-- the words that spell what a cache does
+abbrev pub cache_entry_words : CacheEntry → List (List ℕ)
+cache_entry_words cache_entry.Blank = codes "blank" ∷ []
+cache_entry_words cache_entry.Stall = codes "stall" ∷ []
+cache_entry_words (cache_entry.Act next actions) = codes "act" ∷ cache_names.state_name next ∷ map cache_names.action_name actions
+
+-- the words that spell what the directory does
+abbrev pub directory_entry_words : DirectoryEntry → List (List ℕ)
+directory_entry_words directory_entry.Blank = codes "blank" ∷ []
+directory_entry_words directory_entry.Stall = codes "stall" ∷ []
+directory_entry_words (directory_entry.Act next actions) = codes "act" ∷ directory_names.state_name next ∷ map directory_names.action_name actions
+
+-- the words that spell a cell
+abbrev pub cell_words : Cell → List (List ℕ)
+cell_words (cell.Cache state event entry) = codes "cell" ∷ codes "cache" ∷ cache_names.state_name state ∷ cache_names.event_name event ∷ cache_entry_words entry
+cell_words (cell.Directory state event entry) = codes "cell" ∷ codes "directory" ∷ directory_names.state_name state ∷ directory_names.event_name event ∷ directory_entry_words entry
+
+-- what a cache does has at most eight actions
+abbrev pub FitsCacheEntry : CacheEntry → Type 0
+FitsCacheEntry (cache_entry.Act next actions) = length actions ≤ 8
+FitsCacheEntry other = Unit {0}
+
+-- what the directory does has at most eight actions
+abbrev pub FitsDirectoryEntry : DirectoryEntry → Type 0
+FitsDirectoryEntry (directory_entry.Act next actions) = length actions ≤ 8
+FitsDirectoryEntry other = Unit {0}
+
+-- a cell has at most eight actions
+abbrev pub FitsCell : Cell → Type 0
+FitsCell (cell.Cache state event entry) = FitsCacheEntry entry
+FitsCell (cell.Directory state event entry) = FitsDirectoryEntry entry

@@ -1,0 +1,132 @@
+-- The first fault of a text that isn't a recording's, line by line.
+use Rattle.std.specs.Prelude.{◌≡◌, ◌≢◌, ◌⊎◌, ℕ, ◌+◌, ◌<◌, ◌≤◌, List, [], ◌∷◌, ◌++◌, Option, All, length, take, codes, slice_index}
+use Rattle.std.specs.List.{flat_map}
+use Rattle.std.specs.Io.KnownBytes.{Consumes, IsAtEnd}
+use Rattle.std.specs.Fmt.{decimal}
+use Rattle.base.specs.Extent.{Extent, IsWithinLimits}
+use Rattle.base.specs.Spelling.{words, step_words, outcome_words, FitsStep, FitsOutcome}
+use Rattle.base.specs.declared.step.Step.{Step}
+use Rattle.base.specs.declared.step.Outcome.{Outcome}
+use Rattle.record.specs.declared.recording.Entry.{Entry}
+use Rattle.record.specs.declared.fault.ReadKind.{ReadKind}
+use Rattle.record.specs.declared.fault.ReadKind.TheVariants.{BadHeader, BadLine, Truncated, CountDiffers, BadOutcome, OverLimit, NoMemory, Device}
+use Rattle.record.specs.Text.{header_words, shape_words, entry_words, end_words}
+use Rattle.record.specs.Grammar.{Due, header, shape_line, cell_count, entry_count, entry_line, end_line, nothing, FitsEntry, Leads, Follow}
+
+-- a line with its end
+abbrev pub ended : List ℕ → List ℕ
+ended line = line ++ 10 ∷ []
+
+-- no line ends in these bytes
+abbrev pub HasNoEnd : List ℕ → Type 0
+HasNoEnd bytes = All (λ b. b ≢ 10) bytes
+
+-- a number of any size is well spelled: digits, with no zero in front of others
+pub record IsNumber (word : List ℕ) : Type 0 where
+  pub some : 0 < length word
+  pub digits : (k : ℕ) → k < length word → (48 ≤ slice_index word k) × (slice_index word k ≤ 57)
+  pub no_zeros : slice_index word 0 ≡ 48 → length word ≡ 1
+
+-- a count of this name that is well spelled, and higher than this
+pub record IsHigherCount (name : List ℕ) (most : ℕ) (line : List (List ℕ)) : Type 0 where
+  pub count : List ℕ
+  pub spelled : line ≡ name ∷ count ∷ []
+  pub number : IsNumber count
+  pub higher : (n : ℕ) → n ≤ most → count ≢ decimal n
+
+-- a shape that is well spelled, and isn't within the limits
+pub record IsOtherShape (line : List (List ℕ)) : Type 0 where
+  pub caches : List ℕ
+  pub blocks : List ℕ
+  pub spelled : line ≡ codes "shape" ∷ caches ∷ blocks ∷ []
+  pub cache_number : IsNumber caches
+  pub block_number : IsNumber blocks
+  pub outside : (shape : Extent) → IsWithinLimits shape → line ≢ shape_words shape
+
+-- the line is past a limit of what is due
+abbrev pub IsOver : Due → List (List ℕ) → Type 0
+IsOver shape_line line = IsOtherShape line
+IsOver cell_count line = IsHigherCount (codes "cells") 160 line
+IsOver entry_count line = IsHigherCount (codes "entries") 1000000 line
+IsOver due line = ⊥
+
+-- the end stands where an entry is due, or an entry where the end is due
+abbrev pub IsMiscounted : Due → List (List ℕ) → Type 0
+IsMiscounted (entry_line left) line = line ≡ end_words
+IsMiscounted end_line line = (e : Entry) × FitsEntry e × (line ≡ entry_words e)
+IsMiscounted due line = ⊥
+
+-- where an entry is due, a step and an equals sign stand, and what follows is no outcome
+pub record HasNoOutcome (line : List (List ℕ)) : Type 0 where
+  pub step : Step
+  pub first : List ℕ
+  pub others : List (List ℕ)
+  pub fits : FitsStep step
+  pub spelled : line ≡ step_words step ++ codes "=" ∷ first ∷ others
+  pub none : (o : Outcome) → FitsOutcome o → first ∷ others ≢ outcome_words o
+
+abbrev pub IsBadOutcome : Due → List (List ℕ) → Type 0
+IsBadOutcome (entry_line left) line = HasNoOutcome line
+IsBadOutcome due line = ⊥
+
+-- the line isn't the one that is due, and the fault isn't one of those above
+pub record IsOther (due : Due) (line : List (List ℕ)) : Type 0 where
+  pub behind_header : due ≢ header
+  pub other : (next : Due) → ¬ Leads due line next
+  pub not_over : ¬ IsOver due line
+  pub not_miscounted : ¬ IsMiscounted due line
+  pub no_bad_outcome : ¬ IsBadOutcome due line
+
+-- this is the fault of a whole line of these words, where this is due
+abbrev pub IsFaultOfLine : Due → List (List ℕ) → ReadKind → Type 0
+IsFaultOfLine due line OverLimit = IsOver due line
+IsFaultOfLine due line BadHeader = (due ≡ header) × (line ≢ header_words)
+IsFaultOfLine due line CountDiffers = IsMiscounted due line
+IsFaultOfLine due line BadOutcome = IsBadOutcome due line
+IsFaultOfLine due line BadLine = IsOther due line
+IsFaultOfLine due line other = ⊥
+
+-- a whole line, of which this is the fault, stands first
+pub record BeginsFaulty (due : Due) (rest : List ℕ) (kind : ReadKind) : Type 0 where
+  pub line : List ℕ
+  pub behind : List ℕ
+  pub stands : rest ≡ ended line ++ behind
+  pub no_end : HasNoEnd line
+  pub short : length line ≤ 90000
+  pub fault : IsFaultOfLine due (words line) kind
+
+-- the first 90,001 bytes have no end of a line
+pub record IsTooLong (rest : List ℕ) : Type 0 where
+  pub long : 90000 < length rest
+  pub no_end : HasNoEnd (take 90001 rest)
+
+-- a line that isn't whole yet, nor too long
+pub record IsUnfinished (rest : List ℕ) : Type 0 where
+  pub no_end : HasNoEnd rest
+  pub short : length rest ≤ 90000
+
+-- where this is due and these bytes have been read, this is the first fault: a device or memory fails only in a line that isn't whole yet
+abbrev pub IsFaultOfRest : Due → List ℕ → Option (List ℕ) → ReadKind → Type 0
+IsFaultOfRest due rest end Truncated = (due ≢ nothing) × IsUnfinished rest × IsAtEnd end
+IsFaultOfRest due rest end OverLimit = ((due ≢ nothing) × IsTooLong rest) ⊎ BeginsFaulty due rest OverLimit
+IsFaultOfRest due rest end BadLine = ((due ≡ nothing) × (rest ≢ [])) ⊎ BeginsFaulty due rest BadLine
+IsFaultOfRest due rest end NoMemory = (front behind : List ℕ) × (due ≢ nothing) × (rest ≡ front ++ behind) × IsUnfinished front
+IsFaultOfRest due rest end Device = IsUnfinished rest × (due ≡ nothing → rest ≡ [])
+IsFaultOfRest due rest end kind = BeginsFaulty due rest kind
+
+-- what a source has left, behind so many lines and where this is due, is refused in this line: the lines before it are well formed, and it has this fault
+pub record IsRefused (before end : Option (List ℕ)) (behind : ℕ) (due : Due) (line : ℕ) (kind : ReadKind) : Type 0 where
+  pub lines : List (List ℕ)
+  pub last : Due
+  pub rest : List ℕ
+  pub follow : Follow due lines last
+  pub number : line ≡ behind + length lines + 1
+  pub read : Consumes before end (flat_map ended lines ++ rest)
+  pub fault : IsFaultOfRest last rest end kind
+
+-- what a source had, up to what it has left, was well formed lines from the first to the last, and nothing is left
+pub record IsWhole (before after : Option (List ℕ)) : Type 0 where
+  pub lines : List (List ℕ)
+  pub follow : Follow header lines nothing
+  pub read : Consumes before after (flat_map ended lines)
+  pub end : IsAtEnd after

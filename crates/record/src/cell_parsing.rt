@@ -1,0 +1,219 @@
+//! What a line of a cell spells.
+
+ghost use Rattle.std.specs.Prelude.{◌≡◌, ◌≢◌, ◌≤◌, ◌<◌, ◌∷◌, [], List, IfSome, MatchOption, map, length};
+ghost use Rattle.cache_table.specs.declared.actions.CacheAction as cache_action;
+ghost use Rattle.directory_table.specs.declared.actions.DirectoryAction as directory_action;
+ghost use Rattle.base.specs.Spelling.{words};
+ghost use Rattle.cache_table.specs.Names as cache_names;
+ghost use Rattle.directory_table.specs.Names as directory_names;
+ghost use Rattle.record.specs.Cells.{cell_words, cache_entry_words, directory_entry_words, FitsCell, FitsCacheEntry, FitsDirectoryEntry};
+ghost use Rattle.record.specs.Reading.{IsNoCell, IsNoCacheEntry, IsNoDirectoryEntry, words_behind};
+
+use crate::cells::Cell;
+use base::text::cut;
+use cache_table::{CacheAction, CacheActions, CacheEntry, CacheEvent, CacheState};
+use directory_table::{
+    DirectoryAction, DirectoryActions, DirectoryEntry, DirectoryEvent, DirectoryState,
+};
+
+fn cache_state_of(word: &[u8]) -> Option<CacheState>
+    ensures { MatchOption result (cache_names.IsNoState word.now) (λ state. word.now ≡ cache_names.state_name state) }
+{
+    let Ok(text) = str::from_utf8(word) else {
+        return None;
+    };
+    CacheState::named(text)
+}
+
+fn cache_event_of(word: &[u8]) -> Option<CacheEvent>
+    ensures { MatchOption result (cache_names.IsNoEvent word.now) (λ event. word.now ≡ cache_names.event_name event) }
+{
+    let Ok(text) = str::from_utf8(word) else {
+        return None;
+    };
+    CacheEvent::named(text)
+}
+
+fn cache_action_of(word: &[u8]) -> Option<CacheAction>
+    ensures { MatchOption result (cache_names.IsNoAction word.now) (λ action. word.now ≡ cache_names.action_name action) }
+{
+    let Ok(text) = str::from_utf8(word) else {
+        return None;
+    };
+    CacheAction::named(text)
+}
+
+fn directory_state_of(word: &[u8]) -> Option<DirectoryState>
+    ensures { MatchOption result (directory_names.IsNoState word.now) (λ state. word.now ≡ directory_names.state_name state) }
+{
+    let Ok(text) = str::from_utf8(word) else {
+        return None;
+    };
+    DirectoryState::named(text)
+}
+
+fn directory_event_of(word: &[u8]) -> Option<DirectoryEvent>
+    ensures { MatchOption result (directory_names.IsNoEvent word.now) (λ event. word.now ≡ directory_names.event_name event) }
+{
+    let Ok(text) = str::from_utf8(word) else {
+        return None;
+    };
+    DirectoryEvent::named(text)
+}
+
+fn directory_action_of(word: &[u8]) -> Option<DirectoryAction>
+    ensures { MatchOption result (directory_names.IsNoAction word.now) (λ action. word.now ≡ directory_names.action_name action) }
+{
+    let Ok(text) = str::from_utf8(word) else {
+        return None;
+    };
+    DirectoryAction::named(text)
+}
+
+/// What a cache does, in these words.
+#[tactic(auto, using(base::proofs::Lines::not_one))]
+fn cache_entry_of(line: &[u8]) -> Option<CacheEntry>
+    ensures fits { IfSome result FitsCacheEntry }
+    ensures entry { MatchOption result (IsNoCacheEntry (words line.now)) (λ entry. words line.now ≡ cache_entry_words entry) }
+{
+    let (word, rest) = cut(line);
+    let Some(rest) = rest else {
+        return bare_cache_entry(word);
+    };
+    if word != b"act".as_slice() {
+        return None;
+    }
+    let (next, rest) = cut(rest);
+    let next = cache_state_of(next)?;
+    let actions = cache_actions_of(rest)?;
+    Some(CacheEntry::Act { next, actions })
+}
+
+/// What a cache does, in this one word.
+fn bare_cache_entry(word: &[u8]) -> Option<CacheEntry>
+    ensures fits { IfSome result FitsCacheEntry }
+    ensures entry { MatchOption result (IsNoCacheEntry (word.now ∷ [])) (λ entry. word.now ∷ [] ≡ cache_entry_words entry) }
+{
+    if word == b"blank".as_slice() {
+        Some(CacheEntry::Blank)
+    } else if word == b"stall".as_slice() {
+        Some(CacheEntry::Stall)
+    } else {
+        None
+    }
+}
+
+/// The actions that the words behind a blank name, if there are any.
+fn cache_actions_of(rest: Option<&[u8]>) -> Option<CacheActions>
+    ensures few { IfSome result (λ actions. length actions ≤ 8) }
+    ensures actions { MatchOption result
+        ((actions : List cache_action.CacheAction) → length actions ≤ 8 → words_behind rest.entry ≢ map cache_names.action_name actions)
+        (λ actions. words_behind rest.entry ≡ map cache_names.action_name actions) }
+{
+    let mut actions = CacheActions::none();
+    let mut rest = rest;
+    while actions.len() < CacheActions::MOST {
+        let Some(text) = rest else {
+            return Some(actions);
+        };
+        let (word, more) = cut(text);
+        let Some(action) = cache_action_of(word) else {
+            return None;
+        };
+        actions = actions.with(action);
+        rest = more;
+    }
+    match rest {
+        None => Some(actions),
+        Some(_) => None,
+    }
+}
+
+/// What the directory does, in these words.
+#[tactic(auto, using(base::proofs::Lines::not_one))]
+fn directory_entry_of(line: &[u8]) -> Option<DirectoryEntry>
+    ensures fits { IfSome result FitsDirectoryEntry }
+    ensures entry { MatchOption result (IsNoDirectoryEntry (words line.now)) (λ entry. words line.now ≡ directory_entry_words entry) }
+{
+    let (word, rest) = cut(line);
+    let Some(rest) = rest else {
+        return bare_directory_entry(word);
+    };
+    if word != b"act".as_slice() {
+        return None;
+    }
+    let (next, rest) = cut(rest);
+    let next = directory_state_of(next)?;
+    let actions = directory_actions_of(rest)?;
+    Some(DirectoryEntry::Act { next, actions })
+}
+
+/// What the directory does, in this one word.
+fn bare_directory_entry(word: &[u8]) -> Option<DirectoryEntry>
+    ensures fits { IfSome result FitsDirectoryEntry }
+    ensures entry { MatchOption result (IsNoDirectoryEntry (word.now ∷ [])) (λ entry. word.now ∷ [] ≡ directory_entry_words entry) }
+{
+    if word == b"blank".as_slice() {
+        Some(DirectoryEntry::Blank)
+    } else if word == b"stall".as_slice() {
+        Some(DirectoryEntry::Stall)
+    } else {
+        None
+    }
+}
+
+/// The actions that the words behind a blank name, if there are any.
+fn directory_actions_of(rest: Option<&[u8]>) -> Option<DirectoryActions>
+    ensures few { IfSome result (λ actions. length actions ≤ 8) }
+    ensures actions { MatchOption result
+        ((actions : List directory_action.DirectoryAction) → length actions ≤ 8 → words_behind rest.entry ≢ map directory_names.action_name actions)
+        (λ actions. words_behind rest.entry ≡ map directory_names.action_name actions) }
+{
+    let mut actions = DirectoryActions::none();
+    let mut rest = rest;
+    while actions.len() < DirectoryActions::MOST {
+        let Some(text) = rest else {
+            return Some(actions);
+        };
+        let (word, more) = cut(text);
+        let Some(action) = directory_action_of(word) else {
+            return None;
+        };
+        actions = actions.with(action);
+        rest = more;
+    }
+    match rest {
+        None => Some(actions),
+        Some(_) => None,
+    }
+}
+
+/// The cell that the line of a cell spells.
+pub(crate) fn cell_of(line: &[u8]) -> Option<Cell>
+    ensures fits { IfSome result FitsCell }
+    ensures cell { MatchOption result (IsNoCell (words line.now)) (λ cell. words line.now ≡ cell_words cell) }
+{
+    let (first, rest) = cut(line);
+    let (side, rest) = cut(rest?);
+    let (state, rest) = cut(rest?);
+    let (event, rest) = cut(rest?);
+    let entry = rest?;
+    if first != b"cell".as_slice() {
+        return None;
+    }
+    if side == b"cache".as_slice() {
+        Some(Cell::Cache {
+            state: cache_state_of(state)?,
+            event: cache_event_of(event)?,
+            entry: cache_entry_of(entry)?,
+        })
+    } else if side == b"directory".as_slice() {
+        Some(Cell::Directory {
+            state: directory_state_of(state)?,
+            event: directory_event_of(event)?,
+            entry: directory_entry_of(entry)?,
+        })
+    } else {
+        None
+    }
+}

@@ -1,0 +1,31 @@
+//! Violations are what isn't safe.
+
+ghost use Rattle.std.specs.Prelude.{◌≡◌, ◌↔◌, ◌+◌, ℕ, List, length, take};
+ghost use Rattle.base.specs.Extent.{Extent, IsWithinLimits};
+ghost use Rattle.base.specs.declared.step.Step.{Step};
+ghost use Rattle.machine.specs.Coherence.{Safe};
+ghost use Rattle.machine.specs.Tables.{Tables, baseline};
+ghost use Rattle.monitor.specs.declared.violation.Violation.{Violation};
+ghost use Rattle.record.specs.Replaying.{HasNoViolation, IsFirstViolation};
+
+/// Steps have no violation exactly where they are safe. Else the first one is at the last step of the shortest front of
+/// them that isn't.
+pub fn violations_are_what_isnt_safe()
+    ensures none { (shape : Extent) (tables : Tables) (opening : List ℕ) (steps : List Step) →
+        HasNoViolation shape tables opening steps ↔ Safe shape tables opening steps }
+    ensures before { (shape : Extent) (tables : Tables) (opening : List ℕ) (steps : List Step) (number : ℕ) (violation : Violation) →
+        IsFirstViolation shape tables opening steps number violation → Safe shape tables opening (take number steps) }
+    ensures behind { (shape : Extent) (tables : Tables) (opening : List ℕ) (steps : List Step) (number : ℕ) (violation : Violation) →
+        IsFirstViolation shape tables opening steps number violation → ¬ Safe shape tables opening (take (number + 1) steps) }
+{
+    monitor::blank_has_a_place();
+}
+
+/// Under the protocol's own tables no steps have a violation.
+pub fn no_violation_under_the_own_tables()
+    ensures { (shape : Extent) (opening : List ℕ) (steps : List Step) → IsWithinLimits shape → length opening ≡ shape.blocks →
+        HasNoViolation shape baseline opening steps }
+{
+    machine::safe();
+    violations_are_what_isnt_safe();
+}

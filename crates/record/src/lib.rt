@@ -1,0 +1,24 @@
+//! Recordings: the steps that a world has made and what came of them, as values and as text, and the replay of one.
+#![tactic(auto)]
+
+mod cell_parsing;
+mod cells;
+mod fault;
+mod laws;
+mod line;
+mod lines;
+mod parsing;
+mod reading;
+mod recording;
+mod replaying;
+mod spelling;
+mod writing;
+
+pub use fault::{ReadFault, ReadKind};
+pub use laws::{no_violation_under_the_own_tables, violations_are_what_isnt_safe};
+pub use recording::{Entry, MOST_ENTRIES, PushFault, Recording};
+pub use replaying::{ReplayFault, Replayed, replay};
+pub use writing::WriteFault;
+
+#[cfg(test)]
+mod tests;

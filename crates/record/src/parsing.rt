@@ -1,0 +1,209 @@
+//! What single lines of a recording spell.
+
+ghost use Rattle.std.specs.Prelude.{◌≡◌, ◌≢◌, ◌≤◌, ◌<◌, ◌^◌, ◌↔◌, ◌∷◌, ◌++◌, [], codes, ℕ, List, All, IfOk, IfErr, IfSome, IfNone, IsTrue, MatchOption, length};
+ghost use Rattle.std.specs.Fmt.{decimal};
+ghost use Rattle.base.specs.Extent.{Extent, IsWithinLimits};
+ghost use Rattle.base.specs.Spelling.{words, step_words, FitsStep};
+ghost use Rattle.record.specs.Text.{header_words, shape_words, opening_words, end_words, entry_words};
+ghost use Rattle.record.specs.Grammar.{FitsEntry};
+ghost use Rattle.record.specs.Refused.{IsNumber};
+ghost use Rattle.record.specs.Reading.{IsBadCount, IsBadShape, IsBadOpening, IsBadEntry, HasNoStep, HasNoStepBefore};
+
+use crate::fault::ReadKind;
+use crate::recording::Entry;
+use base::text::{cut, number_of, small_number_of};
+use base::{MOST_BLOCKS, MOST_CACHES, Outcome, Shape, Step};
+use std::alloc::Global;
+
+/// Whether this is the first line of a recording.
+pub(crate) fn is_header(line: &[u8]) -> bool
+    ensures { IsTrue result ↔ (words line.now ≡ header_words) }
+{
+    line == b"msi-recording 1".as_slice()
+}
+
+/// Whether this is the last line of a recording.
+pub(crate) fn is_end(line: &[u8]) -> bool
+    ensures { IsTrue result ↔ (words line.now ≡ end_words) }
+{
+    line == b"end".as_slice()
+}
+
+/// Whether a number of any size is spelled so.
+fn is_number(word: &[u8]) -> bool
+    ensures { IsTrue result ↔ IsNumber word.now }
+{
+    if word.is_empty() || word[0] == b'0' && word.len() != 1 {
+        return false;
+    }
+    word.iter().all(|b| b'0' <= *b && *b <= b'9')
+}
+
+/// The one word behind a name.
+#[tactic(auto, using(base::proofs::Lines::not_one, base::proofs::Lines::not_two))]
+fn named_word<'a>(line: &'a [u8], name: &[u8]) -> Option<&'a [u8]>
+    ensures { MatchOption result
+        ((word : List ℕ) → words line.now ≢ name.now ∷ word ∷ [])
+        (λ word. words line.now ≡ name.now ∷ word.now ∷ []) }
+{
+    let (first, rest) = cut(line);
+    let (word, rest) = cut(rest?);
+    if first != name {
+        return None;
+    }
+    match rest {
+        None => Some(word),
+        Some(_) => None,
+    }
+}
+
+/// The number up to this one that is spelled so.
+fn number_up_to(word: &[u8], most: u32) -> Option<u32>
+    ensures { MatchOption result ((n : ℕ) → n ≤ most → word.now ≢ decimal n) (λ n. (n ≤ most) × (word.now ≡ decimal n)) }
+{
+    let number = small_number_of(word)?;
+    if number <= most { Some(number) } else { None }
+}
+
+/// The number of the line that counts what is called so.
+pub(crate) fn count_of(line: &[u8], name: &[u8], most: u32) -> Result<u32, ReadKind>
+    ensures ok { IfOk result (λ count. (count ≤ most) × (words line.now ≡ name.now ∷ decimal count ∷ [])) }
+    ensures err { IfErr result (IsBadCount name.now most (words line.now)) }
+{
+    let Some(word) = named_word(line, name) else {
+        return Err(ReadKind::BadLine);
+    };
+    if let Some(count) = number_up_to(word, most) {
+        return Ok(count);
+    }
+    if is_number(word) {
+        Err(ReadKind::OverLimit)
+    } else {
+        Err(ReadKind::BadLine)
+    }
+}
+
+/// The two words behind a name.
+#[tactic(auto, using(base::proofs::Lines::not_one, base::proofs::Lines::not_two, crate::proofs::Words::not_three))]
+fn named_pair<'a>(line: &'a [u8], name: &[u8]) -> Option<(&'a [u8], &'a [u8])>
+    ensures { MatchOption result
+        ((first second : List ℕ) → words line.now ≢ name.now ∷ first ∷ second ∷ [])
+        (λ pair. words line.now ≡ name.now ∷ pair.0.now ∷ pair.1.now ∷ []) }
+{
+    let (word, rest) = cut(line);
+    let (first, rest) = cut(rest?);
+    let (second, rest) = cut(rest?);
+    if word != name {
+        return None;
+    }
+    match rest {
+        None => Some((first, second)),
+        Some(_) => None,
+    }
+}
+
+/// The shape of so many caches and blocks, spelled so.
+fn shape_within(caches: &[u8], blocks: &[u8]) -> Option<Shape>
+    ensures some { IfSome result (λ shape. IsWithinLimits shape × (caches.now ≡ decimal shape.caches) × (blocks.now ≡ decimal shape.blocks)) }
+    ensures none { IfNone result ((shape : Extent) → IsWithinLimits shape → caches.now ≡ decimal shape.caches → blocks.now ≢ decimal shape.blocks) }
+{
+    let caches = number_up_to(caches, MOST_CACHES)?;
+    let blocks = number_up_to(blocks, MOST_BLOCKS)?;
+    match Shape::new(caches, blocks) {
+        Ok(shape) => Some(shape),
+        Err(_) => None,
+    }
+}
+
+/// The shape of the line of the shape.
+pub(crate) fn shape_of(line: &[u8]) -> Result<Shape, ReadKind>
+    ensures ok { IfOk result (λ shape. IsWithinLimits shape × (words line.now ≡ shape_words shape)) }
+    ensures err { IfErr result (IsBadShape (words line.now)) }
+{
+    let Some((caches, blocks)) = named_pair(line, b"shape".as_slice()) else {
+        return Err(ReadKind::BadLine);
+    };
+    if let Some(shape) = shape_within(caches, blocks) {
+        return Ok(shape);
+    }
+    if is_number(caches) && is_number(blocks) {
+        Err(ReadKind::OverLimit)
+    } else {
+        Err(ReadKind::BadLine)
+    }
+}
+
+/// The opening values of so many blocks.
+pub(crate) fn opening_of(alloc: Global, line: &[u8], blocks: u32) -> Result<Vec<u64>, ReadKind>
+    ensures count { IfOk result (λ values. length values.items ≡ blocks) }
+    ensures words { IfOk result (λ values. words line.now ≡ opening_words values.items) }
+    ensures small { IfOk result (λ values. All (λ value. value < 2 ^ 64) values.items) }
+    ensures err { IfErr result (IsBadOpening blocks (words line.now)) }
+{
+    let (first, mut rest) = cut(line);
+    if first != b"opening".as_slice() {
+        return Err(ReadKind::BadLine);
+    }
+    let mut values = Vec::new(alloc);
+    while values.len() < blocks as usize {
+        let Some(text) = rest else {
+            return Err(ReadKind::BadLine);
+        };
+        let (word, more) = cut(text);
+        let Some(value) = number_of(word) else {
+            return Err(ReadKind::BadLine);
+        };
+        if let Err(_) = values.push(value) {
+            return Err(ReadKind::NoMemory);
+        }
+        rest = more;
+    }
+    match rest {
+        None => Ok(values),
+        Some(_) => Err(ReadKind::BadLine),
+    }
+}
+
+/// The entry that the line of an entry spells.
+pub(crate) fn entry_of(line: &[u8]) -> Result<Entry, ReadKind>
+    ensures fits { IfOk result FitsEntry }
+    ensures ok { IfOk result (λ entry. words line.now ≡ entry_words entry) }
+    ensures err { IfErr result (IsBadEntry (words line.now)) }
+{
+    let Some((step, rest)) = step_at_front(line) else {
+        return Err(ReadKind::BadLine);
+    };
+    match Outcome::read(rest) {
+        Some(outcome) => Ok(Entry { step, outcome }),
+        None => Err(ReadKind::BadOutcome),
+    }
+}
+
+/// The step in front of an equals sign, and what follows the sign's blank.
+fn step_at_front(line: &[u8]) -> Option<(Step, &[u8])>
+    ensures fits { IfSome result (λ found. FitsStep found.0) }
+    ensures step { MatchOption result (HasNoStep (words line.now)) (λ found. words line.now ≡ step_words found.0 ++ codes "=" ∷ words found.1.now) }
+{
+    for at in 0..line.len() {
+        if let Some(found) = step_before(line, at) {
+            return Some(found);
+        }
+    }
+    None
+}
+
+/// The step in front of an equals sign whose first blank stands here, and what follows its second.
+fn step_before(line: &[u8], at: usize) -> Option<(Step, &[u8])>
+    requires { at < length line.now }
+    ensures fits { IfSome result (λ found. FitsStep found.0) }
+    ensures step { MatchOption result (HasNoStepBefore line.now at) (λ found. words line.now ≡ step_words found.0 ++ codes "=" ∷ words found.1.now) }
+{
+    if line.len() - at < 3 {
+        return None;
+    }
+    if line[at] != b' ' || line[at + 1] != b'=' || line[at + 2] != b' ' {
+        return None;
+    }
+    let step = Step::read(&line[..at])?;
+    Some((step, &line[at + 3..]))
+}

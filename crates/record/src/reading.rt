@@ -1,0 +1,303 @@
+ghost use Rattle.std.specs.Prelude.{◌≡◌, ◌≢◌, ◌≤◌, ◌<◌, ◌+◌, ◌^◌, ℕ, true, IfOk, IfErr, OnOk, MatchOption, length};
+ghost use Rattle.std.specs.Io.KnownBytes.{IsAtEnd};
+ghost use Rattle.base.specs.Spelling.{words};
+ghost use Rattle.machine.specs.Tables.{baseline};
+ghost use Rattle.record.specs.declared.cells.Cell as cells;
+ghost use Rattle.record.specs.Cells.{cell_at, cell_words, spot_of};
+ghost use Rattle.record.specs.Text.{entry_words, end_words, is_same};
+ghost use Rattle.base.specs.Extent.{IsWithinLimits};
+ghost use Rattle.record.specs.Grammar.{header, shape_line, opening_line, cell_count, cells_due, entry_count, entry_line, entries_due, end_line, nothing, FitsEntry, IsListed};
+ghost use Rattle.record.specs.Refused.{IsRefused, IsFaultOfLine, IsWhole};
+ghost use Rattle.record.specs.Reading.{HasRead, stream};
+
+use crate::cell_parsing::cell_of;
+use crate::cells::{Cell, SPOTS, spot_number};
+use crate::fault::{ReadFault, ReadKind};
+use crate::lines::{Lines, refused};
+use crate::parsing::{count_of, entry_of, is_end, is_header, opening_of, shape_of};
+use crate::recording::{Entry, MOST_ENTRIES, Recording};
+use crate::spelling::cell_line;
+use base::{Shape, Source};
+use std::alloc::Global;
+use world::Tables;
+
+impl Recording {
+    /// The recording whose text a source gives, in whatever pieces it comes.
+    ///
+    /// The first line with a fault is named. It holds one line of the text at a time.
+    pub fn read<S: Source>(alloc: Global, source: &mut S) -> Result<Recording, ReadFault>
+        ensures whole { OnOk result (IsWhole (S.left source.old) (S.left source.new)) }
+        ensures fault { IfErr result (λ fault. IsRefused (S.left source.old) (S.left source.new) 0 header fault.line fault.kind) }
+        ensures device { IfErr result (λ fault. fault.kind ≡ ReadKind.Device → S.has_failed source.new ≡ true) }
+    {
+        let mut lines = Lines::open(alloc);
+        if let Err(fault) = read_header(&mut lines, source) {
+            return Err(fault);
+        }
+        let shape = match read_shape(&mut lines, source) {
+            Ok(shape) => shape,
+            Err(fault) => return Err(fault),
+        };
+        let opening = match read_opening(alloc, &mut lines, source, shape) {
+            Ok(opening) => opening,
+            Err(fault) => return Err(fault),
+        };
+        let tables = match read_tables(&mut lines, source) {
+            Ok(tables) => tables,
+            Err(fault) => return Err(fault),
+        };
+        let mut recording = Recording::of(alloc, shape, tables, opening);
+        if let Err(fault) = read_entries(&mut recording, &mut lines, source) {
+            return Err(fault);
+        }
+        match read_end(&mut lines, source) {
+            Ok(()) => Ok(recording),
+            Err(fault) => Err(fault),
+        }
+    }
+}
+
+/// Reads the first line.
+fn read_header<S: Source>(lines: &mut Lines, source: &mut S) -> Result<(), ReadFault>
+    requires { lines.old.number < 2 ^ 50 }
+    ensures ok { OnOk result (HasRead (stream lines.old (S.left source.old)) (stream lines.new (S.left source.new)) lines.old.number lines.new.number header shape_line) }
+    ensures err { IfErr result (λ fault. IsRefused (stream lines.old (S.left source.old)) (S.left source.new) lines.old.number (header) fault.line fault.kind) }
+    ensures device { IfErr result (λ fault. fault.kind ≡ ReadKind.Device → S.has_failed source.new ≡ true) }
+    ensures few { OnOk result (lines.new.number ≤ lines.old.number + 1) }
+{
+    if let Err(fault) = lines.next(source) {
+        return Err(fault);
+    }
+    if is_header(lines.line()) {
+        Ok(())
+    } else {
+        Err(refused(lines.number(), ReadKind::BadHeader))
+    }
+}
+
+/// Reads the line of the shape.
+fn read_shape<S: Source>(lines: &mut Lines, source: &mut S) -> Result<Shape, ReadFault>
+    requires { lines.old.number < 2 ^ 50 }
+    ensures ok { IfOk result (λ shape. HasRead (stream lines.old (S.left source.old)) (stream lines.new (S.left source.new)) lines.old.number lines.new.number shape_line (opening_line shape)) }
+    ensures err { IfErr result (λ fault. IsRefused (stream lines.old (S.left source.old)) (S.left source.new) lines.old.number (shape_line) fault.line fault.kind) }
+    ensures device { IfErr result (λ fault. fault.kind ≡ ReadKind.Device → S.has_failed source.new ≡ true) }
+    ensures few { OnOk result (lines.new.number ≤ lines.old.number + 1) }
+{
+    if let Err(fault) = lines.next(source) {
+        return Err(fault);
+    }
+    match shape_of(lines.line()) {
+        Ok(shape) => Ok(shape),
+        Err(kind) => Err(refused(lines.number(), kind)),
+    }
+}
+
+/// Reads the line of the opening values.
+fn read_opening<S: Source>(
+    alloc: Global,
+    lines: &mut Lines,
+    source: &mut S,
+    shape: Shape,
+) -> Result<Vec<u64>, ReadFault>
+    requires { lines.old.number < 2 ^ 50 }
+    ensures ok { OnOk result (HasRead (stream lines.old (S.left source.old)) (stream lines.new (S.left source.new)) lines.old.number lines.new.number (opening_line shape) cell_count) }
+    ensures err { IfErr result (λ fault. IsRefused (stream lines.old (S.left source.old)) (S.left source.new) lines.old.number (opening_line shape) fault.line fault.kind) }
+    ensures device { IfErr result (λ fault. fault.kind ≡ ReadKind.Device → S.has_failed source.new ≡ true) }
+    ensures few { OnOk result (lines.new.number ≤ lines.old.number + 1) }
+    ensures each { IfOk result (λ values. length values.items ≡ shape.blocks) }
+{
+    if let Err(fault) = lines.next(source) {
+        return Err(fault);
+    }
+    match opening_of(alloc, lines.line(), shape.blocks()) {
+        Ok(values) => Ok(values),
+        Err(kind) => Err(refused(lines.number(), kind)),
+    }
+}
+
+/// Reads the lines of the cells.
+fn read_tables<S: Source>(lines: &mut Lines, source: &mut S) -> Result<Tables, ReadFault>
+    requires { lines.old.number < 2 ^ 50 }
+    ensures ok { OnOk result (HasRead (stream lines.old (S.left source.old)) (stream lines.new (S.left source.new)) lines.old.number lines.new.number cell_count entry_count) }
+    ensures err { IfErr result (λ fault. IsRefused (stream lines.old (S.left source.old)) (S.left source.new) lines.old.number (cell_count) fault.line fault.kind) }
+    ensures device { IfErr result (λ fault. fault.kind ≡ ReadKind.Device → S.has_failed source.new ≡ true) }
+    ensures few { OnOk result (lines.new.number ≤ lines.old.number + 161) }
+{
+    if let Err(fault) = lines.next(source) {
+        return Err(fault);
+    }
+    match count_of(lines.line(), b"cells".as_slice(), SPOTS as u32) {
+        Ok(count) => match read_cells(lines, source, count) {
+            Ok(tables) => Ok(tables),
+            Err(fault) => Err(fault),
+        },
+        Err(kind) => Err(refused(lines.number(), kind)),
+    }
+}
+
+/// Reads so many lines of cells.
+fn read_cells<S: Source>(lines: &mut Lines, source: &mut S, count: u32) -> Result<Tables, ReadFault>
+    requires { (lines.old.number < 2 ^ 51) × (count ≤ 160) }
+    ensures ok { OnOk result (HasRead (stream lines.old (S.left source.old)) (stream lines.new (S.left source.new)) lines.old.number lines.new.number (cells_due count 0) entry_count) }
+    ensures err { IfErr result (λ fault. IsRefused (stream lines.old (S.left source.old)) (S.left source.new) lines.old.number (cells_due count 0) fault.line fault.kind) }
+    ensures device { IfErr result (λ fault. fault.kind ≡ ReadKind.Device → S.has_failed source.new ≡ true) }
+    ensures few { OnOk result (lines.new.number ≤ lines.old.number + count) }
+{
+    let mut tables = Tables::baseline();
+    let mut from = 0;
+    for index in 0..count {
+        if let Err(fault) = lines.next(source) {
+            return Err(fault);
+        }
+        let Some(cell) = listed_cell(lines.line(), from) else {
+            return Err(refused(lines.number(), ReadKind::BadLine));
+        };
+        tables = with_cell(tables, &cell);
+        from = spot_number(cell.spot()) + 1;
+    }
+    Ok(tables)
+}
+
+/// The cell of a line, if its place is of this number or a higher one and it differs from the baseline's.
+fn listed_cell(line: &[u8], from: usize) -> Option<Cell>
+    ensures { MatchOption result
+        ((cell : cells.Cell) → IsListed from cell → words line.now ≢ cell_words cell)
+        (λ cell. IsListed from cell × (words line.now ≡ cell_words cell)) }
+{
+    let cell = cell_of(line)?;
+    if spot_number(cell.spot()) < from {
+        return None;
+    }
+    if is_baseline(&cell) {
+        return None;
+    }
+    Some(cell)
+}
+
+/// Whether the cell is spelled as the baseline's in its place.
+fn is_baseline(cell: &Cell) -> bool
+    ensures { result ≡ is_same cell.now (cell_at baseline (spot_of cell.now)) }
+{
+    let baseline = Cell::at(&Tables::baseline(), cell.spot());
+    cell_line(cell).as_slice() == cell_line(&baseline).as_slice()
+}
+
+/// The tables with this cell in its place.
+fn with_cell(tables: Tables, cell: &Cell) -> Tables {
+    let mut tables = tables;
+    match *cell {
+        Cell::Cache {
+            state,
+            event,
+            entry,
+        } => tables.cache = tables.cache.with(state, event, entry),
+        Cell::Directory {
+            state,
+            event,
+            entry,
+        } => tables.directory = tables.directory.with(state, event, entry),
+    }
+    tables
+}
+
+/// Reads the lines of the entries.
+fn read_entries<S: Source>(
+    recording: &mut Recording,
+    lines: &mut Lines,
+    source: &mut S,
+) -> Result<(), ReadFault>
+    requires { lines.old.number < 2 ^ 50 }
+    ensures ok { OnOk result (HasRead (stream lines.old (S.left source.old)) (stream lines.new (S.left source.new)) lines.old.number lines.new.number entry_count end_line) }
+    ensures err { IfErr result (λ fault. IsRefused (stream lines.old (S.left source.old)) (S.left source.new) lines.old.number (entry_count) fault.line fault.kind) }
+    ensures device { IfErr result (λ fault. fault.kind ≡ ReadKind.Device → S.has_failed source.new ≡ true) }
+    ensures few { OnOk result (lines.new.number ≤ lines.old.number + 1000001) }
+{
+    if let Err(fault) = lines.next(source) {
+        return Err(fault);
+    }
+    match count_of(lines.line(), b"entries".as_slice(), MOST_ENTRIES as u32) {
+        Ok(count) => match read_each(recording, lines, source, count) {
+            Ok(()) => Ok(()),
+            Err(fault) => Err(fault),
+        },
+        Err(kind) => Err(refused(lines.number(), kind)),
+    }
+}
+
+/// Reads so many lines of entries.
+fn read_each<S: Source>(
+    recording: &mut Recording,
+    lines: &mut Lines,
+    source: &mut S,
+    count: u32,
+) -> Result<(), ReadFault>
+    requires { (lines.old.number < 2 ^ 51) × (count ≤ 1000000) }
+    ensures ok { OnOk result (HasRead (stream lines.old (S.left source.old)) (stream lines.new (S.left source.new)) lines.old.number lines.new.number (entries_due count) end_line) }
+    ensures err { IfErr result (λ fault. IsRefused (stream lines.old (S.left source.old)) (S.left source.new) lines.old.number (entries_due count) fault.line fault.kind) }
+    ensures device { IfErr result (λ fault. fault.kind ≡ ReadKind.Device → S.has_failed source.new ≡ true) }
+    ensures few { OnOk result (lines.new.number ≤ lines.old.number + count) }
+{
+    for index in 0..count {
+        if let Err(fault) = lines.next(source) {
+            return Err(fault);
+        }
+        let entry = match entry_due(lines.line()) {
+            Ok(entry) => entry,
+            Err(kind) => return Err(refused(lines.number(), kind)),
+        };
+        if let Err(_) = recording.push(entry) {
+            return Err(refused(lines.number(), ReadKind::NoMemory));
+        }
+    }
+    Ok(())
+}
+
+/// The entry of a line where one is due.
+fn entry_due(line: &[u8]) -> Result<Entry, ReadKind>
+    ensures fits { IfOk result FitsEntry }
+    ensures ok { IfOk result (λ entry. words line.now ≡ entry_words entry) }
+    ensures err { IfErr result (λ kind. (left : ℕ) → IsFaultOfLine (entry_line left) (words line.now) kind) }
+{
+    if is_end(line) {
+        return Err(ReadKind::CountDiffers);
+    }
+    match entry_of(line) {
+        Ok(entry) => Ok(entry),
+        Err(kind) => Err(kind),
+    }
+}
+
+/// Reads the last line, behind which nothing is left.
+fn read_end<S: Source>(lines: &mut Lines, source: &mut S) -> Result<(), ReadFault>
+    requires { lines.old.number < 2 ^ 50 }
+    ensures ok { OnOk result (HasRead (stream lines.old (S.left source.old)) (S.left source.new) lines.old.number lines.new.number end_line nothing) }
+    ensures err { IfErr result (λ fault. IsRefused (stream lines.old (S.left source.old)) (S.left source.new) lines.old.number (end_line) fault.line fault.kind) }
+    ensures device { IfErr result (λ fault. fault.kind ≡ ReadKind.Device → S.has_failed source.new ≡ true) }
+    ensures end { OnOk result (IsAtEnd (S.left source.new)) }
+{
+    if let Err(fault) = lines.next(source) {
+        return Err(fault);
+    }
+    if let Err(kind) = end_due(lines.line()) {
+        return Err(refused(lines.number(), kind));
+    }
+    match lines.next_byte(source) {
+        Ok(None) => Ok(()),
+        Ok(Some(_)) => Err(refused(lines.number() + 1, ReadKind::BadLine)),
+        Err(_) => Err(refused(lines.number() + 1, ReadKind::Device)),
+    }
+}
+
+/// Whether a line is the last one where that is due.
+fn end_due(line: &[u8]) -> Result<(), ReadKind>
+    ensures ok { OnOk result (words line.now ≡ end_words) }
+    ensures err { IfErr result (IsFaultOfLine end_line (words line.now)) }
+{
+    if is_end(line) {
+        return Ok(());
+    }
+    match entry_of(line) {
+        Ok(_) => Err(ReadKind::CountDiffers),
+        Err(_) => Err(ReadKind::BadLine),
+    }
+}

@@ -1,0 +1,98 @@
+ghost use Rattle.std.specs.Prelude.{◌≡◌, IfOk, IfErr};
+ghost use Rattle.record.specs.Kept.{IsLegal, steps_of};
+ghost use Rattle.record.specs.Replaying.{AnswersFirst, FaultOf, first_of};
+
+use crate::recording::{Entry, Recording};
+use base::Outcome;
+use monitor::{Violation, Watch};
+use std::alloc::Global;
+use thiserror::Error;
+use world::World;
+
+/// What the replay of a recording found.
+#[derive(Debug, Drop)]
+pub struct Replayed {
+    /// The steps of the recording, each with the outcome that it had.
+    pub entries: Vec<Entry>,
+    /// The first violation, with the number of its step, counted from 0.
+    pub violation: Option<(u64, Violation)>,
+}
+
+/// Why a recording has no replay. The faults are looked for step by step.
+#[derive(Clone, Copy, Debug, PartialEq, Eq, Error)]
+pub enum ReplayFault {
+    /// The recording tells of another outcome than the step has. The first such entry is named, counted from 0.
+    #[error("entry {entry} has another outcome")]
+    Differs {
+        entry: u64,
+        /// The outcome in the recording.
+        told: Outcome,
+        /// The outcome of the step.
+        found: Outcome,
+    },
+    /// A growth was refused.
+    #[error("no memory")]
+    NoMemory,
+}
+
+/// Makes the steps of a recording in a world of its own, from the recording's opening values and under its tables.
+///
+/// It is refused `Differs` exactly where the recording isn't legal, memory aside: all outcomes are compared, also those
+/// behind a violation.
+pub fn replay(alloc: Global, recording: &Recording) -> Result<Replayed, ReplayFault>
+    ensures legal { IfOk result (λ replayed. IsLegal recording.now) }
+    ensures entries { IfOk result (λ replayed. replayed.entries.items ≡ recording.now.entries) }
+    ensures violation { IfOk result (λ replayed. AnswersFirst recording.now.shape recording.now.tables recording.now.opening (steps_of recording.now) replayed.violation) }
+    ensures differs { IfErr result (FaultOf recording.now) }
+{
+    let opening = recording.opening();
+    let told = recording.entries();
+    let Ok(values) = Vec::from_slice(alloc, opening) else {
+        return Err(ReplayFault::NoMemory);
+    };
+    let Ok(mut world) = World::open(alloc, recording.shape(), recording.tables(), values) else {
+        return Err(ReplayFault::NoMemory);
+    };
+    let Ok(mut watch) = Watch::open(alloc, opening) else {
+        return Err(ReplayFault::NoMemory);
+    };
+    let mut entries = Vec::new(alloc);
+    let mut violation = None;
+    for (number, entry) in told.iter().enumerate() {
+        let Ok(found) = world.step(entry.step) else {
+            return Err(ReplayFault::NoMemory);
+        };
+        let seen = watch.see(&world, entry.step, found);
+        violation = first_of(violation, number as u64, seen);
+        if found != entry.outcome {
+            return Err(ReplayFault::Differs {
+                entry: number as u64,
+                told: entry.outcome,
+                found,
+            });
+        }
+        let made = Entry {
+            step: entry.step,
+            outcome: found,
+        };
+        if let Err(_) = entries.push(made) {
+            return Err(ReplayFault::NoMemory);
+        }
+    }
+    Ok(Replayed { entries, violation })
+}
+
+/// The violation found so far, or else the one that is seen after the step of this number.
+fn first_of(
+    found: Option<(u64, Violation)>,
+    number: u64,
+    seen: Option<Violation>,
+) -> Option<(u64, Violation)>
+    ensures { result ≡ first_of found number seen }
+{
+    match (found, seen) {
+        (Some(found), _) => Some(found),
+        (None, Some(violation)) => Some((number, violation)),
+        (None, None) => None,
+    }
+}
