@@ -28,6 +28,14 @@ pushed-more f xs i d first old new word low so_far pushed is =
 pub spelled-text : (line : List ℕ) (ws : List (List ℕ)) → words line ≡ ws → line ≡ joined ws
 spelled-text line ws is = sym (join_with_byte-slice_split 32 line) ∙ ap (join_with_byte 32) is ∙ joined-is ws
 
+-- a word in front of others isn't alone
+pub not_one : (p : ℕ → Bool) (rest : List ℕ) (all : List (List ℕ)) (a x : List ℕ) → all ≡ a ∷ slice_split p rest → all ≢ x ∷ []
+not_one p rest all a x e f = let n = length-slice_split p rest in absurd (omega (arith, n, ap length (sym e ∙ f)))
+
+-- two words in front of others aren't alone
+pub not_two : (p : ℕ → Bool) (rest : List ℕ) (all : List (List ℕ)) (a b x y : List ℕ) → all ≡ a ∷ b ∷ slice_split p rest → all ≢ x ∷ y ∷ []
+not_two p rest all a b x y e f = let n = length-slice_split p rest in absurd (omega (arith, n, ap length (sym e ∙ f)))
+
 -- three words in front of others aren't alone
 pub not_three : (p : ℕ → Bool) (rest : List ℕ) (all : List (List ℕ)) (a b c x y z : List ℕ) → all ≡ a ∷ b ∷ c ∷ slice_split p rest → all ≢ x ∷ y ∷ z ∷ []
 not_three p rest all a b c x y z e f = let n = length-slice_split p rest in absurd (omega (arith, n, ap length (sym e ∙ f)))

@@ -15,6 +15,7 @@ use Rattle.record.specs.Text.{shape_words, opening_words}
 use Rattle.record.specs.declared.fault.ReadKind.{ReadKind}
 use Rattle.record.specs.declared.fault.ReadKind.TheVariants.{Truncated, OverLimit, NoMemory, Device, BadLine, BadOutcome}
 use Rattle.record.specs.Grammar.{Due, Follow}
+use Rattle.record.specs.Kept.{Kept}
 use Rattle.record.specs.Refused.{ended, HasNoEnd, IsTooLong, IsUnfinished, IsHigherCount, IsOtherShape, HasNoOutcome}
 
 -- the bytes that were pulled and don't belong to a line yet, the last line, and how many lines there were
@@ -103,3 +104,9 @@ IsNoDirectoryEntry line = (entry : DirectoryEntry) → FitsDirectoryEntry entry 
 -- no step and no equals sign stand in a line so that the sign's first blank is here
 abbrev pub HasNoStepBefore : List ℕ → ℕ → Type 0
 HasNoStepBefore line at = (left right : List ℕ) (s : Step) → FitsStep s → length left ≡ at → line ≡ left ++ codes " = " ++ right → words left ≢ step_words s
+
+-- a recording of the same world, with whatever entries
+pub record IsSameBut (old new : Kept) : Type 0 where
+  pub shape : new.shape ≡ old.shape
+  pub tables : new.tables ≡ old.tables
+  pub opening : new.opening ≡ old.opening

@@ -71,7 +71,7 @@ fn directory_action_of(word: &[u8]) -> Option<DirectoryAction>
 }
 
 /// What a cache does, in these words.
-#[tactic(auto, using(base::proofs::Lines::not_one))]
+#[tactic(auto, using(crate::proofs::Words::not_one))]
 fn cache_entry_of(line: &[u8]) -> Option<CacheEntry>
     ensures fits { IfSome result FitsCacheEntry }
     ensures entry { MatchOption result (IsNoCacheEntry (words line.now)) (λ entry. words line.now ≡ cache_entry_words entry) }
@@ -130,7 +130,7 @@ fn cache_actions_of(rest: Option<&[u8]>) -> Option<CacheActions>
 }
 
 /// What the directory does, in these words.
-#[tactic(auto, using(base::proofs::Lines::not_one))]
+#[tactic(auto, using(crate::proofs::Words::not_one))]
 fn directory_entry_of(line: &[u8]) -> Option<DirectoryEntry>
     ensures fits { IfSome result FitsDirectoryEntry }
     ensures entry { MatchOption result (IsNoDirectoryEntry (words line.now)) (λ entry. words line.now ≡ directory_entry_words entry) }

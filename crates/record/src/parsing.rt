@@ -40,7 +40,7 @@ fn is_number(word: &[u8]) -> bool
 }
 
 /// The one word behind a name.
-#[tactic(auto, using(base::proofs::Lines::not_one, base::proofs::Lines::not_two))]
+#[tactic(auto, using(crate::proofs::Words::not_one, crate::proofs::Words::not_two))]
 fn named_word<'a>(line: &'a [u8], name: &[u8]) -> Option<&'a [u8]>
     ensures { MatchOption result
         ((word : List ℕ) → words line.now ≢ name.now ∷ word ∷ [])
@@ -84,7 +84,7 @@ pub(crate) fn count_of(line: &[u8], name: &[u8], most: u32) -> Result<u32, ReadK
 }
 
 /// The two words behind a name.
-#[tactic(auto, using(base::proofs::Lines::not_one, base::proofs::Lines::not_two, crate::proofs::Words::not_three))]
+#[tactic(auto, using(crate::proofs::Words::not_one, crate::proofs::Words::not_two, crate::proofs::Words::not_three))]
 fn named_pair<'a>(line: &'a [u8], name: &[u8]) -> Option<(&'a [u8], &'a [u8])>
     ensures { MatchOption result
         ((first second : List ℕ) → words line.now ≢ name.now ∷ first ∷ second ∷ [])

@@ -1,14 +1,16 @@
-ghost use Rattle.std.specs.Prelude.{◌≡◌, ◌≢◌, ◌≤◌, ◌<◌, ◌+◌, ◌^◌, ℕ, true, IfOk, IfErr, OnOk, MatchOption, length};
-ghost use Rattle.std.specs.Io.KnownBytes.{IsAtEnd};
+ghost use Rattle.std.specs.List.{flat_map};
+ghost use Rattle.std.specs.Prelude.{◌++◌, [], map, ◌≡◌, ◌≢◌, ◌≤◌, ◌<◌, ◌+◌, ◌^◌, ℕ, true, IfOk, IfErr, OnOk, MatchOption, length};
+ghost use Rattle.std.specs.Io.KnownBytes.{Consumes, IsAtEnd};
 ghost use Rattle.base.specs.Spelling.{words};
 ghost use Rattle.machine.specs.Tables.{baseline};
 ghost use Rattle.record.specs.declared.cells.Cell as cells;
 ghost use Rattle.record.specs.Cells.{cell_at, cell_words, spot_of};
-ghost use Rattle.record.specs.Text.{entry_words, end_words, is_same};
+ghost use Rattle.record.specs.Text.{cells_words, changed_cells, entries_words, entry_words, end_words, header_words, is_same, line, opening_words, shape_words, text};
+ghost use Rattle.record.specs.declared.cells.Spot as cells_spot;
 ghost use Rattle.base.specs.Extent.{IsWithinLimits};
 ghost use Rattle.record.specs.Grammar.{header, shape_line, opening_line, cell_count, cells_due, entry_count, entry_line, entries_due, end_line, nothing, FitsEntry, IsListed};
 ghost use Rattle.record.specs.Refused.{IsRefused, IsFaultOfLine, IsWhole};
-ghost use Rattle.record.specs.Reading.{HasRead, stream};
+ghost use Rattle.record.specs.Reading.{HasRead, IsSameBut, stream};
 
 use crate::cell_parsing::cell_of;
 use crate::cells::{Cell, SPOTS, spot_number};
@@ -26,6 +28,7 @@ impl Recording {
     ///
     /// The first line with a fault is named. It holds one line of the text at a time.
     pub fn read<S: Source>(alloc: Global, source: &mut S) -> Result<Recording, ReadFault>
+        ensures text { IfOk result (λ recording. Consumes (S.left source.old) (S.left source.new) (text recording)) }
         ensures whole { OnOk result (IsWhole (S.left source.old) (S.left source.new)) }
         ensures fault { IfErr result (λ fault. IsRefused (S.left source.old) (S.left source.new) 0 header fault.line fault.kind) }
         ensures device { IfErr result (λ fault. fault.kind ≡ ReadKind.Device → S.has_failed source.new ≡ true) }
@@ -64,6 +67,7 @@ fn read_header<S: Source>(lines: &mut Lines, source: &mut S) -> Result<(), ReadF
     ensures err { IfErr result (λ fault. IsRefused (stream lines.old (S.left source.old)) (S.left source.new) lines.old.number (header) fault.line fault.kind) }
     ensures device { IfErr result (λ fault. fault.kind ≡ ReadKind.Device → S.has_failed source.new ≡ true) }
     ensures few { OnOk result (lines.new.number ≤ lines.old.number + 1) }
+    ensures text { OnOk result (Consumes (stream lines.old (S.left source.old)) (stream lines.new (S.left source.new)) (line header_words)) }
 {
     if let Err(fault) = lines.next(source) {
         return Err(fault);
@@ -82,6 +86,7 @@ fn read_shape<S: Source>(lines: &mut Lines, source: &mut S) -> Result<Shape, Rea
     ensures err { IfErr result (λ fault. IsRefused (stream lines.old (S.left source.old)) (S.left source.new) lines.old.number (shape_line) fault.line fault.kind) }
     ensures device { IfErr result (λ fault. fault.kind ≡ ReadKind.Device → S.has_failed source.new ≡ true) }
     ensures few { OnOk result (lines.new.number ≤ lines.old.number + 1) }
+    ensures text { IfOk result (λ shape. Consumes (stream lines.old (S.left source.old)) (stream lines.new (S.left source.new)) (line (shape_words shape))) }
 {
     if let Err(fault) = lines.next(source) {
         return Err(fault);
@@ -105,6 +110,7 @@ fn read_opening<S: Source>(
     ensures device { IfErr result (λ fault. fault.kind ≡ ReadKind.Device → S.has_failed source.new ≡ true) }
     ensures few { OnOk result (lines.new.number ≤ lines.old.number + 1) }
     ensures each { IfOk result (λ values. length values.items ≡ shape.blocks) }
+    ensures text { IfOk result (λ values. Consumes (stream lines.old (S.left source.old)) (stream lines.new (S.left source.new)) (line (opening_words values.items))) }
 {
     if let Err(fault) = lines.next(source) {
         return Err(fault);
@@ -122,6 +128,7 @@ fn read_tables<S: Source>(lines: &mut Lines, source: &mut S) -> Result<Tables, R
     ensures err { IfErr result (λ fault. IsRefused (stream lines.old (S.left source.old)) (S.left source.new) lines.old.number (cell_count) fault.line fault.kind) }
     ensures device { IfErr result (λ fault. fault.kind ≡ ReadKind.Device → S.has_failed source.new ≡ true) }
     ensures few { OnOk result (lines.new.number ≤ lines.old.number + 161) }
+    ensures text { IfOk result (λ tables. Consumes (stream lines.old (S.left source.old)) (stream lines.new (S.left source.new)) (line (cells_words (length (changed_cells tables))) ++ flat_map line (map cell_words (changed_cells tables)))) }
 {
     if let Err(fault) = lines.next(source) {
         return Err(fault);
@@ -142,6 +149,8 @@ fn read_cells<S: Source>(lines: &mut Lines, source: &mut S, count: u32) -> Resul
     ensures err { IfErr result (λ fault. IsRefused (stream lines.old (S.left source.old)) (S.left source.new) lines.old.number (cells_due count 0) fault.line fault.kind) }
     ensures device { IfErr result (λ fault. fault.kind ≡ ReadKind.Device → S.has_failed source.new ≡ true) }
     ensures few { OnOk result (lines.new.number ≤ lines.old.number + count) }
+    ensures text { IfOk result (λ tables. Consumes (stream lines.old (S.left source.old)) (stream lines.new (S.left source.new)) (flat_map line (map cell_words (changed_cells tables)))) }
+    ensures many { IfOk result (λ tables. length (changed_cells tables) ≡ count) }
 {
     let mut tables = Tables::baseline();
     let mut from = 0;
@@ -183,7 +192,10 @@ fn is_baseline(cell: &Cell) -> bool
 }
 
 /// The tables with this cell in its place.
-fn with_cell(tables: Tables, cell: &Cell) -> Tables {
+fn with_cell(tables: Tables, cell: &Cell) -> Tables
+    ensures here { cell_at result (spot_of cell.now) ≡ cell.now }
+    ensures others { (spot : cells_spot.Spot) → spot ≢ spot_of cell.now → cell_at result spot ≡ cell_at tables spot }
+{
     let mut tables = tables;
     match *cell {
         Cell::Cache {
@@ -206,11 +218,14 @@ fn read_entries<S: Source>(
     lines: &mut Lines,
     source: &mut S,
 ) -> Result<(), ReadFault>
-    requires { lines.old.number < 2 ^ 50 }
+    requires lines { lines.old.number < 2 ^ 50 }
+    requires none { recording.old.entries ≡ [] }
     ensures ok { OnOk result (HasRead (stream lines.old (S.left source.old)) (stream lines.new (S.left source.new)) lines.old.number lines.new.number entry_count end_line) }
     ensures err { IfErr result (λ fault. IsRefused (stream lines.old (S.left source.old)) (S.left source.new) lines.old.number (entry_count) fault.line fault.kind) }
     ensures device { IfErr result (λ fault. fault.kind ≡ ReadKind.Device → S.has_failed source.new ≡ true) }
     ensures few { OnOk result (lines.new.number ≤ lines.old.number + 1000001) }
+    ensures text { OnOk result (Consumes (stream lines.old (S.left source.old)) (stream lines.new (S.left source.new)) (line (entries_words (length recording.new.entries)) ++ flat_map line (map entry_words recording.new.entries))) }
+    ensures rest { IsSameBut recording.old recording.new }
 {
     if let Err(fault) = lines.next(source) {
         return Err(fault);
@@ -231,11 +246,15 @@ fn read_each<S: Source>(
     source: &mut S,
     count: u32,
 ) -> Result<(), ReadFault>
-    requires { (lines.old.number < 2 ^ 51) × (count ≤ 1000000) }
+    requires lines { (lines.old.number < 2 ^ 51) × (count ≤ 1000000) }
+    requires none { recording.old.entries ≡ [] }
     ensures ok { OnOk result (HasRead (stream lines.old (S.left source.old)) (stream lines.new (S.left source.new)) lines.old.number lines.new.number (entries_due count) end_line) }
     ensures err { IfErr result (λ fault. IsRefused (stream lines.old (S.left source.old)) (S.left source.new) lines.old.number (entries_due count) fault.line fault.kind) }
     ensures device { IfErr result (λ fault. fault.kind ≡ ReadKind.Device → S.has_failed source.new ≡ true) }
     ensures few { OnOk result (lines.new.number ≤ lines.old.number + count) }
+    ensures text { OnOk result (Consumes (stream lines.old (S.left source.old)) (stream lines.new (S.left source.new)) (flat_map line (map entry_words recording.new.entries))) }
+    ensures many { OnOk result (length recording.new.entries ≡ count) }
+    ensures rest { IsSameBut recording.old recording.new }
 {
     for index in 0..count {
         if let Err(fault) = lines.next(source) {
@@ -274,6 +293,7 @@ fn read_end<S: Source>(lines: &mut Lines, source: &mut S) -> Result<(), ReadFaul
     ensures err { IfErr result (λ fault. IsRefused (stream lines.old (S.left source.old)) (S.left source.new) lines.old.number (end_line) fault.line fault.kind) }
     ensures device { IfErr result (λ fault. fault.kind ≡ ReadKind.Device → S.has_failed source.new ≡ true) }
     ensures end { OnOk result (IsAtEnd (S.left source.new)) }
+    ensures text { OnOk result (Consumes (stream lines.old (S.left source.old)) (S.left source.new) (line end_words)) }
 {
     if let Err(fault) = lines.next(source) {
         return Err(fault);

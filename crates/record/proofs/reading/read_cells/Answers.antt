@@ -1,10 +1,13 @@
-use Rattle.std.proofs.Common.{◌≡◌, ◌+◌, ◌-◌, ◌∙◌, ap, sym, subst, arith, ℕ, rules}
+use Rattle.std.proofs.Common.{◌≡◌, take, length, ◌+◌, ◌-◌, ◌∙◌, ap, sym, subst, arith, ℕ, rules}
 use Rattle.base.specs.Spelling.{words}
 use Rattle.record.specs.declared.fault.ReadKind.TheVariants.{BadLine}
-use Rattle.record.specs.Cells.{spot_number, spot_of}
+use Rattle.record.specs.Cells.{all_spots, cell_words, spot_number, spot_of}
 use Rattle.record.specs.Grammar.{cell_line, cells_due}
 use Rattle.record.specs.Reading.{HasRead, stream}
 use Rattle.record.proofs.Steps.{stop-refused, line-refused, refused-same, cell-more, cell-read, cell-refused, none-listed}
+use Rattle.std.proofs.lemmas.List.{length_push}
+use Rattle.record.specs.Text.{changed}
+use Rattle.record.proofs.Listed.{cells-more, cells-text, listed-all, listed-more, plain-more, taken-line}
 use Rattle.record.proofs.reading.read_cells.Goals as goal
 
 pub returns-in-Err-clause-err : goal.returns-in-Err-clause-err
@@ -21,10 +24,22 @@ returns-in_default-listed_cell-clause-err g c =
 
 pub loop-index-preserved : goal.loop-index-preserved
 loop-index-preserved g c =
+    let spelled : words c.next.new.self.line ≡ cell_words c.in-Some.cell = ap words (sym c.line.ensures) ∙ c.in-Some.ensures.1 in
+    let longer = listed-more c.loop-index.tables c.with_cell-tables.result c.loop-index.from c.in-Some.cell c.loop-index.invariant.plain c.in-Some.ensures.0 c.with_cell-tables.ensures.here c.with_cell-tables.ensures.others in
     let place : c.spot_number-from.result ≡ spot_number (spot_of c.in-Some.cell) = c.spot_number-from.ensures.number ∙ ap spot_number c.spot.ensures in
     record {
       so_far = subst (λ (n : ℕ). HasRead (stream c.args.lines.now (g.S.Source.left c.args.source.now)) (stream c.next.new.self (g.S.Source.left c.next.new.source)) c.args.lines.now.number c.next.new.self.number (cells_due c.args.count 0) (cells_due (c.args.count - (c.loop-index.index + 1)) (n + 1))) (sym place)
           (cell-read _ (stream c.loop-index.lines (g.S.Source.left c.loop-index.source)) _ _ c.loop-index.lines.number c.loop-index.lines c.next.new.self c.args.count c.loop-index.index c.loop-index.from c.in-Some.cell (search rules) (search rules) c.loop-index.invariant.so_far c.in_default.ensures.ok c.in-Some.ensures.0 (ap words (sym c.line.ensures) ∙ c.in-Some.ensures.1));
       few = omega (arith, c.loop-index.invariant.few, c.in_default.ensures.ok.number);
       place = omega (arith, c.spot_number-from.ensures.small);
+      text = rw place (cells-more (stream c.args.lines.now (g.S.Source.left c.args.source.now)) (stream c.loop-index.lines (g.S.Source.left c.loop-index.source)) (stream c.next.new.self (g.S.Source.left c.next.new.source)) (changed c.loop-index.tables (take c.loop-index.from all_spots)) _ c.in-Some.cell longer c.loop-index.invariant.text
+          (taken-line _ _ c.loop-index.lines c.next.new.self (cell_words c.in-Some.cell) c.in_default.ensures.ok spelled));
+      many = rw place (ap length longer ∙ omega (arith, length_push (changed c.loop-index.tables (take c.loop-index.from all_spots)) c.in-Some.cell, c.loop-index.invariant.many));
+      plain = rw place (plain-more c.loop-index.tables c.with_cell-tables.result c.loop-index.from c.in-Some.cell c.loop-index.invariant.plain c.in-Some.ensures.0.in_order c.with_cell-tables.ensures.others);
     }
+
+pub returns-clause-text : goal.returns-clause-text
+returns-clause-text g c = cells-text (stream c.args.lines.now (g.S.Source.left c.args.source.now)) (stream c.loop-index.lines (g.S.Source.left c.loop-index.source)) (changed c.loop-index.tables (take c.loop-index.from all_spots)) _ (listed-all c.loop-index.tables c.loop-index.from c.loop-index.invariant.place c.loop-index.invariant.plain) c.loop-index.invariant.text
+
+pub returns-clause-many : goal.returns-clause-many
+returns-clause-many g c = ap length (sym (listed-all c.loop-index.tables c.loop-index.from c.loop-index.invariant.place c.loop-index.invariant.plain)) ∙ (c.loop-index.invariant.many ∙ search rules)

@@ -6,6 +6,8 @@ use Rattle.record.specs.Grammar.{entry_line, entries_due}
 use Rattle.record.specs.Refused.{IsFaultOfLine}
 use Rattle.record.specs.Reading.{stream}
 use Rattle.record.proofs.Steps.{stop-refused, line-refused, memory-refused, refused-same, entry-more, entry-read, entry-refused, not-device}
+use Rattle.record.specs.Text.{entry_words}
+use Rattle.record.proofs.Listed.{entries-more, many-more, same-more, taken-line}
 use Rattle.record.proofs.reading.read_each.Goals as goal
 
 pub returns-in-Err-clause-err : goal.returns-in-Err-clause-err
@@ -33,4 +35,8 @@ pub loop-index-preserved : goal.loop-index-preserved
 loop-index-preserved g c = record {
   so_far = entry-read _ (stream c.loop-index.lines (g.S.Source.left c.loop-index.source)) _ _ c.loop-index.lines c.next.new.self c.args.count c.loop-index.index c.in-Ok.entry (search rules) c.loop-index.invariant.so_far c.in_default.ensures.ok c.in-Ok.ensures.fits (ap words (sym c.line.ensures) ∙ c.in-Ok.ensures.ok);
   few = omega (arith, c.loop-index.invariant.few, c.in_default.ensures.ok.number);
+  text = entries-more (stream c.args.lines.now (g.S.Source.left c.args.source.now)) (stream c.loop-index.lines (g.S.Source.left c.loop-index.source)) (stream c.next.new.self (g.S.Source.left c.next.new.source)) c.loop-index.recording c.push.new.self c.in-Ok.entry c.in_default-push.ensures.ok c.loop-index.invariant.text
+      (taken-line _ _ c.loop-index.lines c.next.new.self (entry_words c.in-Ok.entry) c.in_default.ensures.ok (ap words (sym c.line.ensures) ∙ c.in-Ok.ensures.ok));
+  many = many-more c.loop-index.recording c.push.new.self c.in-Ok.entry c.loop-index.index c.in_default-push.ensures.ok c.loop-index.invariant.many;
+  rest = same-more c.args.recording.now c.loop-index.recording c.push.new.self c.in-Ok.entry c.in_default-push.ensures.ok c.loop-index.invariant.rest;
 }

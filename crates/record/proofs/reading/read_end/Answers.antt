@@ -6,6 +6,10 @@ use Rattle.record.specs.Grammar.{end_line, nothing}
 use Rattle.record.specs.Refused.{IsFaultOfLine}
 use Rattle.record.specs.Reading.{stream}
 use Rattle.record.proofs.Steps.{one-line, stop-refused, line-refused, refused-same, then-refused, then-read, nothing-read, end-more, byte-behind, device-behind}
+use Rattle.record.proofs.Listed.{taken-line}
+use Rattle.record.specs.Text.{end_words, line}
+use Rattle.std.proofs.KnownBytes.{Consumes-trans}
+use Rattle.std.proofs.lemmas.List.{append-nil}
 use Rattle.record.proofs.reading.read_end.Goals as goal
 
 pub returns-in-Err-clause-err : goal.returns-in-Err-clause-err
@@ -34,3 +38,9 @@ returns-in-Err-next_byte-clause-err g c =
     refused-same _ _ _ end_line c.refused-in-Err-next_byte.result (c.number-in-Err-next_byte.result + 1) Device c.refused-in-Err-next_byte.ensures (
     then-refused _ (stream c.next.new.self (g.S.Source.left c.next.new.source)) _ _ c.next.new.self.number (c.number-in-Err-next_byte.result + 1) end_line nothing Device (one-line _ (stream c.next.new.self (g.S.Source.left c.next.new.source)) c.args.lines.now c.next.new.self end_line nothing c.in_default.ensures.ok (ap words (sym c.line.ensures) ∙ c.in_default-end_due.ensures.ok, refl))
     (device-behind (stream c.next.new.self (g.S.Source.left c.next.new.source)) (g.S.Source.left c.next_byte.new.source) c.next.new.self.number (c.number-in-Err-next_byte.result + 1) (ap (λ n. n + 1) (c.number-in-Err-next_byte.ensures ∙ c.next_byte.ensures.number)) (search rules)))
+
+pub returns-in-Ok-None-clause-text : goal.returns-in-Ok-None-clause-text
+returns-in-Ok-None-clause-text g c =
+    let taken : Consumes (stream c.next.new.self (g.S.Source.left c.next.new.source)) (g.S.Source.left c.next_byte.new.source) [] = search rules in
+    let last = taken-line _ (stream c.next.new.self (g.S.Source.left c.next.new.source)) c.args.lines.now c.next.new.self end_words c.in_default.ensures.ok (ap words (sym c.line.ensures) ∙ c.in_default-end_due.ensures.ok) in
+    subst (Consumes _ _) (append-nil (line end_words)) (Consumes-trans _ (stream c.next.new.self (g.S.Source.left c.next.new.source)) _ (line end_words) [] last taken)

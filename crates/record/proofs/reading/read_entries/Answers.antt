@@ -4,6 +4,10 @@ use Rattle.base.specs.Spelling.{words}
 use Rattle.record.specs.Grammar.{entry_count, entries_due, end_line}
 use Rattle.record.specs.Reading.{IsBadCount, stream}
 use Rattle.record.proofs.Steps.{one-line, stop-refused, line-refused, refused-same, then-refused, then-read, entry_count-more, entries-count-fault}
+use Rattle.record.proofs.Listed.{counted, taken-line}
+use Rattle.std.specs.List.{flat_map}
+use Rattle.std.proofs.Common.{map, length}
+use Rattle.record.specs.Text.{entries_words, entry_words, line}
 use Rattle.record.proofs.reading.read_entries.Goals as goal
 
 pub returns-in-Err-clause-err : goal.returns-in-Err-clause-err
@@ -25,3 +29,9 @@ pub returns-in-Err-read_each-clause-err : goal.returns-in-Err-read_each-clause-e
 returns-in-Err-read_each-clause-err g c =
     let name : c.as_slice.result.now ≡ codes "entries" = search rules in
     then-refused _ (stream c.next.new.self (g.S.Source.left c.next.new.source)) _ _ c.next.new.self.number c.in-Err-read_each.fault.line entry_count (entries_due c.in-Ok.count) c.in-Err-read_each.fault.kind (one-line _ (stream c.next.new.self (g.S.Source.left c.next.new.source)) c.args.lines.now c.next.new.self entry_count (entries_due c.in-Ok.count) c.in_default.ensures.ok (c.in-Ok.count, c.in-Ok.ensures.ok.0, ap words (sym c.line.ensures) ∙ c.in-Ok.ensures.ok.1 ∙ ap (λ (n : List ℕ). n ∷ decimal c.in-Ok.count ∷ []) name, refl)) c.in-Err-read_each.ensures.err
+
+pub returns-in-Ok-read_each-clause-text : goal.returns-in-Ok-read_each-clause-text
+returns-in-Ok-read_each-clause-text g c =
+    let name : c.as_slice.result.now ≡ codes "entries" = search rules in
+    let first = taken-line _ (stream c.next.new.self (g.S.Source.left c.next.new.source)) c.args.lines.now c.next.new.self (entries_words c.in-Ok.count) c.in_default.ensures.ok (ap words (sym c.line.ensures) ∙ c.in-Ok.ensures.ok.1 ∙ ap (λ (n : List ℕ). n ∷ decimal c.in-Ok.count ∷ []) name) in
+    counted (stream c.args.lines.now (g.S.Source.left c.args.source.now)) (stream c.next.new.self (g.S.Source.left c.next.new.source)) (stream c.read_each.new.lines (g.S.Source.left c.read_each.new.source)) entries_words (length c.read_each.new.recording.entries) c.in-Ok.count (flat_map line (map entry_words c.read_each.new.recording.entries)) c.in-Ok-read_each.ensures.many first c.in-Ok-read_each.ensures.text

@@ -2,6 +2,8 @@ use Rattle.std.proofs.Common.{refl, rules}
 use Rattle.record.specs.declared.fault.ReadKind.TheVariants.{BadHeader}
 use Rattle.record.specs.Grammar.{header, shape_line}
 use Rattle.record.proofs.Steps.{one-line, stop-refused, line-refused, refused-same, header-more}
+use Rattle.record.proofs.Listed.{taken-line}
+use Rattle.record.specs.Text.{header_words}
 use Rattle.record.proofs.reading.read_header.Goals as goal
 
 pub returns-in-Err-clause-err : goal.returns-in-Err-clause-err
@@ -14,3 +16,6 @@ pub returns-else-is_header-clause-err : goal.returns-else-is_header-clause-err
 returns-else-is_header-clause-err g c =
     refused-same _ _ _ header c.refused.result c.number.result BadHeader c.refused.ensures (
     line-refused _ _ c.args.lines.now c.next.new.self c.number.result header BadHeader c.in_default.ensures.ok c.number.ensures (refl, search rules))
+
+pub returns-then-is_header-clause-text : goal.returns-then-is_header-clause-text
+returns-then-is_header-clause-text g c = taken-line _ _ c.args.lines.now c.next.new.self header_words c.in_default.ensures.ok (search rules)

@@ -3,6 +3,8 @@ use Rattle.base.specs.Spelling.{words}
 use Rattle.record.specs.Reading.{IsBadShape}
 use Rattle.record.specs.Grammar.{shape_line, opening_line}
 use Rattle.record.proofs.Steps.{one-line, stop-refused, line-refused, refused-same, shape-more, shape-fault}
+use Rattle.record.proofs.Listed.{taken-line}
+use Rattle.record.specs.Text.{shape_words}
 use Rattle.record.proofs.reading.read_shape.Goals as goal
 
 pub returns-in-Err-clause-err : goal.returns-in-Err-clause-err
@@ -16,3 +18,6 @@ returns-in-Err-shape_of-clause-err g c =
     refused-same _ _ _ shape_line c.refused.result c.number.result c.in-Err-shape_of.kind c.refused.ensures (
     line-refused _ _ c.args.lines.now c.next.new.self c.number.result shape_line c.in-Err-shape_of.kind c.in_default.ensures.ok c.number.ensures
     (shape-fault (words c.next.new.self.line) c.in-Err-shape_of.kind (subst (λ (l : List ℕ). IsBadShape (words l) c.in-Err-shape_of.kind) c.line.ensures c.in-Err-shape_of.ensures.err)))
+
+pub returns-in-Ok-clause-text : goal.returns-in-Ok-clause-text
+returns-in-Ok-clause-text g c = taken-line _ _ c.args.lines.now c.next.new.self (shape_words c.in-Ok.shape) c.in_default.ensures.ok (ap words (sym c.line.ensures) ∙ c.in-Ok.ensures.ok.1)

@@ -1,6 +1,10 @@
+use Rattle.std.proofs.Common.{subst}
 use Rattle.record.specs.Grammar.{header, shape_line, opening_line, cell_count, entry_count, end_line, nothing}
-use Rattle.record.specs.Reading.{stream}
+use Rattle.record.specs.Reading.{IsSameBut, stream}
 use Rattle.record.proofs.Steps.{then-read, then-refused, from-start}
+use Rattle.record.specs.Kept.{Kept, opened_recording}
+use Rattle.record.specs.Text.{header_words, line}
+use Rattle.record.proofs.Listed.{start-read, text-read}
 use Rattle.record.proofs.recording.Recording.read.Goals as goal
 
 pub returns-in-Err-read_shape-clause-fault : goal.returns-in-Err-read_shape-clause-fault
@@ -22,3 +26,24 @@ pub returns-in-Ok-read_end-clause-whole : goal.returns-in-Ok-read_end-clause-who
 returns-in-Ok-read_end-clause-whole g c =
     let all = then-read (g.S.Source.left c.args.source.now) (stream c.read_entries.new.lines (g.S.Source.left c.read_entries.new.source)) (g.S.Source.left c.read_end.new.source) 0 c.read_entries.new.lines.number c.read_end.new.lines.number header end_line nothing (then-read (g.S.Source.left c.args.source.now) (stream c.read_tables.new.lines (g.S.Source.left c.read_tables.new.source)) (stream c.read_entries.new.lines (g.S.Source.left c.read_entries.new.source)) 0 c.read_tables.new.lines.number c.read_entries.new.lines.number header entry_count end_line (then-read (g.S.Source.left c.args.source.now) (stream c.read_opening.new.lines (g.S.Source.left c.read_opening.new.source)) (stream c.read_tables.new.lines (g.S.Source.left c.read_tables.new.source)) 0 c.read_opening.new.lines.number c.read_tables.new.lines.number header cell_count entry_count (then-read (g.S.Source.left c.args.source.now) (stream c.read_shape.new.lines (g.S.Source.left c.read_shape.new.source)) (stream c.read_opening.new.lines (g.S.Source.left c.read_opening.new.source)) 0 c.read_shape.new.lines.number c.read_opening.new.lines.number header (opening_line c.in-Ok.shape) cell_count (then-read (g.S.Source.left c.args.source.now) (stream c.read_header.new.lines (g.S.Source.left c.read_header.new.source)) (stream c.read_shape.new.lines (g.S.Source.left c.read_shape.new.source)) 0 c.read_header.new.lines.number c.read_shape.new.lines.number header shape_line (opening_line c.in-Ok.shape) (from-start c.open-lines.result (g.S.Source.left c.args.source.now) (stream c.read_header.new.lines (g.S.Source.left c.read_header.new.source)) c.read_header.new.lines.number header shape_line c.open-lines.ensures c.in_default.ensures.ok) c.in-Ok.ensures.ok) c.in-Ok-read_opening.ensures.ok) c.in-Ok-read_tables.ensures.ok) c.in_default-read_entries.ensures.ok) c.in-Ok-read_end.ensures.ok in
     record { lines = all.lines; follow = all.follow; read = all.taken; end = c.in-Ok-read_end.ensures.end }
+
+pub returns-in-Ok-read_end-clause-text : goal.returns-in-Ok-read_end-clause-text
+returns-in-Ok-read_end-clause-text g c =
+    let same = subst (λ (r : Kept). IsSameBut r c.read_entries.new.recording) c.of-recording.ensures c.in_default-read_entries.ensures.rest in
+    text-read
+    (g.S.Source.left c.args.source.now)
+    (stream c.read_header.new.lines (g.S.Source.left c.read_header.new.source))
+    (stream c.read_shape.new.lines (g.S.Source.left c.read_shape.new.source))
+    (stream c.read_opening.new.lines (g.S.Source.left c.read_opening.new.source))
+    (stream c.read_tables.new.lines (g.S.Source.left c.read_tables.new.source))
+    (stream c.read_entries.new.lines (g.S.Source.left c.read_entries.new.source))
+    (g.S.Source.left c.read_end.new.source)
+    (opened_recording c.in-Ok.shape c.in-Ok-read_tables.tables c.in-Ok-read_opening.opening.items)
+    c.read_entries.new.recording
+    same
+    (start-read c.open-lines.result (g.S.Source.left c.args.source.now) (stream c.read_header.new.lines (g.S.Source.left c.read_header.new.source)) (line header_words) c.open-lines.ensures c.in_default.ensures.text)
+    c.in-Ok.ensures.text
+    c.in-Ok-read_opening.ensures.text
+    c.in-Ok-read_tables.ensures.text
+    c.in_default-read_entries.ensures.text
+    c.in-Ok-read_end.ensures.text

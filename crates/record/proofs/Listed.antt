@@ -1,0 +1,298 @@
+-- The cells that have been read are those that the tables change.
+use Rattle.std.proofs.Common.{◌≡◌, ◌≢◌, ℕ, zero, suc, ◌+◌, ◌-◌, ◌*◌, ◌/◌, ◌%◌, ◌<◌, ◌≤◌, true, false, cond, not, List, [], ◌∷◌, ◌++◌, length, take, map, get_or, refl, sym, ap, ◌∙◌, subst, arith, append_assoc, Option}
+use Rattle.std.specs.List.{flat_map, range_with_len}
+use Rattle.std.specs.Str.{bytes_eq}
+use Rattle.std.proofs.lemmas.List.{take_more, append-nil, length_push, map-append}
+use Rattle.std.proofs.lemmas.Slice.Eq.{bytes_eq-Decides}
+use Rattle.std.proofs.lemmas.List.FromFn.{get_or-map-range_with_len}
+use Rattle.std.proofs.lemmas.Grind.{flat_map-append}
+use Rattle.std.specs.Io.KnownBytes.{Consumes}
+use Rattle.std.proofs.KnownBytes.{Consumes-nil, Consumes-trans}
+use Rattle.base.specs.Spelling.{words}
+use Rattle.cache_table.specs.declared.state.CacheState.{CacheState}
+use Rattle.cache_table.specs.declared.state.CacheState.TheVariants as cache_state
+use Rattle.cache_table.specs.declared.event.CacheEvent.{CacheEvent}
+use Rattle.cache_table.specs.declared.event.CacheEvent.TheVariants as cache_event
+use Rattle.cache_table.specs.Baseline as cache_baseline
+use Rattle.cache_table.specs.Table as cache_table
+use Rattle.directory_table.specs.declared.state.DirectoryState.{DirectoryState}
+use Rattle.directory_table.specs.declared.state.DirectoryState.TheVariants as directory_state
+use Rattle.directory_table.specs.declared.event.DirectoryEvent.{DirectoryEvent}
+use Rattle.directory_table.specs.declared.event.DirectoryEvent.TheVariants as directory_event
+use Rattle.directory_table.specs.Baseline as directory_baseline
+use Rattle.directory_table.specs.Table as directory_table
+use Rattle.machine.specs.Tables.{Tables, baseline}
+use Rattle.record.specs.declared.cells.Spot.{Spot}
+use Rattle.record.specs.declared.cells.Spot.TheVariants as spot
+use Rattle.record.specs.declared.cells.Cell.{Cell}
+use Rattle.record.specs.Cells.{all_spots, cell_at, cell_words, spot_number, spot_of}
+use Rattle.record.specs.Text.{cells_words, changed, changed_cells, end_words, entries_words, entry_words, header_words, is_changed, is_same, line, opening_words, shape_words, text}
+use Rattle.record.specs.Kept.{Kept, with_entry}
+use Rattle.record.specs.declared.recording.Entry.{Entry}
+use Rattle.record.specs.Grammar.{IsListed}
+use Rattle.record.specs.Refused.{ended}
+use Rattle.record.specs.Reading.{HasNextLine, Held, IsSameBut, stream}
+use Rattle.record.proofs.Streams.{none-held}
+use Rattle.record.proofs.Changed.{changed-append}
+use Rattle.record.proofs.Spots.{at-cache, at-directory}
+use Rattle.record.proofs.Words.{spelled-text}
+
+-- ---- a line of these words
+
+pub ended-line : (l : List ℕ) (ws : List (List ℕ)) → words l ≡ ws → ended l ≡ line ws
+ended-line l ws is = ap (λ x. x ++ 10 ∷ []) (spelled-text l ws is)
+
+pub taken-line : (b a : _) (old new : Held) (ws : List (List ℕ)) → HasNextLine b a old new → words new.line ≡ ws → Consumes b a (line ws)
+taken-line b a old new ws next is = subst (Consumes b a) (ended-line new.line ws is) next.taken
+
+-- lines, and one more
+pub line-more : (b m a : _) (xs : List (List (List ℕ))) (ws : List (List ℕ)) → Consumes b m (flat_map line xs) → Consumes m a (line ws) → Consumes b a (flat_map line (xs ++ ws ∷ []))
+line-more b m a xs ws first second =
+    subst (Consumes b a) (sym (flat_map-append line xs (ws ∷ []) ∙ ap (λ l. flat_map line xs ++ l) (append-nil (line ws)))) (Consumes-trans b m a (flat_map line xs) (line ws) first second)
+
+-- ---- the places by their numbers
+
+numbers : map spot_number all_spots ≡ range_with_len 0 160
+numbers = refl
+
+abbrev some_spot : Spot
+some_spot = spot.Cache cache_state.I cache_event.Load
+
+abbrev at : ℕ → Spot
+at n = get_or all_spots n some_spot
+
+get_or-mapped : (f : Spot → ℕ) (xs : List Spot) (i : ℕ) (d : Spot) → get_or (map f xs) i (f d) ≡ f (get_or xs i d)
+get_or-mapped f [] i d = refl
+get_or-mapped f (x ∷ xs) zero d = refl
+get_or-mapped f (x ∷ xs) (suc i) d = get_or-mapped f xs i d
+
+cache-state-at : (s : CacheState) → (get_or cache_baseline.all_states (cache_table.state_number s) cache_state.I ≡ s) × (cache_table.state_number s < 11)
+cache-state-at cache_state.I = (refl, omega arith)
+cache-state-at cache_state.IsD = (refl, omega arith)
+cache-state-at cache_state.ImAd = (refl, omega arith)
+cache-state-at cache_state.ImA = (refl, omega arith)
+cache-state-at cache_state.S = (refl, omega arith)
+cache-state-at cache_state.SmAd = (refl, omega arith)
+cache-state-at cache_state.SmA = (refl, omega arith)
+cache-state-at cache_state.M = (refl, omega arith)
+cache-state-at cache_state.MiA = (refl, omega arith)
+cache-state-at cache_state.SiA = (refl, omega arith)
+cache-state-at cache_state.IiA = (refl, omega arith)
+
+cache-event-at : (e : CacheEvent) → (get_or cache_baseline.all_events (cache_table.event_number e) cache_event.Load ≡ e) × (cache_table.event_number e < 12)
+cache-event-at cache_event.Load = (refl, omega arith)
+cache-event-at cache_event.Store = (refl, omega arith)
+cache-event-at cache_event.Replacement = (refl, omega arith)
+cache-event-at cache_event.FwdGetS = (refl, omega arith)
+cache-event-at cache_event.FwdGetM = (refl, omega arith)
+cache-event-at cache_event.Inv = (refl, omega arith)
+cache-event-at cache_event.PutAck = (refl, omega arith)
+cache-event-at cache_event.DataDirZero = (refl, omega arith)
+cache-event-at cache_event.DataDirMore = (refl, omega arith)
+cache-event-at cache_event.DataOwner = (refl, omega arith)
+cache-event-at cache_event.InvAck = (refl, omega arith)
+cache-event-at cache_event.LastInvAck = (refl, omega arith)
+
+directory-state-at : (s : DirectoryState) → (get_or directory_baseline.all_states (directory_table.state_number s) directory_state.I ≡ s) × (directory_table.state_number s < 4)
+directory-state-at directory_state.I = (refl, omega arith)
+directory-state-at directory_state.S = (refl, omega arith)
+directory-state-at directory_state.M = (refl, omega arith)
+directory-state-at directory_state.SD = (refl, omega arith)
+
+directory-event-at : (e : DirectoryEvent) → (get_or directory_baseline.all_events (directory_table.event_number e) directory_event.GetS ≡ e) × (directory_table.event_number e < 7)
+directory-event-at directory_event.GetS = (refl, omega arith)
+directory-event-at directory_event.GetM = (refl, omega arith)
+directory-event-at directory_event.PutSNotLast = (refl, omega arith)
+directory-event-at directory_event.PutSLast = (refl, omega arith)
+directory-event-at directory_event.PutMOwner = (refl, omega arith)
+directory-event-at directory_event.PutMNonOwner = (refl, omega arith)
+directory-event-at directory_event.Data = (refl, omega arith)
+
+-- the place of a number is the place that has it
+at-own : (s : Spot) → (at (spot_number s) ≡ s) × (spot_number s < 160)
+at-own (spot.Cache s e) =
+    let state = cache-state-at s in
+    let event = cache-event-at e in
+    let n : ℕ = cache_table.state_number s * 12 + cache_table.event_number e in
+    let low : n < 132 = omega (arith, state.1, event.1) in
+    let row : n / 12 ≡ cache_table.state_number s = omega (arith, event.1) in
+    let column : n % 12 ≡ cache_table.event_number e = omega (arith, event.1) in
+    (at-cache n some_spot low ∙ (ap (λ k. spot.Cache (get_or cache_baseline.all_states k cache_state.I) (get_or cache_baseline.all_events (n % 12) cache_event.Load)) row ∙ (ap (λ k. spot.Cache (get_or cache_baseline.all_states (cache_table.state_number s) cache_state.I) (get_or cache_baseline.all_events k cache_event.Load)) column ∙ (ap (λ x. spot.Cache x (get_or cache_baseline.all_events (cache_table.event_number e) cache_event.Load)) state.0 ∙ ap (spot.Cache s) event.0))), omega (arith, low))
+at-own (spot.Directory s e) =
+    let state = directory-state-at s in
+    let event = directory-event-at e in
+    let n : ℕ = 132 + directory_table.state_number s * 7 + directory_table.event_number e in
+    let high : 132 ≤ n = omega arith in
+    let low : n < 160 = omega (arith, state.1, event.1) in
+    let row : (n - 132) / 7 ≡ directory_table.state_number s = omega (arith, event.1) in
+    let column : (n - 132) % 7 ≡ directory_table.event_number e = omega (arith, event.1) in
+    (at-directory n some_spot high low ∙ (ap (λ k. spot.Directory (get_or directory_baseline.all_states k directory_state.I) (get_or directory_baseline.all_events ((n - 132) % 7) directory_event.GetS)) row ∙ (ap (λ k. spot.Directory (get_or directory_baseline.all_states (directory_table.state_number s) directory_state.I) (get_or directory_baseline.all_events k directory_event.GetS)) column ∙ (ap (λ x. spot.Directory x (get_or directory_baseline.all_events (directory_table.event_number e) directory_event.GetS)) state.0 ∙ ap (spot.Directory s) event.0))), low)
+
+number-at : (n : ℕ) → n < 160 → spot_number (at n) ≡ n
+number-at n low = sym (get_or-mapped spot_number all_spots n some_spot) ∙ (ap (λ l. get_or l n (spot_number some_spot)) numbers ∙ listed)
+  where
+    unmapped : range_with_len 0 160 ≡ map (λ x. x) (range_with_len 0 160)
+    unmapped = refl
+
+    listed : get_or (range_with_len 0 160) n 0 ≡ n
+    listed = ap (λ (l : List ℕ). get_or l n 0) unmapped ∙ get_or-map-range_with_len (λ x. x) 0 160 n n 0 low (omega arith)
+
+-- ---- the cells that differ, place by place
+
+kept_if : Cell → Cell → List Cell
+kept_if c d = cond (not (is_same c d)) (c ∷ []) []
+
+changed-one : (t : Tables) (s : Spot) → changed t (s ∷ []) ≡ kept_if (cell_at t s) (cell_at baseline s)
+unfolding kept_if
+changed-one t s = elim (is_changed t s) as (λ b. map (cell_at t) (cond b (s ∷ []) []) ≡ cond b (cell_at t s ∷ []) []) [
+  | true ↦ refl
+  | false ↦ refl
+]
+
+same-bytes : (xs : List ℕ) → bytes_eq xs xs ≡ true
+same-bytes xs = (bytes_eq-Decides xs xs).1 refl
+
+kept-none : (c : Cell) → kept_if c c ≡ []
+unfolding kept_if
+kept-none c = rw (same-bytes (line (cell_words c))) refl
+
+kept-one : (c d : Cell) → is_same c d ≡ false → kept_if c d ≡ c ∷ []
+unfolding kept_if
+kept-one c d e = rw e refl
+
+more : (t : Tables) (k : ℕ) → k < 160 → changed t (take (k + 1) all_spots) ≡ changed t (take k all_spots) ++ kept_if (cell_at t (at k)) (cell_at baseline (at k))
+more t k low = ap (changed t) (take_more all_spots k some_spot low) ∙ (changed-append t (take k all_spots) (at k ∷ []) ∙ ap (λ cs. changed t (take k all_spots) ++ cs) (changed-one t (at k)))
+
+-- from a place on the cells are the baseline's
+abbrev pub IsBaselineFrom : ℕ → Tables → Type 0
+IsBaselineFrom from t = (s : Spot) → from ≤ spot_number s → cell_at t s ≡ cell_at baseline s
+
+-- places that are as in the baseline add nothing
+skipped : (t : Tables) (from d : ℕ) → from + d ≤ 160 → ((s : Spot) → from ≤ spot_number s → spot_number s < from + d → cell_at t s ≡ cell_at baseline s) → changed t (take (from + d) all_spots) ≡ changed t (take from all_spots)
+skipped t from zero low same = ap (λ n. changed t (take n all_spots)) (omega arith)
+skipped t from (suc d) low same =
+    let k : ℕ = from + d in
+    let here = number-at k (omega (arith, low)) in
+    let is : cell_at t (at k) ≡ cell_at baseline (at k) = same (at k) (omega (arith, here)) (omega (arith, here)) in
+    let n : from + suc d ≡ k + 1 = omega arith in
+    ap (λ m. changed t (take m all_spots)) n
+    ∙ (more t k (omega (arith, low))
+    ∙ (ap (λ c. changed t (take k all_spots) ++ kept_if c (cell_at baseline (at k))) is
+    ∙ (ap (λ cs. changed t (take k all_spots) ++ cs) (kept-none (cell_at baseline (at k)))
+    ∙ (append-nil (changed t (take k all_spots)) ∙ skipped t from d (omega (arith, low)) (λ s high below. same s high (omega (arith, below)))))))
+
+-- places before a changed one stay
+stayed : (t u : Tables) (n : ℕ) → n ≤ 160 → ((s : Spot) → spot_number s < n → cell_at u s ≡ cell_at t s) → changed u (take n all_spots) ≡ changed t (take n all_spots)
+stayed t u zero low same = refl
+stayed t u (suc k) low same =
+    let here = number-at k (omega (arith, low)) in
+    let is : cell_at u (at k) ≡ cell_at t (at k) = same (at k) (omega (arith, here)) in
+    let n : suc k ≡ k + 1 = omega arith in
+    ap (λ m. changed u (take m all_spots)) n
+    ∙ (more u k (omega (arith, low))
+    ∙ (ap (λ c. changed u (take k all_spots) ++ kept_if c (cell_at baseline (at k))) is
+    ∙ (ap (λ cs. cs ++ kept_if (cell_at t (at k)) (cell_at baseline (at k))) (stayed t u k (omega (arith, low)) (λ s below. same s (omega (arith, below))))
+    ∙ (sym (more t k (omega (arith, low))) ∙ ap (λ m. changed t (take m all_spots)) (sym n)))))
+
+other-number : (s c : Spot) → spot_number s ≢ spot_number c → s ≢ c
+other-number s c ne e = ne (ap spot_number e)
+
+-- one cell more
+pub listed-more : (t u : Tables) (from : ℕ) (cell : Cell) → IsBaselineFrom from t → IsListed from cell → cell_at u (spot_of cell) ≡ cell → ((s : Spot) → s ≢ spot_of cell → cell_at u s ≡ cell_at t s)
+    → changed u (take (spot_number (spot_of cell) + 1) all_spots) ≡ changed t (take from all_spots) ++ cell ∷ []
+listed-more t u from cell plain listed here others =
+    let own = at-own (spot_of cell) in
+    let n : ℕ = spot_number (spot_of cell) in
+    let d : ℕ = n - from in
+    let reach : from + d ≡ n = omega (arith, listed.in_order) in
+    let before : (s : Spot) → spot_number s < n → cell_at u s ≡ cell_at t s = λ s below. others s (other-number s (spot_of cell) (λ e. absurd (omega (arith, below, e)))) in
+    let skip = skipped u from d (omega (arith, reach, own.1)) (λ s high below. before s (omega (arith, below, reach)) ∙ plain s high) in
+    let cell_here : cell_at u (at n) ≡ cell = ap (cell_at u) own.0 ∙ here in
+    more u n own.1
+    ∙ (ap (λ c. changed u (take n all_spots) ++ kept_if c (cell_at baseline (at n))) cell_here
+    ∙ (ap (λ s. changed u (take n all_spots) ++ kept_if cell (cell_at baseline s)) own.0
+    ∙ (ap (λ cs. changed u (take n all_spots) ++ cs) (kept-one cell (cell_at baseline (spot_of cell)) listed.differs)
+    ∙ ap (λ cs. cs ++ cell ∷ []) (ap (λ m. changed u (take m all_spots)) (sym reach) ∙ (skip ∙ stayed t u from (omega (arith, own.1, listed.in_order)) (λ s below. before s (omega (arith, below, listed.in_order))))))))
+
+pub plain-more : (t u : Tables) (from : ℕ) (cell : Cell) → IsBaselineFrom from t → from ≤ spot_number (spot_of cell) → ((s : Spot) → s ≢ spot_of cell → cell_at u s ≡ cell_at t s) → IsBaselineFrom (spot_number (spot_of cell) + 1) u
+plain-more t u from cell plain order others s high = others s (other-number s (spot_of cell) (λ e. absurd (omega (arith, high, e)))) ∙ plain s (omega (arith, high, order))
+
+-- at the end nothing more differs
+pub listed-all : (t : Tables) (from : ℕ) → from ≤ 160 → IsBaselineFrom from t → changed t (take from all_spots) ≡ changed_cells t
+listed-all t from low plain =
+    let d : ℕ = 160 - from in
+    let reach : from + d ≡ 160 = omega (arith, low) in
+    sym (skipped t from d (omega (arith, reach)) (λ s high below. plain s high)) ∙ ap (λ m. changed t (take m all_spots)) reach
+
+-- ---- texts part by part
+
+pub cells-text : (b a : Option (List ℕ)) (cs ds : List Cell) → cs ≡ ds → Consumes b a (flat_map line (map cell_words cs)) → Consumes b a (flat_map line (map cell_words ds))
+cells-text b a cs ds e h = subst (λ xs. Consumes b a (flat_map line (map cell_words xs))) e h
+
+pub cells-more : (b m a : Option (List ℕ)) (cs ds : List Cell) (cell : Cell) → ds ≡ cs ++ cell ∷ [] → Consumes b m (flat_map line (map cell_words cs)) → Consumes m a (line (cell_words cell)) → Consumes b a (flat_map line (map cell_words ds))
+cells-more b m a cs ds cell e first second =
+    cells-text b a (cs ++ cell ∷ []) ds (sym e)
+    (subst (λ xs. Consumes b a (flat_map line xs)) (sym (map-append cell_words cs (cell ∷ []))) (line-more b m a (map cell_words cs) (cell_words cell) first second))
+
+-- a line that counts, and what it counts
+pub counted : (b m a : Option (List ℕ)) (named : ℕ → List (List ℕ)) (n k : ℕ) (rest : List ℕ) → n ≡ k → Consumes b m (line (named k)) → Consumes m a rest → Consumes b a (line (named n) ++ rest)
+counted b m a named n k rest e first second = subst (λ i. Consumes b a (line (named i) ++ rest)) (sym e) (Consumes-trans b m a (line (named k)) rest first second)
+
+pub entries-more : (b m a : Option (List ℕ)) (old new : Kept) (e : Entry) → new ≡ with_entry old e → Consumes b m (flat_map line (map entry_words old.entries)) → Consumes m a (line (entry_words e)) → Consumes b a (flat_map line (map entry_words new.entries))
+entries-more b m a old new e is first second =
+    subst (λ (r : Kept). Consumes b a (flat_map line (map entry_words r.entries))) (sym is)
+    (subst (λ xs. Consumes b a (flat_map line xs)) (sym (map-append entry_words old.entries (e ∷ []))) (line-more b m a (map entry_words old.entries) (entry_words e) first second))
+
+pub many-more : (old new : Kept) (e : Entry) (n : ℕ) → new ≡ with_entry old e → length old.entries ≡ n → length new.entries ≡ n + 1
+many-more old new e n is many = ap (λ (r : Kept). length r.entries) is ∙ omega (arith, length_push old.entries e, many)
+
+pub same-more : (first old new : Kept) (e : Entry) → new ≡ with_entry old e → IsSameBut first old → IsSameBut first new
+same-more first old new e is same = record {
+  shape = ap (λ (r : Kept). r.shape) is ∙ same.shape;
+  tables = ap (λ (r : Kept). r.tables) is ∙ same.tables;
+  opening = ap (λ (r : Kept). r.opening) is ∙ same.opening;
+}
+
+pub same-first : (r : Kept) → IsSameBut r r
+same-first r = record { shape = refl; tables = refl; opening = refl }
+
+pub nothing-read : (b : Option (List ℕ)) (r : Kept) → r.entries ≡ [] → Consumes b b (flat_map line (map entry_words r.entries))
+nothing-read b r none = subst (λ (es : List Entry). Consumes b b (flat_map line (map entry_words es))) (sym none) (Consumes-nil b)
+
+-- the parts of a text, one behind the other
+parts : (r : Kept) → List ℕ
+parts r =
+    line header_words ++ (line (shape_words r.shape) ++ (line (opening_words r.opening)
+    ++ ((line (cells_words (length (changed_cells r.tables))) ++ flat_map line (map cell_words (changed_cells r.tables)))
+    ++ ((line (entries_words (length r.entries)) ++ flat_map line (map entry_words r.entries)) ++ line end_words))))
+
+parts-text : (r : Kept) → parts r ≡ text r
+unfolding parts
+parts-text r =
+    let cells : List (List (List ℕ)) = map cell_words (changed_cells r.tables) in
+    let entries : List (List (List ℕ)) = map entry_words r.entries in
+    let count : List ℕ = line (entries_words (length r.entries)) in
+    let last : (count ++ flat_map line entries) ++ line end_words ≡ flat_map line (entries_words (length r.entries) ∷ entries ++ end_words ∷ []) =
+    append_assoc count (flat_map line entries) (line end_words) ∙ ap (λ l. count ++ l) (ap (λ l. flat_map line entries ++ l) (sym (append-nil (line end_words))) ∙ sym (flat_map-append line entries (end_words ∷ []))) in
+    let middle : (line (cells_words (length (changed_cells r.tables))) ++ flat_map line cells) ++ ((count ++ flat_map line entries) ++ line end_words)
+    ≡ line (cells_words (length (changed_cells r.tables))) ++ flat_map line (cells ++ (entries_words (length r.entries) ∷ entries ++ end_words ∷ [])) =
+    append_assoc (line (cells_words (length (changed_cells r.tables)))) (flat_map line cells) _
+    ∙ ap (λ l. line (cells_words (length (changed_cells r.tables))) ++ l) (ap (λ l. flat_map line cells ++ l) last ∙ sym (flat_map-append line cells (entries_words (length r.entries) ∷ entries ++ end_words ∷ []))) in
+    ap (λ l. line header_words ++ (line (shape_words r.shape) ++ (line (opening_words r.opening) ++ l))) middle
+
+-- all parts have been read
+pub text-read : (a b c d e f g : Option (List ℕ)) (first r : Kept) → IsSameBut first r → Consumes a b (line header_words) → Consumes b c (line (shape_words first.shape)) → Consumes c d (line (opening_words first.opening))
+    → Consumes d e (line (cells_words (length (changed_cells first.tables))) ++ flat_map line (map cell_words (changed_cells first.tables)))
+    → Consumes e f (line (entries_words (length r.entries)) ++ flat_map line (map entry_words r.entries)) → Consumes f g (line end_words) → Consumes a g (text r)
+unfolding parts
+text-read a b c d e f g first r same header shape opening cells entries end =
+    let shape' : Consumes b c (line (shape_words r.shape)) = subst (λ s. Consumes b c (line (shape_words s))) (sym same.shape) shape in
+    let opening' : Consumes c d (line (opening_words r.opening)) = subst (λ o. Consumes c d (line (opening_words o))) (sym same.opening) opening in
+    let cells' : Consumes d e (line (cells_words (length (changed_cells r.tables))) ++ flat_map line (map cell_words (changed_cells r.tables))) =
+    subst (λ t. Consumes d e (line (cells_words (length (changed_cells t))) ++ flat_map line (map cell_words (changed_cells t)))) (sym same.tables) cells in
+    subst (Consumes a g) (parts-text r)
+    (Consumes-trans a b g _ _ header (Consumes-trans b c g _ _ shape' (Consumes-trans c d g _ _ opening' (Consumes-trans d e g _ _ cells' (Consumes-trans e f g _ _ entries end)))))
+
+-- at the start no bytes are held
+pub start-read : (l : Held) (a b : Option (List ℕ)) (bytes : List ℕ) → l ≡ record { bytes = []; line = []; number = 0 } → Consumes (stream l a) b bytes → Consumes a b bytes
+start-read l a b bytes none h = subst (λ x. Consumes x b bytes) (ap (λ (k : Held). stream k a) none ∙ none-held a) h
