@@ -8,6 +8,7 @@ pub mod Outs
 pub mod Replays
 pub mod Safety
 pub mod Shapes
+pub mod Singles
 pub mod Splitting
 pub mod Spots
 pub mod Steps
