@@ -39,7 +39,7 @@ abbrev pub AnswersFirst : Extent → Tables → List ℕ → List Step → Optio
 AnswersFirst shape tables opening steps None = HasNoViolation shape tables opening steps
 AnswersFirst shape tables opening steps (Some found) = IsFirstViolation shape tables opening steps found.0 found.1
 
--- the violation found so far, or else what is seen after the step of this number
+-- for a private clause: the violation found so far, or else what is seen after the step of this number
 abbrev pub first_of : Option (ℕ × Violation) → ℕ → Option Violation → Option (ℕ × Violation)
 first_of (Some found) number seen = Some found
 first_of None number None = None

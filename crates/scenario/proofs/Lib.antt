@@ -5,6 +5,7 @@ pub mod Children
 pub mod Depths
 pub mod Distinct
 pub mod Flat
+pub mod Fronts
 pub mod Inverses
 pub mod Lengths
 pub mod Places

@@ -1,6 +1,6 @@
 //! What a scenario offers, and whether it may end.
 
-ghost use Rattle.std.specs.Prelude.{◌≡◌, ◌++◌, OnOk};
+ghost use Rattle.std.specs.Prelude.{◌≡◌, ◌++◌, OnErr, OnOk, length, take};
 ghost use Rattle.scenario.specs.Tree.{plain, plain_all};
 ghost use Rattle.scenario.specs.Taking.{ends, all_end, some_ends, offers, offers_in_turn, offers_of_all};
 
@@ -18,11 +18,20 @@ impl<A: Allocator> Scenario<A> {
 
     /// Appends what may be asked next, in order. An ask that is offered twice is listed twice.
     ///
-    /// Where memory is refused, a front of the offers may stand in the list.
+    /// Where memory is refused, the list is as it was.
+    #[tactic(auto, using(crate::proofs::Fronts::fronts))]
     pub fn offers(&self, out: &mut Vec<CoreAsk>) -> Result<(), NoMemory>
-        ensures { OnOk result (out.new.items ≡ out.old.items ++ offers (plain self.now)) }
+        ensures ok { OnOk result (out.new.items ≡ out.old.items ++ offers (plain self.now)) }
+        ensures err { OnErr result (out.new.items ≡ out.old.items) }
     {
-        offers_of_tree(self, out)
+        let before = out.len();
+        match offers_of_tree(self, out) {
+            Ok(()) => Ok(()),
+            Err(refused) => {
+                out.truncate(before);
+                Err(refused)
+            }
+        }
     }
 }
 
@@ -40,9 +49,10 @@ pub(crate) fn tree_may_end<A: Allocator>(tree: &Scenario<A>) -> bool
 }
 
 #[cycle(offering)]
-#[tactic(auto, using(crate::proofs::Children::children))]
+#[tactic(auto, using(crate::proofs::Children::children, crate::proofs::Fronts::fronts))]
 fn offers_of_tree<A: Allocator>(tree: &Scenario<A>, out: &mut Vec<CoreAsk>) -> Result<(), NoMemory>
-    ensures { OnOk result (out.new.items ≡ out.old.items ++ offers (plain tree.now)) }
+    ensures ok { OnOk result (out.new.items ≡ out.old.items ++ offers (plain tree.now)) }
+    ensures front { take (length out.old.items) out.new.items ≡ out.old.items }
 {
     match tree {
         Scenario::One(ask) => Ok(out.push(*ask)?),
@@ -84,11 +94,13 @@ fn some_may_end<A: Allocator>(children: &[Scenario<A>]) -> bool
 }
 
 #[cycle(offering)]
+#[tactic(auto, using(crate::proofs::Fronts::fronts))]
 fn offers_in_turn<A: Allocator>(
     children: &[Scenario<A>],
     out: &mut Vec<CoreAsk>,
 ) -> Result<(), NoMemory>
-    ensures { OnOk result (out.new.items ≡ out.old.items ++ offers_in_turn (plain_all children.now)) }
+    ensures ok { OnOk result (out.new.items ≡ out.old.items ++ offers_in_turn (plain_all children.now)) }
+    ensures front { take (length out.old.items) out.new.items ≡ out.old.items }
 {
     for child in children {
         offers_of_tree(child, out)?;
@@ -100,11 +112,13 @@ fn offers_in_turn<A: Allocator>(
 }
 
 #[cycle(offering)]
+#[tactic(auto, using(crate::proofs::Fronts::fronts))]
 fn offers_of_all<A: Allocator>(
     children: &[Scenario<A>],
     out: &mut Vec<CoreAsk>,
 ) -> Result<(), NoMemory>
-    ensures { OnOk result (out.new.items ≡ out.old.items ++ offers_of_all (plain_all children.now)) }
+    ensures ok { OnOk result (out.new.items ≡ out.old.items ++ offers_of_all (plain_all children.now)) }
+    ensures front { take (length out.old.items) out.new.items ≡ out.old.items }
 {
     for child in children {
         offers_of_tree(child, out)?;
