@@ -64,7 +64,7 @@ impl Model for Cores {
 }
 
 impl Cores {
-    ghost use Rattle.std.specs.Prelude.{◌≡◌, ◌≤◌, ◌+◌, true, false, IfOk, get_or, replicate};
+    ghost use Rattle.std.specs.Prelude.{◌≡◌, ◌≤◌, ◌+◌, ◌↔◌, ℕ, true, false, IfOk, get_or, replicate};
     ghost use Rattle.cores.specs.Cores.{AreCounted, Completes, finishing, idle, is_free, issuing, with_core};
 
     /// So many cores, none of which has asked anything.
@@ -89,6 +89,18 @@ impl Cores {
     {
         let number = core.0 as usize;
         number >= self.cores.len() || self.cores[number].outstanding.is_none()
+    }
+
+    /// Whether nothing of any core is outstanding.
+    pub fn all_free(&self) -> bool
+        ensures { (result ≡ true) ↔ ((core : ℕ) → is_free self.now core ≡ true) }
+    {
+        for core in self.cores.as_slice() {
+            if core.outstanding.is_some() {
+                return false;
+            }
+        }
+        true
     }
 
     /// The core issues a load or a store. Where the core isn't there, nothing changes.

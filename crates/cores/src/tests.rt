@@ -7,7 +7,7 @@ fn one_core_among_others(rt: HostRuntime) -> Result<(), Fail> {
     let mut cores = Cores::open(rt.alloc(), 2)?;
     let (first, second, absent) = (CacheId(0), CacheId(1), CacheId(2));
     for (ask, issued) in [(Ask::Load, 1), (Ask::Store(7), 2)] {
-        assert!(rt; cores.free(first));
+        assert!(rt; cores.free(first) && cores.all_free());
         if cores.free(first) {
             cores.issue(first, ask);
         }
@@ -16,6 +16,7 @@ fn one_core_among_others(rt: HostRuntime) -> Result<(), Fail> {
             (false, (issued, issued - 1))
         );
         assert_eq!(rt; (cores.free(second), cores.counts(second)), (true, (0, 0)));
+        assert!(rt; !cores.all_free());
         if !cores.free(first) {
             cores.finish(first);
         }

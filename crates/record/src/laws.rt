@@ -1,10 +1,12 @@
 //! Violations are what isn't safe.
 
-ghost use Rattle.std.specs.Prelude.{◌≡◌, ◌↔◌, ◌+◌, ℕ, List, length, take};
+ghost use Rattle.std.specs.Prelude.{◌≡◌, ◌↔◌, ◌+◌, ◌++◌, ◌∷◌, [], ℕ, List, length, take};
 ghost use Rattle.base.specs.Extent.{Extent, IsWithinLimits};
 ghost use Rattle.base.specs.declared.step.Step.{Step};
 ghost use Rattle.machine.specs.Coherence.{Safe};
 ghost use Rattle.machine.specs.Tables.{Tables, baseline};
+ghost use Rattle.monitor.specs.Scenes.{HasNone, IsViolation};
+ghost use Rattle.monitor.specs.Watching.{scene_after};
 ghost use Rattle.monitor.specs.declared.violation.Violation.{Violation};
 ghost use Rattle.record.specs.Replaying.{HasNoViolation, IsFirstViolation};
 
@@ -29,3 +31,13 @@ pub fn no_violation_under_the_own_tables()
     machine::safe();
     violations_are_what_isnt_safe();
 }
+
+/// Where no step has a violation, one step more has the first one if it has any.
+pub fn one_step_more_may_have_the_first()
+    ensures none { (shape : Extent) (tables : Tables) (opening : List ℕ) (steps : List Step) (step : Step) →
+        HasNoViolation shape tables opening steps → HasNone (scene_after shape tables opening steps step) →
+        HasNoViolation shape tables opening (steps ++ step ∷ []) }
+    ensures first { (shape : Extent) (tables : Tables) (opening : List ℕ) (steps : List Step) (step : Step) (violation : Violation) →
+        HasNoViolation shape tables opening steps → IsViolation (scene_after shape tables opening steps step) violation →
+        IsFirstViolation shape tables opening (steps ++ step ∷ []) (length steps) violation }
+{}

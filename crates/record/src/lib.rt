@@ -15,7 +15,10 @@ mod spelling;
 mod writing;
 
 pub use fault::{ReadFault, ReadKind};
-pub use laws::{no_violation_under_the_own_tables, violations_are_what_isnt_safe};
+pub use laws::{
+    no_violation_under_the_own_tables, one_step_more_may_have_the_first,
+    violations_are_what_isnt_safe,
+};
 pub use recording::{Entry, MOST_ENTRIES, PushFault, Recording};
 pub use replaying::{ReplayFault, Replayed, replay};
 pub use writing::WriteFault;

@@ -30,3 +30,8 @@ offers_from tables state cores i (ask ∷ asks) = (if can_be_put tables state co
 abbrev pub choices_of : Tables → State → List Core → Tree → List Choice
 choices_of tables state cores tree =
     if state.broken then [] else (offers_from tables state cores 0 (offers tree) ++ map Deliver (enabled_steps tables state))
+
+-- the step that a choice makes
+abbrev pub chosen_step : Choice → Step
+chosen_step (Offer i ask) = step_of ask
+chosen_step (Deliver s) = s

@@ -7,6 +7,7 @@ use base::{CoreAsk, NoMemory, Step};
 use cores::Cores;
 use scenario::Scenario;
 use std::alloc::{Allocator, Global};
+use std::marker::Model;
 use world::World;
 
 /// One thing that can happen next.
@@ -30,15 +31,92 @@ pub fn choices<A: Allocator>(
 ) -> Result<Vec<Choice>, NoMemory>
     ensures { IfOk result (λ choices. choices.items ≡ choices_of world.now.tables world.now.state cores.now (plain scenario.now)) }
 {
-    let mut choices = Vec::new(alloc);
-    if world.broken() {
-        return Ok(choices);
+    let mut menu = Menu::new(alloc);
+    menu.fill(world, cores, scenario)?;
+    Ok(menu.choices)
+}
+
+/// A list of choices that is made anew for each moment, in memory that is used again.
+#[derive(Drop)]
+pub struct Menu {
+    offers: Vec<CoreAsk>,
+    deliveries: Vec<Step>,
+    choices: Vec<Choice>,
+}
+
+impl Model for Menu {
+    ghost use Rattle.std.specs.Prelude.{List};
+    ghost use Rattle.schedule.specs.declared.choosing.Choice as spec;
+
+    ghost Value = { List spec.Choice };
+
+    ghost view = { λ m. m.choices.items };
+}
+
+impl Menu {
+    ghost use Rattle.std.specs.Prelude.{◌≡◌, [], false, OnErr, OnOk};
+    ghost use Rattle.scenario.specs.Tree.{plain};
+    ghost use Rattle.schedule.specs.Choices.{choices_of};
+
+    /// A menu without choices.
+    pub fn new(alloc: Global) -> Menu
+        ensures { result ≡ [] }
+    {
+        Menu {
+            offers: Vec::new(alloc),
+            deliveries: Vec::new(alloc),
+            choices: Vec::new(alloc),
+        }
     }
-    let mut offers = Vec::new(alloc);
-    scenario.offers(&mut offers)?;
-    push_offers(world, cores, offers.as_slice(), &mut choices)?;
-    push_deliveries(world.enabled(alloc)?.as_slice(), &mut choices)?;
-    Ok(choices)
+
+    /// Lists all that can happen next, as [`choices`] does. Where memory is refused the menu is empty.
+    pub fn fill<A: Allocator>(
+        &mut self,
+        world: &World,
+        cores: &Cores,
+        scenario: &Scenario<A>,
+    ) -> Result<(), NoMemory>
+        ensures ok { OnOk result (self.new ≡ choices_of world.now.tables world.now.state cores.now (plain scenario.now)) }
+        ensures err { OnErr result (self.new ≡ []) }
+    {
+        self.choices.clear();
+        if world.broken() {
+            return Ok(());
+        }
+        match self.list(world, cores, scenario) {
+            Ok(()) => Ok(()),
+            Err(refused) => {
+                self.choices.clear();
+                Err(refused)
+            }
+        }
+    }
+
+    /// The choices, in order.
+    pub fn choices(&self) -> &[Choice]
+        ensures { result.now ≡ self.now }
+    {
+        self.choices.as_slice()
+    }
+
+    /// Lists what can happen next in a world that isn't broken.
+    fn list<A: Allocator>(
+        &mut self,
+        world: &World,
+        cores: &Cores,
+        scenario: &Scenario<A>,
+    ) -> Result<(), NoMemory>
+        requires none { self.old ≡ [] }
+        requires sound { world.now.state.broken ≡ false }
+        ensures { OnOk result (self.new ≡ choices_of world.now.tables world.now.state cores.now (plain scenario.now)) }
+    {
+        self.offers.clear();
+        scenario.offers(&mut self.offers)?;
+        push_offers(world, cores, self.offers.as_slice(), &mut self.choices)?;
+        world.list_enabled(&mut self.deliveries)?;
+        push_deliveries(self.deliveries.as_slice(), &mut self.choices)?;
+        Ok(())
+    }
 }
 
 fn push_offers(
@@ -66,14 +144,35 @@ fn push_deliveries(steps: &[Step], choices: &mut Vec<Choice>) -> Result<(), NoMe
     Ok(())
 }
 
+impl Choice {
+    ghost use Rattle.std.specs.Prelude.{◌≡◌};
+    ghost use Rattle.schedule.specs.Choices.{chosen_step};
+
+    /// The step that this choice makes.
+    pub fn step(self) -> Step
+        ensures { result ≡ chosen_step self }
+    {
+        match self {
+            Choice::Offer(_, ask) => step_of(ask),
+            Choice::Deliver(step) => step,
+        }
+    }
+}
+
+/// The step of putting the ask to its core's cache.
+fn step_of(ask: CoreAsk) -> Step
+    ensures { result ≡ step_of ask }
+{
+    Step::Ask {
+        cache: ask.core,
+        block: ask.block,
+        ask: ask.ask,
+    }
+}
+
 /// Whether the ask can be put now: its core is free, and its step wouldn't be held.
 fn can_be_put(world: &World, cores: &Cores, ask: CoreAsk) -> bool
     ensures { result ≡ can_be_put world.now.tables world.now.state cores.now ask }
 {
-    let step = Step::Ask {
-        cache: ask.core,
-        block: ask.block,
-        ask: ask.ask,
-    };
-    cores.free(ask.core) && !world.held(step)
+    cores.free(ask.core) && !world.held(step_of(ask))
 }

@@ -1,5 +1,5 @@
 ghost use Rattle.std.specs.Prelude.{◌≡◌, ◌<◌, ◌^◌, ◌++◌, OnOk, length};
-ghost use Rattle.world.specs.Enabled.{of_each, requests_in, heads_in, responses_in};
+ghost use Rattle.world.specs.Enabled.{all_enabled, of_each, requests_in, heads_in, responses_in};
 ghost use Rattle.world.specs.View.{states};
 
 use crate::block::Block;
@@ -9,7 +9,7 @@ use base::{BlockId, NoMemory, Step};
 use std::alloc::Global;
 
 impl World {
-    ghost use Rattle.std.specs.Prelude.{◌≡◌, IfOk};
+    ghost use Rattle.std.specs.Prelude.{◌≡◌, [], IfOk, OnErr, OnOk};
     ghost use Rattle.world.specs.Enabled.{enabled_steps};
 
     /// The deliveries that are there and wouldn't be held: the requests by block and place, then
@@ -19,16 +19,39 @@ impl World {
         ensures { IfOk result (λ steps. steps.items ≡ enabled_steps self.now.tables self.now.state) }
     {
         let mut steps = Vec::new(alloc);
-        if self.met_blank {
-            return Ok(steps);
-        }
-        let _limit = self.shape.blocks();
-        let blocks = self.blocks.as_slice();
-        list_requests(blocks, &self.tables, &mut steps)?;
-        list_heads(blocks, &self.tables, &mut steps)?;
-        list_responses(blocks, &self.tables, &mut steps)?;
+        self.list_enabled(&mut steps)?;
         Ok(steps)
     }
+
+    /// Lists them in place of what the list holds, whose memory is used again. Where memory is
+    /// refused the list is empty.
+    pub fn list_enabled(&self, steps: &mut Vec<Step>) -> Result<(), NoMemory>
+        ensures ok { OnOk result (steps.new.items ≡ enabled_steps self.now.tables self.now.state) }
+        ensures err { OnErr result (steps.new.items ≡ []) }
+    {
+        steps.clear();
+        if self.met_blank {
+            return Ok(());
+        }
+        let _limit = self.shape.blocks();
+        match list_all(self.blocks.as_slice(), &self.tables, steps) {
+            Ok(()) => Ok(()),
+            Err(refused) => {
+                steps.clear();
+                Err(refused)
+            }
+        }
+    }
+}
+
+fn list_all(blocks: &[Block], tables: &Tables, steps: &mut Vec<Step>) -> Result<(), NoMemory>
+    requires { length blocks.now < 2 ^ 32 }
+    ensures { OnOk result (steps.new.items ≡ steps.old.items ++ all_enabled tables.now (states blocks.now)) }
+{
+    list_requests(blocks, tables, steps)?;
+    list_heads(blocks, tables, steps)?;
+    list_responses(blocks, tables, steps)?;
+    Ok(())
 }
 
 fn list_requests(blocks: &[Block], tables: &Tables, steps: &mut Vec<Step>) -> Result<(), NoMemory>
