@@ -1,0 +1,5 @@
+pub mod Terms
+pub mod Moments
+pub mod Trial
+pub mod Answering
+pub mod Going

@@ -1,0 +1,55 @@
+-- How a trial ends, and what a trial and a batch of them are.
+use Rattle.std.specs.Prelude.{◌≡◌, ◌≢◌, ◌≤◌, ◌+◌, ℕ, true, List, [], Some, length, slice_get}
+use Rattle.base.specs.declared.step.Step.{Step}
+use Rattle.cores.specs.Cores.{is_free}
+use Rattle.scenario.specs.Tree.{Tree}
+use Rattle.scenario.specs.Taking.{offers}
+use Rattle.world.specs.Looks.{all_quiet}
+use Rattle.record.specs.Kept.{Kept, steps_of}
+use Rattle.record.specs.Replaying.{HasNoViolation, IsFirstViolation}
+use Rattle.trials.specs.declared.verdict.Verdict.{Verdict}
+use Rattle.trials.specs.declared.verdict.Verdict.TheVariants.{Quiet, Cut, Stuck, Broke}
+use Rattle.trials.specs.declared.verdict.TrialResult.{TrialResult}
+use Rattle.trials.specs.Terms.{Terms}
+use Rattle.trials.specs.Moments.{Moment, IsPath, choices_at}
+
+-- nothing is offered, no message is on its way, and no core waits
+pub record IsAtRest (m : Moment) : Type 0 where
+  pub nothing_offered : offers m.rest ≡ []
+  pub quiet : all_quiet m.state.blocks ≡ true
+  pub free : (core : ℕ) → is_free m.cores core ≡ true
+
+-- none of these steps has a violation
+abbrev pub AreClean : Terms → List Step → Type 0
+AreClean terms steps = HasNoViolation terms.shape terms.tables terms.opening steps
+
+-- the verdict on these steps, where they led to this moment: the last step broke; or there is no choice, at rest or not; or the limit is reached
+abbrev pub IsVerdict : Terms → List Step → Moment → Verdict → Type 0
+IsVerdict terms steps last (Broke violation) = (number : ℕ) × (length steps ≡ number + 1) × IsFirstViolation terms.shape terms.tables terms.opening steps number violation
+IsVerdict terms steps last Quiet = AreClean terms steps × (choices_at terms.tables last ≡ []) × IsAtRest last
+IsVerdict terms steps last Stuck = AreClean terms steps × (choices_at terms.tables last ≡ []) × ¬ IsAtRest last
+IsVerdict terms steps last Cut = AreClean terms steps × (choices_at terms.tables last ≢ []) × (length steps ≡ terms.limit)
+
+-- this recording and this verdict are those of the trial of this number: a path of at most as many steps as the limit, and what ends it
+pub record IsTrial (terms : Terms) (tree : Tree) (number : ℕ) (recording : Kept) (verdict : Verdict) : Type 0 where
+  pub shape : recording.shape ≡ terms.shape
+  pub tables : recording.tables ≡ terms.tables
+  pub opening : recording.opening ≡ terms.opening
+  pub moments : List Moment
+  pub last : Moment
+  pub path : IsPath terms tree number moments recording.entries
+  pub at_last : slice_get moments (length recording.entries) ≡ Some last
+  pub few : length recording.entries ≤ terms.limit
+  pub ends : IsVerdict terms (steps_of recording) last verdict
+
+-- this is the result of the trial of this number
+pub record IsResult (terms : Terms) (tree : Tree) (number : ℕ) (result : TrialResult) : Type 0 where
+  pub recording : Kept
+  pub trial : IsTrial terms tree number recording result.verdict
+  pub numbered : result.number ≡ number
+  pub steps : result.steps ≡ length recording.entries
+
+-- these are the results of the first n trials, in order
+pub record AreResults (terms : Terms) (tree : Tree) (n : ℕ) (results : List TrialResult) : Type 0 where
+  pub count : length results ≡ n
+  pub each : (number : ℕ) (result : TrialResult) → slice_get results number ≡ Some result → IsResult terms tree number result

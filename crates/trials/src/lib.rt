@@ -1,0 +1,20 @@
+//! Trials: runs of a world under a scenario, in which dice choose what happens next, and batches of them.
+#![tactic(auto)]
+
+mod batches;
+mod course;
+mod going;
+mod laws;
+mod making;
+mod noting;
+mod setup;
+mod verdict;
+
+pub use batches::{BatchFault, MOST_TRIALS, batch};
+pub use laws::{
+    cores_are_answered_in_turn, one_trial_a_number, trials_break_where_they_arent_safe,
+    trials_under_the_own_tables,
+};
+pub use making::{TrialRun, trial};
+pub use setup::{MOST_STEPS, Setup, SetupFault};
+pub use verdict::{TrialResult, Verdict};
