@@ -1,5 +1,5 @@
 -- What a trial's verdict says of its steps.
-use Rattle.std.proofs.Common.{◌≡◌, ◌+◌, ℕ, List, take, refl, sym, ap, ◌∙◌, subst, arith}
+use Rattle.std.proofs.Common.{◌≡◌, ◌≢◌, ◌+◌, ℕ, List, take, refl, sym, ap, ◌∙◌, subst, arith}
 use Rattle.std.proofs.lemmas.List.{take_all}
 use Rattle.base.specs.Extent.{Extent}
 use Rattle.base.specs.declared.step.Step.{Step}
@@ -13,7 +13,7 @@ use Rattle.scenario.specs.Tree.{Tree}
 use Rattle.schedule.specs.Words.{word}
 use Rattle.trials.specs.Terms.{Terms}
 use Rattle.trials.specs.Moments.{Moment, first_moment}
-use Rattle.trials.specs.Trial.{IsTrial, IsVerdict, AreClean}
+use Rattle.trials.specs.Trial.{IsTrial, IsVerdict, IsSound, HasBroken, AreClean}
 use Rattle.trials.specs.declared.verdict.Verdict.{Verdict}
 use Rattle.trials.specs.declared.verdict.Verdict.TheVariants.{Quiet, Cut, Stuck, Broke}
 use Rattle.trials.proofs.Walks.{Walks, path-walks, walk-outcomes, walk-state}
@@ -42,10 +42,24 @@ pub broke-unsafe : (terms : Terms) (steps : List Step) (last : Moment) (violatio
 broke-unsafe terms steps last violation behind h safe =
     behind h.0 h.2 (subst (λ (l : List Step). Safe terms.shape terms.tables terms.opening l) (sym (take_all (h.0 + 1) steps (let e = h.1 in omega (arith, e)))) safe)
 
+-- which violation it is
+pub broken-by : (verdict : Verdict) → HasBroken verdict → (violation : Violation) × (verdict ≡ Broke violation)
+broken-by (Broke violation) h = (violation, refl)
+broken-by Quiet h = absurd h
+broken-by Stuck h = absurd h
+broken-by Cut h = absurd h
+
 -- one that isn't safe broke
 pub unsafe-broke : (terms : Terms) (steps : List Step) (last : Moment) (verdict : Verdict) → (AreClean terms steps → Safe terms.shape terms.tables terms.opening steps)
-    → IsVerdict terms steps last verdict → ¬ Safe terms.shape terms.tables terms.opening steps → (violation : Violation) × (verdict ≡ Broke violation)
-unsafe-broke terms steps last (Broke violation) safe h not = (violation, refl)
+    → IsVerdict terms steps last verdict → ¬ Safe terms.shape terms.tables terms.opening steps → HasBroken verdict
+unsafe-broke terms steps last (Broke violation) safe h not = tt
 unsafe-broke terms steps last Quiet safe h not = absurd (not (safe h.0))
 unsafe-broke terms steps last Stuck safe h not = absurd (not (safe h.0))
 unsafe-broke terms steps last Cut safe h not = absurd (not (safe h.0))
+
+-- a verdict that is neither a violation nor stuck
+pub sound : (verdict : Verdict) → ¬ HasBroken verdict → verdict ≢ Stuck → IsSound verdict
+sound (Broke violation) unbroken unstuck = absurd (unbroken tt)
+sound Stuck unbroken unstuck = absurd (unstuck refl)
+sound Quiet unbroken unstuck = tt
+sound Cut unbroken unstuck = tt

@@ -1,6 +1,6 @@
 -- What trials are made under.
 use Rattle.std.specs.Prelude.{◌≡◌, ◌≤◌, ℕ, List, length}
-use Rattle.base.specs.Extent.{Extent}
+use Rattle.base.specs.Extent.{Extent, IsWithinLimits}
 use Rattle.machine.specs.Tables.{Tables}
 
 -- the shape of the world, its tables and opening values, the seed of the dice, and the most steps of a trial
@@ -11,7 +11,8 @@ pub record Terms : Type 0 where
   pub seed : ℕ
   pub limit : ℕ
 
--- one opening value for each block, and at most a million steps
+-- a shape within the limits, one opening value for each block, and at most a million steps
 pub record AreLawful (terms : Terms) : Type 0 where
+  pub within : IsWithinLimits terms.shape
   pub each : length terms.opening ≡ terms.shape.blocks
   pub few : terms.limit ≤ 1000000

@@ -53,3 +53,19 @@ pub record IsResult (terms : Terms) (tree : Tree) (number : ℕ) (result : Trial
 pub record AreResults (terms : Terms) (tree : Tree) (n : ℕ) (results : List TrialResult) : Type 0 where
   pub count : length results ≡ n
   pub each : (number : ℕ) (result : TrialResult) → slice_get results number ≡ Some result → IsResult terms tree number result
+
+-- the verdicts that a protocol ought to have: no violation, and nothing that waits for ever
+abbrev pub IsSound : Verdict → Type 0
+IsSound Quiet = Unit {0}
+IsSound Cut = Unit {0}
+IsSound Stuck = ⊥
+IsSound (Broke violation) = ⊥
+
+-- the trial broke
+abbrev pub HasBroken : Verdict → Type 0
+HasBroken (Broke violation) = Unit {0}
+HasBroken other = ⊥
+
+-- each of these verdicts is such
+abbrev pub AreSound : List TrialResult → Type 0
+AreSound results = (number : ℕ) (result : TrialResult) → slice_get results number ≡ Some result → IsSound result.verdict

@@ -1,6 +1,7 @@
 ghost use Rattle.std.specs.Prelude.{◌≡◌, ◌<◌, ◌↔◌, IfOk, IsErrOf};
+ghost use Rattle.machine.specs.Tables.{baseline};
 ghost use Rattle.scenario.specs.Tree.{plain};
-ghost use Rattle.trials.specs.Trial.{AreResults};
+ghost use Rattle.trials.specs.Trial.{AreResults, AreSound};
 
 use crate::making::trial;
 use crate::setup::Setup;
@@ -35,7 +36,8 @@ impl From<NoMemory> for BatchFault {
     }
 }
 
-/// The results of the trials of numbers 0 to `n` - 1, in order. It keeps no recording.
+/// The results of the trials of numbers 0 to `n` - 1, in order. It keeps no recording. Under the protocol's own tables
+/// none of them broke or is stuck.
 ///
 /// It is refused `TooMany` exactly where `n` is over 1,000,000.
 pub fn batch<A: Allocator>(
@@ -45,6 +47,7 @@ pub fn batch<A: Allocator>(
     n: u32,
 ) -> Result<Vec<TrialResult>, BatchFault>
     ensures ok { IfOk result (λ results. AreResults setup.now (plain scenario.now) n results.items) }
+    ensures sound { setup.now.tables ≡ baseline → IfOk result (λ results. AreSound results.items) }
     ensures too_many { IsErrOf result BatchFault.TooMany ↔ (1000000 < n) }
 {
     if n > MOST_TRIALS {

@@ -1,19 +1,16 @@
 //! What holds of every trial, by what a trial is.
 
-ghost use Rattle.std.specs.Prelude.{◌≡◌, ◌≢◌, ◌↔◌, ℕ, List};
-ghost use Rattle.base.specs.Extent.{IsWithinLimits};
+ghost use Rattle.std.specs.Prelude.{◌≡◌, ◌↔◌, ℕ, List};
 ghost use Rattle.machine.specs.Coherence.{Safe};
 ghost use Rattle.machine.specs.Tables.{baseline};
-ghost use Rattle.monitor.specs.declared.violation.Violation.{Violation};
 ghost use Rattle.record.specs.Kept.{Kept, IsLegal, steps_of};
 ghost use Rattle.record.specs.declared.recording.Entry.{Entry};
 ghost use Rattle.scenario.specs.Tree.{Tree};
 ghost use Rattle.trials.specs.Answering.{AnswersInTurn, AreSequential};
 ghost use Rattle.trials.specs.Moments.{Moment, IsPath};
 ghost use Rattle.trials.specs.Terms.{Terms, AreLawful};
-ghost use Rattle.trials.specs.Trial.{IsTrial};
+ghost use Rattle.trials.specs.Trial.{HasBroken, IsSound, IsTrial};
 ghost use Rattle.trials.specs.declared.verdict.Verdict.{Verdict};
-ghost use Rattle.trials.specs.declared.verdict.Verdict.TheVariants.{Broke, Stuck};
 
 /// Whatever the tables, each core's completions answer its loads and stores in its order.
 pub fn cores_are_answered_in_turn()
@@ -27,21 +24,18 @@ pub fn trials_break_where_they_arent_safe()
         IsTrial terms tree number recording verdict → IsLegal recording }
     ensures broke { (terms : Terms) (tree : Tree) (number : ℕ) (recording : Kept) (verdict : Verdict) →
         IsTrial terms tree number recording verdict →
-        ((violation : Violation) × (verdict ≡ Broke violation)) ↔ (¬ Safe terms.shape terms.tables terms.opening (steps_of recording)) }
+        HasBroken verdict ↔ (¬ Safe terms.shape terms.tables terms.opening (steps_of recording)) }
 {
     record::violations_are_what_isnt_safe();
 }
 
 /// Under the protocol's own tables no trial breaks or is stuck, and the completions of each are sequentially consistent.
 pub fn trials_under_the_own_tables()
-    ensures unbroken { (terms : Terms) (tree : Tree) (number : ℕ) (recording : Kept) (verdict : Verdict) →
-        terms.tables ≡ baseline → IsWithinLimits terms.shape → AreLawful terms → IsTrial terms tree number recording verdict →
-        (violation : Violation) → verdict ≢ Broke violation }
-    ensures unstuck { (terms : Terms) (tree : Tree) (number : ℕ) (recording : Kept) (verdict : Verdict) →
-        terms.tables ≡ baseline → IsWithinLimits terms.shape → AreLawful terms → IsTrial terms tree number recording verdict →
-        verdict ≢ Stuck }
+    ensures sound { (terms : Terms) (tree : Tree) (number : ℕ) (recording : Kept) (verdict : Verdict) →
+        terms.tables ≡ baseline → AreLawful terms → IsTrial terms tree number recording verdict →
+        IsSound verdict }
     ensures sequential { (terms : Terms) (tree : Tree) (number : ℕ) (recording : Kept) (verdict : Verdict) →
-        terms.tables ≡ baseline → IsWithinLimits terms.shape → AreLawful terms → IsTrial terms tree number recording verdict →
+        terms.tables ≡ baseline → AreLawful terms → IsTrial terms tree number recording verdict →
         AreSequential terms.opening recording.entries }
 {
     machine::safe();

@@ -1,8 +1,15 @@
-ghost use Rattle.std.specs.Prelude.{◌≡◌, IfOk, length};
+ghost use Rattle.std.specs.Prelude.{◌≡◌, ◌↔◌, IfOk, length};
+ghost use Rattle.machine.specs.Coherence.{Safe};
+ghost use Rattle.machine.specs.Tables.{baseline};
+ghost use Rattle.record.specs.Kept.{IsLegal, steps_of};
 ghost use Rattle.scenario.specs.Tree.{plain};
-ghost use Rattle.trials.specs.Trial.{IsTrial};
+ghost use Rattle.trials.specs.Answering.{AnswersInTurn, AreSequential};
+ghost use Rattle.trials.specs.Trial.{HasBroken, IsSound, IsTrial};
 
 use crate::course::Course;
+use crate::laws::{
+    cores_are_answered_in_turn, trials_break_where_they_arent_safe, trials_under_the_own_tables,
+};
 use crate::setup::Setup;
 use crate::verdict::TrialResult;
 use base::NoMemory;
@@ -22,7 +29,10 @@ pub struct TrialRun {
 /// The trial of this number: at each moment a word of the dice chooses what happens next, until a step shows a violation,
 /// nothing can happen, or the limit is reached.
 ///
-/// It takes from a copy of the scenario, in an arena of its own.
+/// It takes from a copy of the scenario, in an arena of its own. Each core has one load or store outstanding at most, and
+/// its completions answer its loads and stores in its order. The trial breaks exactly where its steps aren't safe: where
+/// a block has a writer beside another reader or writer, a blank cell is met, or a load doesn't return the latest store.
+/// Under the protocol's own tables it never breaks, is never stuck, and its completions are sequentially consistent.
 pub fn trial<A: Allocator>(
     alloc: Global,
     scenario: &Scenario<A>,
@@ -32,7 +42,15 @@ pub fn trial<A: Allocator>(
     ensures trial { IfOk result (λ made. IsTrial setup.now (plain scenario.now) number made.recording made.result.verdict) }
     ensures number { IfOk result (λ made. made.result.number ≡ number) }
     ensures steps { IfOk result (λ made. made.result.steps ≡ length made.recording.entries) }
+    ensures legal { IfOk result (λ made. IsLegal made.recording) }
+    ensures in_turn { IfOk result (λ made. AnswersInTurn made.recording.entries) }
+    ensures broke { IfOk result (λ made. HasBroken made.result.verdict ↔ (¬ Safe setup.now.shape setup.now.tables setup.now.opening (steps_of made.recording))) }
+    ensures sound { setup.now.tables ≡ baseline → IfOk result (λ made. IsSound made.result.verdict) }
+    ensures sequential { setup.now.tables ≡ baseline → IfOk result (λ made. AreSequential setup.now.opening made.recording.entries) }
 {
+    cores_are_answered_in_turn();
+    trials_break_where_they_arent_safe();
+    trials_under_the_own_tables();
     let arena = Bump::new(alloc);
     let mut course = Course::open(alloc, &arena, scenario, setup, number)?;
     let verdict = course.run(alloc, &arena, setup.limit())?;

@@ -40,6 +40,7 @@ impl Model for Setup {
 
 impl Setup {
     ghost use Rattle.std.specs.Prelude.{◌≡◌, ◌≢◌, ◌≤◌, ◌<◌, ◌↔◌, IfOk, IsErrOf, length};
+    ghost use Rattle.trials.specs.Terms.{AreLawful};
 
     /// It is refused `OpeningLength` exactly where there is another number of values than blocks, and else `OverLimit`
     /// exactly where the limit is over 1,000,000.
@@ -101,7 +102,7 @@ impl Setup {
     /// How many steps a trial may make.
     pub fn limit(&self) -> u32
         ensures value { result ≡ self.now.limit }
-        ensures few { result ≤ 1000000 }
+        ensures lawful { AreLawful self.now }
     {
         self.limit
     }

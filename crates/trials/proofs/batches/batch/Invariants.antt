@@ -1,7 +1,9 @@
-use Rattle.std.proofs.Common.{◌≤◌}
+use Rattle.std.proofs.Common.{◌≡◌, ◌≤◌}
+use Rattle.machine.specs.Tables.{baseline}
 use Rattle.scenario.specs.Tree.{plain}
-use Rattle.trials.specs.Trial.{AreResults}
+use Rattle.trials.specs.Trial.{AreResults, AreSound}
 use Rattle.trials.proofs.batches.batch.Given as goal
 
 abbrev pub invariant-loop-number : goal.invariant-loop-number
-invariant-loop-number g l = (l.n ≤ l.results.cap) × AreResults l.setup (plain l.scenario) l.number l.results.items
+invariant-loop-number g l =
+    (l.n ≤ l.results.cap) × AreResults l.setup (plain l.scenario) l.number l.results.items × (l.setup.tables ≡ baseline → AreSound l.results.items)

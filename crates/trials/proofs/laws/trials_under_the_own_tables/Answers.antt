@@ -8,28 +8,24 @@ use Rattle.machine.specs.Unstuck.{Unstuck}
 use Rattle.record.specs.Kept.{steps_of}
 use Rattle.trials.specs.Trial.{IsVerdict}
 use Rattle.trials.proofs.Chosen.{path-tracked}
-use Rattle.trials.proofs.Verdicts.{trial-told, trial-state}
+use Rattle.trials.proofs.Verdicts.{trial-told, trial-state, sound}
 use Rattle.trials.proofs.Rests.{at-rest, stays-whole}
 use Rattle.trials.proofs.laws.trials_under_the_own_tables.Goals as goal
 
-pub returns-clause-unbroken : goal.returns-clause-unbroken
-returns-clause-unbroken c terms tree number recording verdict own within lawful trial violation is =
-    (c.trials_break_where_they_arent_safe.ensures.broke terms tree number recording verdict trial).0 (violation, is)
-    (subst (λ (t : Tables). Safe terms.shape t terms.opening (steps_of recording)) (sym own) (c.safe.ensures terms.shape terms.opening (steps_of recording) within lawful.each))
-
-pub returns-clause-unstuck : goal.returns-clause-unstuck
-returns-clause-unstuck c terms tree number recording verdict own within lawful trial is =
-    let safe : Safe terms.shape terms.tables terms.opening (steps_of recording) = subst (λ (t : Tables). Safe terms.shape t terms.opening (steps_of recording)) (sym own) (c.safe.ensures terms.shape terms.opening (steps_of recording) within lawful.each) in
+pub returns-clause-sound : goal.returns-clause-sound
+returns-clause-sound c terms tree number recording verdict own lawful trial =
+    let safe : Safe terms.shape terms.tables terms.opening (steps_of recording) = subst (λ (t : Tables). Safe terms.shape t terms.opening (steps_of recording)) (sym own) (c.safe.ensures terms.shape terms.opening (steps_of recording) lawful.within lawful.each) in
     let unstuck : Unstuck terms.tables (state_after terms.tables (opened terms.shape terms.opening) (steps_of recording)) =
-    subst (λ (t : Tables). Unstuck t (state_after t (opened terms.shape terms.opening) (steps_of recording))) (sym own) (c.unstuck.ensures terms.shape terms.opening (steps_of recording) within lawful.each) in
+    subst (λ (t : Tables). Unstuck t (state_after t (opened terms.shape terms.opening) (steps_of recording))) (sym own) (c.unstuck.ensures terms.shape terms.opening (steps_of recording) lawful.within lawful.each) in
     let state = trial-state terms tree number recording verdict trial in
-    let ends = subst (IsVerdict terms (steps_of recording) trial.last) is trial.ends in
+    sound verdict (λ broke. (c.trials_break_where_they_arent_safe.ensures.broke terms tree number recording verdict trial).0 broke safe)
+    (λ is. let ends = subst (IsVerdict terms (steps_of recording) trial.last) is trial.ends in
     ends.2 (at-rest terms.tables trial.last (subst (Unstuck terms.tables) (sym state) unstuck) (path-tracked terms tree number trial.moments recording.entries trial.path _ trial.last trial.at_last)
-    (subst (λ (s : State). s.broken ≡ false) (sym state) (stays-whole terms.tables (opened terms.shape terms.opening) (steps_of recording) refl safe.unmet)) ends.1)
+    (subst (λ (s : State). s.broken ≡ false) (sym state) (stays-whole terms.tables (opened terms.shape terms.opening) (steps_of recording) refl safe.unmet)) ends.1))
 
 pub returns-clause-sequential : goal.returns-clause-sequential
-returns-clause-sequential c terms tree number recording verdict own within lawful trial =
-    let safe : Safe terms.shape terms.tables terms.opening (steps_of recording) = subst (λ (t : Tables). Safe terms.shape t terms.opening (steps_of recording)) (sym own) (c.safe.ensures terms.shape terms.opening (steps_of recording) within lawful.each) in
+returns-clause-sequential c terms tree number recording verdict own lawful trial =
+    let safe : Safe terms.shape terms.tables terms.opening (steps_of recording) = subst (λ (t : Tables). Safe terms.shape t terms.opening (steps_of recording)) (sym own) (c.safe.ensures terms.shape terms.opening (steps_of recording) lawful.within lawful.each) in
     record {
       in_turn = c.cores_are_answered_in_turn.ensures terms tree number trial.moments recording.entries trial.path;
       latest = subst (λ (told : List Outcome). Explained terms.opening (completions (steps_of recording) told)) (sym (trial-told terms tree number recording verdict trial)) safe.explained;
