@@ -1,6 +1,7 @@
 use base::{MOST_BLOCKS, MOST_CACHES};
 use clap::{Arg, ArgAction, Command, value_parser};
 use std::alloc::{AllocError, Global};
+use trials::{MOST_STEPS, MOST_TRIALS};
 
 fn caches<'a>(alloc: Global) -> Arg<'a> {
     Arg::new(alloc, "caches")
@@ -38,6 +39,70 @@ fn play<'a>(alloc: Global) -> Result<Command<'a>, AllocError> {
         .arg(overrides(alloc))
 }
 
+fn number_of<'a>(
+    alloc: Global,
+    name: &'a str,
+    value: &'a str,
+    help: &'a str,
+    most: i64,
+) -> Arg<'a> {
+    Arg::new(alloc, name)
+        .long(name)
+        .value_name(value)
+        .help(help)
+        .required(true)
+        .action(ArgAction::Set)
+        .value_parser(value_parser!(u32).range(0..=most))
+}
+
+fn seed<'a>(alloc: Global) -> Arg<'a> {
+    Arg::new(alloc, "seed")
+        .long("seed")
+        .value_name("S")
+        .help("The seed of the dice")
+        .required(true)
+        .action(ArgAction::Set)
+        .value_parser(value_parser!(u64))
+}
+
+fn limit<'a>(alloc: Global) -> Arg<'a> {
+    number_of(
+        alloc,
+        "limit",
+        "L",
+        "How many steps a trial may make, at most 1000000",
+        MOST_STEPS as i64,
+    )
+}
+
+fn trial<'a>(alloc: Global) -> Result<Command<'a>, AllocError> {
+    Command::new(alloc, "trial")
+        .about("Reads a scenario, makes one trial of it and prints its recording")
+        .arg(caches(alloc))?
+        .arg(blocks(alloc))?
+        .arg(overrides(alloc))?
+        .arg(seed(alloc))?
+        .arg(number_of(alloc, "number", "K", "The trial's number", u32::MAX as i64))?
+        .arg(limit(alloc))
+}
+
+fn batch<'a>(alloc: Global) -> Result<Command<'a>, AllocError> {
+    Command::new(alloc, "batch")
+        .about("Reads a scenario, makes trials of it and prints their verdicts, one a line")
+        .arg(caches(alloc))?
+        .arg(blocks(alloc))?
+        .arg(overrides(alloc))?
+        .arg(seed(alloc))?
+        .arg(number_of(
+            alloc,
+            "trials",
+            "N",
+            "How many trials are made, at most 1000000",
+            MOST_TRIALS as i64,
+        ))?
+        .arg(limit(alloc))
+}
+
 fn tables<'a>(alloc: Global) -> Result<Command<'a>, AllocError> {
     Command::new(alloc, "tables")
         .about("Prints the cells of both controller tables, one a line")
@@ -53,9 +118,11 @@ fn replay<'a>(alloc: Global) -> Command<'a> {
 /// The command line of `msi`.
 pub fn msi<'a>(alloc: Global) -> Result<Command<'a>, AllocError> {
     Command::new(alloc, "msi")
-        .about("Plays steps of a directory MSI cache-coherence protocol, and replays recordings")
+        .about("Plays, tries out and replays a directory MSI cache-coherence protocol")
         .subcommand_required(true)
         .subcommand(play(alloc)?)?
+        .subcommand(trial(alloc)?)?
+        .subcommand(batch(alloc)?)?
         .subcommand(replay(alloc))?
         .subcommand(tables(alloc)?)
 }

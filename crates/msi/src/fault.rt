@@ -1,9 +1,11 @@
 use crate::files::LoadFault;
 use base::{NoMemory, ShapeFault};
-use record::{ReadFault, ReadKind};
-use std::alloc::AllocError;
+use record::{ReadFault, ReadKind, WriteFault};
+use scenario::ScenarioFault;
+use std::alloc::{AllocError, AllocFailed};
 use std::{fmt, io};
 use thiserror::Error;
+use trials::SetupFault;
 use world::TablesFault;
 
 /// Why a command ends early. Its text is what `msi` prints on standard error.
@@ -15,9 +17,15 @@ pub enum Fault {
     /// The numbers of caches and blocks aren't a shape.
     #[error("msi: {0}")]
     Shape(ShapeFault),
+    /// The options aren't those of trials.
+    #[error("msi: {0}")]
+    Setup(SetupFault),
     /// The overrides of the tables are refused.
     #[error("msi: tables refused {0}")]
     Tables(Refusal),
+    /// The scenario is refused.
+    #[error("msi: scenario refused {0}")]
+    Scenario(ScenarioRefusal),
     /// The recording is refused at a line, counted from 1.
     #[error("msi: recording line {0} refused {1}")]
     Recording(u64, LineRefusal),
@@ -33,7 +41,12 @@ impl Fault {
     /// The exit status: 2 for bad input, 3 for device and memory.
     pub fn status(&self) -> u8 {
         match self {
-            Fault::NotAStep(_) | Fault::Shape(_) | Fault::Tables(_) | Fault::Recording(..) => 2,
+            Fault::NotAStep(_)
+            | Fault::Shape(_)
+            | Fault::Setup(_)
+            | Fault::Tables(_)
+            | Fault::Scenario(_)
+            | Fault::Recording(..) => 2,
             Fault::Device | Fault::NoMemory => 3,
         }
     }
@@ -53,6 +66,24 @@ impl fmt::Display for Refusal {
             TablesFault::UnknownAction => write!(f, "5 UnknownAction"),
             TablesFault::SameCellTwice => write!(f, "6 SameCellTwice"),
             TablesFault::NoMemory => write!(f, "7 NoMemory"),
+        }
+    }
+}
+
+/// A refusal of a scenario, which shows its number and its name.
+#[derive(Clone, Copy, Debug, PartialEq, Eq)]
+pub struct ScenarioRefusal(ScenarioFault);
+
+impl fmt::Display for ScenarioRefusal {
+    fn fmt<W: fmt::Write>(&self, f: &mut fmt::Formatter<W>) -> fmt::Result {
+        match self.0 {
+            ScenarioFault::NotJson => write!(f, "1 NotJson"),
+            ScenarioFault::BadShape => write!(f, "2 BadShape"),
+            ScenarioFault::EmptyAny => write!(f, "3 EmptyAny"),
+            ScenarioFault::TooDeep => write!(f, "4 TooDeep"),
+            ScenarioFault::TooLong => write!(f, "5 TooLong"),
+            ScenarioFault::OutOfShape => write!(f, "6 OutOfShape"),
+            ScenarioFault::NoMemory => write!(f, "7 NoMemory"),
         }
     }
 }
@@ -92,12 +123,33 @@ impl From<ShapeFault> for Fault {
     }
 }
 
+impl From<SetupFault> for Fault {
+    fn from(fault: SetupFault) -> Fault {
+        Fault::Setup(fault)
+    }
+}
+
 impl From<TablesFault> for Fault {
     fn from(fault: TablesFault) -> Fault {
         match fault {
             TablesFault::NoMemory => Fault::NoMemory,
             fault => Fault::Tables(Refusal(fault)),
         }
+    }
+}
+
+impl From<ScenarioFault> for Fault {
+    fn from(fault: ScenarioFault) -> Fault {
+        match fault {
+            ScenarioFault::NoMemory => Fault::NoMemory,
+            fault => Fault::Scenario(ScenarioRefusal(fault)),
+        }
+    }
+}
+
+impl From<WriteFault> for Fault {
+    fn from(_fault: WriteFault) -> Fault {
+        Fault::Device
     }
 }
 
@@ -121,6 +173,12 @@ impl From<io::Error> for Fault {
 
 impl From<AllocError> for Fault {
     fn from(_refused: AllocError) -> Fault {
+        Fault::NoMemory
+    }
+}
+
+impl<T: Drop> From<AllocFailed<T>> for Fault {
+    fn from(_refused: AllocFailed<T>) -> Fault {
         Fault::NoMemory
     }
 }

@@ -1,4 +1,4 @@
-//! `msi`: plays steps of a directory MSI protocol, and replays recordings of them.
+//! `msi`: plays, tries out and replays a directory MSI protocol.
 #![tactic(auto)]
 
 mod commands;
@@ -10,6 +10,7 @@ mod play;
 mod replay;
 mod serve;
 mod tables;
+mod trying;
 
 use files::Disk;
 use serve::serve;

@@ -5,11 +5,13 @@ use crate::finding::Finding;
 use crate::play::play;
 use crate::replay::replay;
 use crate::tables::print_tables;
+use crate::trying::{batch, one_trial};
 use base::Shape;
 use clap::ArgMatches;
 use clap::error::ErrorKind;
 use std::alloc::Global;
 use std::io::{Read, Write};
+use trials::Setup;
 use world::Tables;
 
 /// Serves the words of a command line over these files and streams, and answers the exit status:
@@ -43,7 +45,7 @@ pub fn serve<F: Files, I: Read + Drop, O: Write + Drop, E: Write + Drop>(
             return 0;
         }
     };
-    match dispatch(alloc, &matches, files, input, output) {
+    match dispatch(alloc, &matches, files, input, output, &mut errors) {
         Ok(finding) => finding.status(),
         Err(fault) => refuse(&fault, &mut errors),
     }
@@ -55,18 +57,34 @@ fn refuse<E: Write>(fault: &Fault, errors: &mut E) -> u8 {
     fault.status()
 }
 
-fn dispatch<F: Files, I: Read + Drop, O: Write + Drop>(
+fn dispatch<F: Files, I: Read + Drop, O: Write + Drop, E: Write>(
     alloc: Global,
     matches: &ArgMatches<'_>,
     files: &mut F,
     input: I,
     output: O,
+    errors: &mut E,
 ) -> Result<Finding, Fault> {
     match matches.subcommand() {
         Some(("play", options)) => {
             let shape = shape(options)?;
             let tables = tables(alloc, options, files)?;
             play(alloc, shape, tables, input, output)
+        }
+        Some(("trial", options)) => {
+            let setup = setup(alloc, options, files)?;
+            one_trial(
+                alloc,
+                &setup,
+                number(options, "number"),
+                input,
+                output,
+                errors,
+            )
+        }
+        Some(("batch", options)) => {
+            let setup = setup(alloc, options, files)?;
+            batch(alloc, &setup, number(options, "trials"), input, output)
         }
         Some(("replay", _)) => replay(alloc, input, output),
         Some(("tables", options)) => {
@@ -79,6 +97,16 @@ fn dispatch<F: Files, I: Read + Drop, O: Write + Drop>(
 
 fn shape(options: &ArgMatches<'_>) -> Result<Shape, Fault> {
     Ok(Shape::new(number(options, "caches"), number(options, "blocks"))?)
+}
+
+/// What trials are made under. Every block opens at 0.
+fn setup<F: Files>(alloc: Global, options: &ArgMatches<'_>, files: &mut F) -> Result<Setup, Fault> {
+    let shape = shape(options)?;
+    let tables = tables(alloc, options, files)?;
+    let opening = vec![in alloc; 0; shape.blocks() as usize]?;
+    let seed = options.get_one::<u64>("seed").unwrap_or(0);
+    let limit = number(options, "limit");
+    Ok(Setup::new(shape, tables, opening, seed, limit)?)
 }
 
 /// The protocol's own tables, with the cells of the named file laid over them where one is named.

@@ -9,6 +9,7 @@ use std::test::Fail;
 mod broken;
 mod cells;
 mod rows;
+mod trying;
 
 use broken::BROKEN;
 use cells::CELLS;

@@ -2,4 +2,5 @@ pub mod Terms
 pub mod Moments
 pub mod Trial
 pub mod Answering
+pub mod Names
 pub mod Going

@@ -1,4 +1,5 @@
 use monitor::Violation;
+use std::fmt;
 
 /// How a trial ended.
 #[derive(Clone, Copy, Debug, PartialEq, Eq)]
@@ -13,7 +14,24 @@ pub enum Verdict {
     Broke(Violation),
 }
 
-/// What came of one trial.
+impl Verdict {
+    ghost use Rattle.std.specs.Prelude.{◌≡◌};
+    ghost use Rattle.trials.specs.Names.{verdict_name};
+
+    /// How the verdict is spelled in texts, without its violation.
+    pub fn name(self) -> &'static str
+        ensures { result.now ≡ verdict_name self }
+    {
+        match self {
+            Verdict::Quiet => "quiet",
+            Verdict::Cut => "cut",
+            Verdict::Stuck => "stuck",
+            Verdict::Broke(_) => "broke",
+        }
+    }
+}
+
+/// What came of one trial. Its text is the verdict with the number of steps, and the violation where there is one.
 #[derive(Clone, Copy, Debug, PartialEq, Eq)]
 pub struct TrialResult {
     /// The trial's number, which is the stream that its dice draw from.
@@ -21,4 +39,14 @@ pub struct TrialResult {
     pub verdict: Verdict,
     /// How many steps it made.
     pub steps: u32,
+}
+
+impl fmt::Display for TrialResult {
+    fn fmt<W: fmt::Write>(&self, f: &mut fmt::Formatter<W>) -> fmt::Result {
+        write!(f, "{} {}", self.verdict.name(), self.steps)?;
+        match self.verdict {
+            Verdict::Broke(violation) => write!(f, " {violation}"),
+            _ => Ok(()),
+        }
+    }
 }
