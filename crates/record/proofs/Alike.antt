@@ -31,7 +31,7 @@ cache_state-named cache_state.MiA = refl
 cache_state-named cache_state.SiA = refl
 cache_state-named cache_state.IiA = refl
 
-cache_state-same : (x y : CacheState) → cache.state_name x ≡ cache.state_name y → x ≡ y
+pub cache_state-same : (x y : CacheState) → cache.state_name x ≡ cache.state_name y → x ≡ y
 cache_state-same x y e = let same : Some x ≡ Some y = sym (cache_state-named x) ∙ ap cache.state_named e ∙ cache_state-named y in cc
 
 cache_event-named : (x : CacheEvent) → cache.event_named (cache.event_name x) ≡ Some x
@@ -48,7 +48,7 @@ cache_event-named cache_event.DataOwner = refl
 cache_event-named cache_event.InvAck = refl
 cache_event-named cache_event.LastInvAck = refl
 
-cache_event-same : (x y : CacheEvent) → cache.event_name x ≡ cache.event_name y → x ≡ y
+pub cache_event-same : (x y : CacheEvent) → cache.event_name x ≡ cache.event_name y → x ≡ y
 cache_event-same x y e = let same : Some x ≡ Some y = sym (cache_event-named x) ∙ ap cache.event_named e ∙ cache_event-named y in cc
 
 directory_state-named : (x : DirectoryState) → directory.state_named (directory.state_name x) ≡ Some x
@@ -57,7 +57,7 @@ directory_state-named directory_state.S = refl
 directory_state-named directory_state.M = refl
 directory_state-named directory_state.SD = refl
 
-directory_state-same : (x y : DirectoryState) → directory.state_name x ≡ directory.state_name y → x ≡ y
+pub directory_state-same : (x y : DirectoryState) → directory.state_name x ≡ directory.state_name y → x ≡ y
 directory_state-same x y e = let same : Some x ≡ Some y = sym (directory_state-named x) ∙ ap directory.state_named e ∙ directory_state-named y in cc
 
 directory_event-named : (x : DirectoryEvent) → directory.event_named (directory.event_name x) ≡ Some x
@@ -69,7 +69,7 @@ directory_event-named directory_event.PutMOwner = refl
 directory_event-named directory_event.PutMNonOwner = refl
 directory_event-named directory_event.Data = refl
 
-directory_event-same : (x y : DirectoryEvent) → directory.event_name x ≡ directory.event_name y → x ≡ y
+pub directory_event-same : (x y : DirectoryEvent) → directory.event_name x ≡ directory.event_name y → x ≡ y
 directory_event-same x y e = let same : Some x ≡ Some y = sym (directory_event-named x) ∙ ap directory.event_named e ∙ directory_event-named y in cc
 
 -- cells that are spelled alike have one place

@@ -9,7 +9,7 @@ use Rattle.record.specs.Cells.{cell_at, cell_words}
 use Rattle.record.specs.Text.{line, is_changed, changed}
 use Rattle.record.specs.Putting.{changed_line}
 
-changed-cons : (tables : Tables) (spot : Spot) (spots : List Spot) (b : Bool) → is_changed tables spot ≡ b → changed tables (spot ∷ spots) ≡ cond b (cell_at tables spot ∷ changed tables spots) (changed tables spots)
+pub changed-cons : (tables : Tables) (spot : Spot) (spots : List Spot) (b : Bool) → is_changed tables spot ≡ b → changed tables (spot ∷ spots) ≡ cond b (cell_at tables spot ∷ changed tables spots) (changed tables spots)
 changed-cons tables spot spots true e = ap (λ t. map (cell_at tables) (cond t (spot ∷ filter (is_changed tables) spots) (filter (is_changed tables) spots))) e
 changed-cons tables spot spots false e = ap (λ t. map (cell_at tables) (cond t (spot ∷ filter (is_changed tables) spots) (filter (is_changed tables) spots))) e
 

@@ -1,10 +1,17 @@
 pub mod Actions
 pub mod Alike
 pub mod Changed
+pub mod Ending
+pub mod Faulting
+pub mod Following
+pub mod Leading
+pub mod Legible
 pub mod Listed
 pub mod Names
+pub mod Naming
 pub mod Openings
 pub mod Outs
+pub mod Refusals
 pub mod Replays
 pub mod Safety
 pub mod Shapes

@@ -52,13 +52,13 @@ line-more b m a xs ws first second =
 
 -- ---- the places by their numbers
 
-numbers : map spot_number all_spots ≡ range_with_len 0 160
+pub numbers : map spot_number all_spots ≡ range_with_len 0 160
 numbers = refl
 
-abbrev some_spot : Spot
+abbrev pub some_spot : Spot
 some_spot = spot.Cache cache_state.I cache_event.Load
 
-abbrev at : ℕ → Spot
+abbrev pub at : ℕ → Spot
 at n = get_or all_spots n some_spot
 
 get_or-mapped : (f : Spot → ℕ) (xs : List Spot) (i : ℕ) (d : Spot) → get_or (map f xs) i (f d) ≡ f (get_or xs i d)
@@ -109,7 +109,7 @@ directory-event-at directory_event.PutMNonOwner = (refl, omega arith)
 directory-event-at directory_event.Data = (refl, omega arith)
 
 -- the place of a number is the place that has it
-at-own : (s : Spot) → (at (spot_number s) ≡ s) × (spot_number s < 160)
+pub at-own : (s : Spot) → (at (spot_number s) ≡ s) × (spot_number s < 160)
 at-own (spot.Cache s e) =
     let state = cache-state-at s in
     let event = cache-event-at e in

@@ -4,5 +4,6 @@ pub mod Text
 pub mod Putting
 pub mod Replaying
 pub mod Grammar
+pub mod Writable
 pub mod Refused
 pub mod Reading

@@ -124,6 +124,10 @@ pub record IsRefused (before end : Option (List ℕ)) (behind : ℕ) (due : Due)
   pub read : Consumes before end (flat_map ended lines ++ rest)
   pub fault : IsFaultOfRest last rest end kind
 
+-- the bytes aren't at fault: memory was wanted, or a device failed
+abbrev pub IsOutside : ReadKind → Type 0
+IsOutside kind = (kind ≡ NoMemory) ⊎ (kind ≡ Device)
+
 -- what a source had, up to what it has left, was well formed lines from the first to the last, and nothing is left
 pub record IsWhole (before after : Option (List ℕ)) : Type 0 where
   pub lines : List (List ℕ)

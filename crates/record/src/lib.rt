@@ -12,6 +12,7 @@ mod reading;
 mod recording;
 mod replaying;
 mod spelling;
+mod text_laws;
 mod writing;
 
 pub use fault::{ReadFault, ReadKind};
@@ -21,6 +22,7 @@ pub use laws::{
 };
 pub use recording::{Entry, MOST_ENTRIES, PushFault, Recording};
 pub use replaying::{ReplayFault, Replayed, replay};
+pub use text_laws::a_text_is_read;
 pub use writing::WriteFault;
 
 #[cfg(test)]

@@ -1,0 +1,104 @@
+-- A line that is well formed where it is due has no fault.
+use Rattle.std.proofs.Common.{◌≡◌, ◌≢◌, ◌≤◌, ◌<◌, ◌^◌, ℕ, List, [], ◌∷◌, ◌++◌, length, refl, ap, sym, subst, ◌∙◌, arith, codes, length-append}
+use Rattle.std.specs.List.{AllByRecursion}
+use Rattle.std.specs.Fmt.{decimal}
+use Rattle.std.proofs.lemmas.Fmt.{decimal_by_steps}
+use Rattle.base.specs.Spelling.{ask_words, step_words, FitsAsk, FitsStep}
+use Rattle.base.specs.declared.step.Ask.{Ask}
+use Rattle.base.specs.declared.step.Ask.TheVariants.{Load, Store, Replace}
+use Rattle.base.specs.declared.step.Step.{Step}
+use Rattle.base.specs.declared.step.Step.TheVariants as step
+use Rattle.record.specs.declared.fault.ReadKind.{ReadKind}
+use Rattle.record.specs.declared.fault.ReadKind.TheVariants.{BadHeader, BadLine, Truncated, CountDiffers, BadOutcome, OverLimit, NoMemory, Device}
+use Rattle.record.specs.Text.{end_words}
+use Rattle.record.specs.Grammar.{Due, header, shape_line, opening_line, cell_count, cell_line, entry_count, entry_line, end_line, nothing, Leads}
+use Rattle.record.specs.Refused.{IsOver, IsMiscounted, IsBadOutcome, IsFaultOfLine}
+use Rattle.record.proofs.Legible.{all-append}
+use Rattle.record.proofs.Leading.{step-line}
+
+-- ---- a step and what stands behind the equals sign
+
+-- no word is the equals sign
+abbrev IsNoSign : List ℕ → Type 0
+IsNoSign word = word ≢ codes "="
+
+digits : (n : ℕ) → n < 2 ^ 64 → AllByRecursion (λ b. b ≤ 57) (decimal n)
+digits n low = decimal_by_steps (λ k ds. AllByRecursion (λ b. b ≤ 57) ds) (λ k h. (omega (arith, h), tt)) (λ k ds h more. all-append (λ b. b ≤ 57) ds _ more (omega arith, tt)) n low
+
+number-no_sign : (n : ℕ) → n < 2 ^ 64 → IsNoSign (decimal n)
+number-no_sign n low e = let high : AllByRecursion (λ b. b ≤ 57) (codes "=") = subst (AllByRecursion (λ b. b ≤ 57)) e (digits n low) in absurd (omega (arith, high.0))
+
+ask-no_sign : (a : Ask) → FitsAsk a → AllByRecursion IsNoSign (ask_words a)
+ask-no_sign Load f = (λ e. cc, tt)
+ask-no_sign (Store value) f = (λ e. cc, (number-no_sign value f, tt))
+ask-no_sign Replace f = (λ e. cc, tt)
+
+step-no_sign : (s : Step) → FitsStep s → AllByRecursion IsNoSign (step_words s)
+step-no_sign (step.Ask c b a) f = (λ e. cc, (number-no_sign c.0 (omega (arith, f.0)), (number-no_sign b.0 (omega (arith, f.1)), ask-no_sign a f.2)))
+step-no_sign (step.Request b i) f = (λ e. cc, (number-no_sign b.0 (omega (arith, f.0)), (number-no_sign i f.1, tt)))
+step-no_sign (step.Forward b c) f = (λ e. cc, (number-no_sign b.0 (omega (arith, f.0)), (number-no_sign c.0 (omega (arith, f.1)), tt)))
+step-no_sign (step.Response b i) f = (λ e. cc, (number-no_sign b.0 (omega (arith, f.0)), (number-no_sign i f.1, tt)))
+
+behind-sign : (xs ys us vs : List (List ℕ)) → AllByRecursion IsNoSign xs → AllByRecursion IsNoSign ys → xs ++ codes "=" ∷ us ≡ ys ++ codes "=" ∷ vs → (xs ≡ ys) × (us ≡ vs)
+behind-sign [] [] us vs h k e = (refl, cc)
+behind-sign [] (y ∷ ys) us vs h k e = let is : y ≡ codes "=" = cc in absurd (k.0 is)
+behind-sign (x ∷ xs) [] us vs h k e = let is : x ≡ codes "=" = cc in absurd (h.0 is)
+behind-sign (x ∷ xs) (y ∷ ys) us vs h k e =
+    let first : x ≡ y = cc in
+    let rest : xs ++ codes "=" ∷ us ≡ ys ++ codes "=" ∷ vs = cc in
+    let both = behind-sign xs ys us vs h.1 k.1 rest in
+    (ap (λ w. w ∷ xs) first ∙ ap (λ l. y ∷ l) both.0, both.1)
+
+-- a line has one step before its equals sign, and one outcome behind it
+pub same-halves : (s t : Step) (us vs : List (List ℕ)) → FitsStep s → FitsStep t → step_words s ++ codes "=" ∷ us ≡ step_words t ++ codes "=" ∷ vs → (step_words s ≡ step_words t) × (us ≡ vs)
+same-halves s t us vs f g e = behind-sign (step_words s) (step_words t) us vs (step-no_sign s f) (step-no_sign t g) e
+
+-- an entry has more than one word
+pub two-words : (s : Step) (us : List (List ℕ)) → FitsStep s → step_words s ++ codes "=" ∷ us ≢ end_words
+two-words s us f e = let some = step-line s f in absurd (omega (arith, ap length e, length-append (step_words s) (codes "=" ∷ us), some.1))
+
+-- ---- a line that is well formed where it is due has no fault
+
+over-not_good : (due : Due) (line : List (List ℕ)) (next : Due) → Leads due line next → IsOver due line → ⊥
+over-not_good header line next l h = h
+over-not_good shape_line line next l h = h.outside l.0 l.1 l.2
+over-not_good (opening_line shape) line next l h = h
+over-not_good cell_count line next l h = let same : codes "cells" ∷ h.count ∷ [] ≡ codes "cells" ∷ decimal l.0 ∷ [] = sym h.spelled ∙ l.2 in h.higher l.0 l.1 cc
+over-not_good (cell_line left from) line next l h = h
+over-not_good entry_count line next l h = let same : codes "entries" ∷ h.count ∷ [] ≡ codes "entries" ∷ decimal l.0 ∷ [] = sym h.spelled ∙ l.2 in h.higher l.0 l.1 cc
+over-not_good (entry_line left) line next l h = h
+over-not_good end_line line next l h = h
+over-not_good nothing line next l h = h
+
+miscounted-not_good : (due : Due) (line : List (List ℕ)) (next : Due) → Leads due line next → IsMiscounted due line → ⊥
+miscounted-not_good header line next l h = h
+miscounted-not_good shape_line line next l h = h
+miscounted-not_good (opening_line shape) line next l h = h
+miscounted-not_good cell_count line next l h = h
+miscounted-not_good (cell_line left from) line next l h = h
+miscounted-not_good entry_count line next l h = h
+miscounted-not_good (entry_line left) line next l h = two-words l.0.step _ l.1.0 (sym l.2 ∙ h)
+miscounted-not_good end_line line next l h = two-words h.0.step _ h.1.0 (sym h.2 ∙ l.0)
+miscounted-not_good nothing line next l h = h
+
+outcome-not_good : (due : Due) (line : List (List ℕ)) (next : Due) → Leads due line next → IsBadOutcome due line → ⊥
+outcome-not_good header line next l h = h
+outcome-not_good shape_line line next l h = h
+outcome-not_good (opening_line shape) line next l h = h
+outcome-not_good cell_count line next l h = h
+outcome-not_good (cell_line left from) line next l h = h
+outcome-not_good entry_count line next l h = h
+outcome-not_good (entry_line left) line next l h =
+    h.none l.0.outcome l.1.1 (same-halves h.step l.0.step (h.first ∷ h.others) _ h.fits l.1.0 (sym h.spelled ∙ l.2)).1
+outcome-not_good end_line line next l h = h
+outcome-not_good nothing line next l h = h
+
+pub fault-not_good : (due : Due) (line : List (List ℕ)) (next : Due) (kind : ReadKind) → Leads due line next → IsFaultOfLine due line kind → ⊥
+fault-not_good due line next OverLimit l h = over-not_good due line next l h
+fault-not_good due line next BadHeader l h = h.1 (subst (λ d. Leads d line next) h.0 l).0
+fault-not_good due line next CountDiffers l h = miscounted-not_good due line next l h
+fault-not_good due line next BadOutcome l h = outcome-not_good due line next l h
+fault-not_good due line next BadLine l h = h.other next l
+fault-not_good due line next Truncated l h = h
+fault-not_good due line next NoMemory l h = h
+fault-not_good due line next Device l h = h

@@ -1,0 +1,180 @@
+-- Lines that are well formed where they are due.
+use Rattle.std.proofs.Common.{◌≡◌, ◌≤◌, ◌<◌, ◌+◌, ◌-◌, ◌^◌, ℕ, zero, suc, List, [], ◌∷◌, length, map, refl, ap, sym, subst, ◌∙◌, arith, codes, length-append}
+use Rattle.std.specs.List.{AllByRecursion}
+use Rattle.std.specs.Fmt.{decimal}
+use Rattle.std.proofs.lemmas.Fmt.{decimal_injective}
+use Rattle.std.proofs.lemmas.List.{length-map}
+use Rattle.std.proofs.lemmas.List.Elements.{recursion_from_All}
+use Rattle.base.specs.Extent.{Extent, IsWithinLimits}
+use Rattle.base.specs.declared.step.Ask.{Ask}
+use Rattle.base.specs.declared.step.Ask.TheVariants.{Load, Store, Replace}
+use Rattle.base.specs.declared.step.Step.{Step}
+use Rattle.base.specs.declared.step.Step.TheVariants as step
+use Rattle.base.specs.declared.step.Outcome.{Outcome}
+use Rattle.base.specs.declared.step.Outcome.TheVariants as outcome
+use Rattle.base.specs.Spelling.{ask_words, step_words, outcome_words, FitsAsk, FitsStep, FitsOutcome}
+use Rattle.cache_table.specs.declared.entry.CacheEntry.{CacheEntry}
+use Rattle.cache_table.specs.declared.entry.CacheEntry.TheVariants as cache_entry
+use Rattle.cache_table.specs.Names as cache_names
+use Rattle.directory_table.specs.declared.entry.DirectoryEntry.{DirectoryEntry}
+use Rattle.directory_table.specs.declared.entry.DirectoryEntry.TheVariants as directory_entry
+use Rattle.directory_table.specs.Names as directory_names
+use Rattle.record.specs.declared.cells.Cell.{Cell}
+use Rattle.record.specs.declared.cells.Cell.TheVariants as cell
+use Rattle.record.specs.declared.recording.Entry.{Entry}
+use Rattle.record.specs.Cells.{cache_entry_words, directory_entry_words, cell_words, spot_number, FitsCell, FitsCacheEntry, FitsDirectoryEntry}
+use Rattle.record.specs.Text.{shape_words, opening_words, entry_words}
+use Rattle.record.specs.Grammar.{Due, header, shape_line, opening_line, cell_count, cell_line, entry_count, entry_line, end_line, nothing, cells_due, entries_due, AreValues, FitsEntry, Leads}
+use Rattle.record.proofs.Alike.{same-spot}
+use Rattle.record.proofs.Legible.{IsWord, IsLine, all-append, text-word, number-word}
+use Rattle.record.proofs.Naming.{cache_state-word, cache_event-word, cache_actions-words, directory_state-word, directory_event-word, directory_actions-words}
+
+-- ---- the words of each line
+
+ask-line : (a : Ask) → FitsAsk a → AllByRecursion IsWord (ask_words a) × (length (ask_words a) ≤ 2)
+ask-line Load f = ((text-word _ refl (omega arith), tt), omega arith)
+ask-line (Store value) f = ((text-word _ refl (omega arith), (number-word value f, tt)), omega arith)
+ask-line Replace f = ((text-word _ refl (omega arith), tt), omega arith)
+
+narrow : (n : ℕ) → n < 2 ^ 32 → n < 2 ^ 64
+narrow n low = omega (arith, low)
+
+pub step-line : (s : Step) → FitsStep s → AllByRecursion IsWord (step_words s) × (0 < length (step_words s)) × (length (step_words s) ≤ 5)
+step-line (step.Ask c b a) f =
+    let asked = ask-line a f.2 in
+    ((text-word _ refl (omega arith), (number-word c.0 (narrow c.0 f.0), (number-word b.0 (narrow b.0 f.1), asked.0))), omega arith, omega (arith, asked.1))
+step-line (step.Request b i) f = ((text-word _ refl (omega arith), (number-word b.0 (narrow b.0 f.0), (number-word i f.1, tt))), omega arith, omega arith)
+step-line (step.Forward b c) f = ((text-word _ refl (omega arith), (number-word b.0 (narrow b.0 f.0), (number-word c.0 (narrow c.0 f.1), tt))), omega arith, omega arith)
+step-line (step.Response b i) f = ((text-word _ refl (omega arith), (number-word b.0 (narrow b.0 f.0), (number-word i f.1, tt))), omega arith, omega arith)
+
+outcome-line : (o : Outcome) → FitsOutcome o → AllByRecursion IsWord (outcome_words o) × (length (outcome_words o) ≤ 3)
+outcome-line outcome.Sent f = ((text-word _ refl (omega arith), tt), omega arith)
+outcome-line outcome.Moved f = ((text-word _ refl (omega arith), tt), omega arith)
+outcome-line (outcome.Load c v) f = ((text-word _ refl (omega arith), (number-word c.0 (narrow c.0 f.0), (number-word v f.1, tt))), omega arith)
+outcome-line (outcome.Store c v) f = ((text-word _ refl (omega arith), (number-word c.0 (narrow c.0 f.0), (number-word v f.1, tt))), omega arith)
+outcome-line outcome.Held f = ((text-word _ refl (omega arith), tt), omega arith)
+outcome-line outcome.Absent f = ((text-word _ refl (omega arith), tt), omega arith)
+outcome-line outcome.Idle f = ((text-word _ refl (omega arith), tt), omega arith)
+outcome-line outcome.Blank f = ((text-word _ refl (omega arith), tt), omega arith)
+outcome-line outcome.Broken f = ((text-word _ refl (omega arith), tt), omega arith)
+
+pub entry-line : (e : Entry) → FitsEntry e → IsLine (entry_words e)
+entry-line e f =
+    let first = step-line e.step f.0 in
+    let second = outcome-line e.outcome f.1 in
+    let n = length-append (step_words e.step) (codes "=" ∷ outcome_words e.outcome) in
+    record {
+      each = all-append IsWord (step_words e.step) (codes "=" ∷ outcome_words e.outcome) first.0 (text-word _ refl (omega arith), second.0);
+      some = omega (arith, n);
+      few = omega (arith, n, first.2, second.1);
+    }
+
+cache_entry-line : (x : CacheEntry) → FitsCacheEntry x → AllByRecursion IsWord (cache_entry_words x) × (length (cache_entry_words x) ≤ 10)
+cache_entry-line cache_entry.Blank f = ((text-word _ refl (omega arith), tt), omega arith)
+cache_entry-line cache_entry.Stall f = ((text-word _ refl (omega arith), tt), omega arith)
+cache_entry-line (cache_entry.Act next actions) f =
+    ((text-word _ refl (omega arith), (cache_state-word next, cache_actions-words actions)), omega (arith, length-map actions cache_names.action_name, f))
+
+directory_entry-line : (x : DirectoryEntry) → FitsDirectoryEntry x → AllByRecursion IsWord (directory_entry_words x) × (length (directory_entry_words x) ≤ 10)
+directory_entry-line directory_entry.Blank f = ((text-word _ refl (omega arith), tt), omega arith)
+directory_entry-line directory_entry.Stall f = ((text-word _ refl (omega arith), tt), omega arith)
+directory_entry-line (directory_entry.Act next actions) f =
+    ((text-word _ refl (omega arith), (directory_state-word next, directory_actions-words actions)), omega (arith, length-map actions directory_names.action_name, f))
+
+pub cell-line : (c : Cell) → FitsCell c → IsLine (cell_words c)
+cell-line (cell.Cache s e x) f =
+    let rest = cache_entry-line x f in
+    record {
+      each = (text-word _ refl (omega arith), (text-word _ refl (omega arith), (cache_state-word s, (cache_event-word e, rest.0))));
+      some = omega arith;
+      few = omega (arith, rest.1);
+    }
+cell-line (cell.Directory s e x) f =
+    let rest = directory_entry-line x f in
+    record {
+      each = (text-word _ refl (omega arith), (text-word _ refl (omega arith), (directory_state-word s, (directory_event-word e, rest.0))));
+      some = omega arith;
+      few = omega (arith, rest.1);
+    }
+
+-- a name and a number
+count-line : (name : List ℕ) (n : ℕ) → IsWord name → n < 2 ^ 64 → IsLine (name ∷ decimal n ∷ [])
+count-line name n word low = record { each = (word, (number-word n low, tt)); some = omega arith; few = omega arith }
+
+shape-line : (shape : Extent) → IsWithinLimits shape → IsLine (shape_words shape)
+shape-line shape within = record {
+  each = (text-word _ refl (omega arith), (number-word shape.caches (omega (arith, within.few_caches)), (number-word shape.blocks (omega (arith, within.few_blocks)), tt)));
+  some = omega arith;
+  few = omega arith;
+}
+
+values-words : (values : List ℕ) → AllByRecursion (λ value. value < 2 ^ 64) values → AllByRecursion IsWord (map decimal values)
+values-words [] h = tt
+values-words (v ∷ vs) h = (number-word v h.0, values-words vs h.1)
+
+opening-line : (shape : Extent) (values : List ℕ) → IsWithinLimits shape → AreValues shape values → IsLine (opening_words values)
+opening-line shape values within h = record {
+  each = (text-word _ refl (omega arith), values-words values (recursion_from_All (λ value. value < 2 ^ 64) values h.small));
+  some = omega arith;
+  few = omega (arith, length-map values decimal, h.each, within.few_blocks);
+}
+
+-- ---- what is due
+
+-- opening values are due for a shape within the limits
+abbrev pub IsDue : Due → Type 0
+IsDue (opening_line shape) = IsWithinLimits shape
+IsDue other = Unit {0}
+
+-- a line that is well formed where it is due is a line of words
+pub leads-line : (due : Due) (line : List (List ℕ)) (next : Due) → IsDue due → Leads due line next → IsLine line
+leads-line header line next h l = subst IsLine (sym l.0) (record { each = (text-word _ refl (omega arith), (text-word _ refl (omega arith), tt)); some = omega arith; few = omega arith })
+leads-line shape_line line next h l = subst IsLine (sym l.2) (shape-line l.0 l.1)
+leads-line (opening_line shape) line next h l = subst IsLine (sym l.2) (opening-line shape l.0 h l.1)
+leads-line cell_count line next h l = subst IsLine (sym l.2) (count-line (codes "cells") l.0 (text-word _ refl (omega arith)) (omega (arith, l.1)))
+leads-line (cell_line left from) line next h l = subst IsLine (sym l.2) (cell-line l.0 l.1.fits)
+leads-line entry_count line next h l = subst IsLine (sym l.2) (count-line (codes "entries") l.0 (text-word _ refl (omega arith)) (omega (arith, l.1)))
+leads-line (entry_line left) line next h l = subst IsLine (sym l.2) (entry-line l.0 l.1)
+leads-line end_line line next h l = subst IsLine (sym l.0) (record { each = (text-word _ refl (omega arith), tt); some = omega arith; few = omega arith })
+leads-line nothing line next h l = absurd l
+
+cells-due : (n from : ℕ) → IsDue (cells_due n from)
+cells-due zero from = tt
+cells-due (suc n) from = tt
+
+entries-due : (n : ℕ) → IsDue (entries_due n)
+entries-due zero = tt
+entries-due (suc n) = tt
+
+pub leads-due : (due : Due) (line : List (List ℕ)) (next : Due) → Leads due line next → IsDue next
+leads-due header line next l = subst IsDue (sym l.1) tt
+leads-due shape_line line next l = subst IsDue (sym l.3) l.1
+leads-due (opening_line shape) line next l = subst IsDue (sym l.3) tt
+leads-due cell_count line next l = subst IsDue (sym l.3) (cells-due l.0 0)
+leads-due (cell_line left from) line next l = subst IsDue (sym l.3) (cells-due _ _)
+leads-due entry_count line next l = subst IsDue (sym l.3) (entries-due l.0)
+leads-due (entry_line left) line next l = subst IsDue (sym l.3) (entries-due _)
+leads-due end_line line next l = subst IsDue (sym l.1) tt
+leads-due nothing line next l = absurd l
+
+-- ---- behind a line one thing is due
+
+pub shape-same : (s t : Extent) → IsWithinLimits s → IsWithinLimits t → shape_words s ≡ shape_words t → s ≡ t
+shape-same s t h k e =
+    let caches : s.caches ≡ t.caches = decimal_injective s.caches t.caches (omega (arith, h.few_caches)) (omega (arith, k.few_caches)) cc in
+    let blocks : s.blocks ≡ t.blocks = decimal_injective s.blocks t.blocks (omega (arith, h.few_blocks)) (omega (arith, k.few_blocks)) cc in
+    ap (λ n. let x : Extent = record { caches = n; blocks = s.blocks } in x) caches ∙ ap (λ n. let x : Extent = record { caches = t.caches; blocks = n } in x) blocks
+
+pub count-same : (name : List ℕ) (m n : ℕ) → m ≤ 1000000 → n ≤ 1000000 → name ∷ decimal m ∷ [] ≡ name ∷ decimal n ∷ [] → m ≡ n
+count-same name m n h k e = decimal_injective m n (omega (arith, h)) (omega (arith, k)) cc
+
+pub leads-one : (due : Due) (line : List (List ℕ)) (a b : Due) → Leads due line a → Leads due line b → a ≡ b
+leads-one header line a b l m = l.1 ∙ sym m.1
+leads-one shape_line line a b l m = l.3 ∙ ap opening_line (shape-same l.0 m.0 l.1 m.1 (sym l.2 ∙ m.2)) ∙ sym m.3
+leads-one (opening_line shape) line a b l m = l.3 ∙ sym m.3
+leads-one cell_count line a b l m = l.3 ∙ ap (λ n. cells_due n 0) (count-same (codes "cells") l.0 m.0 (omega (arith, l.1)) (omega (arith, m.1)) (sym l.2 ∙ m.2)) ∙ sym m.3
+leads-one (cell_line left from) line a b l m = l.3 ∙ ap (λ s. cells_due (left - 1) (spot_number s + 1)) (same-spot l.0 m.0 (sym l.2 ∙ m.2)) ∙ sym m.3
+leads-one entry_count line a b l m = l.3 ∙ ap entries_due (count-same (codes "entries") l.0 m.0 l.1 m.1 (sym l.2 ∙ m.2)) ∙ sym m.3
+leads-one (entry_line left) line a b l m = l.3 ∙ sym m.3
+leads-one end_line line a b l m = l.1 ∙ sym m.1
+leads-one nothing line a b l m = absurd l

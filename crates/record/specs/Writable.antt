@@ -1,0 +1,24 @@
+-- What holds of every recording that there is.
+use Rattle.std.specs.Prelude.{◌≤◌, All, length}
+use Rattle.base.specs.Extent.{IsWithinLimits}
+use Rattle.cache_table.specs.Table as cache_table
+use Rattle.directory_table.specs.Table as directory_table
+use Rattle.machine.specs.Tables.{Tables}
+use Rattle.record.specs.declared.cells.Spot.{Spot}
+use Rattle.record.specs.Cells.{cell_at, FitsCell}
+use Rattle.record.specs.Kept.{Kept}
+use Rattle.record.specs.Grammar.{AreValues, FitsEntry}
+
+-- both tables have all their cells, each of at most eight actions
+pub record AreWhole (tables : Tables) : Type 0 where
+  pub cache : cache_table.IsWhole tables.cache
+  pub directory : directory_table.IsWhole tables.directory
+  pub fits : (spot : Spot) → FitsCell (cell_at tables spot)
+
+-- its shape is within the limits, its tables are whole, it has at most a million entries, and its numbers are in range of their types
+pub record IsRecordable (r : Kept) : Type 0 where
+  pub shape : IsWithinLimits r.shape
+  pub tables : AreWhole r.tables
+  pub opening : AreValues r.shape r.opening
+  pub few : length r.entries ≤ 1000000
+  pub fits : All FitsEntry r.entries

@@ -1,0 +1,18 @@
+//! What ties recordings and their texts together.
+
+ghost use Rattle.std.specs.Prelude.{◌≡◌, ◌≤◌, [], All, List, Option, Some, length, ℕ};
+ghost use Rattle.record.specs.Kept.{Kept};
+ghost use Rattle.record.specs.Text.{joined, lines, text};
+ghost use Rattle.record.specs.Grammar.{header};
+ghost use Rattle.record.specs.Refused.{IsOutside, IsRefused, IsWhole};
+ghost use Rattle.record.specs.Writable.{IsRecordable};
+ghost use Rattle.record.specs.declared.fault.ReadKind.{ReadKind};
+
+/// A recording's text is well formed from the first line to the last, each line has at most 90,000 bytes, and only want of
+/// memory or a device that fails keeps it from being read.
+pub fn a_text_is_read()
+    ensures whole { (r : Kept) → IsRecordable r → IsWhole (Some (text r)) (Some []) }
+    ensures short { (r : Kept) → IsRecordable r → All (λ words. length (joined words) ≤ 90000) (lines r) }
+    ensures refused { (r : Kept) (end : Option (List ℕ)) (line : ℕ) (kind : ReadKind) →
+        IsRecordable r → IsRefused (Some (text r)) end 0 header line kind → IsOutside kind }
+{}
