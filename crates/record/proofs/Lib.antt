@@ -4,6 +4,7 @@ pub mod Changed
 pub mod Ending
 pub mod Faulting
 pub mod Following
+pub mod Inverses
 pub mod Leading
 pub mod Legible
 pub mod Listed
@@ -20,6 +21,7 @@ pub mod Splitting
 pub mod Spots
 pub mod Steps
 pub mod Streams
+pub mod Tabled
 pub mod Texts
 pub mod Whole
 pub mod Words

@@ -16,3 +16,8 @@ pub fn a_text_is_read()
     ensures refused { (r : Kept) (end : Option (List ℕ)) (line : ℕ) (kind : ReadKind) →
         IsRecordable r → IsRefused (Some (text r)) end 0 header line kind → IsOutside kind }
 {}
+
+/// A text is the text of one recording at most.
+pub fn a_text_is_of_one_recording()
+    ensures { (r s : Kept) → IsRecordable r → IsRecordable s → text r ≡ text s → r ≡ s }
+{}

@@ -1,0 +1,239 @@
+-- A text is the text of one recording.
+use Rattle.std.proofs.Common.{◌≡◌, ◌<◌, ◌+◌, ◌^◌, ℕ, zero, suc, Bool, true, false, not, List, [], ◌∷◌, ◌++◌, length, map, get_or, refl, ap, sym, subst, ◌∙◌, arith, codes}
+use Rattle.std.specs.List.{AllByRecursion, flat_map, range_with_len}
+use Rattle.std.specs.Fmt.{decimal}
+use Rattle.std.proofs.lemmas.Fmt.{decimal_injective}
+use Rattle.std.proofs.lemmas.List.Elements.{recursion_from_All}
+use Rattle.std.proofs.lemmas.Slice.Eq.{bytes_eq-Decides}
+use Rattle.base.specs.Spelling.{words, outcome_words, FitsOutcome}
+use Rattle.base.specs.declared.ids.CacheId.{CacheId}
+use Rattle.base.specs.declared.step.Step.{Step}
+use Rattle.base.specs.declared.step.Outcome.{Outcome}
+use Rattle.base.specs.declared.step.Outcome.TheVariants as outcome
+use Rattle.base.proofs.Spellings.{same_step}
+use Rattle.base.specs.Extent.{Extent}
+use Rattle.cache_table.specs.declared.entry.CacheEntry.{CacheEntry}
+use Rattle.cache_table.specs.declared.entry.CacheEntry.TheVariants as cache_entry
+use Rattle.directory_table.specs.declared.entry.DirectoryEntry.{DirectoryEntry}
+use Rattle.directory_table.specs.declared.entry.DirectoryEntry.TheVariants as directory_entry
+use Rattle.machine.specs.Tables.{Tables, baseline}
+use Rattle.record.specs.declared.cells.Spot.{Spot}
+use Rattle.record.specs.declared.cells.Cell.{Cell}
+use Rattle.record.specs.declared.cells.Cell.TheVariants as cell
+use Rattle.record.specs.declared.recording.Entry.{Entry}
+use Rattle.record.specs.Cells.{all_spots, cache_entry_words, directory_entry_words, cell_at, cell_words, spot_number}
+use Rattle.record.specs.Kept.{Kept}
+use Rattle.record.specs.Text.{text, line, lines, joined, shape_words, opening_words, cells_words, entries_words, entry_words, end_words, is_same, is_changed, changed, changed_cells}
+use Rattle.record.specs.Grammar.{FitsEntry}
+use Rattle.record.specs.Writable.{AreWhole, IsRecordable}
+use Rattle.record.proofs.Alike.{cache_state-same, cache_event-same, directory_state-same, directory_event-same}
+use Rattle.record.proofs.Naming.{cache_actions-same, directory_actions-same}
+use Rattle.record.proofs.Changed.{changed-cons}
+use Rattle.record.proofs.Legible.{IsLine, joined-open, words-joined}
+use Rattle.record.proofs.Ending.{some-line, one-line_first}
+use Rattle.record.proofs.Leading.{cell-line, count-same, shape-same}
+use Rattle.record.proofs.Faulting.{same-halves}
+use Rattle.record.proofs.Following.{AreListed, spot-own, listed-from, few-cells, recorded-lines}
+use Rattle.record.proofs.Listed.{at-own, numbers, some_spot}
+use Rattle.record.proofs.Tabled.{tables-same}
+
+-- ---- lines
+
+line-same : (ws vs : List (List ℕ)) (x y : List ℕ) → IsLine ws → IsLine vs → line ws ++ x ≡ line vs ++ y → (ws ≡ vs) × (x ≡ y)
+line-same ws vs x y h k e =
+    let same = one-line_first (joined ws) (joined vs) x y (joined-open ws h) (joined-open vs k) e in
+    (sym (words-joined ws h) ∙ ap words same.0 ∙ words-joined vs k, same.1)
+
+lines-same : (xs ys : List (List (List ℕ))) → AllByRecursion IsLine xs → AllByRecursion IsLine ys → flat_map line xs ≡ flat_map line ys → xs ≡ ys
+lines-same [] [] h k e = refl
+lines-same [] (y ∷ ys) h k e = absurd (some-line (joined y) (flat_map line ys) e)
+lines-same (x ∷ xs) [] h k e = absurd (some-line (joined x) (flat_map line xs) (sym e))
+lines-same (x ∷ xs) (y ∷ ys) h k e =
+    let same = line-same x y (flat_map line xs) (flat_map line ys) h.0 k.0 e in
+    ap (λ l. l ∷ xs) same.0 ∙ ap (λ l. y ∷ l) (lines-same xs ys h.1 k.1 same.1)
+
+-- ---- cells
+
+cache_entry-same : (x y : CacheEntry) → cache_entry_words x ≡ cache_entry_words y → x ≡ y
+cache_entry-same (cache_entry.Act s xs) (cache_entry.Act t ys) e = cc (cache_state-same s t cc, cache_actions-same xs ys cc)
+cache_entry-same (cache_entry.Act s xs) other e = absurd (cc)
+cache_entry-same cache_entry.Blank cache_entry.Blank e = refl
+cache_entry-same cache_entry.Blank cache_entry.Stall e = let first : 98 ≡ 115 = ap (λ l. get_or (get_or l 0 []) 0 0) e in absurd (omega (arith, first))
+cache_entry-same cache_entry.Blank (cache_entry.Act t ys) e = absurd (cc)
+cache_entry-same cache_entry.Stall cache_entry.Blank e = let first : 115 ≡ 98 = ap (λ l. get_or (get_or l 0 []) 0 0) e in absurd (omega (arith, first))
+cache_entry-same cache_entry.Stall cache_entry.Stall e = refl
+cache_entry-same cache_entry.Stall (cache_entry.Act t ys) e = absurd (cc)
+
+directory_entry-same : (x y : DirectoryEntry) → directory_entry_words x ≡ directory_entry_words y → x ≡ y
+directory_entry-same (directory_entry.Act s xs) (directory_entry.Act t ys) e = cc (directory_state-same s t cc, directory_actions-same xs ys cc)
+directory_entry-same (directory_entry.Act s xs) other e = absurd (cc)
+directory_entry-same directory_entry.Blank directory_entry.Blank e = refl
+directory_entry-same directory_entry.Blank directory_entry.Stall e = let first : 98 ≡ 115 = ap (λ l. get_or (get_or l 0 []) 0 0) e in absurd (omega (arith, first))
+directory_entry-same directory_entry.Blank (directory_entry.Act t ys) e = absurd (cc)
+directory_entry-same directory_entry.Stall directory_entry.Blank e = let first : 115 ≡ 98 = ap (λ l. get_or (get_or l 0 []) 0 0) e in absurd (omega (arith, first))
+directory_entry-same directory_entry.Stall directory_entry.Stall e = refl
+directory_entry-same directory_entry.Stall (directory_entry.Act t ys) e = absurd (cc)
+
+cell-same : (c d : Cell) → cell_words c ≡ cell_words d → c ≡ d
+cell-same (cell.Cache s e x) (cell.Cache t f y) h = cc (cache_state-same s t cc, cache_event-same e f cc, cache_entry-same x y cc)
+cell-same (cell.Cache s e x) (cell.Directory t f y) h = absurd (cc)
+cell-same (cell.Directory s e x) (cell.Cache t f y) h = absurd (cc)
+cell-same (cell.Directory s e x) (cell.Directory t f y) h = cc (directory_state-same s t cc, directory_event-same e f cc, directory_entry-same x y cc)
+
+-- ---- entries
+
+cache-same : (c d : CacheId) → c.0 < 2 ^ 32 → d.0 < 2 ^ 32 → decimal c.0 ≡ decimal d.0 → c ≡ d
+cache-same c d low below e = ap (λ n. record { 0 = n }) (decimal_injective c.0 d.0 (omega arith) (omega arith) e)
+
+abbrev first_byte : List (List ℕ) → ℕ
+first_byte parts = get_or (get_or parts 0 []) 0 0
+
+outcome-same : (o p : Outcome) → FitsOutcome o → FitsOutcome p → outcome_words o ≡ outcome_words p → o ≡ p
+outcome-same (outcome.Load c v) (outcome.Load d w) f g e = cc (cache-same c d f.0 g.0 cc, decimal_injective v w f.1 g.1 cc)
+outcome-same (outcome.Load c v) other f g e = cc
+outcome-same (outcome.Store c v) (outcome.Store d w) f g e = cc (cache-same c d f.0 g.0 cc, decimal_injective v w f.1 g.1 cc)
+outcome-same (outcome.Store c v) other f g e = cc
+outcome-same outcome.Sent outcome.Held f g e = let first : 115 ≡ 104 = ap first_byte e in absurd (omega (arith, first))
+outcome-same outcome.Sent outcome.Idle f g e = let first : 115 ≡ 105 = ap first_byte e in absurd (omega (arith, first))
+outcome-same outcome.Sent other f g e = cc
+outcome-same outcome.Held outcome.Sent f g e = let first : 104 ≡ 115 = ap first_byte e in absurd (omega (arith, first))
+outcome-same outcome.Held outcome.Idle f g e = let first : 104 ≡ 105 = ap first_byte e in absurd (omega (arith, first))
+outcome-same outcome.Held other f g e = cc
+outcome-same outcome.Idle outcome.Sent f g e = let first : 105 ≡ 115 = ap first_byte e in absurd (omega (arith, first))
+outcome-same outcome.Idle outcome.Held f g e = let first : 105 ≡ 104 = ap first_byte e in absurd (omega (arith, first))
+outcome-same outcome.Idle other f g e = cc
+outcome-same outcome.Moved outcome.Blank f g e = let first : 109 ≡ 98 = ap first_byte e in absurd (omega (arith, first))
+outcome-same outcome.Moved other f g e = cc
+outcome-same outcome.Blank outcome.Moved f g e = let first : 98 ≡ 109 = ap first_byte e in absurd (omega (arith, first))
+outcome-same outcome.Blank other f g e = cc
+outcome-same outcome.Absent outcome.Broken f g e = let first : 97 ≡ 98 = ap first_byte e in absurd (omega (arith, first))
+outcome-same outcome.Absent other f g e = cc
+outcome-same outcome.Broken outcome.Absent f g e = let first : 98 ≡ 97 = ap first_byte e in absurd (omega (arith, first))
+outcome-same outcome.Broken other f g e = cc
+
+abbrev made : Step → Outcome → Entry
+made step outcome = record { step = step; outcome = outcome }
+
+entry-same : (e f : Entry) → FitsEntry e → FitsEntry f → entry_words e ≡ entry_words f → e ≡ f
+entry-same e f h k is =
+    let halves = same-halves e.step f.step (outcome_words e.outcome) (outcome_words f.outcome) h.0 k.0 is in
+    ap (λ s. made s e.outcome) (same_step e.step f.step h.0 k.0 halves.0) ∙ ap (made f.step) (outcome-same e.outcome f.outcome h.1 k.1 halves.1)
+
+-- ---- lists of them
+
+values-same : (vs ws : List ℕ) → AllByRecursion (λ value. value < 2 ^ 64) vs → AllByRecursion (λ value. value < 2 ^ 64) ws → map decimal vs ≡ map decimal ws → vs ≡ ws
+values-same [] [] h k e = refl
+values-same [] (w ∷ ws) h k e = absurd (cc)
+values-same (v ∷ vs) [] h k e = absurd (cc)
+values-same (v ∷ vs) (w ∷ ws) h k e = cc (decimal_injective v w h.0 k.0 cc, values-same vs ws h.1 k.1 cc)
+
+cells-same : (cs ds : List Cell) (us vs : List (List (List ℕ))) → length cs ≡ length ds → map cell_words cs ++ us ≡ map cell_words ds ++ vs → (cs ≡ ds) × (us ≡ vs)
+cells-same [] [] us vs n e = (refl, e)
+cells-same [] (d ∷ ds) us vs n e = absurd (omega (arith, n))
+cells-same (c ∷ cs) [] us vs n e = absurd (omega (arith, n))
+cells-same (c ∷ cs) (d ∷ ds) us vs n e =
+    let first : cell_words c ≡ cell_words d = cc in
+    let rest : map cell_words cs ++ us ≡ map cell_words ds ++ vs = cc in
+    let both = cells-same cs ds us vs (omega (arith, n)) rest in
+    (ap (λ x. x ∷ cs) (cell-same c d first) ∙ ap (λ l. d ∷ l) both.0, both.1)
+
+entries-same : (es fs : List Entry) (us vs : List (List (List ℕ))) → length es ≡ length fs → AllByRecursion FitsEntry es → AllByRecursion FitsEntry fs → map entry_words es ++ us ≡ map entry_words fs ++ vs → es ≡ fs
+entries-same [] [] us vs n h k e = refl
+entries-same [] (y ∷ fs) us vs n h k e = absurd (omega (arith, n))
+entries-same (x ∷ es) [] us vs n h k e = absurd (omega (arith, n))
+entries-same (x ∷ es) (y ∷ fs) us vs n h k e =
+    let first : entry_words x ≡ entry_words y = cc in
+    let rest : map entry_words es ++ us ≡ map entry_words fs ++ vs = cc in
+    ap (λ z. z ∷ es) (entry-same x y h.0 k.0 first) ∙ ap (λ l. y ∷ l) (entries-same es fs us vs (omega (arith, n)) h.1 k.1 rest)
+
+-- ---- tables
+
+-- cells that are as the baseline's in the same place are the same
+plain-same : (t u : Tables) (s : Spot) → AreWhole t → AreWhole u → is_changed t s ≡ false → is_changed u s ≡ false → cell_at t s ≡ cell_at u s
+plain-same t u s h k e f =
+    let left : line (cell_words (cell_at t s)) ≡ line (cell_words (cell_at baseline s)) = as-baseline (cell_at t s) e in
+    let right : line (cell_words (cell_at u s)) ≡ line (cell_words (cell_at baseline s)) = as-baseline (cell_at u s) f in
+    let same = line-same (cell_words (cell_at t s)) (cell_words (cell_at u s)) [] [] (cell-line _ (h.fits s)) (cell-line _ (k.fits s)) (ap (λ l. l ++ []) (left ∙ sym right)) in
+    cell-same (cell_at t s) (cell_at u s) same.0
+  where
+    not-false : (b : Bool) → not b ≡ false → b ≡ true
+    not-false true e = refl
+    not-false false e = cc
+
+    as-baseline : (c : Cell) → not (is_same c (cell_at baseline s)) ≡ false → line (cell_words c) ≡ line (cell_words (cell_at baseline s))
+    as-baseline c e = (bytes_eq-Decides (line (cell_words c)) (line (cell_words (cell_at baseline s)))).0 (not-false (is_same c (cell_at baseline s)) e)
+
+-- a cell isn't among those of later places
+later : (t u : Tables) (s : Spot) (ss : List Spot) (a : ℕ) → AreListed (a + 1) (changed u ss) → spot_number s ≡ a → cell_at t s ∷ changed t ss ≡ changed u ss → ⊥
+later t u s ss a listed here e =
+    let first = (subst (AreListed (a + 1)) (sym e) listed).0.in_order in
+    absurd (omega (arith, first, ap spot_number (spot-own t s), here))
+
+one-more : (t u : Tables) (s : Spot) (ss : List Spot) (a : ℕ) (b c : Bool) → AreWhole t → AreWhole u → is_changed t s ≡ b → is_changed u s ≡ c → spot_number s ≡ a → AreListed (a + 1) (changed t ss) → AreListed (a + 1) (changed u ss)
+    → changed t (s ∷ ss) ≡ changed u (s ∷ ss) → (cell_at t s ≡ cell_at u s) × (changed t ss ≡ changed u ss)
+one-more t u s ss a true true h k x y here lt lu e =
+    let both : cell_at t s ∷ changed t ss ≡ cell_at u s ∷ changed u ss = sym (changed-cons t s ss true x) ∙ e ∙ changed-cons u s ss true y in (cc, cc)
+one-more t u s ss a false false h k x y here lt lu e =
+    (plain-same t u s h k x y, sym (changed-cons t s ss false x) ∙ e ∙ changed-cons u s ss false y)
+one-more t u s ss a true false h k x y here lt lu e = absurd (later t u s ss a lu here (sym (changed-cons t s ss true x) ∙ e ∙ changed-cons u s ss false y))
+one-more t u s ss a false true h k x y here lt lu e = absurd (later u t s ss a lt here (sym (changed-cons u s ss true y) ∙ sym e ∙ changed-cons t s ss false x))
+
+spots-same : (t u : Tables) → AreWhole t → AreWhole u → (spots : List Spot) (a n : ℕ) → map spot_number spots ≡ range_with_len a n → changed t spots ≡ changed u spots → AllByRecursion (λ s. cell_at t s ≡ cell_at u s) spots
+spots-same t u h k [] a n e same = tt
+spots-same t u h k (s ∷ ss) a zero e same = absurd (cc)
+spots-same t u h k (s ∷ ss) a (suc n) e same =
+    let here : spot_number s ≡ a = cc in
+    let rest : map spot_number ss ≡ range_with_len (a + 1) n = cc in
+    let both = one-more t u s ss a (is_changed t s) (is_changed u s) h k refl refl here (listed-from t h ss (a + 1) n rest) (listed-from u k ss (a + 1) n rest) same in
+    (both.0, spots-same t u h k ss (a + 1) n rest both.1)
+
+at-index : {X : Type 0} (P : X → Type 0) (xs : List X) (i : ℕ) (d : X) → i < length xs → AllByRecursion P xs → P (get_or xs i d)
+at-index P [] i d low h = absurd (omega (arith, low))
+at-index P (x ∷ xs) zero d low h = h.0
+at-index P (x ∷ xs) (suc i) d low h = at-index P xs i d (omega (arith, low)) h.1
+
+cells-agree : (t u : Tables) → AreWhole t → AreWhole u → changed_cells t ≡ changed_cells u → (s : Spot) → cell_at t s ≡ cell_at u s
+cells-agree t u h k e s =
+    let own = at-own s in
+    let n : length all_spots ≡ 160 = refl in
+    subst (λ p. cell_at t p ≡ cell_at u p) own.0 (at-index (λ p. cell_at t p ≡ cell_at u p) all_spots (spot_number s) some_spot (omega (arith, n, own.1)) (spots-same t u h k all_spots 0 160 numbers e))
+
+-- ---- recordings
+
+kept : Extent → Tables → List ℕ → List Entry → Kept
+kept shape tables opening entries = record { shape = shape; tables = tables; opening = opening; entries = entries }
+
+parts-same : (r s : Kept) → r.shape ≡ s.shape → r.tables ≡ s.tables → r.opening ≡ s.opening → r.entries ≡ s.entries → r ≡ s
+unfolding kept
+parts-same r s a b c d =
+    ap (λ x. kept x r.tables r.opening r.entries) a ∙ ap (λ x. kept s.shape x r.opening r.entries) b ∙ ap (λ x. kept s.shape s.tables x r.entries) c ∙ ap (λ x. kept s.shape s.tables s.opening x) d
+
+rest_of : Kept → List (List (List ℕ))
+rest_of r = map cell_words (changed_cells r.tables) ++ (entries_words (length r.entries) ∷ map entry_words r.entries ++ end_words ∷ [])
+
+-- a text is the text of one recording
+pub recording-one : (r s : Kept) → IsRecordable r → IsRecordable s → text r ≡ text s → r ≡ s
+unfolding rest_of
+recording-one r s h k e =
+    let all : lines r ≡ lines s = lines-same (lines r) (lines s) (recorded-lines r h) (recorded-lines s k) e in
+    let shape : shape_words r.shape ≡ shape_words s.shape = ap (λ l. get_or l 1 []) all in
+    let opening : opening_words r.opening ≡ opening_words s.opening = ap (λ l. get_or l 2 []) all in
+    let count : cells_words (length (changed_cells r.tables)) ≡ cells_words (length (changed_cells s.tables)) = ap (λ l. get_or l 3 []) all in
+    let rest : rest_of r ≡ rest_of s = ap (λ l. behind_four l) all in
+    let n = count-same (codes "cells") (length (changed_cells r.tables)) (length (changed_cells s.tables)) (omega (arith, few-cells r.tables)) (omega (arith, few-cells s.tables)) count in
+    let cells = cells-same (changed_cells r.tables) (changed_cells s.tables) _ _ n rest in
+    let entry_count : entries_words (length r.entries) ≡ entries_words (length s.entries) = ap (λ l. get_or l 0 []) cells.1 in
+    let m = count-same (codes "entries") (length r.entries) (length s.entries) h.few k.few entry_count in
+    let entries : map entry_words r.entries ++ end_words ∷ [] ≡ map entry_words s.entries ++ end_words ∷ [] = ap behind_one cells.1 in
+    parts-same r s
+    (shape-same r.shape s.shape h.shape k.shape shape)
+    (tables-same r.tables s.tables h.tables k.tables (cells-agree r.tables s.tables h.tables k.tables cells.0))
+    (values-same r.opening s.opening (recursion_from_All _ r.opening h.opening.small) (recursion_from_All _ s.opening k.opening.small) (ap behind_one opening))
+    (entries-same r.entries s.entries (end_words ∷ []) (end_words ∷ []) m (recursion_from_All FitsEntry r.entries h.fits) (recursion_from_All FitsEntry s.entries k.fits) entries)
+  where
+    behind_one : {X : Type 0} → List X → List X
+    behind_one [] = []
+    behind_one (x ∷ xs) = xs
+
+    behind_four : List (List (List ℕ)) → List (List (List ℕ))
+    behind_four xs = behind_one (behind_one (behind_one (behind_one xs)))
