@@ -22,7 +22,7 @@ pub use laws::{
 };
 pub use recording::{Entry, MOST_ENTRIES, PushFault, Recording};
 pub use replaying::{ReplayFault, Replayed, replay};
-pub use text_laws::{a_text_is_of_one_recording, a_text_is_read};
+pub use text_laws::{a_text_is_of_one_recording, a_text_is_read, one_refusal_at_most};
 pub use writing::WriteFault;
 
 #[cfg(test)]

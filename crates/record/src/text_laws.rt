@@ -21,3 +21,13 @@ pub fn a_text_is_read()
 pub fn a_text_is_of_one_recording()
     ensures { (r s : Kept) → IsRecordable r → IsRecordable s → text r ≡ text s → r ≡ s }
 {}
+
+/// Bytes have one refusal at most, want of memory and a device that fails aside, however many of them are left. Those that
+/// are well formed from the first line to the last have none.
+pub fn one_refusal_at_most()
+    ensures one { (bytes : List ℕ) (end other_end : Option (List ℕ)) (line other_line : ℕ) (kind other_kind : ReadKind) →
+        IsRefused (Some bytes) end 0 header line kind → IsRefused (Some bytes) other_end 0 header other_line other_kind →
+        ¬ IsOutside kind → ¬ IsOutside other_kind → (line ≡ other_line) × (kind ≡ other_kind) }
+    ensures none { (bytes : List ℕ) (after end : Option (List ℕ)) (line : ℕ) (kind : ReadKind) →
+        IsWhole (Some bytes) after → IsRefused (Some bytes) end 0 header line kind → IsOutside kind }
+{}
