@@ -1,5 +1,5 @@
 -- A text is the text of one recording.
-use Rattle.std.proofs.Common.{◌≡◌, ◌<◌, ◌+◌, ◌^◌, ℕ, zero, suc, Bool, true, false, not, List, [], ◌∷◌, ◌++◌, length, map, get_or, refl, ap, sym, subst, ◌∙◌, arith, codes}
+use Rattle.std.proofs.Common.{◌≡◌, ◌<◌, ◌+◌, ◌^◌, ℕ, zero, suc, Bool, true, false, not, List, [], ◌∷◌, ◌++◌, length, map, get_or, refl, ap, sym, subst, ◌∙◌, arith, append-nil, codes}
 use Rattle.std.specs.List.{AllByRecursion, flat_map, range_with_len}
 use Rattle.std.specs.Fmt.{decimal}
 use Rattle.std.proofs.lemmas.Fmt.{decimal_injective}
@@ -33,8 +33,9 @@ use Rattle.record.proofs.Legible.{IsLine, joined-open, words-joined}
 use Rattle.record.proofs.Ending.{some-line, one-line_first}
 use Rattle.record.proofs.Leading.{cell-line, count-same, shape-same}
 use Rattle.record.proofs.Faulting.{same-halves}
-use Rattle.record.proofs.Following.{AreListed, spot-own, listed-from, few-cells, recorded-lines}
+use Rattle.record.proofs.Following.{AreListed, spot-own, listed-from, few-cells, recorded-lines, text-whole}
 use Rattle.record.proofs.Listed.{at-own, numbers, some_spot}
+use Rattle.record.proofs.Refusals.{whole-alone}
 use Rattle.record.proofs.Tabled.{tables-same}
 
 -- ---- lines
@@ -237,3 +238,9 @@ recording-one r s h k e =
 
     behind_four : List (List (List ℕ)) → List (List (List ℕ))
     behind_four xs = behind_one (behind_one (behind_one (behind_one xs)))
+
+-- and no text is the beginning of another
+pub recording-alone : (r s : Kept) (more : List ℕ) → IsRecordable r → IsRecordable s → text r ≡ text s ++ more → (r ≡ s) × (more ≡ [])
+recording-alone r s more h k e =
+    let none : more ≡ [] = whole-alone (text r) (text s) more (text-whole r h) (text-whole s k) e in
+    (recording-one r s h k (e ∙ ap (λ l. text s ++ l) none ∙ append-nil (text s)), none)

@@ -20,6 +20,7 @@ pub mod Shapes
 pub mod Singles
 pub mod Splitting
 pub mod Spots
+pub mod Standing
 pub mod Steps
 pub mod Streams
 pub mod Tabled

@@ -1,6 +1,7 @@
 -- The cells that have been read are those that the tables change.
 use Rattle.std.proofs.Common.{◌≡◌, ◌≢◌, ℕ, zero, suc, ◌+◌, ◌-◌, ◌*◌, ◌/◌, ◌%◌, ◌<◌, ◌≤◌, true, false, cond, not, List, [], ◌∷◌, ◌++◌, length, take, map, get_or, refl, sym, ap, ◌∙◌, subst, arith, append_assoc, Option}
-use Rattle.std.specs.List.{flat_map, range_with_len}
+use Rattle.std.specs.List.{All, flat_map, range_with_len}
+use Rattle.std.proofs.lemmas.List.Elements.{All-push}
 use Rattle.std.specs.Str.{bytes_eq}
 use Rattle.std.proofs.lemmas.List.{take_more, append-nil, length_push, map-append}
 use Rattle.std.proofs.lemmas.Slice.Eq.{bytes_eq-Decides}
@@ -29,7 +30,7 @@ use Rattle.record.specs.Cells.{all_spots, cell_at, cell_words, spot_number, spot
 use Rattle.record.specs.Text.{cells_words, changed, changed_cells, end_words, entries_words, entry_words, header_words, is_changed, is_same, line, opening_words, shape_words, text}
 use Rattle.record.specs.Kept.{Kept, with_entry}
 use Rattle.record.specs.declared.recording.Entry.{Entry}
-use Rattle.record.specs.Grammar.{IsListed}
+use Rattle.record.specs.Grammar.{FitsEntry, IsListed}
 use Rattle.record.specs.Refused.{ended}
 use Rattle.record.specs.Reading.{HasNextLine, Held, IsSameBut, stream}
 use Rattle.record.proofs.Streams.{none-held}
@@ -66,7 +67,7 @@ get_or-mapped f [] i d = refl
 get_or-mapped f (x ∷ xs) zero d = refl
 get_or-mapped f (x ∷ xs) (suc i) d = get_or-mapped f xs i d
 
-cache-state-at : (s : CacheState) → (get_or cache_baseline.all_states (cache_table.state_number s) cache_state.I ≡ s) × (cache_table.state_number s < 11)
+pub cache-state-at : (s : CacheState) → (get_or cache_baseline.all_states (cache_table.state_number s) cache_state.I ≡ s) × (cache_table.state_number s < 11)
 cache-state-at cache_state.I = (refl, omega arith)
 cache-state-at cache_state.IsD = (refl, omega arith)
 cache-state-at cache_state.ImAd = (refl, omega arith)
@@ -93,7 +94,7 @@ cache-event-at cache_event.DataOwner = (refl, omega arith)
 cache-event-at cache_event.InvAck = (refl, omega arith)
 cache-event-at cache_event.LastInvAck = (refl, omega arith)
 
-directory-state-at : (s : DirectoryState) → (get_or directory_baseline.all_states (directory_table.state_number s) directory_state.I ≡ s) × (directory_table.state_number s < 4)
+pub directory-state-at : (s : DirectoryState) → (get_or directory_baseline.all_states (directory_table.state_number s) directory_state.I ≡ s) × (directory_table.state_number s < 4)
 directory-state-at directory_state.I = (refl, omega arith)
 directory-state-at directory_state.S = (refl, omega arith)
 directory-state-at directory_state.M = (refl, omega arith)
@@ -245,6 +246,9 @@ entries-more b m a old new e is first second =
 
 pub many-more : (old new : Kept) (e : Entry) (n : ℕ) → new ≡ with_entry old e → length old.entries ≡ n → length new.entries ≡ n + 1
 many-more old new e n is many = ap (λ (r : Kept). length r.entries) is ∙ omega (arith, length_push old.entries e, many)
+
+pub fits-more : (old new : Kept) (e : Entry) → new ≡ with_entry old e → FitsEntry e → All FitsEntry old.entries → All FitsEntry new.entries
+fits-more old new e is fits before = subst (λ (r : Kept). All FitsEntry r.entries) (sym is) (All-push FitsEntry old.entries e before fits)
 
 pub same-more : (first old new : Kept) (e : Entry) → new ≡ with_entry old e → IsSameBut first old → IsSameBut first new
 same-more first old new e is same = record {

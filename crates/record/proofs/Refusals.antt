@@ -100,3 +100,19 @@ whole-refused bytes (Some left) None line kind w r = absurd r.read
 whole-refused bytes (Some left) (Some more) line kind w r =
     let all : bytes ≡ flat_map ended w.lines = w.read ∙ ap (λ l. flat_map ended w.lines ++ l) w.end ∙ append-nil (flat_map ended w.lines) in
     whole-outside header r.last w.lines r.lines (r.rest ++ more) kind tt w.follow r.follow (sym all ∙ r.read ∙ append_assoc (flat_map ended r.lines) r.rest more) (fault-of r.last r.rest more kind r.fault)
+
+-- ---- no whole text stands before other bytes
+
+alone : (due : Due) (xs ys : List (List ℕ)) (more : List ℕ) → IsDue due → Follow due xs nothing → Follow due ys nothing → flat_map ended xs ≡ flat_map ended ys ++ more → more ≡ []
+alone due [] [] more is f g e = sym e
+alone due [] (y ∷ ys) more is f g e = absurd (subst (λ d. Leads d (words y) g.0) f g.1)
+alone due (x ∷ xs) [] more is f g e = absurd (subst (λ d. Leads d (words x) f.0) g f.1)
+alone due (x ∷ xs) (y ∷ ys) more is f g e =
+    let same = one-line_first x y (flat_map ended xs) (flat_map ended ys ++ more) (good-open due x f.0 is f.1) (good-open due y g.0 is g.1) (e ∙ append_assoc (ended y) (flat_map ended ys) more) in
+    let next : g.0 ≡ f.0 = leads-one due (words x) g.0 f.0 (subst (λ l. Leads due (words l) g.0) (sym same.0) g.1) f.1 in
+    alone f.0 xs ys more (leads-due due (words x) f.0 f.1) f.2 (subst (λ d. Follow d ys nothing) next g.2) same.1
+
+pub whole-alone : (bytes front more : List ℕ) → IsWhole (Some bytes) (Some []) → IsWhole (Some front) (Some []) → bytes ≡ front ++ more → more ≡ []
+whole-alone bytes front more w v e =
+    alone header w.lines v.lines more tt w.follow v.follow
+    (sym (append-nil (flat_map ended w.lines)) ∙ sym w.read ∙ e ∙ ap (λ l. l ++ more) (v.read ∙ append-nil (flat_map ended v.lines)))

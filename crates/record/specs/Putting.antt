@@ -4,8 +4,11 @@ use Rattle.std.specs.List.{flat_map}
 use Rattle.std.specs.Fmt.{decimal}
 use Rattle.std.specs.Io.KnownBytes.{Appends}
 use Rattle.base.specs.Extent.{Extent}
+use Rattle.cache_table.specs.Table as cache_table
+use Rattle.directory_table.specs.Table as directory_table
 use Rattle.machine.specs.Tables.{Tables}
 use Rattle.record.specs.declared.cells.Spot.{Spot}
+use Rattle.record.specs.declared.cells.Spot.TheVariants as spot
 use Rattle.record.specs.declared.recording.Entry.{Entry}
 use Rattle.record.specs.Cells.{all_spots, cell_at, cell_words}
 use Rattle.record.specs.Text.{line, header_words, shape_words, cells_words, changed_cells, is_changed, entries_words, entry_words, end_words}
@@ -45,3 +48,8 @@ cells_text tables = (10 ∷ line (cells_words (length (changed_cells tables)))) 
 -- the lines of the entries, and the last line
 abbrev pub entries_text : List Entry → List ℕ
 entries_text entries = line (entries_words (length entries)) ++ flat_map (λ e. line (entry_words e)) entries ++ line end_words
+
+-- the table of a place has all its cells
+abbrev pub IsInWhole : Tables → Spot → Type 0
+IsInWhole tables (spot.Cache state event) = cache_table.IsWhole tables.cache
+IsInWhole tables (spot.Directory state event) = directory_table.IsWhole tables.directory

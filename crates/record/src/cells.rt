@@ -1,6 +1,7 @@
 ghost use Rattle.std.specs.Prelude.{◌≡◌, ◌<◌, slice_index_or};
 ghost use Rattle.machine.specs.Tables.{baseline};
 ghost use Rattle.record.specs.Cells.{all_spots, cell_at, spot_of, spot_number};
+ghost use Rattle.record.specs.Putting.{IsInWhole};
 
 use cache_table::{CacheEntry, CacheEvent, CacheState};
 use directory_table::{DirectoryEntry, DirectoryEvent, DirectoryState};
@@ -50,7 +51,8 @@ pub(crate) fn spot_at(number: usize) -> Spot
 impl Cell {
     /// The cell at a place of these tables.
     pub(crate) fn at(tables: &Tables, spot: Spot) -> Cell
-        ensures { result ≡ cell_at tables.now spot }
+        ensures cell { result ≡ cell_at tables.now spot }
+        ensures whole { IsInWhole tables.now spot }
     {
         match spot {
             Spot::Cache(state, event) => Cell::Cache {

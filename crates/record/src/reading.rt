@@ -1,15 +1,16 @@
 ghost use Rattle.std.specs.List.{flat_map};
-ghost use Rattle.std.specs.Prelude.{◌++◌, [], map, ◌≡◌, ◌≢◌, ◌≤◌, ◌<◌, ◌+◌, ◌^◌, ℕ, true, IfOk, IfErr, OnOk, MatchOption, length};
+ghost use Rattle.std.specs.Prelude.{◌++◌, [], All, map, ◌≡◌, ◌≢◌, ◌≤◌, ◌<◌, ◌+◌, ◌^◌, ℕ, true, IfOk, IfErr, OnOk, MatchOption, length};
 ghost use Rattle.std.specs.Io.KnownBytes.{Consumes, IsAtEnd};
 ghost use Rattle.base.specs.Spelling.{words};
 ghost use Rattle.machine.specs.Tables.{baseline};
 ghost use Rattle.record.specs.declared.cells.Cell as cells;
-ghost use Rattle.record.specs.Cells.{cell_at, cell_words, spot_of};
+ghost use Rattle.record.specs.Cells.{cell_at, cell_words, spot_of, FitsCell};
 ghost use Rattle.record.specs.Text.{cells_words, changed_cells, entries_words, entry_words, end_words, header_words, is_same, line, opening_words, shape_words, text};
 ghost use Rattle.record.specs.declared.cells.Spot as cells_spot;
 ghost use Rattle.base.specs.Extent.{IsWithinLimits};
-ghost use Rattle.record.specs.Grammar.{header, shape_line, opening_line, cell_count, cells_due, entry_count, entry_line, entries_due, end_line, nothing, FitsEntry, IsListed};
+ghost use Rattle.record.specs.Grammar.{header, shape_line, opening_line, cell_count, cells_due, entry_count, entry_line, entries_due, end_line, nothing, AreValues, FitsEntry, IsListed};
 ghost use Rattle.record.specs.Refused.{IsRefused, IsFaultOfLine, IsWhole};
+ghost use Rattle.record.specs.Writable.{AreWhole, IsRecordable};
 ghost use Rattle.record.specs.Reading.{HasRead, IsSameBut, stream};
 
 use crate::cell_parsing::cell_of;
@@ -32,6 +33,7 @@ impl Recording {
         ensures whole { OnOk result (IsWhole (S.left source.old) (S.left source.new)) }
         ensures fault { IfErr result (λ fault. IsRefused (S.left source.old) (S.left source.new) 0 header fault.line fault.kind) }
         ensures device { IfErr result (λ fault. fault.kind ≡ ReadKind.Device → S.has_failed source.new ≡ true) }
+        ensures recordable { IfOk result IsRecordable }
     {
         let mut lines = Lines::open(alloc);
         if let Err(fault) = read_header(&mut lines, source) {
@@ -86,6 +88,7 @@ fn read_shape<S: Source>(lines: &mut Lines, source: &mut S) -> Result<Shape, Rea
     ensures err { IfErr result (λ fault. IsRefused (stream lines.old (S.left source.old)) (S.left source.new) lines.old.number (shape_line) fault.line fault.kind) }
     ensures device { IfErr result (λ fault. fault.kind ≡ ReadKind.Device → S.has_failed source.new ≡ true) }
     ensures few { OnOk result (lines.new.number ≤ lines.old.number + 1) }
+    ensures within { IfOk result IsWithinLimits }
     ensures text { IfOk result (λ shape. Consumes (stream lines.old (S.left source.old)) (stream lines.new (S.left source.new)) (line (shape_words shape))) }
 {
     if let Err(fault) = lines.next(source) {
@@ -109,7 +112,7 @@ fn read_opening<S: Source>(
     ensures err { IfErr result (λ fault. IsRefused (stream lines.old (S.left source.old)) (S.left source.new) lines.old.number (opening_line shape) fault.line fault.kind) }
     ensures device { IfErr result (λ fault. fault.kind ≡ ReadKind.Device → S.has_failed source.new ≡ true) }
     ensures few { OnOk result (lines.new.number ≤ lines.old.number + 1) }
-    ensures each { IfOk result (λ values. length values.items ≡ shape.blocks) }
+    ensures values { IfOk result (λ values. AreValues shape values.items) }
     ensures text { IfOk result (λ values. Consumes (stream lines.old (S.left source.old)) (stream lines.new (S.left source.new)) (line (opening_words values.items))) }
 {
     if let Err(fault) = lines.next(source) {
@@ -129,6 +132,7 @@ fn read_tables<S: Source>(lines: &mut Lines, source: &mut S) -> Result<Tables, R
     ensures device { IfErr result (λ fault. fault.kind ≡ ReadKind.Device → S.has_failed source.new ≡ true) }
     ensures few { OnOk result (lines.new.number ≤ lines.old.number + 161) }
     ensures text { IfOk result (λ tables. Consumes (stream lines.old (S.left source.old)) (stream lines.new (S.left source.new)) (line (cells_words (length (changed_cells tables))) ++ flat_map line (map cell_words (changed_cells tables)))) }
+    ensures whole { IfOk result AreWhole }
 {
     if let Err(fault) = lines.next(source) {
         return Err(fault);
@@ -151,6 +155,7 @@ fn read_cells<S: Source>(lines: &mut Lines, source: &mut S, count: u32) -> Resul
     ensures few { OnOk result (lines.new.number ≤ lines.old.number + count) }
     ensures text { IfOk result (λ tables. Consumes (stream lines.old (S.left source.old)) (stream lines.new (S.left source.new)) (flat_map line (map cell_words (changed_cells tables)))) }
     ensures many { IfOk result (λ tables. length (changed_cells tables) ≡ count) }
+    ensures whole { IfOk result AreWhole }
 {
     let mut tables = Tables::baseline();
     let mut from = 0;
@@ -195,6 +200,7 @@ fn is_baseline(cell: &Cell) -> bool
 fn with_cell(tables: Tables, cell: &Cell) -> Tables
     ensures here { cell_at result (spot_of cell.now) ≡ cell.now }
     ensures others { (spot : cells_spot.Spot) → spot ≢ spot_of cell.now → cell_at result spot ≡ cell_at tables spot }
+    ensures whole { AreWhole tables → FitsCell cell.now → AreWhole result }
 {
     let mut tables = tables;
     match *cell {
@@ -226,6 +232,7 @@ fn read_entries<S: Source>(
     ensures few { OnOk result (lines.new.number ≤ lines.old.number + 1000001) }
     ensures text { OnOk result (Consumes (stream lines.old (S.left source.old)) (stream lines.new (S.left source.new)) (line (entries_words (length recording.new.entries)) ++ flat_map line (map entry_words recording.new.entries))) }
     ensures rest { IsSameBut recording.old recording.new }
+    ensures fits { OnOk result (All FitsEntry recording.new.entries) }
 {
     if let Err(fault) = lines.next(source) {
         return Err(fault);
@@ -255,6 +262,7 @@ fn read_each<S: Source>(
     ensures text { OnOk result (Consumes (stream lines.old (S.left source.old)) (stream lines.new (S.left source.new)) (flat_map line (map entry_words recording.new.entries))) }
     ensures many { OnOk result (length recording.new.entries ≡ count) }
     ensures rest { IsSameBut recording.old recording.new }
+    ensures fits { OnOk result (All FitsEntry recording.new.entries) }
 {
     for index in 0..count {
         if let Err(fault) = lines.next(source) {

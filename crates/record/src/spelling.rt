@@ -3,8 +3,9 @@
 ghost use Rattle.std.specs.Prelude.{◌≡◌, ◌≤◌, ◌+◌, ◌*◌, ◌++◌, map, length};
 ghost use Rattle.cache_table.specs.Names as cache_names;
 ghost use Rattle.directory_table.specs.Names as directory_names;
-ghost use Rattle.base.specs.Spelling.{step_words, ask_words, outcome_words};
-ghost use Rattle.record.specs.Cells.{cell_words, cache_entry_words, directory_entry_words};
+ghost use Rattle.base.specs.Spelling.{step_words, ask_words, outcome_words, FitsStep, FitsAsk, FitsOutcome};
+ghost use Rattle.record.specs.Cells.{cell_words, cache_entry_words, directory_entry_words, FitsCell, FitsCacheEntry, FitsDirectoryEntry};
+ghost use Rattle.record.specs.Grammar.{FitsEntry};
 ghost use Rattle.record.specs.Text.{spaced, joined, line, entry_words};
 
 use crate::cells::Cell;
@@ -18,6 +19,7 @@ use directory_table::{DirectoryAction, DirectoryEntry};
 pub(crate) fn entry_line(entry: Entry) -> Line
     ensures text { result ≡ line (entry_words entry) }
     ensures short { length result ≤ 192 }
+    ensures fits { FitsEntry entry }
 {
     let mut text = Line::new();
     push_step(&mut text, entry.step);
@@ -32,6 +34,7 @@ fn push_step(text: &mut Line, step: Step)
     requires { length text.old ≤ 0 }
     ensures text { text.new ≡ text.old ++ joined (step_words step) }
     ensures short { length text.new ≤ 80 }
+    ensures fits { FitsStep step }
 {
     match step {
         Step::Ask { cache, block, ask } => {
@@ -63,6 +66,7 @@ fn push_ask(text: &mut Line, ask: Ask)
     requires { length text.old ≤ 50 }
     ensures text { text.new ≡ text.old ++ spaced (ask_words ask) }
     ensures short { length text.new ≤ length text.old + 28 }
+    ensures fits { FitsAsk ask }
 {
     match ask {
         Ask::Load => text.push_word(b"load"),
@@ -79,6 +83,7 @@ fn push_outcome(text: &mut Line, outcome: Outcome)
     requires { length text.old ≤ 100 }
     ensures text { text.new ≡ text.old ++ spaced (outcome_words outcome) }
     ensures short { length text.new ≤ length text.old + 50 }
+    ensures fits { FitsOutcome outcome }
 {
     match outcome {
         Outcome::Sent => text.push_word(b"sent"),
@@ -106,6 +111,7 @@ fn push_outcome(text: &mut Line, outcome: Outcome)
 pub(crate) fn cell_line(cell: &Cell) -> Line
     ensures text { result ≡ line (cell_words cell.now) }
     ensures short { length result ≤ 192 }
+    ensures fits { FitsCell cell.now }
 {
     let mut text = Line::new();
     match *cell {
@@ -140,6 +146,7 @@ fn push_cache_entry(text: &mut Line, entry: CacheEntry)
     requires { length text.old ≤ 40 }
     ensures text { text.new ≡ text.old ++ spaced (cache_entry_words entry) }
     ensures short { length text.new ≤ 170 }
+    ensures fits { FitsCacheEntry entry }
 {
     match entry {
         CacheEntry::Blank => text.push_word(b"blank"),
@@ -170,6 +177,7 @@ fn push_directory_entry(text: &mut Line, entry: DirectoryEntry)
     requires { length text.old ≤ 40 }
     ensures text { text.new ≡ text.old ++ spaced (directory_entry_words entry) }
     ensures short { length text.new ≤ 170 }
+    ensures fits { FitsDirectoryEntry entry }
 {
     match entry {
         DirectoryEntry::Blank => text.push_word(b"blank"),

@@ -1,6 +1,6 @@
 //! What ties recordings and their texts together.
 
-ghost use Rattle.std.specs.Prelude.{◌≡◌, ◌≤◌, [], All, List, Option, Some, length, ℕ};
+ghost use Rattle.std.specs.Prelude.{◌++◌, ◌≡◌, ◌≤◌, [], All, List, Option, Some, length, ℕ};
 ghost use Rattle.record.specs.Kept.{Kept};
 ghost use Rattle.record.specs.Text.{joined, lines, text};
 ghost use Rattle.record.specs.Grammar.{header};
@@ -17,9 +17,11 @@ pub fn a_text_is_read()
         IsRecordable r → IsRefused (Some (text r)) end 0 header line kind → IsOutside kind }
 {}
 
-/// A text is the text of one recording at most.
+/// A text is the text of one recording at most, and no text is the beginning of another.
 pub fn a_text_is_of_one_recording()
-    ensures { (r s : Kept) → IsRecordable r → IsRecordable s → text r ≡ text s → r ≡ s }
+    ensures one { (r s : Kept) → IsRecordable r → IsRecordable s → text r ≡ text s → r ≡ s }
+    ensures alone { (r s : Kept) (rest : List ℕ) →
+        IsRecordable r → IsRecordable s → text r ≡ text s ++ rest → (r ≡ s) × (rest ≡ []) }
 {}
 
 /// Bytes have one refusal at most, want of memory and a device that fails aside, however many of them are left. Those that

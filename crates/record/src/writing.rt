@@ -1,11 +1,13 @@
-ghost use Rattle.std.specs.Prelude.{◌≡◌, ◌≤◌, ◌<◌, ◌+◌, ◌*◌, ◌^◌, IfOk, IfErr, OnOk, IsTrue, ◌↔◌, ◌++◌, ◌∷◌, [], codes, length, map, take};
+ghost use Rattle.std.specs.Prelude.{◌≡◌, All, ◌≤◌, ◌<◌, ◌+◌, ◌*◌, ◌^◌, IfOk, IfErr, OnOk, IsTrue, ◌↔◌, ◌++◌, ◌∷◌, [], codes, length, map, take};
 ghost use Rattle.std.specs.List.{flat_map};
 ghost use Rattle.std.specs.Fmt.{decimal};
 ghost use Rattle.std.specs.Io.KnownBytes.{Appends};
 ghost use Rattle.base.specs.Ends.{Marks};
-ghost use Rattle.record.specs.Cells.{all_spots, cell_at};
+ghost use Rattle.record.specs.Cells.{all_spots, cell_at, FitsCell};
+ghost use Rattle.record.specs.Grammar.{FitsEntry};
+ghost use Rattle.record.specs.Writable.{AreWhole, IsRecordable};
 ghost use Rattle.record.specs.Text.{text, line, spaced, entry_words, changed_cells, is_changed};
-ghost use Rattle.record.specs.Putting.{IsOut, IsCutOff, head_text, opening_text, cells_text, changed_line, changed_text, entries_text};
+ghost use Rattle.record.specs.Putting.{IsInWhole, IsOut, IsCutOff, head_text, opening_text, cells_text, changed_line, changed_text, entries_text};
 
 use crate::cells::{Cell, SPOTS, Spot, spot_at};
 use crate::line::Line;
@@ -32,6 +34,7 @@ impl Recording {
         ensures err { IfErr result (λ fault. Appends (S.taken sink.old) (S.taken sink.new) (take fault.written (text self.now))) }
         ensures short { IfErr result (λ fault. fault.written < length (text self.now)) }
         ensures mark { Marks (S.has_failed sink.old) result (S.has_failed sink.new) }
+        ensures recordable { OnOk result (IsRecordable self.now) }
     {
         let entries = self.entries();
         let opening = self.opening();
@@ -94,6 +97,7 @@ fn put_opening<S: Sink>(sink: &mut S, already: u64, values: &[u64]) -> Result<u6
     ensures err { IfErr result (λ fault. IsCutOff (S.taken sink.old) (S.taken sink.new) (opening_text values.now) already fault.written) }
     ensures mark { Marks (S.has_failed sink.old) result (S.has_failed sink.new) }
     ensures few { IfOk result (λ total. total ≤ already + 192 * length values.now) }
+    ensures small { All (λ value. value < 2 ^ 64) values.now }
 {
     let mut total = already;
     for value in values {
@@ -109,7 +113,9 @@ fn put_opening<S: Sink>(sink: &mut S, already: u64, values: &[u64]) -> Result<u6
 
 /// Whether the cell at a place differs from the baseline's.
 pub(crate) fn is_changed(tables: &Tables, spot: Spot) -> bool
-    ensures { result ≡ is_changed tables.now spot }
+    ensures changed { result ≡ is_changed tables.now spot }
+    ensures fits { FitsCell (cell_at tables.now spot) }
+    ensures whole { IsInWhole tables.now spot }
 {
     let own = cell_line(&Cell::at(tables, spot));
     let baseline = cell_line(&Cell::at(&Tables::baseline(), spot));
@@ -120,6 +126,7 @@ pub(crate) fn is_changed(tables: &Tables, spot: Spot) -> bool
 fn count_changed(tables: &Tables) -> u64
     ensures count { result ≡ length (changed_cells tables.now) }
     ensures few { result ≤ 160 }
+    ensures whole { AreWhole tables.now }
 {
     let mut count = 0;
     for number in 0..SPOTS {
@@ -137,6 +144,7 @@ fn put_cells<S: Sink>(sink: &mut S, already: u64, tables: &Tables) -> Result<u64
     ensures err { IfErr result (λ fault. IsCutOff (S.taken sink.old) (S.taken sink.new) (cells_text tables.now) already fault.written) }
     ensures mark { Marks (S.has_failed sink.old) result (S.has_failed sink.new) }
     ensures few { IfOk result (λ total. total ≤ already + 192 * 161) }
+    ensures whole { AreWhole tables.now }
 {
     let mut text = Line::new();
     text.push(b"\ncells");
@@ -193,6 +201,7 @@ fn put_entries<S: Sink>(sink: &mut S, already: u64, entries: &[Entry]) -> Result
     ensures ok { IfOk result (λ total. IsOut (S.taken sink.old) (S.taken sink.new) (entries_text entries.now) already total) }
     ensures err { IfErr result (λ fault. IsCutOff (S.taken sink.old) (S.taken sink.new) (entries_text entries.now) already fault.written) }
     ensures mark { Marks (S.has_failed sink.old) result (S.has_failed sink.new) }
+    ensures fits { OnOk result (All FitsEntry entries.now) }
 {
     let mut text = Line::new();
     text.push(b"entries");
@@ -215,6 +224,7 @@ fn put_each<S: Sink>(sink: &mut S, already: u64, entries: &[Entry]) -> Result<u6
     ensures err { IfErr result (λ fault. IsCutOff (S.taken sink.old) (S.taken sink.new) (flat_map (λ e. line (entry_words e)) entries.now) already fault.written) }
     ensures mark { Marks (S.has_failed sink.old) result (S.has_failed sink.new) }
     ensures few { IfOk result (λ total. total ≤ already + 192 * length entries.now) }
+    ensures fits { OnOk result (All FitsEntry entries.now) }
 {
     let mut total = already;
     for entry in entries {

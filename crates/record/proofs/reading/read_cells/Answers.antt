@@ -36,6 +36,7 @@ loop-index-preserved g c =
           (taken-line _ _ c.loop-index.lines c.next.new.self (cell_words c.in-Some.cell) c.in_default.ensures.ok spelled));
       many = rw place (ap length longer ∙ omega (arith, length_push (changed c.loop-index.tables (take c.loop-index.from all_spots)) c.in-Some.cell, c.loop-index.invariant.many));
       plain = rw place (plain-more c.loop-index.tables c.with_cell-tables.result c.loop-index.from c.in-Some.cell c.loop-index.invariant.plain c.in-Some.ensures.0.in_order c.with_cell-tables.ensures.others);
+      whole = c.with_cell-tables.ensures.whole c.loop-index.invariant.whole c.in-Some.ensures.0.fits;
     }
 
 pub returns-clause-text : goal.returns-clause-text

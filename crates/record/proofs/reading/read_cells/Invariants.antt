@@ -6,6 +6,7 @@ use Rattle.record.specs.Text.{changed, line}
 use Rattle.record.proofs.Listed.{IsBaselineFrom}
 use Rattle.record.specs.Grammar.{cells_due}
 use Rattle.record.specs.Reading.{HasRead, stream}
+use Rattle.record.specs.Writable.{AreWhole}
 use Rattle.record.proofs.reading.read_cells.Given as goal
 
 abbrev pub invariant-loop-index : goal.invariant-loop-index
@@ -16,4 +17,5 @@ invariant-loop-index g l = record {
   text : Consumes (stream l.fn.lines (g.S.Source.left l.fn.source)) (stream l.lines (g.S.Source.left l.source)) (flat_map line (map cell_words (changed l.tables (take l.from all_spots))));
   many : length (changed l.tables (take l.from all_spots)) ≡ l.index;
   plain : IsBaselineFrom l.from l.tables;
+  whole : AreWhole l.tables;
 }

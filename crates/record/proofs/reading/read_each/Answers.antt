@@ -7,7 +7,7 @@ use Rattle.record.specs.Refused.{IsFaultOfLine}
 use Rattle.record.specs.Reading.{stream}
 use Rattle.record.proofs.Steps.{stop-refused, line-refused, memory-refused, refused-same, entry-more, entry-read, entry-refused, not-device}
 use Rattle.record.specs.Text.{entry_words}
-use Rattle.record.proofs.Listed.{entries-more, many-more, same-more, taken-line}
+use Rattle.record.proofs.Listed.{entries-more, fits-more, many-more, same-more, taken-line}
 use Rattle.record.proofs.reading.read_each.Goals as goal
 
 pub returns-in-Err-clause-err : goal.returns-in-Err-clause-err
@@ -39,4 +39,5 @@ loop-index-preserved g c = record {
       (taken-line _ _ c.loop-index.lines c.next.new.self (entry_words c.in-Ok.entry) c.in_default.ensures.ok (ap words (sym c.line.ensures) ∙ c.in-Ok.ensures.ok));
   many = many-more c.loop-index.recording c.push.new.self c.in-Ok.entry c.loop-index.index c.in_default-push.ensures.ok c.loop-index.invariant.many;
   rest = same-more c.args.recording.now c.loop-index.recording c.push.new.self c.in-Ok.entry c.in_default-push.ensures.ok c.loop-index.invariant.rest;
+  fits = fits-more c.loop-index.recording c.push.new.self c.in-Ok.entry c.in_default-push.ensures.ok c.in-Ok.ensures.fits c.loop-index.invariant.fits;
 }

@@ -1,8 +1,8 @@
 use Rattle.std.proofs.Common.{◌≡◌, map, length, ◌≤◌, ◌+◌, ◌-◌}
-use Rattle.std.specs.List.{flat_map}
+use Rattle.std.specs.List.{All, flat_map}
 use Rattle.std.specs.Io.KnownBytes.{Consumes}
 use Rattle.record.specs.Text.{entry_words, line}
-use Rattle.record.specs.Grammar.{entries_due}
+use Rattle.record.specs.Grammar.{entries_due, FitsEntry}
 use Rattle.record.specs.Reading.{HasRead, IsSameBut, stream}
 use Rattle.record.proofs.reading.read_each.Given as goal
 
@@ -13,4 +13,5 @@ invariant-loop-index g l = record {
   text : Consumes (stream l.fn.lines (g.S.Source.left l.fn.source)) (stream l.lines (g.S.Source.left l.source)) (flat_map line (map entry_words l.recording.entries));
   many : length l.recording.entries ≡ l.index;
   rest : IsSameBut l.fn.recording l.recording;
+  fits : All FitsEntry l.recording.entries;
 }

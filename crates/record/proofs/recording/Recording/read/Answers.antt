@@ -1,10 +1,11 @@
-use Rattle.std.proofs.Common.{subst}
+use Rattle.std.proofs.Common.{◌≤◌, ap, arith, length, subst}
 use Rattle.record.specs.Grammar.{header, shape_line, opening_line, cell_count, entry_count, end_line, nothing}
 use Rattle.record.specs.Reading.{IsSameBut, stream}
 use Rattle.record.proofs.Steps.{then-read, then-refused, from-start}
 use Rattle.record.specs.Kept.{Kept, opened_recording}
 use Rattle.record.specs.Text.{header_words, line}
 use Rattle.record.proofs.Listed.{start-read, text-read}
+use Rattle.record.proofs.Standing.{recordable-same}
 use Rattle.record.proofs.recording.Recording.read.Goals as goal
 
 pub returns-in-Err-read_shape-clause-fault : goal.returns-in-Err-read_shape-clause-fault
@@ -47,3 +48,9 @@ returns-in-Ok-read_end-clause-text g c =
     c.in-Ok-read_tables.ensures.text
     c.in_default-read_entries.ensures.text
     c.in-Ok-read_end.ensures.text
+
+pub returns-in-Ok-read_end-clause-recordable : goal.returns-in-Ok-read_end-clause-recordable
+returns-in-Ok-read_end-clause-recordable g c =
+    let same = subst (λ (r : Kept). IsSameBut r c.read_entries.new.recording) c.of-recording.ensures c.in_default-read_entries.ensures.rest in
+    let few : length c.read_entries.new.recording.entries ≤ 1000000 = omega (arith, c.recording.invariant.few, ap (λ (r : Kept). length r.entries) c.recording.view_is) in
+    recordable-same _ c.read_entries.new.recording same c.in-Ok.ensures.within c.in-Ok-read_tables.ensures.whole c.in-Ok-read_opening.ensures.values few c.in_default-read_entries.ensures.fits
