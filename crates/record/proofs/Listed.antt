@@ -8,7 +8,7 @@ use Rattle.std.proofs.lemmas.Slice.Eq.{bytes_eq-Decides}
 use Rattle.std.proofs.lemmas.List.FromFn.{get_or-map-range_with_len}
 use Rattle.std.proofs.lemmas.Grind.{flat_map-append}
 use Rattle.std.specs.Io.KnownBytes.{Consumes}
-use Rattle.std.proofs.KnownBytes.{Consumes-nil, Consumes-trans}
+use Rattle.std.proofs.KnownBytes.{Consumes-trans}
 use Rattle.base.specs.Spelling.{words}
 use Rattle.cache_table.specs.declared.state.CacheState.{CacheState}
 use Rattle.cache_table.specs.declared.state.CacheState.TheVariants as cache_state
@@ -28,11 +28,11 @@ use Rattle.record.specs.declared.cells.Spot.TheVariants as spot
 use Rattle.record.specs.declared.cells.Cell.{Cell}
 use Rattle.record.specs.Cells.{all_spots, cell_at, cell_words, spot_number, spot_of}
 use Rattle.record.specs.Text.{cells_words, changed, changed_cells, end_words, entries_words, entry_words, header_words, is_changed, is_same, line, opening_words, shape_words, text}
-use Rattle.record.specs.Kept.{Kept, with_entry}
+use Rattle.record.specs.Kept.{Kept}
 use Rattle.record.specs.declared.recording.Entry.{Entry}
 use Rattle.record.specs.Grammar.{FitsEntry, IsListed}
 use Rattle.record.specs.Refused.{ended}
-use Rattle.record.specs.Reading.{HasNextLine, Held, IsSameBut, stream}
+use Rattle.record.specs.Reading.{HasNextLine, Held, stream}
 use Rattle.record.proofs.Streams.{none-held}
 use Rattle.record.proofs.Changed.{changed-append}
 use Rattle.record.proofs.Spots.{at-cache, at-directory}
@@ -239,29 +239,16 @@ cells-more b m a cs ds cell e first second =
 pub counted : (b m a : Option (List ℕ)) (named : ℕ → List (List ℕ)) (n k : ℕ) (rest : List ℕ) → n ≡ k → Consumes b m (line (named k)) → Consumes m a rest → Consumes b a (line (named n) ++ rest)
 counted b m a named n k rest e first second = subst (λ i. Consumes b a (line (named i) ++ rest)) (sym e) (Consumes-trans b m a (line (named k)) rest first second)
 
-pub entries-more : (b m a : Option (List ℕ)) (old new : Kept) (e : Entry) → new ≡ with_entry old e → Consumes b m (flat_map line (map entry_words old.entries)) → Consumes m a (line (entry_words e)) → Consumes b a (flat_map line (map entry_words new.entries))
+pub entries-more : (b m a : Option (List ℕ)) (old new : List Entry) (e : Entry) → new ≡ old ++ e ∷ [] → Consumes b m (flat_map line (map entry_words old)) → Consumes m a (line (entry_words e)) → Consumes b a (flat_map line (map entry_words new))
 entries-more b m a old new e is first second =
-    subst (λ (r : Kept). Consumes b a (flat_map line (map entry_words r.entries))) (sym is)
-    (subst (λ xs. Consumes b a (flat_map line xs)) (sym (map-append entry_words old.entries (e ∷ []))) (line-more b m a (map entry_words old.entries) (entry_words e) first second))
+    subst (λ es. Consumes b a (flat_map line (map entry_words es))) (sym is)
+    (subst (λ xs. Consumes b a (flat_map line xs)) (sym (map-append entry_words old (e ∷ []))) (line-more b m a (map entry_words old) (entry_words e) first second))
 
-pub many-more : (old new : Kept) (e : Entry) (n : ℕ) → new ≡ with_entry old e → length old.entries ≡ n → length new.entries ≡ n + 1
-many-more old new e n is many = ap (λ (r : Kept). length r.entries) is ∙ omega (arith, length_push old.entries e, many)
+pub many-more : (old new : List Entry) (e : Entry) (n : ℕ) → new ≡ old ++ e ∷ [] → length old ≡ n → length new ≡ n + 1
+many-more old new e n is many = ap length is ∙ omega (arith, length_push old e, many)
 
-pub fits-more : (old new : Kept) (e : Entry) → new ≡ with_entry old e → FitsEntry e → All FitsEntry old.entries → All FitsEntry new.entries
-fits-more old new e is fits before = subst (λ (r : Kept). All FitsEntry r.entries) (sym is) (All-push FitsEntry old.entries e before fits)
-
-pub same-more : (first old new : Kept) (e : Entry) → new ≡ with_entry old e → IsSameBut first old → IsSameBut first new
-same-more first old new e is same = record {
-  shape = ap (λ (r : Kept). r.shape) is ∙ same.shape;
-  tables = ap (λ (r : Kept). r.tables) is ∙ same.tables;
-  opening = ap (λ (r : Kept). r.opening) is ∙ same.opening;
-}
-
-pub same-first : (r : Kept) → IsSameBut r r
-same-first r = record { shape = refl; tables = refl; opening = refl }
-
-pub nothing-read : (b : Option (List ℕ)) (r : Kept) → r.entries ≡ [] → Consumes b b (flat_map line (map entry_words r.entries))
-nothing-read b r none = subst (λ (es : List Entry). Consumes b b (flat_map line (map entry_words es))) (sym none) (Consumes-nil b)
+pub fits-more : (old new : List Entry) (e : Entry) → new ≡ old ++ e ∷ [] → FitsEntry e → All FitsEntry old → All FitsEntry new
+fits-more old new e is fits before = subst (All FitsEntry) (sym is) (All-push FitsEntry old e before fits)
 
 -- the parts of a text, one behind the other
 parts : (r : Kept) → List ℕ
@@ -285,17 +272,13 @@ parts-text r =
     ap (λ l. line header_words ++ (line (shape_words r.shape) ++ (line (opening_words r.opening) ++ l))) middle
 
 -- all parts have been read
-pub text-read : (a b c d e f g : Option (List ℕ)) (first r : Kept) → IsSameBut first r → Consumes a b (line header_words) → Consumes b c (line (shape_words first.shape)) → Consumes c d (line (opening_words first.opening))
-    → Consumes d e (line (cells_words (length (changed_cells first.tables))) ++ flat_map line (map cell_words (changed_cells first.tables)))
+pub text-read : (a b c d e f g : Option (List ℕ)) (r : Kept) → Consumes a b (line header_words) → Consumes b c (line (shape_words r.shape)) → Consumes c d (line (opening_words r.opening))
+    → Consumes d e (line (cells_words (length (changed_cells r.tables))) ++ flat_map line (map cell_words (changed_cells r.tables)))
     → Consumes e f (line (entries_words (length r.entries)) ++ flat_map line (map entry_words r.entries)) → Consumes f g (line end_words) → Consumes a g (text r)
 unfolding parts
-text-read a b c d e f g first r same header shape opening cells entries end =
-    let shape' : Consumes b c (line (shape_words r.shape)) = subst (λ s. Consumes b c (line (shape_words s))) (sym same.shape) shape in
-    let opening' : Consumes c d (line (opening_words r.opening)) = subst (λ o. Consumes c d (line (opening_words o))) (sym same.opening) opening in
-    let cells' : Consumes d e (line (cells_words (length (changed_cells r.tables))) ++ flat_map line (map cell_words (changed_cells r.tables))) =
-    subst (λ t. Consumes d e (line (cells_words (length (changed_cells t))) ++ flat_map line (map cell_words (changed_cells t)))) (sym same.tables) cells in
+text-read a b c d e f g r header shape opening cells entries end =
     subst (Consumes a g) (parts-text r)
-    (Consumes-trans a b g _ _ header (Consumes-trans b c g _ _ shape' (Consumes-trans c d g _ _ opening' (Consumes-trans d e g _ _ cells' (Consumes-trans e f g _ _ entries end)))))
+    (Consumes-trans a b g _ _ header (Consumes-trans b c g _ _ shape (Consumes-trans c d g _ _ opening (Consumes-trans d e g _ _ cells (Consumes-trans e f g _ _ entries end)))))
 
 -- at the start no bytes are held
 pub start-read : (l : Held) (a b : Option (List ℕ)) (bytes : List ℕ) → l ≡ record { bytes = []; line = []; number = 0 } → Consumes (stream l a) b bytes → Consumes a b bytes

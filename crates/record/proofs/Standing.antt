@@ -1,7 +1,5 @@
 -- Places whose cells fit, each in a whole table.
-use Rattle.std.proofs.Common.{◌≡◌, ◌≢◌, ◌⊎◌, inl, inr, ◌<◌, ◌≤◌, ◌+◌, ℕ, zero, suc, Bool, true, false, cond, leb, List, [], ◌∷◌, length, get_or, refl, ap, sym, subst, ◌∙◌, arith, rules, below_more}
-use Rattle.std.specs.List.{All}
-use Rattle.base.specs.Extent.{IsWithinLimits}
+use Rattle.std.proofs.Common.{◌≡◌, ◌≢◌, ◌⊎◌, inl, inr, ◌<◌, ◌+◌, ℕ, zero, suc, Bool, true, false, cond, leb, List, [], ◌∷◌, length, get_or, refl, ap, sym, subst, ◌∙◌, arith, rules, below_more}
 use Rattle.std.proofs.lemmas.List.{get_or_default}
 use Rattle.std.proofs.lemmas.Bool.Decides.{nat_tests}
 use Rattle.cache_table.specs.Table as cache_table
@@ -22,10 +20,7 @@ use Rattle.record.specs.declared.cells.Cell.{Cell}
 use Rattle.record.specs.declared.cells.Cell.TheVariants as cell
 use Rattle.record.specs.Cells.{all_spots, cell_at, spot_number, spot_of, FitsCell}
 use Rattle.record.specs.Putting.{IsInWhole}
-use Rattle.record.specs.Grammar.{AreValues, FitsEntry}
-use Rattle.record.specs.Kept.{Kept}
-use Rattle.record.specs.Reading.{IsSameBut}
-use Rattle.record.specs.Writable.{AreWhole, IsRecordable}
+use Rattle.record.specs.Writable.{AreWhole}
 use Rattle.record.proofs.Listed.{at, at-own, cache-state-at, directory-state-at, some_spot}
 use Rattle.record.proofs.Singles.{same_or_not}
 
@@ -123,15 +118,3 @@ baseline-whole =
       directory = record { rows = refl; columns = search rules };
       fits = λ s. let own = at-own s in subst (λ p. FitsCell (cell_at baseline p)) own.0 (few-fits _ (few-at all_spots (spot_number s) some_spot (omega (arith, count, own.1)) all));
     }
-
--- ---- recordings
-
--- what was read before the entries, and then these
-pub recordable-same : (first r : Kept) → IsSameBut first r → IsWithinLimits first.shape → AreWhole first.tables → AreValues first.shape first.opening → length r.entries ≤ 1000000 → All FitsEntry r.entries → IsRecordable r
-recordable-same first r same within whole values few fits = record {
-  shape = subst IsWithinLimits (sym same.shape) within;
-  tables = subst AreWhole (sym same.tables) whole;
-  opening = subst (λ vs. AreValues r.shape vs) (sym same.opening) (subst (λ s. AreValues s first.opening) (sym same.shape) values);
-  few = few;
-  fits = fits;
-}

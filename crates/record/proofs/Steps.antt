@@ -1,5 +1,5 @@
 -- Lines that are read one after the other.
-use Rattle.std.proofs.Common.{◌≡◌, ◌≢◌, ◌<◌, ◌+◌, ◌-◌, rules, zero, suc, ℕ, List, [], ◌∷◌, ◌++◌, Option, refl, ap, sym, subst, ◌∙◌, inl, inr, arith, codes, append_assoc, length-append}
+use Rattle.std.proofs.Common.{◌≡◌, ◌≢◌, ◌<◌, ◌≤◌, ◌+◌, ◌-◌, length, rules, zero, suc, ℕ, List, [], ◌∷◌, ◌++◌, Option, refl, ap, sym, subst, ◌∙◌, inl, inr, arith, codes, append_assoc, length-append}
 use Rattle.std.proofs.lemmas.List.{append-nil}
 use Rattle.std.proofs.lemmas.Grind.{flat_map-append}
 use Rattle.std.proofs.KnownBytes.{Consumes-trans, Consumes-nil}
@@ -61,7 +61,7 @@ then-refused b m end f k line due mid kind first second = record {
 stopped : (due : Due) (rest : List ℕ) (end : Option (List ℕ)) (kind : ReadKind) → due ≢ nothing → IsStop rest end kind → IsFaultOfRest due rest end kind
 stopped due rest end Truncated more stop = (more, stop.0, stop.1)
 stopped due rest end OverLimit more stop = inl (more, stop)
-stopped due rest end NoMemory more stop = (stop.0, stop.1, more, stop.2, stop.3)
+stopped due rest end NoMemory more stop = (stop.0, stop.1, more, stop.2, stop.3, stop.4)
 stopped due rest end Device more stop = (stop, λ none. absurd (more none))
 stopped due rest end BadHeader more stop = absurd stop
 stopped due rest end BadLine more stop = absurd stop
@@ -102,16 +102,16 @@ line-refused b left old new line due kind h is fault = record {
   fault = faulty due _ left kind (record { line = new.line; behind = new.bytes; stands = refl; no_end = h.no_end; short = h.short; fault = fault });
 }
 
--- want of memory for what a line holds
-pub memory-refused : (b left : Option (List ℕ)) (old new : Held) (line : ℕ) (due : Due) → due ≢ nothing → HasNextLine b (stream new left) old new → line ≡ new.number → IsRefused b left old.number due line NoMemory
-memory-refused b left old new line due more h is = record {
+-- want of memory before a line is taken
+pub room-refused : (left : Option (List ℕ)) (l : Held) (line : ℕ) (due : Due) → due ≢ nothing → length l.bytes ≤ 4096 → line ≡ l.number + 1 → IsRefused (stream l left) left l.number due line NoMemory
+room-refused left l line due more few is = record {
   lines = [];
   last = due;
-  rest = ended new.line ++ new.bytes;
+  rest = l.bytes;
   follow = refl;
-  number = omega (arith, is, h.number);
-  read = let-go b left (ended new.line) new.bytes h.taken;
-  fault = (new.line, 10 ∷ new.bytes, more, append_assoc new.line (10 ∷ []) new.bytes, record { no_end = h.no_end; short = h.short });
+  number = omega (arith, is);
+  read = let-go (stream l left) left [] l.bytes (Consumes-nil (stream l left));
+  fault = ([], l.bytes, more, refl, record { no_end = search rules; short = omega arith }, few);
 }
 
 -- the same, of a fault that was made so
@@ -168,10 +168,10 @@ opening-fault shape line h = record {
   no_bad_outcome = λ e. e;
 }
 
--- what is wrong with the line of the opening values, or want of memory there
+-- what is wrong with the line of the opening values
 pub opening-refused : (b left : Option (List ℕ)) (old new : Held) (line : ℕ) (shape : Extent) (kind : ReadKind) → HasNextLine b (stream new left) old new → line ≡ new.number → IsBadOpening shape.blocks (words new.line) kind → IsRefused b left old.number (opening_line shape) line kind
-opening-refused b left old new line shape NoMemory h is bad = memory-refused b left old new line (opening_line shape) (opening-more shape) h is
 opening-refused b left old new line shape BadLine h is bad = line-refused b left old new line (opening_line shape) BadLine h is (opening-fault shape (words new.line) bad)
+opening-refused b left old new line shape NoMemory h is bad = absurd bad
 opening-refused b left old new line shape OverLimit h is bad = absurd bad
 opening-refused b left old new line shape BadHeader h is bad = absurd bad
 opening-refused b left old new line shape Truncated h is bad = absurd bad

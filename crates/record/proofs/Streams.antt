@@ -63,11 +63,11 @@ stop-device a b c line first second none short = record {
   stop = record { no_end = none; short = short };
 }
 
-pub stop-memory : (a b left : Option (List ℕ)) (line held : List ℕ) (x : ℕ) → Consumes a b line → Consumes b (prepend_known held left) (x ∷ []) → HasNoEnd line → length line ≤ 90000 → Stops a left NoMemory
-stop-memory a b left line held x first second none short = record {
+pub stop-memory : (a b left : Option (List ℕ)) (line held : List ℕ) (x : ℕ) → Consumes a b line → Consumes b (prepend_known held left) (x ∷ []) → HasNoEnd line → length line ≤ 90000 → length held < 4096 → Stops a left NoMemory
+stop-memory a b left line held x first second none short few = record {
   rest = (line ++ x ∷ []) ++ held;
   read = let-go a left (line ++ x ∷ []) held (more-taken a b (prepend_known held left) line x first second);
-  stop = (line, x ∷ held, append_assoc line (x ∷ []) held, record { no_end = none; short = short });
+  stop = (line, x ∷ held, append_assoc line (x ∷ []) held, record { no_end = none; short = short }, omega (arith, few));
 }
 
 pub stop-long : (a b left : Option (List ℕ)) (line held : List ℕ) (x : ℕ) → Consumes a b line → Consumes b (prepend_known held left) (x ∷ []) → HasNoEnd line → length line ≡ 90000 → x ≢ 10 → Stops a left OverLimit

@@ -15,7 +15,6 @@ use Rattle.record.specs.Text.{shape_words, opening_words}
 use Rattle.record.specs.declared.fault.ReadKind.{ReadKind}
 use Rattle.record.specs.declared.fault.ReadKind.TheVariants.{Truncated, OverLimit, NoMemory, Device, BadLine, BadOutcome}
 use Rattle.record.specs.Grammar.{Due, Follow}
-use Rattle.record.specs.Kept.{Kept}
 use Rattle.record.specs.Refused.{ended, HasNoEnd, IsTooLong, IsUnfinished, IsHigherCount, IsOtherShape, HasNoOutcome}
 
 -- the bytes that were pulled and don't belong to a line yet, the last line, and how many lines there were
@@ -39,7 +38,7 @@ pub record HasNextLine (before after : Option (List ℕ)) (old new : Held) : Typ
 abbrev pub IsStop : List ℕ → Option (List ℕ) → ReadKind → Type 0
 IsStop rest end Truncated = IsUnfinished rest × IsAtEnd end
 IsStop rest end OverLimit = IsTooLong rest
-IsStop rest end NoMemory = (front behind : List ℕ) × (rest ≡ front ++ behind) × IsUnfinished front
+IsStop rest end NoMemory = (front ahead : List ℕ) × (rest ≡ front ++ ahead) × IsUnfinished front × (length ahead ≤ 4096)
 IsStop rest end Device = IsUnfinished rest
 IsStop rest end kind = ⊥
 
@@ -76,7 +75,6 @@ words_behind (Some rest) = words rest.now
 -- why a line of words isn't that of the opening values of a shape
 abbrev pub IsBadOpening : ℕ → List (List ℕ) → ReadKind → Type 0
 IsBadOpening blocks line BadLine = (values : List ℕ) → length values ≡ blocks → All (λ value. value < 2 ^ 64) values → line ≢ opening_words values
-IsBadOpening blocks line NoMemory = Unit {0}
 IsBadOpening blocks line other = ⊥
 
 -- no cell is spelled so
@@ -104,9 +102,3 @@ IsNoDirectoryEntry line = (entry : DirectoryEntry) → FitsDirectoryEntry entry 
 -- no step and no equals sign stand in a line so that the sign's first blank is here
 abbrev pub HasNoStepBefore : List ℕ → ℕ → Type 0
 HasNoStepBefore line at = (left right : List ℕ) (s : Step) → FitsStep s → length left ≡ at → line ≡ left ++ codes " = " ++ right → words left ≢ step_words s
-
--- a recording of the same world, with whatever entries
-pub record IsSameBut (old new : Kept) : Type 0 where
-  pub shape : new.shape ≡ old.shape
-  pub tables : new.tables ≡ old.tables
-  pub opening : new.opening ≡ old.opening

@@ -1,4 +1,4 @@
-ghost use Rattle.std.specs.Prelude.{◌≡◌, ◌≢◌, ◌+◌, ◌<◌, ◌^◌, ◌∷◌, [], IfOk, IfErr, OnOk, OnErr, MatchOption, true};
+ghost use Rattle.std.specs.Prelude.{◌≡◌, ◌≢◌, ◌≤◌, ◌+◌, ◌<◌, ◌^◌, ◌∷◌, [], length, IfOk, IfErr, OnOk, OnErr, MatchOption, true};
 ghost use Rattle.std.specs.Io.KnownBytes.{Consumes, IsAtEnd};
 ghost use Rattle.base.specs.Ends.{Marks};
 ghost use Rattle.record.specs.Reading.{Held, HasNextLine, Stops, stream};
@@ -55,7 +55,8 @@ impl Lines {
 
     /// The number of the last line, counted from 1.
     pub(crate) fn number(&self) -> u64
-        ensures { result ≡ self.now.number }
+        ensures number { result ≡ self.now.number }
+        ensures held { length self.now.bytes ≤ 4096 }
     {
         self.number
     }
@@ -88,6 +89,7 @@ impl Lines {
         ensures byte { IfOk result (λ byte. MatchOption byte
             (Consumes (stream self.old (S.left source.old)) (S.left source.new) [] × IsAtEnd (S.left source.new))
             (λ b. Consumes (stream self.old (S.left source.old)) (stream self.new (S.left source.new)) (b ∷ []))) }
+        ensures held { OnOk result (length self.new.bytes < 4096) }
         ensures err { OnErr result (Consumes (stream self.old (S.left source.old)) (S.left source.new) []) }
         ensures line { self.new.line ≡ self.old.line }
         ensures number { self.new.number ≡ self.old.number }
@@ -102,6 +104,7 @@ impl Lines {
     /// The first of the bytes that are held.
     fn take_byte(&mut self) -> Option<u8>
         ensures byte { MatchOption result ((self.old.bytes ≡ []) × (self.new.bytes ≡ [])) (λ b. self.old.bytes ≡ b ∷ self.new.bytes) }
+        ensures held { length self.new.bytes < 4096 }
         ensures line { self.new.line ≡ self.old.line }
         ensures number { self.new.number ≡ self.old.number }
     {

@@ -2,6 +2,7 @@
 
 ghost use Rattle.std.specs.Prelude.{◌≡◌, ◌≢◌, ◌≤◌, ◌<◌, ◌^◌, ◌↔◌, ◌∷◌, ◌++◌, [], codes, ℕ, List, All, IfOk, IfErr, IfSome, IfNone, IsTrue, MatchOption, length};
 ghost use Rattle.std.specs.Fmt.{decimal};
+ghost use Rattle.std.specs.Vec.{vec_capacity};
 ghost use Rattle.base.specs.Extent.{Extent, IsWithinLimits};
 ghost use Rattle.base.specs.Spelling.{words, step_words, FitsStep};
 ghost use Rattle.record.specs.Text.{header_words, shape_words, opening_words, end_words, entry_words};
@@ -13,7 +14,6 @@ use crate::fault::ReadKind;
 use crate::recording::Entry;
 use base::text::{cut, number_of, small_number_of};
 use base::{MOST_BLOCKS, MOST_CACHES, Outcome, Shape, Step};
-use std::alloc::Global;
 
 /// Whether this is the first line of a recording.
 pub(crate) fn is_header(line: &[u8]) -> bool
@@ -133,8 +133,10 @@ pub(crate) fn shape_of(line: &[u8]) -> Result<Shape, ReadKind>
     }
 }
 
-/// The opening values of so many blocks.
-pub(crate) fn opening_of(alloc: Global, line: &[u8], blocks: u32) -> Result<Vec<u64>, ReadKind>
+/// The opening values of so many blocks, put where there is room for them.
+pub(crate) fn opening_of(room: Vec<u64>, line: &[u8], blocks: u32) -> Result<Vec<u64>, ReadKind>
+    requires none { room.items ≡ [] }
+    requires room { blocks ≤ vec_capacity room }
     ensures count { IfOk result (λ values. length values.items ≡ blocks) }
     ensures words { IfOk result (λ values. words line.now ≡ opening_words values.items) }
     ensures small { IfOk result (λ values. All (λ value. value < 2 ^ 64) values.items) }
@@ -144,7 +146,7 @@ pub(crate) fn opening_of(alloc: Global, line: &[u8], blocks: u32) -> Result<Vec<
     if first != b"opening".as_slice() {
         return Err(ReadKind::BadLine);
     }
-    let mut values = Vec::new(alloc);
+    let mut values = room;
     while values.len() < blocks as usize {
         let Some(text) = rest else {
             return Err(ReadKind::BadLine);
@@ -153,9 +155,7 @@ pub(crate) fn opening_of(alloc: Global, line: &[u8], blocks: u32) -> Result<Vec<
         let Some(value) = number_of(word) else {
             return Err(ReadKind::BadLine);
         };
-        if let Err(_) = values.push(value) {
-            return Err(ReadKind::NoMemory);
-        }
+        values.push_reserved(value);
         rest = more;
     }
     match rest {

@@ -1,5 +1,5 @@
 ghost use Rattle.std.specs.List.{flat_map};
-ghost use Rattle.std.specs.Prelude.{◌++◌, [], All, map, ◌≡◌, ◌≢◌, ◌≤◌, ◌<◌, ◌+◌, ◌^◌, ℕ, true, IfOk, IfErr, OnOk, MatchOption, length};
+ghost use Rattle.std.specs.Prelude.{◌++◌, All, map, ◌≡◌, ◌≢◌, ◌≤◌, ◌<◌, ◌+◌, ◌^◌, ℕ, true, IfOk, IfErr, OnOk, MatchOption, length};
 ghost use Rattle.std.specs.Io.KnownBytes.{Consumes, IsAtEnd};
 ghost use Rattle.base.specs.Spelling.{words};
 ghost use Rattle.machine.specs.Tables.{baseline};
@@ -11,7 +11,7 @@ ghost use Rattle.base.specs.Extent.{IsWithinLimits};
 ghost use Rattle.record.specs.Grammar.{header, shape_line, opening_line, cell_count, cells_due, entry_count, entry_line, entries_due, end_line, nothing, AreValues, FitsEntry, IsListed};
 ghost use Rattle.record.specs.Refused.{IsRefused, IsFaultOfLine, IsWhole};
 ghost use Rattle.record.specs.Writable.{AreWhole, IsRecordable};
-ghost use Rattle.record.specs.Reading.{HasRead, IsSameBut, stream};
+ghost use Rattle.record.specs.Reading.{HasRead, stream};
 
 use crate::cell_parsing::cell_of;
 use crate::cells::{Cell, SPOTS, spot_number};
@@ -51,12 +51,12 @@ impl Recording {
             Ok(tables) => tables,
             Err(fault) => return Err(fault),
         };
-        let mut recording = Recording::of(alloc, shape, tables, opening);
-        if let Err(fault) = read_entries(&mut recording, &mut lines, source) {
-            return Err(fault);
-        }
+        let entries = match read_entries(alloc, &mut lines, source) {
+            Ok(entries) => entries,
+            Err(fault) => return Err(fault),
+        };
         match read_end(&mut lines, source) {
-            Ok(()) => Ok(recording),
+            Ok(()) => Ok(Recording::of(shape, tables, opening, entries)),
             Err(fault) => Err(fault),
         }
     }
@@ -100,7 +100,8 @@ fn read_shape<S: Source>(lines: &mut Lines, source: &mut S) -> Result<Shape, Rea
     }
 }
 
-/// Reads the line of the opening values.
+/// Reads the line of the opening values. It makes room for them first, so that no line that has been taken is refused for
+/// want of memory.
 fn read_opening<S: Source>(
     alloc: Global,
     lines: &mut Lines,
@@ -115,10 +116,13 @@ fn read_opening<S: Source>(
     ensures values { IfOk result (λ values. AreValues shape values.items) }
     ensures text { IfOk result (λ values. Consumes (stream lines.old (S.left source.old)) (stream lines.new (S.left source.new)) (line (opening_words values.items))) }
 {
+    let Ok(room) = Vec::with_capacity(alloc, shape.blocks() as usize) else {
+        return Err(refused(lines.number() + 1, ReadKind::NoMemory));
+    };
     if let Err(fault) = lines.next(source) {
         return Err(fault);
     }
-    match opening_of(alloc, lines.line(), shape.blocks()) {
+    match opening_of(room, lines.line(), shape.blocks()) {
         Ok(values) => Ok(values),
         Err(kind) => Err(refused(lines.number(), kind)),
     }
@@ -220,51 +224,53 @@ fn with_cell(tables: Tables, cell: &Cell) -> Tables
 
 /// Reads the lines of the entries.
 fn read_entries<S: Source>(
-    recording: &mut Recording,
+    alloc: Global,
     lines: &mut Lines,
     source: &mut S,
-) -> Result<(), ReadFault>
-    requires lines { lines.old.number < 2 ^ 50 }
-    requires none { recording.old.entries ≡ [] }
+) -> Result<Vec<Entry>, ReadFault>
+    requires { lines.old.number < 2 ^ 50 }
     ensures ok { OnOk result (HasRead (stream lines.old (S.left source.old)) (stream lines.new (S.left source.new)) lines.old.number lines.new.number entry_count end_line) }
     ensures err { IfErr result (λ fault. IsRefused (stream lines.old (S.left source.old)) (S.left source.new) lines.old.number (entry_count) fault.line fault.kind) }
     ensures device { IfErr result (λ fault. fault.kind ≡ ReadKind.Device → S.has_failed source.new ≡ true) }
     ensures few { OnOk result (lines.new.number ≤ lines.old.number + 1000001) }
-    ensures text { OnOk result (Consumes (stream lines.old (S.left source.old)) (stream lines.new (S.left source.new)) (line (entries_words (length recording.new.entries)) ++ flat_map line (map entry_words recording.new.entries))) }
-    ensures rest { IsSameBut recording.old recording.new }
-    ensures fits { OnOk result (All FitsEntry recording.new.entries) }
+    ensures text { IfOk result (λ entries. Consumes (stream lines.old (S.left source.old)) (stream lines.new (S.left source.new)) (line (entries_words (length entries.items)) ++ flat_map line (map entry_words entries.items))) }
+    ensures most { IfOk result (λ entries. length entries.items ≤ 1000000) }
+    ensures fits { IfOk result (λ entries. All FitsEntry entries.items) }
 {
     if let Err(fault) = lines.next(source) {
         return Err(fault);
     }
     match count_of(lines.line(), b"entries".as_slice(), MOST_ENTRIES as u32) {
-        Ok(count) => match read_each(recording, lines, source, count) {
-            Ok(()) => Ok(()),
+        Ok(count) => match read_each(alloc, lines, source, count) {
+            Ok(entries) => Ok(entries),
             Err(fault) => Err(fault),
         },
         Err(kind) => Err(refused(lines.number(), kind)),
     }
 }
 
-/// Reads so many lines of entries.
+/// Reads so many lines of entries. It makes room for an entry before its line is taken, so that no line that has been taken
+/// is refused for want of memory.
 fn read_each<S: Source>(
-    recording: &mut Recording,
+    alloc: Global,
     lines: &mut Lines,
     source: &mut S,
     count: u32,
-) -> Result<(), ReadFault>
-    requires lines { (lines.old.number < 2 ^ 51) × (count ≤ 1000000) }
-    requires none { recording.old.entries ≡ [] }
+) -> Result<Vec<Entry>, ReadFault>
+    requires { (lines.old.number < 2 ^ 51) × (count ≤ 1000000) }
     ensures ok { OnOk result (HasRead (stream lines.old (S.left source.old)) (stream lines.new (S.left source.new)) lines.old.number lines.new.number (entries_due count) end_line) }
     ensures err { IfErr result (λ fault. IsRefused (stream lines.old (S.left source.old)) (S.left source.new) lines.old.number (entries_due count) fault.line fault.kind) }
     ensures device { IfErr result (λ fault. fault.kind ≡ ReadKind.Device → S.has_failed source.new ≡ true) }
     ensures few { OnOk result (lines.new.number ≤ lines.old.number + count) }
-    ensures text { OnOk result (Consumes (stream lines.old (S.left source.old)) (stream lines.new (S.left source.new)) (flat_map line (map entry_words recording.new.entries))) }
-    ensures many { OnOk result (length recording.new.entries ≡ count) }
-    ensures rest { IsSameBut recording.old recording.new }
-    ensures fits { OnOk result (All FitsEntry recording.new.entries) }
+    ensures text { IfOk result (λ entries. Consumes (stream lines.old (S.left source.old)) (stream lines.new (S.left source.new)) (flat_map line (map entry_words entries.items))) }
+    ensures many { IfOk result (λ entries. length entries.items ≡ count) }
+    ensures fits { IfOk result (λ entries. All FitsEntry entries.items) }
 {
+    let mut entries = Vec::new(alloc);
     for index in 0..count {
+        if let Err(_) = entries.reserve(1) {
+            return Err(refused(lines.number() + 1, ReadKind::NoMemory));
+        }
         if let Err(fault) = lines.next(source) {
             return Err(fault);
         }
@@ -272,11 +278,9 @@ fn read_each<S: Source>(
             Ok(entry) => entry,
             Err(kind) => return Err(refused(lines.number(), kind)),
         };
-        if let Err(_) = recording.push(entry) {
-            return Err(refused(lines.number(), ReadKind::NoMemory));
-        }
+        entries.push_reserved(entry);
     }
-    Ok(())
+    Ok(entries)
 }
 
 /// The entry of a line where one is due.

@@ -68,19 +68,25 @@ impl Recording {
         if opening.len() != shape.blocks() as usize {
             return Err(OpenFault::OpeningLength);
         }
-        Ok(Recording::of(alloc, shape, tables, opening))
+        Ok(Recording::of(shape, tables, opening, Vec::new(alloc)))
     }
 
-    /// The recording of a world to which nothing has happened.
-    pub(crate) fn of(alloc: Global, shape: Shape, tables: Tables, opening: Vec<u64>) -> Recording
-        requires { length opening.items ≡ shape.blocks }
-        ensures { result ≡ opened_recording shape tables opening.items }
+    /// The recording of these entries.
+    pub(crate) fn of(
+        shape: Shape,
+        tables: Tables,
+        opening: Vec<u64>,
+        entries: Vec<Entry>,
+    ) -> Recording
+        requires each { length opening.items ≡ shape.blocks }
+        requires few { length entries.items ≤ 1000000 }
+        ensures { result ≡ record { shape = shape; tables = tables; opening = opening.items; entries = entries.items } }
     {
         Recording {
             shape,
             tables,
             opening,
-            entries: Vec::new(alloc),
+            entries,
         }
     }
 

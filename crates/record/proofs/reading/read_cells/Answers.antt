@@ -19,7 +19,7 @@ pub returns-in_default-listed_cell-clause-err : goal.returns-in_default-listed_c
 returns-in_default-listed_cell-clause-err g c =
     refused-same _ _ _ (cells_due c.args.count 0) c.refused.result c.number.result BadLine c.refused.ensures (
     cell-refused _ (stream c.loop-index.lines (g.S.Source.left c.loop-index.source)) _ _ c.loop-index.lines.number c.number.result c.args.count c.loop-index.index c.loop-index.from BadLine (search rules) c.loop-index.invariant.so_far
-    (line-refused _ _ c.loop-index.lines c.next.new.self c.number.result (cell_line (c.args.count - c.loop-index.index) c.loop-index.from) BadLine c.in_default.ensures.ok c.number.ensures
+    (line-refused _ _ c.loop-index.lines c.next.new.self c.number.result (cell_line (c.args.count - c.loop-index.index) c.loop-index.from) BadLine c.in_default.ensures.ok c.number.ensures.number
     (none-listed (c.args.count - c.loop-index.index) c.loop-index.from (words c.next.new.self.line) (λ cell listed spelled. c.in_default-listed_cell.ensures cell listed (ap words c.line.ensures ∙ spelled)))))
 
 pub loop-index-preserved : goal.loop-index-preserved

@@ -3,15 +3,14 @@ use Rattle.std.specs.List.{All, flat_map}
 use Rattle.std.specs.Io.KnownBytes.{Consumes}
 use Rattle.record.specs.Text.{entry_words, line}
 use Rattle.record.specs.Grammar.{entries_due, FitsEntry}
-use Rattle.record.specs.Reading.{HasRead, IsSameBut, stream}
+use Rattle.record.specs.Reading.{HasRead, stream}
 use Rattle.record.proofs.reading.read_each.Given as goal
 
 abbrev pub invariant-loop-index : goal.invariant-loop-index
 invariant-loop-index g l = record {
   so_far : HasRead (stream l.fn.lines (g.S.Source.left l.fn.source)) (stream l.lines (g.S.Source.left l.source)) l.fn.lines.number l.lines.number (entries_due l.count) (entries_due (l.count - l.index));
   few : l.lines.number ≤ l.fn.lines.number + l.index;
-  text : Consumes (stream l.fn.lines (g.S.Source.left l.fn.source)) (stream l.lines (g.S.Source.left l.source)) (flat_map line (map entry_words l.recording.entries));
-  many : length l.recording.entries ≡ l.index;
-  rest : IsSameBut l.fn.recording l.recording;
-  fits : All FitsEntry l.recording.entries;
+  text : Consumes (stream l.fn.lines (g.S.Source.left l.fn.source)) (stream l.lines (g.S.Source.left l.source)) (flat_map line (map entry_words l.entries.items));
+  many : length l.entries.items ≡ l.index;
+  fits : All FitsEntry l.entries.items;
 }

@@ -18,7 +18,7 @@ returns-in-Err-clause-err g c = stop-refused _ _ _ c.in-Err.fault.line end_line 
 pub returns-in-Err-end_due-clause-err : goal.returns-in-Err-end_due-clause-err
 returns-in-Err-end_due-clause-err g c =
     refused-same _ _ _ end_line c.refused.result c.number.result c.in-Err-end_due.kind c.refused.ensures (
-    line-refused _ _ c.args.lines.now c.next.new.self c.number.result end_line c.in-Err-end_due.kind c.in_default.ensures.ok c.number.ensures
+    line-refused _ _ c.args.lines.now c.next.new.self c.number.result end_line c.in-Err-end_due.kind c.in_default.ensures.ok c.number.ensures.number
     (subst (λ (l : List ℕ). IsFaultOfLine end_line (words l) c.in-Err-end_due.kind) c.line.ensures c.in-Err-end_due.ensures.err))
 
 pub returns-in-Ok-None-clause-ok : goal.returns-in-Ok-None-clause-ok
@@ -31,13 +31,13 @@ returns-in-Ok-Some-clause-err g c =
     let taken : Consumes (stream c.next.new.self (g.S.Source.left c.next.new.source)) (stream c.next_byte.new.self (g.S.Source.left c.next_byte.new.source)) (c.in-Ok-Some.field-0-0 ∷ []) = search rules in
     refused-same _ _ _ end_line c.refused-in-Ok-Some.result (c.number-in-Ok-Some.result + 1) BadLine c.refused-in-Ok-Some.ensures (
     then-refused _ (stream c.next.new.self (g.S.Source.left c.next.new.source)) _ _ c.next.new.self.number (c.number-in-Ok-Some.result + 1) end_line nothing BadLine (one-line _ (stream c.next.new.self (g.S.Source.left c.next.new.source)) c.args.lines.now c.next.new.self end_line nothing c.in_default.ensures.ok (ap words (sym c.line.ensures) ∙ c.in_default-end_due.ensures.ok, refl))
-    (byte-behind (stream c.next.new.self (g.S.Source.left c.next.new.source)) (g.S.Source.left c.next_byte.new.source) c.next.new.self.number (c.number-in-Ok-Some.result + 1) c.in-Ok-Some.field-0-0 c.next_byte.new.self.bytes (ap (λ n. n + 1) (c.number-in-Ok-Some.ensures ∙ c.next_byte.ensures.number)) taken))
+    (byte-behind (stream c.next.new.self (g.S.Source.left c.next.new.source)) (g.S.Source.left c.next_byte.new.source) c.next.new.self.number (c.number-in-Ok-Some.result + 1) c.in-Ok-Some.field-0-0 c.next_byte.new.self.bytes (ap (λ n. n + 1) (c.number-in-Ok-Some.ensures.number ∙ c.next_byte.ensures.number)) taken))
 
 pub returns-in-Err-next_byte-clause-err : goal.returns-in-Err-next_byte-clause-err
 returns-in-Err-next_byte-clause-err g c =
     refused-same _ _ _ end_line c.refused-in-Err-next_byte.result (c.number-in-Err-next_byte.result + 1) Device c.refused-in-Err-next_byte.ensures (
     then-refused _ (stream c.next.new.self (g.S.Source.left c.next.new.source)) _ _ c.next.new.self.number (c.number-in-Err-next_byte.result + 1) end_line nothing Device (one-line _ (stream c.next.new.self (g.S.Source.left c.next.new.source)) c.args.lines.now c.next.new.self end_line nothing c.in_default.ensures.ok (ap words (sym c.line.ensures) ∙ c.in_default-end_due.ensures.ok, refl))
-    (device-behind (stream c.next.new.self (g.S.Source.left c.next.new.source)) (g.S.Source.left c.next_byte.new.source) c.next.new.self.number (c.number-in-Err-next_byte.result + 1) (ap (λ n. n + 1) (c.number-in-Err-next_byte.ensures ∙ c.next_byte.ensures.number)) (search rules)))
+    (device-behind (stream c.next.new.self (g.S.Source.left c.next.new.source)) (g.S.Source.left c.next_byte.new.source) c.next.new.self.number (c.number-in-Err-next_byte.result + 1) (ap (λ n. n + 1) (c.number-in-Err-next_byte.ensures.number ∙ c.next_byte.ensures.number)) (search rules)))
 
 pub returns-in-Ok-None-clause-text : goal.returns-in-Ok-None-clause-text
 returns-in-Ok-None-clause-text g c =

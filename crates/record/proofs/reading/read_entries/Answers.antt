@@ -1,4 +1,4 @@
-use Rattle.std.proofs.Common.{◌≡◌, ◌∙◌, ◌∷◌, [], ap, sym, subst, refl, codes, List, ℕ, rules}
+use Rattle.std.proofs.Common.{◌≡◌, ◌∙◌, ◌∷◌, [], ap, sym, subst, refl, codes, List, ℕ, rules, map, length}
 use Rattle.std.specs.Fmt.{decimal}
 use Rattle.base.specs.Spelling.{words}
 use Rattle.record.specs.Grammar.{entry_count, entries_due, end_line}
@@ -6,7 +6,6 @@ use Rattle.record.specs.Reading.{IsBadCount, stream}
 use Rattle.record.proofs.Steps.{one-line, stop-refused, line-refused, refused-same, then-refused, then-read, entry_count-more, entries-count-fault}
 use Rattle.record.proofs.Listed.{counted, taken-line}
 use Rattle.std.specs.List.{flat_map}
-use Rattle.std.proofs.Common.{map, length}
 use Rattle.record.specs.Text.{entries_words, entry_words, line}
 use Rattle.record.proofs.reading.read_entries.Goals as goal
 
@@ -17,7 +16,7 @@ pub returns-in-Err-count_of-clause-err : goal.returns-in-Err-count_of-clause-err
 returns-in-Err-count_of-clause-err g c =
     let name : c.as_slice.result.now ≡ codes "entries" = search rules in
     refused-same _ _ _ entry_count c.refused.result c.number.result c.in-Err-count_of.kind c.refused.ensures (
-    line-refused _ _ c.args.lines.now c.next.new.self c.number.result entry_count c.in-Err-count_of.kind c.in_default.ensures.ok c.number.ensures
+    line-refused _ _ c.args.lines.now c.next.new.self c.number.result entry_count c.in-Err-count_of.kind c.in_default.ensures.ok c.number.ensures.number
     (entries-count-fault (words c.next.new.self.line) c.in-Err-count_of.kind (subst (λ (n : List ℕ). IsBadCount n 1000000 (words c.next.new.self.line) c.in-Err-count_of.kind) name (subst (λ (l : List ℕ). IsBadCount c.as_slice.result.now 1000000 (words l) c.in-Err-count_of.kind) c.line.ensures c.in-Err-count_of.ensures.err))))
 
 pub returns-in-Ok-read_each-clause-ok : goal.returns-in-Ok-read_each-clause-ok
@@ -34,4 +33,4 @@ pub returns-in-Ok-read_each-clause-text : goal.returns-in-Ok-read_each-clause-te
 returns-in-Ok-read_each-clause-text g c =
     let name : c.as_slice.result.now ≡ codes "entries" = search rules in
     let first = taken-line _ (stream c.next.new.self (g.S.Source.left c.next.new.source)) c.args.lines.now c.next.new.self (entries_words c.in-Ok.count) c.in_default.ensures.ok (ap words (sym c.line.ensures) ∙ c.in-Ok.ensures.ok.1 ∙ ap (λ (n : List ℕ). n ∷ decimal c.in-Ok.count ∷ []) name) in
-    counted (stream c.args.lines.now (g.S.Source.left c.args.source.now)) (stream c.next.new.self (g.S.Source.left c.next.new.source)) (stream c.read_each.new.lines (g.S.Source.left c.read_each.new.source)) entries_words (length c.read_each.new.recording.entries) c.in-Ok.count (flat_map line (map entry_words c.read_each.new.recording.entries)) c.in-Ok-read_each.ensures.many first c.in-Ok-read_each.ensures.text
+    counted (stream c.args.lines.now (g.S.Source.left c.args.source.now)) (stream c.next.new.self (g.S.Source.left c.next.new.source)) (stream c.read_each.new.lines (g.S.Source.left c.read_each.new.source)) entries_words (length c.in-Ok-read_each.entries.items) c.in-Ok.count (flat_map line (map entry_words c.in-Ok-read_each.entries.items)) c.in-Ok-read_each.ensures.many first c.in-Ok-read_each.ensures.text

@@ -15,7 +15,7 @@ returns-then-is_header-clause-ok g c = one-line _ _ c.args.lines.now c.next.new.
 pub returns-else-is_header-clause-err : goal.returns-else-is_header-clause-err
 returns-else-is_header-clause-err g c =
     refused-same _ _ _ header c.refused.result c.number.result BadHeader c.refused.ensures (
-    line-refused _ _ c.args.lines.now c.next.new.self c.number.result header BadHeader c.in_default.ensures.ok c.number.ensures (refl, search rules))
+    line-refused _ _ c.args.lines.now c.next.new.self c.number.result header BadHeader c.in_default.ensures.ok c.number.ensures.number (refl, search rules))
 
 pub returns-then-is_header-clause-text : goal.returns-then-is_header-clause-text
 returns-then-is_header-clause-text g c = taken-line _ _ c.args.lines.now c.next.new.self header_words c.in_default.ensures.ok (search rules)

@@ -16,7 +16,7 @@ returns-in-Ok-clause-ok g c = one-line _ _ c.args.lines.now c.next.new.self shap
 pub returns-in-Err-shape_of-clause-err : goal.returns-in-Err-shape_of-clause-err
 returns-in-Err-shape_of-clause-err g c =
     refused-same _ _ _ shape_line c.refused.result c.number.result c.in-Err-shape_of.kind c.refused.ensures (
-    line-refused _ _ c.args.lines.now c.next.new.self c.number.result shape_line c.in-Err-shape_of.kind c.in_default.ensures.ok c.number.ensures
+    line-refused _ _ c.args.lines.now c.next.new.self c.number.result shape_line c.in-Err-shape_of.kind c.in_default.ensures.ok c.number.ensures.number
     (shape-fault (words c.next.new.self.line) c.in-Err-shape_of.kind (subst (λ (l : List ℕ). IsBadShape (words l) c.in-Err-shape_of.kind) c.line.ensures c.in-Err-shape_of.ensures.err)))
 
 pub returns-in-Ok-clause-text : goal.returns-in-Ok-clause-text

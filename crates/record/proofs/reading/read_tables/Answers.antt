@@ -1,4 +1,4 @@
-use Rattle.std.proofs.Common.{◌≡◌, ◌∙◌, ◌∷◌, [], ap, sym, subst, refl, codes, List, ℕ, rules}
+use Rattle.std.proofs.Common.{◌≡◌, ◌∙◌, ◌∷◌, [], ap, sym, subst, refl, codes, List, ℕ, rules, map, length}
 use Rattle.std.specs.Fmt.{decimal}
 use Rattle.base.specs.Spelling.{words}
 use Rattle.record.specs.Grammar.{cell_count, cells_due, entry_count}
@@ -6,7 +6,6 @@ use Rattle.record.specs.Reading.{IsBadCount, stream}
 use Rattle.record.proofs.Steps.{one-line, stop-refused, line-refused, refused-same, then-refused, then-read, cell_count-more, cells-count-fault}
 use Rattle.record.proofs.Listed.{counted, taken-line}
 use Rattle.std.specs.List.{flat_map}
-use Rattle.std.proofs.Common.{map, length}
 use Rattle.record.specs.Cells.{cell_words}
 use Rattle.record.specs.Text.{cells_words, changed_cells, line}
 use Rattle.record.proofs.reading.read_tables.Goals as goal
@@ -18,7 +17,7 @@ pub returns-in-Err-count_of-clause-err : goal.returns-in-Err-count_of-clause-err
 returns-in-Err-count_of-clause-err g c =
     let name : c.as_slice.result.now ≡ codes "cells" = search rules in
     refused-same _ _ _ cell_count c.refused.result c.number.result c.in-Err-count_of.kind c.refused.ensures (
-    line-refused _ _ c.args.lines.now c.next.new.self c.number.result cell_count c.in-Err-count_of.kind c.in_default.ensures.ok c.number.ensures
+    line-refused _ _ c.args.lines.now c.next.new.self c.number.result cell_count c.in-Err-count_of.kind c.in_default.ensures.ok c.number.ensures.number
     (cells-count-fault (words c.next.new.self.line) c.in-Err-count_of.kind (subst (λ (n : List ℕ). IsBadCount n 160 (words c.next.new.self.line) c.in-Err-count_of.kind) name (subst (λ (l : List ℕ). IsBadCount c.as_slice.result.now 160 (words l) c.in-Err-count_of.kind) c.line.ensures c.in-Err-count_of.ensures.err))))
 
 pub returns-in-Ok-read_cells-clause-ok : goal.returns-in-Ok-read_cells-clause-ok

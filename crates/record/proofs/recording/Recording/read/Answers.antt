@@ -1,11 +1,12 @@
-use Rattle.std.proofs.Common.{◌≤◌, ap, arith, length, subst}
+use Rattle.std.proofs.Common.{subst, sym}
+use Rattle.std.specs.Io.KnownBytes.{Consumes}
 use Rattle.record.specs.Grammar.{header, shape_line, opening_line, cell_count, entry_count, end_line, nothing}
-use Rattle.record.specs.Reading.{IsSameBut, stream}
+use Rattle.record.specs.Reading.{stream}
 use Rattle.record.proofs.Steps.{then-read, then-refused, from-start}
-use Rattle.record.specs.Kept.{Kept, opened_recording}
-use Rattle.record.specs.Text.{header_words, line}
+use Rattle.record.specs.Kept.{Kept}
+use Rattle.record.specs.Writable.{IsRecordable}
+use Rattle.record.specs.Text.{header_words, line, text}
 use Rattle.record.proofs.Listed.{start-read, text-read}
-use Rattle.record.proofs.Standing.{recordable-same}
 use Rattle.record.proofs.recording.Recording.read.Goals as goal
 
 pub returns-in-Err-read_shape-clause-fault : goal.returns-in-Err-read_shape-clause-fault
@@ -21,16 +22,16 @@ pub returns-in-Err-read_entries-clause-fault : goal.returns-in-Err-read_entries-
 returns-in-Err-read_entries-clause-fault g c = then-refused (g.S.Source.left c.args.source.now) (stream c.read_tables.new.lines (g.S.Source.left c.read_tables.new.source)) _ 0 c.read_tables.new.lines.number c.in-Err-read_entries.fault.line header entry_count c.in-Err-read_entries.fault.kind (then-read (g.S.Source.left c.args.source.now) (stream c.read_opening.new.lines (g.S.Source.left c.read_opening.new.source)) (stream c.read_tables.new.lines (g.S.Source.left c.read_tables.new.source)) 0 c.read_opening.new.lines.number c.read_tables.new.lines.number header cell_count entry_count (then-read (g.S.Source.left c.args.source.now) (stream c.read_shape.new.lines (g.S.Source.left c.read_shape.new.source)) (stream c.read_opening.new.lines (g.S.Source.left c.read_opening.new.source)) 0 c.read_shape.new.lines.number c.read_opening.new.lines.number header (opening_line c.in-Ok.shape) cell_count (then-read (g.S.Source.left c.args.source.now) (stream c.read_header.new.lines (g.S.Source.left c.read_header.new.source)) (stream c.read_shape.new.lines (g.S.Source.left c.read_shape.new.source)) 0 c.read_header.new.lines.number c.read_shape.new.lines.number header shape_line (opening_line c.in-Ok.shape) (from-start c.open-lines.result (g.S.Source.left c.args.source.now) (stream c.read_header.new.lines (g.S.Source.left c.read_header.new.source)) c.read_header.new.lines.number header shape_line c.open-lines.ensures c.in_default.ensures.ok) c.in-Ok.ensures.ok) c.in-Ok-read_opening.ensures.ok) c.in-Ok-read_tables.ensures.ok) c.in-Err-read_entries.ensures.err
 
 pub returns-clause-fault : goal.returns-clause-fault
-returns-clause-fault g c = then-refused (g.S.Source.left c.args.source.now) (stream c.read_entries.new.lines (g.S.Source.left c.read_entries.new.source)) _ 0 c.read_entries.new.lines.number c.in-Err-read_end.fault.line header end_line c.in-Err-read_end.fault.kind (then-read (g.S.Source.left c.args.source.now) (stream c.read_tables.new.lines (g.S.Source.left c.read_tables.new.source)) (stream c.read_entries.new.lines (g.S.Source.left c.read_entries.new.source)) 0 c.read_tables.new.lines.number c.read_entries.new.lines.number header entry_count end_line (then-read (g.S.Source.left c.args.source.now) (stream c.read_opening.new.lines (g.S.Source.left c.read_opening.new.source)) (stream c.read_tables.new.lines (g.S.Source.left c.read_tables.new.source)) 0 c.read_opening.new.lines.number c.read_tables.new.lines.number header cell_count entry_count (then-read (g.S.Source.left c.args.source.now) (stream c.read_shape.new.lines (g.S.Source.left c.read_shape.new.source)) (stream c.read_opening.new.lines (g.S.Source.left c.read_opening.new.source)) 0 c.read_shape.new.lines.number c.read_opening.new.lines.number header (opening_line c.in-Ok.shape) cell_count (then-read (g.S.Source.left c.args.source.now) (stream c.read_header.new.lines (g.S.Source.left c.read_header.new.source)) (stream c.read_shape.new.lines (g.S.Source.left c.read_shape.new.source)) 0 c.read_header.new.lines.number c.read_shape.new.lines.number header shape_line (opening_line c.in-Ok.shape) (from-start c.open-lines.result (g.S.Source.left c.args.source.now) (stream c.read_header.new.lines (g.S.Source.left c.read_header.new.source)) c.read_header.new.lines.number header shape_line c.open-lines.ensures c.in_default.ensures.ok) c.in-Ok.ensures.ok) c.in-Ok-read_opening.ensures.ok) c.in-Ok-read_tables.ensures.ok) c.in_default-read_entries.ensures.ok) c.in-Err-read_end.ensures.err
+returns-clause-fault g c = then-refused (g.S.Source.left c.args.source.now) (stream c.read_entries.new.lines (g.S.Source.left c.read_entries.new.source)) _ 0 c.read_entries.new.lines.number c.in-Err-read_end.fault.line header end_line c.in-Err-read_end.fault.kind (then-read (g.S.Source.left c.args.source.now) (stream c.read_tables.new.lines (g.S.Source.left c.read_tables.new.source)) (stream c.read_entries.new.lines (g.S.Source.left c.read_entries.new.source)) 0 c.read_tables.new.lines.number c.read_entries.new.lines.number header entry_count end_line (then-read (g.S.Source.left c.args.source.now) (stream c.read_opening.new.lines (g.S.Source.left c.read_opening.new.source)) (stream c.read_tables.new.lines (g.S.Source.left c.read_tables.new.source)) 0 c.read_opening.new.lines.number c.read_tables.new.lines.number header cell_count entry_count (then-read (g.S.Source.left c.args.source.now) (stream c.read_shape.new.lines (g.S.Source.left c.read_shape.new.source)) (stream c.read_opening.new.lines (g.S.Source.left c.read_opening.new.source)) 0 c.read_shape.new.lines.number c.read_opening.new.lines.number header (opening_line c.in-Ok.shape) cell_count (then-read (g.S.Source.left c.args.source.now) (stream c.read_header.new.lines (g.S.Source.left c.read_header.new.source)) (stream c.read_shape.new.lines (g.S.Source.left c.read_shape.new.source)) 0 c.read_header.new.lines.number c.read_shape.new.lines.number header shape_line (opening_line c.in-Ok.shape) (from-start c.open-lines.result (g.S.Source.left c.args.source.now) (stream c.read_header.new.lines (g.S.Source.left c.read_header.new.source)) c.read_header.new.lines.number header shape_line c.open-lines.ensures c.in_default.ensures.ok) c.in-Ok.ensures.ok) c.in-Ok-read_opening.ensures.ok) c.in-Ok-read_tables.ensures.ok) c.in-Ok-read_entries.ensures.ok) c.in-Err-read_end.ensures.err
 
 pub returns-in-Ok-read_end-clause-whole : goal.returns-in-Ok-read_end-clause-whole
 returns-in-Ok-read_end-clause-whole g c =
-    let all = then-read (g.S.Source.left c.args.source.now) (stream c.read_entries.new.lines (g.S.Source.left c.read_entries.new.source)) (g.S.Source.left c.read_end.new.source) 0 c.read_entries.new.lines.number c.read_end.new.lines.number header end_line nothing (then-read (g.S.Source.left c.args.source.now) (stream c.read_tables.new.lines (g.S.Source.left c.read_tables.new.source)) (stream c.read_entries.new.lines (g.S.Source.left c.read_entries.new.source)) 0 c.read_tables.new.lines.number c.read_entries.new.lines.number header entry_count end_line (then-read (g.S.Source.left c.args.source.now) (stream c.read_opening.new.lines (g.S.Source.left c.read_opening.new.source)) (stream c.read_tables.new.lines (g.S.Source.left c.read_tables.new.source)) 0 c.read_opening.new.lines.number c.read_tables.new.lines.number header cell_count entry_count (then-read (g.S.Source.left c.args.source.now) (stream c.read_shape.new.lines (g.S.Source.left c.read_shape.new.source)) (stream c.read_opening.new.lines (g.S.Source.left c.read_opening.new.source)) 0 c.read_shape.new.lines.number c.read_opening.new.lines.number header (opening_line c.in-Ok.shape) cell_count (then-read (g.S.Source.left c.args.source.now) (stream c.read_header.new.lines (g.S.Source.left c.read_header.new.source)) (stream c.read_shape.new.lines (g.S.Source.left c.read_shape.new.source)) 0 c.read_header.new.lines.number c.read_shape.new.lines.number header shape_line (opening_line c.in-Ok.shape) (from-start c.open-lines.result (g.S.Source.left c.args.source.now) (stream c.read_header.new.lines (g.S.Source.left c.read_header.new.source)) c.read_header.new.lines.number header shape_line c.open-lines.ensures c.in_default.ensures.ok) c.in-Ok.ensures.ok) c.in-Ok-read_opening.ensures.ok) c.in-Ok-read_tables.ensures.ok) c.in_default-read_entries.ensures.ok) c.in-Ok-read_end.ensures.ok in
+    let all = then-read (g.S.Source.left c.args.source.now) (stream c.read_entries.new.lines (g.S.Source.left c.read_entries.new.source)) (g.S.Source.left c.read_end.new.source) 0 c.read_entries.new.lines.number c.read_end.new.lines.number header end_line nothing (then-read (g.S.Source.left c.args.source.now) (stream c.read_tables.new.lines (g.S.Source.left c.read_tables.new.source)) (stream c.read_entries.new.lines (g.S.Source.left c.read_entries.new.source)) 0 c.read_tables.new.lines.number c.read_entries.new.lines.number header entry_count end_line (then-read (g.S.Source.left c.args.source.now) (stream c.read_opening.new.lines (g.S.Source.left c.read_opening.new.source)) (stream c.read_tables.new.lines (g.S.Source.left c.read_tables.new.source)) 0 c.read_opening.new.lines.number c.read_tables.new.lines.number header cell_count entry_count (then-read (g.S.Source.left c.args.source.now) (stream c.read_shape.new.lines (g.S.Source.left c.read_shape.new.source)) (stream c.read_opening.new.lines (g.S.Source.left c.read_opening.new.source)) 0 c.read_shape.new.lines.number c.read_opening.new.lines.number header (opening_line c.in-Ok.shape) cell_count (then-read (g.S.Source.left c.args.source.now) (stream c.read_header.new.lines (g.S.Source.left c.read_header.new.source)) (stream c.read_shape.new.lines (g.S.Source.left c.read_shape.new.source)) 0 c.read_header.new.lines.number c.read_shape.new.lines.number header shape_line (opening_line c.in-Ok.shape) (from-start c.open-lines.result (g.S.Source.left c.args.source.now) (stream c.read_header.new.lines (g.S.Source.left c.read_header.new.source)) c.read_header.new.lines.number header shape_line c.open-lines.ensures c.in_default.ensures.ok) c.in-Ok.ensures.ok) c.in-Ok-read_opening.ensures.ok) c.in-Ok-read_tables.ensures.ok) c.in-Ok-read_entries.ensures.ok) c.in-Ok-read_end.ensures.ok in
     record { lines = all.lines; follow = all.follow; read = all.taken; end = c.in-Ok-read_end.ensures.end }
 
 pub returns-in-Ok-read_end-clause-text : goal.returns-in-Ok-read_end-clause-text
 returns-in-Ok-read_end-clause-text g c =
-    let same = subst (λ (r : Kept). IsSameBut r c.read_entries.new.recording) c.of-recording.ensures c.in_default-read_entries.ensures.rest in
+    subst (λ (r : Kept). Consumes (g.S.Source.left c.args.source.now) (g.S.Source.left c.read_end.new.source) (text r)) (sym c.of.ensures) (
     text-read
     (g.S.Source.left c.args.source.now)
     (stream c.read_header.new.lines (g.S.Source.left c.read_header.new.source))
@@ -39,18 +40,20 @@ returns-in-Ok-read_end-clause-text g c =
     (stream c.read_tables.new.lines (g.S.Source.left c.read_tables.new.source))
     (stream c.read_entries.new.lines (g.S.Source.left c.read_entries.new.source))
     (g.S.Source.left c.read_end.new.source)
-    (opened_recording c.in-Ok.shape c.in-Ok-read_tables.tables c.in-Ok-read_opening.opening.items)
-    c.read_entries.new.recording
-    same
+    (record { shape = c.in-Ok.shape; tables = c.in-Ok-read_tables.tables; opening = c.in-Ok-read_opening.opening.items; entries = c.in-Ok-read_entries.entries.items })
     (start-read c.open-lines.result (g.S.Source.left c.args.source.now) (stream c.read_header.new.lines (g.S.Source.left c.read_header.new.source)) (line header_words) c.open-lines.ensures c.in_default.ensures.text)
     c.in-Ok.ensures.text
     c.in-Ok-read_opening.ensures.text
     c.in-Ok-read_tables.ensures.text
-    c.in_default-read_entries.ensures.text
-    c.in-Ok-read_end.ensures.text
+    c.in-Ok-read_entries.ensures.text
+    c.in-Ok-read_end.ensures.text)
 
 pub returns-in-Ok-read_end-clause-recordable : goal.returns-in-Ok-read_end-clause-recordable
 returns-in-Ok-read_end-clause-recordable g c =
-    let same = subst (λ (r : Kept). IsSameBut r c.read_entries.new.recording) c.of-recording.ensures c.in_default-read_entries.ensures.rest in
-    let few : length c.read_entries.new.recording.entries ≤ 1000000 = omega (arith, c.recording.invariant.few, ap (λ (r : Kept). length r.entries) c.recording.view_is) in
-    recordable-same _ c.read_entries.new.recording same c.in-Ok.ensures.within c.in-Ok-read_tables.ensures.whole c.in-Ok-read_opening.ensures.values few c.in_default-read_entries.ensures.fits
+    subst IsRecordable (sym c.of.ensures) (record {
+      shape = c.in-Ok.ensures.within;
+      tables = c.in-Ok-read_tables.ensures.whole;
+      opening = c.in-Ok-read_opening.ensures.values;
+      few = c.in-Ok-read_entries.ensures.most;
+      fits = c.in-Ok-read_entries.ensures.fits;
+    })
