@@ -1,5 +1,6 @@
 -- What a replay keeps, entry by entry.
 use Rattle.std.proofs.Common.{◌≡◌, ◌≢◌, ◌⊎◌, ◌<◌, ◌≤◌, ◌+◌, ℕ, zero, suc, List, [], ◌∷◌, ◌++◌, Option, Some, None, length, take, map, slice_get, get_or, refl, ap, sym, subst, ◌∙◌, inl, inr, arith}
+use Rattle.std.specs.Option.{option_or, option_zip}
 use Rattle.std.proofs.lemmas.List.{take_more, map_push, take_all, take-append-le, take-map, length-map, length-take-le}
 use Rattle.base.specs.Extent.{Extent}
 use Rattle.base.specs.declared.step.Step.{Step}
@@ -12,7 +13,7 @@ use Rattle.monitor.specs.Scenes.{Scene, HasNone, IsViolation, Answers}
 use Rattle.monitor.specs.Watching.{HasSeen, LeadTo, AnswersHistory, SeesNext, AreDue, completions_of, made_after, scene_after}
 use Rattle.record.specs.declared.recording.Entry.{Entry}
 use Rattle.record.specs.Kept.{Kept, steps_of}
-use Rattle.record.specs.Replaying.{IsFirstToDiffer, HasNoViolation, AnswersFirst, first_of}
+use Rattle.record.specs.Replaying.{IsFirstToDiffer, HasNoViolation, AnswersFirst}
 
 -- the steps of entries
 abbrev pub steps_in : List Entry → List Step
@@ -82,6 +83,10 @@ none-last shape tables opening steps step none last k s e =
       | inl h ↦ subst HasNone (scene-kept shape tables opening steps step k s h.1) (none k s h.0)
       | inr h ↦ subst (λ (t : Step). HasNone (scene_after shape tables opening (take k (steps ++ step ∷ [])) t)) h.1 (subst HasNone (scene-last shape tables opening steps step k h.0) last)
     ]
+
+-- the violation found so far, or else the one that is seen after the step of this number
+abbrev first_of : Option (ℕ × Violation) → ℕ → Option Violation → Option (ℕ × Violation)
+first_of found number seen = option_or found (option_zip (Some number) seen)
 
 -- one more step
 pub first-push : (shape : Extent) (tables : Tables) (opening : List ℕ) (steps : List Step) (step : Step) (n : ℕ) (found : Option (ℕ × Violation)) (seen : Option Violation) → n ≡ length steps → AnswersFirst shape tables opening steps found → Answers (scene_after shape tables opening steps step) seen → AnswersFirst shape tables opening (steps ++ step ∷ []) (first_of found n seen)

@@ -39,12 +39,6 @@ abbrev pub AnswersFirst : Extent → Tables → List ℕ → List Step → Optio
 AnswersFirst shape tables opening steps None = HasNoViolation shape tables opening steps
 AnswersFirst shape tables opening steps (Some found) = IsFirstViolation shape tables opening steps found.0 found.1
 
--- for a private clause: the violation found so far, or else what is seen after the step of this number
-abbrev pub first_of : Option (ℕ × Violation) → ℕ → Option Violation → Option (ℕ × Violation)
-first_of (Some found) number seen = Some found
-first_of None number None = None
-first_of None number (Some violation) = Some (number, violation)
-
 -- a replay is refused so: the first entry that differs, or want of memory
 abbrev pub FaultOf : Kept → ReplayFault → Type 0
 FaultOf r (Differs entry told found) = IsFirstToDiffer r entry told found

@@ -1,6 +1,6 @@
 ghost use Rattle.std.specs.Prelude.{◌≡◌, IfOk, IfErr};
 ghost use Rattle.record.specs.Kept.{IsLegal, steps_of};
-ghost use Rattle.record.specs.Replaying.{AnswersFirst, FaultOf, first_of};
+ghost use Rattle.record.specs.Replaying.{AnswersFirst, FaultOf};
 
 use crate::recording::{Entry, Recording};
 use base::Outcome;
@@ -63,7 +63,7 @@ pub fn replay(alloc: Global, recording: &Recording) -> Result<Replayed, ReplayFa
             return Err(ReplayFault::NoMemory);
         };
         let seen = watch.see(&world, entry.step, found);
-        violation = first_of(violation, number as u64, seen);
+        violation = violation.or(Some(number as u64).zip(seen));
         if found != entry.outcome {
             return Err(ReplayFault::Differs {
                 entry: number as u64,
@@ -80,19 +80,4 @@ pub fn replay(alloc: Global, recording: &Recording) -> Result<Replayed, ReplayFa
         }
     }
     Ok(Replayed { entries, violation })
-}
-
-/// The violation found so far, or else the one that is seen after the step of this number.
-fn first_of(
-    found: Option<(u64, Violation)>,
-    number: u64,
-    seen: Option<Violation>,
-) -> Option<(u64, Violation)>
-    ensures { result ≡ first_of found number seen }
-{
-    match (found, seen) {
-        (Some(found), _) => Some(found),
-        (None, Some(violation)) => Some((number, violation)),
-        (None, None) => None,
-    }
 }

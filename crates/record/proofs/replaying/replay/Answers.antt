@@ -1,4 +1,5 @@
-use Rattle.std.proofs.Common.{rules}
+use Rattle.std.proofs.Common.{◌∙◌, ap, rules}
+use Rattle.std.specs.Option.{option_or}
 use Rattle.record.proofs.Replays.{differs-told, one-more-told, same-so-far}
 use Rattle.record.proofs.replaying.replay.Goals as goal
 
@@ -9,6 +10,6 @@ returns-then-ne-clause-differs c =
 
 pub loop-number-preserved : goal.loop-number-preserved
 loop-number-preserved c =
-    same-so-far _ _ _ _ _ _ _ _ c.in_default-push.ensures.items c.first_of-violation.ensures (
+    same-so-far _ _ _ _ _ _ _ _ c.in_default-push.ensures.items (c.or-violation.ensures ∙ ap (option_or c.loop-number.violation) c.zip.ensures) (
     one-more-told c.args.recording.now c.entries-told.result.now c.entries-told.ensures.value c.loop-number.number _ c.loop-number.world c.step.new.self c.loop-number.watch c.see-seen.new.self c.loop-number.entries.items c.loop-number.violation c.see-seen.result c.in-Ok-step.found (search rules) c.loop-number.invariant c.in-Ok-step.ensures.ok c.in-Ok-step.ensures.shape c.in-Ok-step.ensures.tables
     (search rules) c.see-seen.ensures.history c.see-seen.ensures.seen)
