@@ -1,5 +1,7 @@
-use crate::{Entry, ReadFault, ReadKind, Recording, ReplayFault, Replayed, replay};
-use base::{Buffer, CacheId, Faltering, Outcome, Shape, Step};
+use crate::{
+    Entry, MOST_ENTRIES, PushFault, ReadFault, ReadKind, Recording, ReplayFault, Replayed, replay,
+};
+use base::{BlockId, Buffer, CacheId, Faltering, Outcome, Shape, Step};
 use cache_table::{CacheEntry, CacheEvent, CacheState};
 use monitor::Violation;
 use std::alloc::Global;
@@ -153,6 +155,22 @@ fn replays(rt: HostRuntime) -> Result<(), Fail> {
         _ => false,
     };
     assert!(rt; found);
+    Ok(())
+}
+
+#[test]
+fn entries_up_to_the_most(rt: HostRuntime) -> Result<(), Fail> {
+    let mut recording = recorded(rt.alloc(), 1, Tables::baseline(), &[])?;
+    let block = BlockId(0);
+    let entry = Entry {
+        step: Step::Request { block, index: 0 },
+        outcome: Outcome::Absent,
+    };
+    for _ in 0..MOST_ENTRIES {
+        recording.push(entry)?;
+    }
+    assert_eq!(rt; recording.push(entry), Err(PushFault::Full));
+    assert_eq!(rt; recording.entries().len(), MOST_ENTRIES);
     Ok(())
 }
 
