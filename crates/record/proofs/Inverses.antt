@@ -1,5 +1,5 @@
 -- A text is the text of one recording.
-use Rattle.std.proofs.Common.{◌≡◌, ◌<◌, ◌+◌, ◌^◌, ℕ, zero, suc, Bool, true, false, not, List, [], ◌∷◌, ◌++◌, length, map, get_or, refl, ap, sym, subst, ◌∙◌, arith, append-nil, codes}
+use Rattle.std.proofs.Common.{◌≡◌, ◌<◌, ◌+◌, ◌^◌, ℕ, zero, suc, Bool, true, false, not, List, [], ◌∷◌, ◌++◌, Option, None, Some, length, map, get_or, refl, ap, sym, subst, ◌∙◌, arith, append-nil, codes}
 use Rattle.std.specs.List.{AllByRecursion, flat_map, range_with_len}
 use Rattle.std.specs.Fmt.{decimal}
 use Rattle.std.proofs.lemmas.Fmt.{decimal_injective}
@@ -24,7 +24,10 @@ use Rattle.record.specs.declared.recording.Entry.{Entry}
 use Rattle.record.specs.Cells.{all_spots, cache_entry_words, directory_entry_words, cell_at, cell_words, spot_number}
 use Rattle.record.specs.Kept.{Kept}
 use Rattle.record.specs.Text.{text, line, lines, joined, shape_words, opening_words, cells_words, entries_words, entry_words, end_words, is_same, is_changed, changed, changed_cells}
-use Rattle.record.specs.Grammar.{FitsEntry}
+use Rattle.record.specs.Grammar.{FitsEntry, header}
+use Rattle.record.specs.declared.fault.ReadKind.{ReadKind}
+use Rattle.record.specs.Refused.{IsOutside, IsRefused}
+use Rattle.std.specs.Io.KnownBytes.{Consumes}
 use Rattle.record.specs.Writable.{AreWhole, IsRecordable}
 use Rattle.record.proofs.Alike.{cache_state-same, cache_event-same, directory_state-same, directory_event-same}
 use Rattle.record.proofs.Naming.{cache_actions-same, directory_actions-same}
@@ -35,7 +38,7 @@ use Rattle.record.proofs.Leading.{cell-line, count-same, shape-same}
 use Rattle.record.proofs.Faulting.{same-halves}
 use Rattle.record.proofs.Following.{AreListed, spot-own, listed-from, few-cells, recorded-lines, text-whole}
 use Rattle.record.proofs.Listed.{at-own, numbers, some_spot}
-use Rattle.record.proofs.Refusals.{whole-alone}
+use Rattle.record.proofs.Refusals.{whole-alone, whole-refused}
 use Rattle.record.proofs.Tabled.{tables-same}
 
 -- ---- lines
@@ -244,3 +247,15 @@ pub recording-alone : (r s : Kept) (more : List ℕ) → IsRecordable r → IsRe
 recording-alone r s more h k e =
     let none : more ≡ [] = whole-alone (text r) (text s) more (text-whole r h) (text-whole s k) e in
     (recording-one r s h k (e ∙ ap (λ l. text s ++ l) none ∙ append-nil (text s)), none)
+
+-- what was read of a recording's text is that recording
+pub read-back : (before after : Option (List ℕ)) (r s : Kept) → IsRecordable r → IsRecordable s → before ≡ Some (text r) → Consumes before after (text s) → s ≡ r
+read-back before after r s h k is read = read-text after (subst (λ b. Consumes b after (text s)) is read)
+  where
+    read-text : (after : Option (List ℕ)) → Consumes (Some (text r)) after (text s) → s ≡ r
+    read-text None read = absurd read
+    read-text (Some left) read = sym (recording-alone r s left h k read).0
+
+-- and it is refused only for want of memory or by a device
+pub refused-outside : (before end : Option (List ℕ)) (line : ℕ) (kind : ReadKind) (r : Kept) → IsRecordable r → before ≡ Some (text r) → IsRefused before end 0 header line kind → IsOutside kind
+refused-outside before end line kind r h is refused = whole-refused (text r) (Some []) end line kind (text-whole r h) (subst (λ b. IsRefused b end 0 header line kind) is refused)

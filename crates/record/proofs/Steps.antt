@@ -307,3 +307,7 @@ nothing-read m a n k is read = record { lines = []; follow = refl; count = omega
 pub from-start : (l : Held) (a m : Option (List ℕ)) (k : ℕ) (due next : Due) → l ≡ record { bytes = []; line = []; number = 0 } → HasRead (stream l a) m l.number k due next → HasRead a m 0 k due next
 from-start l a m k due next is h =
     subst (λ (b : Option (List ℕ)). HasRead b m 0 k due next) (none-held a) (subst (λ (l : Held). HasRead (stream l a) m l.number k due next) is h)
+
+pub start-refused : (l : Held) (a end : Option (List ℕ)) (line : ℕ) (due : Due) (kind : ReadKind) → l ≡ record { bytes = []; line = []; number = 0 } → IsRefused (stream l a) end l.number due line kind → IsRefused a end 0 due line kind
+start-refused l a end line due kind is h =
+    subst (λ (b : Option (List ℕ)). IsRefused b end 0 due line kind) (none-held a) (subst (λ (l : Held). IsRefused (stream l a) end l.number due line kind) is h)

@@ -1,5 +1,5 @@
 ghost use Rattle.std.specs.List.{flat_map};
-ghost use Rattle.std.specs.Prelude.{◌++◌, All, map, ◌≡◌, ◌≢◌, ◌≤◌, ◌<◌, ◌+◌, ◌^◌, ℕ, true, IfOk, IfErr, OnOk, MatchOption, length};
+ghost use Rattle.std.specs.Prelude.{◌++◌, All, map, ◌≡◌, ◌≢◌, ◌≤◌, ◌<◌, ◌+◌, ◌^◌, ℕ, true, IfOk, IfErr, OnOk, MatchOption, MatchResult, Some, length};
 ghost use Rattle.std.specs.Io.KnownBytes.{Consumes, IsAtEnd};
 ghost use Rattle.base.specs.Spelling.{words};
 ghost use Rattle.machine.specs.Tables.{baseline};
@@ -9,7 +9,8 @@ ghost use Rattle.record.specs.Text.{cells_words, changed_cells, entries_words, e
 ghost use Rattle.record.specs.declared.cells.Spot as cells_spot;
 ghost use Rattle.base.specs.Extent.{IsWithinLimits};
 ghost use Rattle.record.specs.Grammar.{header, shape_line, opening_line, cell_count, cells_due, entry_count, entry_line, entries_due, end_line, nothing, AreValues, FitsEntry, IsListed};
-ghost use Rattle.record.specs.Refused.{IsRefused, IsFaultOfLine, IsWhole};
+ghost use Rattle.record.specs.Kept.{Kept};
+ghost use Rattle.record.specs.Refused.{IsFaultOfLine, IsOutside, IsRefused, IsWhole};
 ghost use Rattle.record.specs.Writable.{AreWhole, IsRecordable};
 ghost use Rattle.record.specs.Reading.{HasRead, stream};
 
@@ -27,13 +28,16 @@ use world::Tables;
 impl Recording {
     /// The recording whose text a source gives, in whatever pieces it comes.
     ///
-    /// The first line with a fault is named. It holds one line of the text at a time.
+    /// The first line with a fault is named. It holds one line of the text at a time. The text of a recording is read back as
+    /// that recording, if memory and the source don't fail.
     pub fn read<S: Source>(alloc: Global, source: &mut S) -> Result<Recording, ReadFault>
         ensures text { IfOk result (λ recording. Consumes (S.left source.old) (S.left source.new) (text recording)) }
         ensures whole { OnOk result (IsWhole (S.left source.old) (S.left source.new)) }
         ensures fault { IfErr result (λ fault. IsRefused (S.left source.old) (S.left source.new) 0 header fault.line fault.kind) }
         ensures device { IfErr result (λ fault. fault.kind ≡ ReadKind.Device → S.has_failed source.new ≡ true) }
         ensures recordable { IfOk result IsRecordable }
+        ensures back { (r : Kept) → IsRecordable r → S.left source.old ≡ Some (text r) →
+            MatchResult result (λ recording. recording ≡ r) (λ fault. IsOutside fault.kind) }
     {
         let mut lines = Lines::open(alloc);
         if let Err(fault) = read_header(&mut lines, source) {

@@ -2,11 +2,12 @@ use Rattle.std.proofs.Common.{subst, sym}
 use Rattle.std.specs.Io.KnownBytes.{Consumes}
 use Rattle.record.specs.Grammar.{header, shape_line, opening_line, cell_count, entry_count, end_line, nothing}
 use Rattle.record.specs.Reading.{stream}
-use Rattle.record.proofs.Steps.{then-read, then-refused, from-start}
+use Rattle.record.proofs.Steps.{then-read, then-refused, from-start, start-refused}
 use Rattle.record.specs.Kept.{Kept}
 use Rattle.record.specs.Writable.{IsRecordable}
 use Rattle.record.specs.Text.{header_words, line, text}
 use Rattle.record.proofs.Listed.{start-read, text-read}
+use Rattle.record.proofs.Inverses.{read-back, refused-outside}
 use Rattle.record.proofs.recording.Recording.read.Goals as goal
 
 pub returns-in-Err-read_shape-clause-fault : goal.returns-in-Err-read_shape-clause-fault
@@ -57,3 +58,25 @@ returns-in-Ok-read_end-clause-recordable g c =
       few = c.in-Ok-read_entries.ensures.most;
       fits = c.in-Ok-read_entries.ensures.fits;
     })
+
+pub returns-in-Err-clause-back : goal.returns-in-Err-clause-back
+returns-in-Err-clause-back g c r h is =
+    refused-outside (g.S.Source.left c.args.source.now) _ c.in-Err.fault.line c.in-Err.fault.kind r h is (start-refused c.open-lines.result (g.S.Source.left c.args.source.now) _ c.in-Err.fault.line header c.in-Err.fault.kind c.open-lines.ensures c.in-Err.ensures.err)
+
+pub returns-in-Err-read_shape-clause-back : goal.returns-in-Err-read_shape-clause-back
+returns-in-Err-read_shape-clause-back g c r h is = refused-outside _ _ _ _ r h is (returns-in-Err-read_shape-clause-fault g c)
+
+pub returns-in-Err-read_opening-clause-back : goal.returns-in-Err-read_opening-clause-back
+returns-in-Err-read_opening-clause-back g c r h is = refused-outside _ _ _ _ r h is (returns-in-Err-read_opening-clause-fault g c)
+
+pub returns-in-Err-read_tables-clause-back : goal.returns-in-Err-read_tables-clause-back
+returns-in-Err-read_tables-clause-back g c r h is = refused-outside _ _ _ _ r h is (returns-in-Err-read_tables-clause-fault g c)
+
+pub returns-in-Err-read_entries-clause-back : goal.returns-in-Err-read_entries-clause-back
+returns-in-Err-read_entries-clause-back g c r h is = refused-outside _ _ _ _ r h is (returns-in-Err-read_entries-clause-fault g c)
+
+pub returns-clause-back : goal.returns-clause-back
+returns-clause-back g c r h is = refused-outside _ _ _ _ r h is (returns-clause-fault g c)
+
+pub returns-in-Ok-read_end-clause-back : goal.returns-in-Ok-read_end-clause-back
+returns-in-Ok-read_end-clause-back g c r h is = read-back _ _ r c.of.result h (returns-in-Ok-read_end-clause-recordable g c) is (returns-in-Ok-read_end-clause-text g c)
