@@ -37,11 +37,11 @@ fn one_load(rt: HostRuntime) -> Result<(), Fail> {
     let alloc = rt.alloc();
     let stalled = r#"{"directory":[{"state":"I","event":"GetS","entry":"stall"}]}"#;
     let blank = r#"{"cache":[{"state":"I","event":"Load","entry":"blank"}]}"#;
-    for (table, limit, status, verdict) in [
-        ("{}", 9, 0, "quiet 3"),
-        ("{}", 2, 0, "cut 2"),
-        (stalled, 9, 0, "stuck 1"),
-        (blank, 9, 1, "broke 1 blank cache 0 block 0"),
+    for (table, limit, status, verdict, kind) in [
+        ("{}", 9, 0, "quiet 3", "quiet"),
+        ("{}", 2, 0, "cut 2", "cut"),
+        (stalled, 9, 0, "stuck 1", "stuck"),
+        (blank, 9, 1, "broke 1 blank cache 0 block 0", "broke"),
     ] {
         let common = format!(in alloc; "--caches 1 --tables table.json --seed 5 --limit {limit}")?;
         let trial = format!(in alloc; "msi trial {common} --number 8")?;
@@ -55,7 +55,6 @@ fn one_load(rt: HostRuntime) -> Result<(), Fail> {
             assert_eq!(rt; served.output.as_slice(), ONE_LOAD_TEXT.as_bytes());
         }
         let batch = format!(in alloc; "msi batch {common} --trials 3")?;
-        let kind = verdict.split(' ').next().unwrap_or("");
         let lines = format!(in alloc; "0 {verdict}\n1 {verdict}\n2 {verdict}\ntotal {kind} 3\n")?;
         let served = run_over(alloc, batch.as_str(), table, ONE_LOAD)?;
         expect(&rt, &served, status, lines.as_str(), "");
