@@ -12,7 +12,7 @@ use Rattle.record.specs.Kept.{Kept}
 use Rattle.record.specs.Text.{text, lines, joined, entries_words, entry_words, end_words, is_same, is_changed, changed, changed_cells}
 use Rattle.record.specs.Grammar.{Due, header, shape_line, opening_line, cell_count, entry_count, nothing, cells_due, entries_due, IsListed, FitsEntry, Leads, Follow}
 use Rattle.record.specs.Refused.{ended, IsWhole}
-use Rattle.record.specs.Writable.{AreWhole, IsRecordable}
+use Rattle.record.specs.Recordable.{AreWhole, IsRecordable}
 use Rattle.record.proofs.Changed.{changed-cons}
 use Rattle.record.proofs.Legible.{IsLine, joined-short, words-joined}
 use Rattle.record.proofs.Leading.{IsDue, leads-line, leads-due}

@@ -28,7 +28,7 @@ use Rattle.record.specs.Grammar.{FitsEntry, header}
 use Rattle.record.specs.declared.fault.ReadKind.{ReadKind}
 use Rattle.record.specs.Refused.{IsOutside, IsRefused}
 use Rattle.std.specs.Io.KnownBytes.{Consumes}
-use Rattle.record.specs.Writable.{AreWhole, IsRecordable}
+use Rattle.record.specs.Recordable.{AreWhole, IsRecordable}
 use Rattle.record.proofs.Alike.{cache_state-same, cache_event-same, directory_state-same, directory_event-same}
 use Rattle.record.proofs.Naming.{cache_actions-same, directory_actions-same}
 use Rattle.record.proofs.Changed.{changed-cons}

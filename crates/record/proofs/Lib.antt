@@ -1,6 +1,7 @@
 pub mod Actions
 pub mod Alike
 pub mod Changed
+pub mod Completing
 pub mod Distinct
 pub mod Ending
 pub mod Faulting

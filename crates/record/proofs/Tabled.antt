@@ -27,7 +27,7 @@ use Rattle.record.specs.declared.cells.Spot.TheVariants as spot
 use Rattle.record.specs.declared.cells.Cell.{Cell}
 use Rattle.record.specs.declared.cells.Cell.TheVariants as cell
 use Rattle.record.specs.Cells.{cell_at}
-use Rattle.record.specs.Writable.{AreWhole}
+use Rattle.record.specs.Recordable.{AreWhole}
 
 get_or-mapped : {X : Type 0} (f : X → ℕ) (xs : List X) (i : ℕ) (d : X) → get_or (map f xs) i (f d) ≡ f (get_or xs i d)
 get_or-mapped f [] i d = refl

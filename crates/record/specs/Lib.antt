@@ -4,6 +4,6 @@ pub mod Text
 pub mod Putting
 pub mod Replaying
 pub mod Grammar
-pub mod Writable
+pub mod Recordable
 pub mod Refused
 pub mod Reading

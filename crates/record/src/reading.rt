@@ -11,7 +11,7 @@ ghost use Rattle.base.specs.Extent.{IsWithinLimits};
 ghost use Rattle.record.specs.Grammar.{header, shape_line, opening_line, cell_count, cells_due, entry_count, entry_line, entries_due, end_line, nothing, AreValues, FitsEntry, IsListed};
 ghost use Rattle.record.specs.Kept.{Kept};
 ghost use Rattle.record.specs.Refused.{IsFaultOfLine, IsOutside, IsRefused, IsWhole};
-ghost use Rattle.record.specs.Writable.{AreWhole, IsRecordable};
+ghost use Rattle.record.specs.Recordable.{AreWhole, IsRecordable};
 ghost use Rattle.record.specs.Reading.{HasRead, stream};
 
 use crate::cell_parsing::cell_of;

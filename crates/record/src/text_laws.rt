@@ -5,7 +5,7 @@ ghost use Rattle.record.specs.Kept.{Kept};
 ghost use Rattle.record.specs.Text.{joined, lines, text};
 ghost use Rattle.record.specs.Grammar.{header};
 ghost use Rattle.record.specs.Refused.{IsOutside, IsRefused, IsWhole};
-ghost use Rattle.record.specs.Writable.{IsRecordable};
+ghost use Rattle.record.specs.Recordable.{IsRecordable};
 ghost use Rattle.record.specs.declared.fault.ReadKind.{ReadKind};
 
 /// A recording's text is well formed from the first line to the last, each line has at most 90,000 bytes, and only want of
@@ -15,6 +15,11 @@ pub fn a_text_is_read()
     ensures short { (r : Kept) → IsRecordable r → All (λ words. length (joined words) ≤ 90000) (lines r) }
     ensures refused { (r : Kept) (end : Option (List ℕ)) (line : ℕ) (kind : ReadKind) →
         IsRecordable r → IsRefused (Some (text r)) end 0 header line kind → IsOutside kind }
+{}
+
+/// Bytes that are well formed from the first line to the last are the text of a recording.
+pub fn well_formed_bytes_are_a_text()
+    ensures { (bytes : List ℕ) → IsWhole (Some bytes) (Some []) → (r : Kept) × IsRecordable r × (bytes ≡ text r) }
 {}
 
 /// A text is the text of one recording at most, and no text is the beginning of another.

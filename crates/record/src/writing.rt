@@ -5,7 +5,7 @@ ghost use Rattle.std.specs.Io.KnownBytes.{Appends};
 ghost use Rattle.base.specs.Ends.{Marks};
 ghost use Rattle.record.specs.Cells.{all_spots, cell_at, FitsCell};
 ghost use Rattle.record.specs.Grammar.{FitsEntry};
-ghost use Rattle.record.specs.Writable.{AreWhole, IsRecordable};
+ghost use Rattle.record.specs.Recordable.{AreWhole, IsRecordable};
 ghost use Rattle.record.specs.Text.{text, line, spaced, entry_words, changed_cells, is_changed};
 ghost use Rattle.record.specs.Putting.{IsInWhole, IsOut, IsCutOff, head_text, opening_text, cells_text, changed_line, changed_text, entries_text};
 

@@ -4,7 +4,7 @@ use Rattle.record.specs.Grammar.{header, shape_line, opening_line, cell_count, e
 use Rattle.record.specs.Reading.{stream}
 use Rattle.record.proofs.Steps.{then-read, then-refused, from-start, start-refused}
 use Rattle.record.specs.Kept.{Kept}
-use Rattle.record.specs.Writable.{IsRecordable}
+use Rattle.record.specs.Recordable.{IsRecordable}
 use Rattle.record.specs.Text.{header_words, line, text}
 use Rattle.record.proofs.Listed.{start-read, text-read}
 use Rattle.record.proofs.Inverses.{read-back, refused-outside}

@@ -1,4 +1,4 @@
--- What holds of every recording that there is.
+-- What the types promise of a recording.
 use Rattle.std.specs.Prelude.{◌≤◌, All, length}
 use Rattle.base.specs.Extent.{IsWithinLimits}
 use Rattle.cache_table.specs.Table as cache_table
