@@ -1,4 +1,4 @@
-use super::{Served, expect, run, run_over};
+use super::{expect, run, run_over};
 use std::test::Fail;
 
 const RACING_PAIR: &str =
@@ -32,33 +32,66 @@ fn a_racing_pair(rt: HostRuntime) -> Result<(), Fail> {
     Ok(())
 }
 
+/// Trials of one load under a table of changed cells, and what a trial and a batch of three of them print.
+#[derive(Clone, Copy)]
+struct Tried {
+    table: &'static str,
+    limit: u32,
+    status: u8,
+    verdict: &'static str,
+    lines: &'static str,
+}
+
+const ONE_LOAD_TRIED: [Tried; 4] = [
+    Tried {
+        table: "{}",
+        limit: 9,
+        status: 0,
+        verdict: "verdict quiet 3\n",
+        lines: "0 quiet 3\n1 quiet 3\n2 quiet 3\ntotal quiet 3\n",
+    },
+    Tried {
+        table: "{}",
+        limit: 2,
+        status: 0,
+        verdict: "verdict cut 2\n",
+        lines: "0 cut 2\n1 cut 2\n2 cut 2\ntotal cut 3\n",
+    },
+    Tried {
+        table: r#"{"directory":[{"state":"I","event":"GetS","entry":"stall"}]}"#,
+        limit: 9,
+        status: 0,
+        verdict: "verdict stuck 1\n",
+        lines: "0 stuck 1\n1 stuck 1\n2 stuck 1\ntotal stuck 3\n",
+    },
+    Tried {
+        table: r#"{"cache":[{"state":"I","event":"Load","entry":"blank"}]}"#,
+        limit: 9,
+        status: 1,
+        verdict: "verdict broke 1 blank cache 0 block 0\n",
+        lines: "0 broke 1 blank cache 0 block 0\n1 broke 1 blank cache 0 block 0\n2 broke 1 blank cache 0 block 0\ntotal broke 3\n",
+    },
+];
+
 #[test]
 fn one_load(rt: HostRuntime) -> Result<(), Fail> {
     let alloc = rt.alloc();
-    let stalled = r#"{"directory":[{"state":"I","event":"GetS","entry":"stall"}]}"#;
-    let blank = r#"{"cache":[{"state":"I","event":"Load","entry":"blank"}]}"#;
-    for (table, limit, status, verdict, kind) in [
-        ("{}", 9, 0, "quiet 3", "quiet"),
-        ("{}", 2, 0, "cut 2", "cut"),
-        (stalled, 9, 0, "stuck 1", "stuck"),
-        (blank, 9, 1, "broke 1 blank cache 0 block 0", "broke"),
-    ] {
-        let common = format!(in alloc; "--caches 1 --tables table.json --seed 5 --limit {limit}")?;
+    for row in ONE_LOAD_TRIED {
+        let common = format!(in alloc;
+            "--caches 1 --tables table.json --seed 5 --limit {}",
+            row.limit
+        )?;
         let trial = format!(in alloc; "msi trial {common} --number 8")?;
-        let served: Served = run_over(alloc, trial.as_str(), table, ONE_LOAD)?;
-        let errors = format!(in alloc; "verdict {verdict}\n")?;
-        assert_eq!(rt;
-            (served.status, served.errors.as_slice()),
-            (status, errors.as_bytes())
-        );
-        if verdict == "quiet 3" {
-            assert_eq!(rt; served.output.as_slice(), ONE_LOAD_TEXT.as_bytes());
-        }
+        let made = run_over(alloc, trial.as_str(), row.table, ONE_LOAD)?;
+        assert_eq!(rt; made.status, row.status);
+        assert_eq!(rt; made.errors.as_slice(), row.verdict.as_bytes());
         let batch = format!(in alloc; "msi batch {common} --trials 3")?;
-        let lines = format!(in alloc; "0 {verdict}\n1 {verdict}\n2 {verdict}\ntotal {kind} 3\n")?;
-        let served = run_over(alloc, batch.as_str(), table, ONE_LOAD)?;
-        expect(&rt, &served, status, lines.as_str(), "");
+        let served = run_over(alloc, batch.as_str(), row.table, ONE_LOAD)?;
+        expect(&rt, &served, row.status, row.lines, "");
     }
+    let line = "msi trial --caches 1 --seed 5 --limit 9 --number 8";
+    let made = run(alloc, line, ONE_LOAD)?;
+    expect(&rt, &made, 0, ONE_LOAD_TEXT, "verdict quiet 3\n");
     Ok(())
 }
 
