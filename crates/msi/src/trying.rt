@@ -6,7 +6,6 @@ use scenario::Scenario;
 use std::alloc::Global;
 use std::io::{BufWriter, Read, Write};
 use trials::{Setup, TrialResult, Verdict, trial};
-use world::Tables;
 
 /// Makes one trial of the scenario that the input is, and writes its recording on the output and its verdict on the
 /// errors.

@@ -5,7 +5,8 @@ use Rattle.scenario.specs.Tree.{Tree}
 use Rattle.record.specs.declared.recording.Entry.{Entry}
 use Rattle.trials.specs.Terms.{Terms}
 use Rattle.trials.specs.Moments.{Moment, IsNext, IsPath, first_moment}
-use Rattle.trials.proofs.Pushing.{get-push, get-pushed, get-before, length-push, same-some}
+use Rattle.trials.proofs.Places.{same-some}
+use Rattle.trials.proofs.Pushing.{get-push, get-pushed, get-before, length-push}
 
 -- the path of a trial that has made no step
 pub path-starts : (terms : Terms) (tree : Tree) (number : ℕ) → IsPath terms tree number (first_moment terms tree ∷ []) []

@@ -25,6 +25,3 @@ get-before (z ∷ xs) x (suc k) low = get-before xs x k (omega (arith, low))
 
 pub length-push : {X : Type 0} (xs : List X) (x : X) → length (xs ++ x ∷ []) ≡ length xs + 1
 length-push xs x = length-append xs (x ∷ [])
-
-pub same-some : {X : Type 0} (x y : X) → Some x ≡ Some y → x ≡ y
-same-some x y e = cc e

@@ -61,11 +61,11 @@ IsSound Cut = Unit {0}
 IsSound Stuck = ⊥
 IsSound (Broke violation) = ⊥
 
+-- each of these results has such a verdict
+abbrev pub AreSound : List TrialResult → Type 0
+AreSound results = (number : ℕ) (result : TrialResult) → slice_get results number ≡ Some result → IsSound result.verdict
+
 -- the trial broke
 abbrev pub HasBroken : Verdict → Type 0
 HasBroken (Broke violation) = Unit {0}
 HasBroken other = ⊥
-
--- each of these verdicts is such
-abbrev pub AreSound : List TrialResult → Type 0
-AreSound results = (number : ℕ) (result : TrialResult) → slice_get results number ≡ Some result → IsSound result.verdict

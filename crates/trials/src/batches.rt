@@ -6,7 +6,6 @@ ghost use Rattle.trials.specs.Trial.{AreResults, AreSound};
 use crate::making::trial;
 use crate::setup::Setup;
 use crate::verdict::TrialResult;
-use base::NoMemory;
 use scenario::Scenario;
 use std::alloc::{Allocator, Global};
 use thiserror::Error;
@@ -23,17 +22,6 @@ pub enum BatchFault {
     /// A growth was refused.
     #[error("no memory")]
     NoMemory,
-}
-
-impl From<NoMemory> for BatchFault {
-    ghost use Rattle.std.specs.Prelude.{◌≡◌};
-    ghost use Rattle.trials.specs.declared.batches.BatchFault.TheVariants as fault;
-
-    ghost from_gives = { λ _ e. e ≡ fault.NoMemory };
-
-    fn from(_refused: NoMemory) -> BatchFault {
-        BatchFault::NoMemory
-    }
 }
 
 /// The results of the trials of numbers 0 to `n` - 1, in order. It keeps no recording. Under the protocol's own tables

@@ -23,8 +23,8 @@ impl World {
         Ok(steps)
     }
 
-    /// Lists them in place of what the list holds, whose memory is used again. Where memory is
-    /// refused the list is empty.
+    /// Puts the deliveries of [`enabled`](World::enabled) in place of what a list holds, whose memory
+    /// is used again. Where memory is refused the list is empty.
     pub fn list_enabled(&self, steps: &mut Vec<Step>) -> Result<(), NoMemory>
         ensures ok { OnOk result (steps.new.items ≡ enabled_steps self.now.tables self.now.state) }
         ensures err { OnErr result (steps.new.items ≡ []) }
