@@ -4,6 +4,7 @@ pub mod Changed
 pub mod Completing
 pub mod Distinct
 pub mod Ending
+pub mod Exits
 pub mod Faulting
 pub mod Following
 pub mod Inverses

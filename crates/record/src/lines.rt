@@ -75,13 +75,8 @@ impl Lines {
         }
         self.at = 0;
         self.end = 0;
-        match source.pull(&mut self.buffer) {
-            Ok(count) => {
-                self.end = count;
-                Ok(())
-            }
-            Err(failed) => Err(failed),
-        }
+        self.end = source.pull(&mut self.buffer)?;
+        Ok(())
     }
 
     /// The next byte, or `None` where none is left.
@@ -95,10 +90,8 @@ impl Lines {
         ensures number { self.new.number ≡ self.old.number }
         ensures mark { Marks (S.has_failed source.old) result (S.has_failed source.new) }
     {
-        match self.refill(source) {
-            Ok(()) => Ok(self.take_byte()),
-            Err(failed) => Err(failed),
-        }
+        self.refill(source)?;
+        Ok(self.take_byte())
     }
 
     /// The first of the bytes that are held.

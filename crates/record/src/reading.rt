@@ -40,29 +40,13 @@ impl Recording {
             MatchResult result (λ recording. recording ≡ r) (λ fault. IsOutside fault.kind) }
     {
         let mut lines = Lines::open(alloc);
-        if let Err(fault) = read_header(&mut lines, source) {
-            return Err(fault);
-        }
-        let shape = match read_shape(&mut lines, source) {
-            Ok(shape) => shape,
-            Err(fault) => return Err(fault),
-        };
-        let opening = match read_opening(alloc, &mut lines, source, shape) {
-            Ok(opening) => opening,
-            Err(fault) => return Err(fault),
-        };
-        let tables = match read_tables(&mut lines, source) {
-            Ok(tables) => tables,
-            Err(fault) => return Err(fault),
-        };
-        let entries = match read_entries(alloc, &mut lines, source) {
-            Ok(entries) => entries,
-            Err(fault) => return Err(fault),
-        };
-        match read_end(&mut lines, source) {
-            Ok(()) => Ok(Recording::of(shape, tables, opening, entries)),
-            Err(fault) => Err(fault),
-        }
+        read_header(&mut lines, source)?;
+        let shape = read_shape(&mut lines, source)?;
+        let opening = read_opening(alloc, &mut lines, source, shape)?;
+        let tables = read_tables(&mut lines, source)?;
+        let entries = read_entries(alloc, &mut lines, source)?;
+        read_end(&mut lines, source)?;
+        Ok(Recording::of(shape, tables, opening, entries))
     }
 }
 
@@ -75,9 +59,7 @@ fn read_header<S: Source>(lines: &mut Lines, source: &mut S) -> Result<(), ReadF
     ensures few { OnOk result (lines.new.number ≤ lines.old.number + 1) }
     ensures text { OnOk result (Consumes (stream lines.old (S.left source.old)) (stream lines.new (S.left source.new)) (line header_words)) }
 {
-    if let Err(fault) = lines.next(source) {
-        return Err(fault);
-    }
+    lines.next(source)?;
     if is_header(lines.line()) {
         Ok(())
     } else {
@@ -95,9 +77,7 @@ fn read_shape<S: Source>(lines: &mut Lines, source: &mut S) -> Result<Shape, Rea
     ensures within { IfOk result IsWithinLimits }
     ensures text { IfOk result (λ shape. Consumes (stream lines.old (S.left source.old)) (stream lines.new (S.left source.new)) (line (shape_words shape))) }
 {
-    if let Err(fault) = lines.next(source) {
-        return Err(fault);
-    }
+    lines.next(source)?;
     match shape_of(lines.line()) {
         Ok(shape) => Ok(shape),
         Err(kind) => Err(refused(lines.number(), kind)),
@@ -123,9 +103,7 @@ fn read_opening<S: Source>(
     let Ok(room) = Vec::with_capacity(alloc, shape.blocks() as usize) else {
         return Err(refused(lines.number() + 1, ReadKind::NoMemory));
     };
-    if let Err(fault) = lines.next(source) {
-        return Err(fault);
-    }
+    lines.next(source)?;
     match opening_of(room, lines.line(), shape.blocks()) {
         Ok(values) => Ok(values),
         Err(kind) => Err(refused(lines.number(), kind)),
@@ -142,14 +120,9 @@ fn read_tables<S: Source>(lines: &mut Lines, source: &mut S) -> Result<Tables, R
     ensures text { IfOk result (λ tables. Consumes (stream lines.old (S.left source.old)) (stream lines.new (S.left source.new)) (line (cells_words (length (changed_cells tables))) ++ flat_map line (map cell_words (changed_cells tables)))) }
     ensures whole { IfOk result AreWhole }
 {
-    if let Err(fault) = lines.next(source) {
-        return Err(fault);
-    }
+    lines.next(source)?;
     match count_of(lines.line(), b"cells".as_slice(), SPOTS as u32) {
-        Ok(count) => match read_cells(lines, source, count) {
-            Ok(tables) => Ok(tables),
-            Err(fault) => Err(fault),
-        },
+        Ok(count) => read_cells(lines, source, count),
         Err(kind) => Err(refused(lines.number(), kind)),
     }
 }
@@ -168,9 +141,7 @@ fn read_cells<S: Source>(lines: &mut Lines, source: &mut S, count: u32) -> Resul
     let mut tables = Tables::baseline();
     let mut from = 0;
     for index in 0..count {
-        if let Err(fault) = lines.next(source) {
-            return Err(fault);
-        }
+        lines.next(source)?;
         let Some(cell) = listed_cell(lines.line(), from) else {
             return Err(refused(lines.number(), ReadKind::BadLine));
         };
@@ -241,14 +212,9 @@ fn read_entries<S: Source>(
     ensures most { IfOk result (λ entries. length entries.items ≤ 1000000) }
     ensures fits { IfOk result (λ entries. All FitsEntry entries.items) }
 {
-    if let Err(fault) = lines.next(source) {
-        return Err(fault);
-    }
+    lines.next(source)?;
     match count_of(lines.line(), b"entries".as_slice(), MOST_ENTRIES as u32) {
-        Ok(count) => match read_each(alloc, lines, source, count) {
-            Ok(entries) => Ok(entries),
-            Err(fault) => Err(fault),
-        },
+        Ok(count) => read_each(alloc, lines, source, count),
         Err(kind) => Err(refused(lines.number(), kind)),
     }
 }
@@ -275,9 +241,7 @@ fn read_each<S: Source>(
         if let Err(_) = entries.reserve(1) {
             return Err(refused(lines.number() + 1, ReadKind::NoMemory));
         }
-        if let Err(fault) = lines.next(source) {
-            return Err(fault);
-        }
+        lines.next(source)?;
         let entry = match entry_due(lines.line()) {
             Ok(entry) => entry,
             Err(kind) => return Err(refused(lines.number(), kind)),
@@ -296,10 +260,7 @@ fn entry_due(line: &[u8]) -> Result<Entry, ReadKind>
     if is_end(line) {
         return Err(ReadKind::CountDiffers);
     }
-    match entry_of(line) {
-        Ok(entry) => Ok(entry),
-        Err(kind) => Err(kind),
-    }
+    entry_of(line)
 }
 
 /// Reads the last line, behind which nothing is left.
@@ -311,9 +272,7 @@ fn read_end<S: Source>(lines: &mut Lines, source: &mut S) -> Result<(), ReadFaul
     ensures end { OnOk result (IsAtEnd (S.left source.new)) }
     ensures text { OnOk result (Consumes (stream lines.old (S.left source.old)) (S.left source.new) (line end_words)) }
 {
-    if let Err(fault) = lines.next(source) {
-        return Err(fault);
-    }
+    lines.next(source)?;
     if let Err(kind) = end_due(lines.line()) {
         return Err(refused(lines.number(), kind));
     }

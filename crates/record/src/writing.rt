@@ -38,23 +38,12 @@ impl Recording {
     {
         let entries = self.entries();
         let opening = self.opening();
+        // Called for its contract: a shape is within the limits.
         let _limit = self.shape().blocks();
-        let total = match put_head(sink, 0, self.shape()) {
-            Ok(total) => total,
-            Err(fault) => return Err(fault),
-        };
-        let total = match put_opening(sink, total, opening) {
-            Ok(total) => total,
-            Err(fault) => return Err(fault),
-        };
-        let total = match put_cells(sink, total, &self.tables()) {
-            Ok(total) => total,
-            Err(fault) => return Err(fault),
-        };
-        let _all = match put_entries(sink, total, entries) {
-            Ok(total) => total,
-            Err(fault) => return Err(fault),
-        };
+        let total = put_head(sink, 0, self.shape())?;
+        let total = put_opening(sink, total, opening)?;
+        let total = put_cells(sink, total, &self.tables())?;
+        put_entries(sink, total, entries)?;
         Ok(())
     }
 }
@@ -103,10 +92,7 @@ fn put_opening<S: Sink>(sink: &mut S, already: u64, values: &[u64]) -> Result<u6
     for value in values {
         let mut text = Line::new();
         text.push_number(*value);
-        match put_piece(sink, total, text.as_slice()) {
-            Ok(more) => total = more,
-            Err(fault) => return Err(fault),
-        }
+        total = put_piece(sink, total, text.as_slice())?;
     }
     Ok(total)
 }
@@ -150,10 +136,7 @@ fn put_cells<S: Sink>(sink: &mut S, already: u64, tables: &Tables) -> Result<u64
     text.push(b"\ncells");
     text.push_number(count_changed(tables));
     text.push(b"\n");
-    let total = match put_piece(sink, already, text.as_slice()) {
-        Ok(total) => total,
-        Err(fault) => return Err(fault),
-    };
+    let total = put_piece(sink, already, text.as_slice())?;
     put_changed(sink, total, tables)
 }
 
@@ -167,10 +150,7 @@ fn put_changed<S: Sink>(sink: &mut S, already: u64, tables: &Tables) -> Result<u
 {
     let mut total = already;
     for number in 0..SPOTS {
-        match put_if_changed(sink, total, tables, spot_at(number)) {
-            Ok(more) => total = more,
-            Err(fault) => return Err(fault),
-        }
+        total = put_if_changed(sink, total, tables, spot_at(number))?;
     }
     Ok(total)
 }
@@ -207,14 +187,8 @@ fn put_entries<S: Sink>(sink: &mut S, already: u64, entries: &[Entry]) -> Result
     text.push(b"entries");
     text.push_number(entries.len() as u64);
     text.push(b"\n");
-    let total = match put_piece(sink, already, text.as_slice()) {
-        Ok(total) => total,
-        Err(fault) => return Err(fault),
-    };
-    let total = match put_each(sink, total, entries) {
-        Ok(total) => total,
-        Err(fault) => return Err(fault),
-    };
+    let total = put_piece(sink, already, text.as_slice())?;
+    let total = put_each(sink, total, entries)?;
     put_piece(sink, total, b"end\n")
 }
 
@@ -229,10 +203,7 @@ fn put_each<S: Sink>(sink: &mut S, already: u64, entries: &[Entry]) -> Result<u6
     let mut total = already;
     for entry in entries {
         let text = entry_line(*entry);
-        match put_piece(sink, total, text.as_slice()) {
-            Ok(more) => total = more,
-            Err(fault) => return Err(fault),
-        }
+        total = put_piece(sink, total, text.as_slice())?;
     }
     Ok(total)
 }

@@ -91,10 +91,7 @@ impl<A: Allocator + Clone> Scenario<A> {
             Err(error) if error.is_memory() => return Err(ScenarioFault::NoMemory),
             Err(_) => return Err(ScenarioFault::NotJson),
         };
-        let scenario = match scenario_at(alloc, &value, shape, DEEPEST) {
-            Ok(scenario) => scenario,
-            Err(fault) => return Err(fault),
-        };
+        let scenario = scenario_at(alloc, &value, shape, DEEPEST)?;
         if longest_word(&scenario) > u64::from(LONGEST) {
             return Err(ScenarioFault::TooLong);
         }

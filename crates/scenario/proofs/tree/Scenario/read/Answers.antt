@@ -1,4 +1,5 @@
 use Rattle.std.proofs.Common.{arith, ◌≤◌, ◌<◌}
+use Rattle.std.proofs.lemmas.Result.{err_from_is_err_and}
 use Rattle.serde_json.specs.View.{view}
 use Rattle.scenario.specs.Tree.{plain}
 use Rattle.scenario.specs.Limits.{longest}
@@ -6,24 +7,25 @@ use Rattle.scenario.proofs.Answering.{refused, says, too_long, within}
 use Rattle.scenario.proofs.tree.Scenario.read.Goals as goal
 
 -- the walk came to a fault
-pub returns-in-Err-scenario_at-clause-fault : goal.returns-in-Err-scenario_at-clause-fault
-returns-in-Err-scenario_at-clause-fault g c =
-    let e = c.in-Err-scenario_at.ensures in
-    refused plain c.args.shape c.args.bytes.now (view c.in-Ok.value) c.in-Err-scenario_at.fault c.in-Ok.ensures.ok e.gives e.json e.long
+pub returns-in_err-scenario-clause-fault : goal.returns-in_err-scenario-clause-fault
+returns-in_err-scenario-clause-fault g c =
+    let e = c.in_err-scenario.ensures in
+    let same = err_from_is_err_and c.from_residual.result c.from_residual.ensures.1 in
+    rw (same.1, same.2) (refused plain c.args.shape c.args.bytes.now (view c.in-Ok.value) c.in_err-scenario.field-0.0 c.in-Ok.ensures.ok e.gives e.json e.long)
 
 -- only its words are too long
 pub returns-then-longest_word-from-clause-fault : goal.returns-then-longest_word-from-clause-fault
 returns-then-longest_word-from-clause-fault g c =
-    let t = plain c.in-Ok-scenario_at.scenario in
+    let t = plain c.in_ok-scenario.scenario in
     let long : 1000000 < longest t = omega (arith, c.longest_word.ensures, c.if-longest_word-from.true, c.from.ensures) in
-    too_long c.args.shape c.args.bytes.now (view c.in-Ok.value) t c.in-Ok.ensures.ok c.in-Ok-scenario_at.ensures.gives long
+    too_long c.args.shape c.args.bytes.now (view c.in-Ok.value) t c.in-Ok.ensures.ok c.in_ok-scenario.ensures.gives long
 
 pub returns-clause-tree : goal.returns-clause-tree
 returns-clause-tree g c =
-    says c.args.shape c.args.bytes.now (view c.in-Ok.value) (plain c.in-Ok-scenario_at.scenario) c.in-Ok.ensures.ok c.in-Ok-scenario_at.ensures.gives
+    says c.args.shape c.args.bytes.now (view c.in-Ok.value) (plain c.in_ok-scenario.scenario) c.in-Ok.ensures.ok c.in_ok-scenario.ensures.gives
 
 pub returns-clause-within : goal.returns-clause-within
 returns-clause-within g c =
-    let t = plain c.in-Ok-scenario_at.scenario in
+    let t = plain c.in_ok-scenario.scenario in
     let few : longest t ≤ 1000000 = omega (arith, c.longest_word.ensures, c.if-longest_word-from.false, c.from.ensures) in
-    within c.args.shape c.args.bytes.now (view c.in-Ok.value) t c.in-Ok.ensures.ok c.in-Ok-scenario_at.ensures.gives few
+    within c.args.shape c.args.bytes.now (view c.in-Ok.value) t c.in-Ok.ensures.ok c.in_ok-scenario.ensures.gives few
