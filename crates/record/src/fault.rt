@@ -1,7 +1,8 @@
 use thiserror::Error;
 
-/// What is wrong with a text that isn't a recording's. Within a line they are tested in the order 3, 6, 1, 4, 5, 2 of
-/// their numbers, which count from 1 in the order here.
+/// What is wrong with a text that isn't a recording's. Of one line `Truncated` is tested first, then `OverLimit`,
+/// `BadHeader`, `CountDiffers` and `BadOutcome`, and `BadLine` last; but a line that is too long is `OverLimit` whether
+/// it ends or not.
 #[derive(Clone, Copy, Debug, PartialEq, Eq, Error)]
 pub enum ReadKind {
     /// The first line is another.

@@ -27,6 +27,7 @@ impl World {
         ensures safe { HasBeenSafe self.new }
         ensures unstuck { IsUnstuck self.new }
     {
+        // Called for its contract: a shape is within the limits.
         let _limit = self.shape.blocks();
         match self.advance_all(steps, outcomes) {
             Ok(()) => return Ok(()),

@@ -111,6 +111,7 @@ impl World {
         ensures succeeds { HasRoomToStep self.old step → IsOk result }
         ensures sends_nothing { sent_by self.old.tables self.old.state step ≡ [] → IsOk result }
     {
+        // Called for its contract: a shape is within the limits.
         let _limit = self.shape.blocks();
         let outcome = self.advance(step)?;
         Ok(outcome)

@@ -136,6 +136,7 @@ impl Block {
         ensures decision { result ≡ decision_of tables.now step self.now.state }
         ensures fits { Fits result self.now.state }
     {
+        // A look at a field brings in what holds of every block.
         let _ = &self.lines;
         self.find(tables, step)
     }

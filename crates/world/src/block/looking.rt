@@ -38,6 +38,7 @@ impl Block {
     pub fn readers(&self) -> u32
         ensures { result ≡ count_by (λ line. is_reader line.state) self.now.state.lines }
     {
+        // Called for its contract: the number of lines is a `u32`.
         let _caches = self.home.sharers.caches();
         count_readers(self.lines.as_slice())
     }
@@ -46,6 +47,7 @@ impl Block {
     pub fn writer(&self) -> Option<CacheId>
         ensures { result ≡ writer_in self.now.state.lines }
     {
+        // Called for its contract: the number of lines is a `u32`.
         let _caches = self.home.sharers.caches();
         first_writer(self.lines.as_slice())
     }
