@@ -1,0 +1,157 @@
+"""Which bytes are a recording's text, and where the first fault in others is, as docs/FORMATS.md describes it."""
+
+import re
+
+from model.tables import CACHE, DIRECTORY, MOST_ACTIONS, STALL, Act, baseline
+
+KINDS = "BadHeader BadLine Truncated CountDiffers BadOutcome OverLimit".split()
+MOST_BYTES, MOST_CACHES, MOST_BLOCKS, MOST_CELLS, MOST_ENTRIES = 90_000, 1024, 4096, 160, 1_000_000
+CACHE_NUMBER, WORD_NUMBER = 2**32, 2**64
+NUMBER = re.compile("0|[1-9][0-9]*", re.ASCII)
+BARE_OUTCOMES = "sent moved held absent idle blank broken".split()
+
+STEPS = {
+    ("ask", 4): [CACHE_NUMBER, CACHE_NUMBER, ("load", "replace")],
+    ("ask", 5): [CACHE_NUMBER, CACHE_NUMBER, ("store",), WORD_NUMBER],
+    ("request", 3): [CACHE_NUMBER, WORD_NUMBER],
+    ("forward", 3): [CACHE_NUMBER, CACHE_NUMBER],
+    ("response", 3): [CACHE_NUMBER, WORD_NUMBER],
+}
+OUTCOMES = {
+    ("load", 3): [CACHE_NUMBER, WORD_NUMBER],
+    ("store", 3): [CACHE_NUMBER, WORD_NUMBER],
+    **{(word, 1): [] for word in BARE_OUTCOMES},
+}
+
+
+class Refusal(Exception):
+    def __init__(self, kind):
+        super().__init__(kind)
+        self.kind = kind
+
+
+def is_number(word):
+    return NUMBER.fullmatch(word) is not None
+
+
+def fits(words, forms):
+    """Whether the words are of one of these forms: their first word and count, and what stands behind it."""
+    form = forms.get((words[0], len(words)))
+    return form is not None and all(
+        word in wanted if isinstance(wanted, tuple) else is_number(word) and int(word) < wanted
+        for word, wanted in zip(words[1:], form)
+    )
+
+
+class Lines:
+    def __init__(self, text):
+        self.rest, self.number = text, 0
+
+    def next(self):
+        self.number += 1
+        line, end, rest = self.rest.partition(b"\n")
+        if len(line) > MOST_BYTES:
+            raise Refusal("OverLimit")
+        if not end:
+            raise Refusal("Truncated")
+        self.rest = rest
+        return line.decode("latin-1")
+
+
+def numbers(line, name, count):
+    """The numbers behind a name, of any size."""
+    first, *others = line.split(" ")
+    if first != name or len(others) != count or not all(map(is_number, others)):
+        raise Refusal("BadLine")
+    return [int(word) for word in others]
+
+
+def read_shape(line):
+    caches, blocks = numbers(line, "shape", 2)
+    if not (1 <= caches <= MOST_CACHES and 1 <= blocks <= MOST_BLOCKS):
+        raise Refusal("OverLimit")
+    return blocks
+
+
+def read_count(line, name, most):
+    (count,) = numbers(line, name, 1)
+    if count > most:
+        raise Refusal("OverLimit")
+    return count
+
+
+def read_cell(line, last):
+    """The place of a cell's line, which has to be behind the last one's."""
+    first, *words = line.split(" ")
+    name, side = ("cache", CACHE) if words[:1] == ["cache"] else ("directory", DIRECTORY)
+    if first != "cell" or len(words) < 4 or words[0] != name:
+        raise Refusal("BadLine")
+    state, event, *entry = words[1:]
+    if state not in side.states or event not in side.events or not is_entry(entry, side):
+        raise Refusal("BadLine")
+    place = (name, side.states.index(state), side.events.index(event))
+    own = getattr(baseline(), name).get((state, event))
+    if place <= last or entry == spelled(own):
+        raise Refusal("BadLine")
+    return place
+
+
+def is_entry(words, side):
+    if words[0] != "act":
+        return words in (["blank"], [STALL])
+    actions = words[2:]
+    known = words[1:2] and words[1] in side.states and all(word in side.actions for word in actions)
+    return bool(known) and len(actions) <= MOST_ACTIONS
+
+
+def spelled(cell):
+    if isinstance(cell, Act):
+        return ["act", cell.next, *cell.actions]
+    return ["blank" if cell is None else STALL]
+
+
+def entry_fault(line):
+    """What is wrong with the line as an entry's, if anything is."""
+    step, equals, outcome = line.partition(" = ")
+    if not equals or not fits(step.split(" "), STEPS):
+        return "BadLine"
+    return None if fits(outcome.split(" "), OUTCOMES) else "BadOutcome"
+
+
+def read_entry(line):
+    fault = "CountDiffers" if line == "end" else entry_fault(line)
+    if fault:
+        raise Refusal(fault)
+
+
+def read_end(line):
+    if line != "end":
+        raise Refusal("BadLine" if entry_fault(line) else "CountDiffers")
+
+
+def read_all(lines):
+    if lines.next() != "msi-recording 1":
+        raise Refusal("BadHeader")
+    blocks = read_shape(lines.next())
+    if any(value >= WORD_NUMBER for value in numbers(lines.next(), "opening", blocks)):
+        raise Refusal("BadLine")
+    last = ("", 0, 0)
+    for _ in range(read_count(lines.next(), "cells", MOST_CELLS)):
+        last = read_cell(lines.next(), last)
+    for _ in range(read_count(lines.next(), "entries", MOST_ENTRIES)):
+        read_entry(lines.next())
+    read_end(lines.next())
+    if lines.rest:
+        lines.number += 1
+        raise Refusal("BadLine")
+
+
+def refusal(text):
+    """How msi refuses these bytes, or `None` where they are a recording's text."""
+    lines = Lines(text)
+    try:
+        read_all(lines)
+    except Refusal as refused:
+        number = KINDS.index(refused.kind) + 1
+        return f"msi: recording line {lines.number} refused {number} {refused.kind}"
+    return None
