@@ -65,7 +65,7 @@ pub record HasNoOutcome (line : List (List ℕ)) : Type 0 where
   pub spelled : line ≡ step_words step ++ codes "=" ∷ first ∷ others
   pub none : (o : Outcome) → FitsOutcome o → first ∷ others ≢ outcome_words o
 
--- an entry is due, and its outcome is none
+-- an entry is due, and what follows its step is no outcome
 abbrev pub IsBadOutcome : Due → List (List ℕ) → Type 0
 IsBadOutcome (entry_line left) line = HasNoOutcome line
 IsBadOutcome due line = ⊥
