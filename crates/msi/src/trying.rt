@@ -37,24 +37,57 @@ pub fn batch<I: Read + Drop, O: Write + Drop>(
 ) -> Result<Finding, Fault> {
     let scenario = read_scenario(alloc, input, setup.shape())?;
     let mut output = BufWriter::new(alloc, output)?;
+    make_all(alloc, &scenario, setup, trials, &mut output)
+}
+
+fn make_all<W: Write>(
+    alloc: Global,
+    scenario: &Scenario<Global>,
+    setup: &Setup,
+    trials: u32,
+    output: &mut W,
+) -> Result<Finding, Fault> {
     let mut tally: IndexMap<&'static str, u32> = IndexMap::new(alloc);
     let mut found = Finding::Nothing;
     for number in 0..trials {
-        let result = trial(alloc, &scenario, setup, number)?.result;
-        writeln!(output, "{number} {result}")?;
-        output.flush()?;
-        let kind = result.verdict.name();
-        let before = tally.get(&kind).copied().unwrap_or(0);
-        tally.insert(kind, before.saturating_add(1))?;
+        let result = make_one(alloc, scenario, setup, number, output)?;
+        count(&mut tally, result.verdict.name())?;
         if finding(result) == Finding::Violation {
             found = Finding::Violation;
         }
     }
+    print_totals(&tally, output)?;
+    Ok(found)
+}
+
+fn make_one<W: Write>(
+    alloc: Global,
+    scenario: &Scenario<Global>,
+    setup: &Setup,
+    number: u32,
+    output: &mut W,
+) -> Result<TrialResult, Fault> {
+    let result = trial(alloc, scenario, setup, number)?.result;
+    writeln!(output, "{number} {result}")?;
+    output.flush()?;
+    Ok(result)
+}
+
+fn count(tally: &mut IndexMap<&'static str, u32>, kind: &'static str) -> Result<(), Fault> {
+    let before = tally.get(&kind).copied().unwrap_or(0);
+    tally.insert(kind, before.saturating_add(1))?;
+    Ok(())
+}
+
+fn print_totals<W: Write>(
+    tally: &IndexMap<&'static str, u32>,
+    output: &mut W,
+) -> Result<(), Fault> {
     for (kind, count) in tally.iter() {
         writeln!(output, "total {kind} {count}")?;
     }
     output.flush()?;
-    Ok(found)
+    Ok(())
 }
 
 fn finding(made: TrialResult) -> Finding {

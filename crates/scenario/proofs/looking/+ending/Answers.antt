@@ -1,0 +1,28 @@
+use Rattle.std.proofs.Common.{arith}
+use Rattle.std.proofs.lemmas.Grind.{common_steps}
+use Rattle.scenario.proofs.Children.{children}
+use Rattle.scenario.proofs.looking.+ending.Goals as goal
+
+pub all_may_end-returns-then-not-tree_may_end : goal.all_may_end-returns-then-not-tree_may_end
+all_may_end-returns-then-not-tree_may_end g t c = grind (arith, common_steps)
+
+pub all_may_end-loop-child-preserved : goal.all_may_end-loop-child-preserved
+all_may_end-loop-child-preserved g t c = grind (arith, common_steps)
+
+pub all_may_end-returns : goal.all_may_end-returns
+all_may_end-returns g t c = grind (arith, common_steps)
+
+pub some_may_end-returns-then-tree_may_end : goal.some_may_end-returns-then-tree_may_end
+some_may_end-returns-then-tree_may_end g t c = grind (arith, common_steps)
+
+pub some_may_end-loop-child-preserved : goal.some_may_end-loop-child-preserved
+some_may_end-loop-child-preserved g t c = grind (arith, common_steps)
+
+pub some_may_end-returns : goal.some_may_end-returns
+some_may_end-returns g t c = grind (arith, common_steps)
+
+pub tree_may_end-returns-in-Any : goal.tree_may_end-returns-in-Any
+tree_may_end-returns-in-Any g t c = grind (arith, children)
+
+pub tree_may_end-returns-in-Seq : goal.tree_may_end-returns-in-Seq
+tree_may_end-returns-in-Seq g t c = grind (arith, children)
