@@ -14,6 +14,3 @@ pub use fault::NoMemory;
 pub use ids::{BlockId, CacheId, Place};
 pub use shape::{MOST_BLOCKS, MOST_CACHES, Shape, ShapeFault};
 pub use step::{Ask, CoreAsk, Outcome, Step};
-
-#[cfg(test)]
-mod tests;

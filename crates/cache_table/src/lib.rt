@@ -20,6 +20,3 @@ pub use entry::CacheEntry;
 pub use event::CacheEvent;
 pub use state::CacheState;
 pub use table::{CacheTable, entry_after_changes};
-
-#[cfg(test)]
-mod tests;

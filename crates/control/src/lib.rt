@@ -22,6 +22,3 @@ pub use home_room::{home_needs, home_reserve};
 pub use line::{Completion, Line, LineInput};
 pub use needs::{Needs, line_needs};
 pub use sharers::Sharers;
-
-#[cfg(test)]
-mod tests;

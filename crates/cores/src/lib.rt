@@ -6,6 +6,3 @@ mod laws;
 
 pub use cores::Cores;
 pub use laws::a_core_is_free_between_its_asks;
-
-#[cfg(test)]
-mod tests;

@@ -20,6 +20,3 @@ pub use entry::DirectoryEntry;
 pub use event::DirectoryEvent;
 pub use state::DirectoryState;
 pub use table::{DirectoryTable, entry_after_changes};
-
-#[cfg(test)]
-mod tests;

@@ -12,6 +12,3 @@ pub use laws::{
 };
 pub use violation::Violation;
 pub use watch::Watch;
-
-#[cfg(test)]
-mod tests;

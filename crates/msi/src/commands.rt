@@ -75,31 +75,27 @@ fn limit<'a>(alloc: Global) -> Arg<'a> {
     )
 }
 
+/// A command that makes trials, with the options that all of these have but the limit.
+fn of_trials<'a>(alloc: Global, name: &'a str, about: &'a str) -> Result<Command<'a>, AllocError> {
+    let command = Command::new(alloc, name).about(about);
+    let command = command.arg(caches(alloc))?.arg(blocks(alloc))?;
+    command.arg(overrides(alloc))?.arg(seed(alloc))
+}
+
 fn trial<'a>(alloc: Global) -> Result<Command<'a>, AllocError> {
-    Command::new(alloc, "trial")
-        .about("Reads a scenario, makes one trial of it and prints its recording")
-        .arg(caches(alloc))?
-        .arg(blocks(alloc))?
-        .arg(overrides(alloc))?
-        .arg(seed(alloc))?
-        .arg(number_of(alloc, "number", "K", "The trial's number", u32::MAX as i64))?
+    let about = "Reads a scenario, makes one trial of it and prints its recording";
+    let number = number_of(alloc, "number", "K", "The trial's number", u32::MAX as i64);
+    of_trials(alloc, "trial", about)?
+        .arg(number)?
         .arg(limit(alloc))
 }
 
 fn batch<'a>(alloc: Global) -> Result<Command<'a>, AllocError> {
-    Command::new(alloc, "batch")
-        .about("Reads a scenario, makes trials of it and prints their verdicts, one a line")
-        .arg(caches(alloc))?
-        .arg(blocks(alloc))?
-        .arg(overrides(alloc))?
-        .arg(seed(alloc))?
-        .arg(number_of(
-            alloc,
-            "trials",
-            "N",
-            "How many trials are made, at most 1000000",
-            MOST_TRIALS as i64,
-        ))?
+    let about = "Reads a scenario, makes trials of it and prints their verdicts, one a line";
+    let help = "How many trials are made, at most 1000000";
+    let trials = number_of(alloc, "trials", "N", help, MOST_TRIALS as i64);
+    of_trials(alloc, "batch", about)?
+        .arg(trials)?
         .arg(limit(alloc))
 }
 
@@ -117,12 +113,19 @@ fn replay<'a>(alloc: Global) -> Command<'a> {
 
 /// The command line of `msi`.
 pub fn msi<'a>(alloc: Global) -> Result<Command<'a>, AllocError> {
-    Command::new(alloc, "msi")
+    let msi = Command::new(alloc, "msi")
         .about("Plays, tries out and replays a directory MSI cache-coherence protocol")
-        .subcommand_required(true)
-        .subcommand(play(alloc)?)?
-        .subcommand(trial(alloc)?)?
-        .subcommand(batch(alloc)?)?
-        .subcommand(replay(alloc))?
-        .subcommand(tables(alloc)?)
+        .subcommand_required(true);
+    let msi = with(msi, play(alloc))?;
+    let msi = with(msi, trial(alloc))?;
+    let msi = with(msi, batch(alloc))?;
+    let msi = msi.subcommand(replay(alloc))?;
+    with(msi, tables(alloc))
+}
+
+fn with<'a>(
+    msi: Command<'a>,
+    command: Result<Command<'a>, AllocError>,
+) -> Result<Command<'a>, AllocError> {
+    msi.subcommand(command?)
 }

@@ -10,6 +10,7 @@ mod play;
 mod replay;
 mod serve;
 mod tables;
+mod tasks;
 mod trying;
 
 use files::Disk;

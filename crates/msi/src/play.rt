@@ -49,19 +49,31 @@ fn play_all<I: Read + Drop, O: Write>(
         if !lines.advance()? {
             break;
         }
-        let line = lines.line();
-        if line.is_empty() {
+        if lines.line().is_empty() {
             continue;
         }
-        let step = step_of(line).ok_or(Fault::NotAStep(lines.number()))?;
-        let outcome = world.step(step)?;
-        writeln!(output, "{outcome}")?;
-        if let Some(violation) = watch.see(world, step, outcome) {
-            writeln!(output, "violation {violation}")?;
+        let step = step_of(lines.line()).ok_or(Fault::NotAStep(lines.number()))?;
+        if play_one(world, watch, step, output)? == Finding::Violation {
             return Ok(Finding::Violation);
         }
     }
     Ok(Finding::Nothing)
+}
+
+/// Makes a step, and prints its outcome and its violation, if it has one.
+fn play_one<O: Write>(
+    world: &mut World,
+    watch: &mut Watch,
+    step: Step,
+    output: &mut O,
+) -> Result<Finding, Fault> {
+    let outcome = world.step(step)?;
+    writeln!(output, "{outcome}")?;
+    let Some(violation) = watch.see(world, step, outcome) else {
+        return Ok(Finding::Nothing);
+    };
+    writeln!(output, "violation {violation}")?;
+    Ok(Finding::Violation)
 }
 
 fn step_of(line: &[u8]) -> Option<Step> {

@@ -1,6 +1,7 @@
 use crate::fault::Fault;
-use cache_table::{CacheEvent, CacheState};
-use directory_table::{DirectoryEvent, DirectoryState};
+use crate::finding::Finding;
+use cache_table::{CacheEvent, CacheState, CacheTable};
+use directory_table::{DirectoryEvent, DirectoryState, DirectoryTable};
 use std::alloc::Global;
 use std::io::{BufWriter, Write};
 use world::Tables;
@@ -10,30 +11,32 @@ pub fn print_tables<O: Write + Drop>(
     alloc: Global,
     tables: &Tables,
     output: O,
-) -> Result<(), Fault> {
+) -> Result<Finding, Fault> {
     let mut output = BufWriter::new(alloc, output)?;
+    print_cache_cells(&tables.cache, &mut output)?;
+    print_directory_cells(&tables.directory, &mut output)?;
+    output.flush()?;
+    Ok(Finding::Nothing)
+}
+
+fn print_cache_cells<W: Write>(table: &CacheTable, output: &mut W) -> Result<(), Fault> {
     for state in CacheState::ALL {
         for event in CacheEvent::ALL {
-            let entry = tables.cache.entry(state, event);
-            writeln!(
-                output,
-                "cell cache {} {} {entry}",
-                state.name(),
-                event.name()
-            )?;
+            let (state_name, event_name) = (state.name(), event.name());
+            let entry = table.entry(state, event);
+            writeln!(output, "cell cache {state_name} {event_name} {entry}")?;
         }
     }
+    Ok(())
+}
+
+fn print_directory_cells<W: Write>(table: &DirectoryTable, output: &mut W) -> Result<(), Fault> {
     for state in DirectoryState::ALL {
         for event in DirectoryEvent::ALL {
-            let entry = tables.directory.entry(state, event);
-            writeln!(
-                output,
-                "cell directory {} {} {entry}",
-                state.name(),
-                event.name()
-            )?;
+            let (state_name, event_name) = (state.name(), event.name());
+            let entry = table.entry(state, event);
+            writeln!(output, "cell directory {state_name} {event_name} {entry}")?;
         }
     }
-    output.flush()?;
     Ok(())
 }

@@ -2,6 +2,7 @@ use crate::fault::Fault;
 use crate::finding::Finding;
 use base::{Shape, ToWrite};
 use indexmap::IndexMap;
+use record::Recording;
 use scenario::Scenario;
 use std::alloc::Global;
 use std::io::{BufWriter, Read, Write};
@@ -19,11 +20,20 @@ pub fn one_trial<I: Read + Drop, O: Write + Drop, E: Write>(
 ) -> Result<Finding, Fault> {
     let scenario = read_scenario(alloc, input, setup.shape())?;
     let made = trial(alloc, &scenario, setup, number)?;
-    let mut output = BufWriter::new(alloc, output)?;
-    made.recording.write(&mut ToWrite::new(&mut output))?;
-    output.flush()?;
+    write_recording(alloc, &made.recording, output)?;
     writeln!(errors, "verdict {}", made.result)?;
     Ok(finding(made.result))
+}
+
+fn write_recording<O: Write + Drop>(
+    alloc: Global,
+    recording: &Recording,
+    output: O,
+) -> Result<(), Fault> {
+    let mut output = BufWriter::new(alloc, output)?;
+    recording.write(&mut ToWrite::new(&mut output))?;
+    output.flush()?;
+    Ok(())
 }
 
 /// Makes so many trials of the scenario that the input is, and prints a line for each as it ends, and then how many there

@@ -10,6 +10,3 @@ mod wires;
 
 pub use message::{Forward, ForwardKind, Message, Request, RequestKind, Response};
 pub use wires::Wires;
-
-#[cfg(test)]
-mod tests;

@@ -26,6 +26,3 @@ pub use text_laws::{
     a_text_is_of_one_recording, a_text_is_read, one_refusal_at_most, well_formed_bytes_are_a_text,
 };
 pub use writing::WriteFault;
-
-#[cfg(test)]
-mod tests;

@@ -19,8 +19,3 @@ pub use laws::{
 pub use reading::{DEEPEST, LONGEST, ScenarioFault};
 pub use tree::Scenario;
 pub use writing::SaveFault;
-
-#[cfg(test)]
-mod reading_tests;
-#[cfg(test)]
-mod taking_tests;

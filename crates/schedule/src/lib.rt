@@ -8,6 +8,3 @@ mod laws;
 pub use choosing::{Choice, Menu, choices};
 pub use dice::Dice;
 pub use laws::{alike_trees_give_the_same_choices, draws_follow_the_words, first_words};
-
-#[cfg(test)]
-mod tests;

@@ -18,6 +18,3 @@ pub use laws::{
 pub use making::{TrialRun, trial};
 pub use setup::{MOST_STEPS, Setup, SetupFault};
 pub use verdict::{TrialResult, Verdict};
-
-#[cfg(test)]
-mod tests;

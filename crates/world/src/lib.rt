@@ -13,6 +13,3 @@ pub use overrides::TablesFault;
 pub use runs::RunStop;
 pub use tables::Tables;
 pub use worlds::{OpenFault, World};
-
-#[cfg(test)]
-mod tests;

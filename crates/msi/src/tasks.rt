@@ -1,0 +1,76 @@
+use crate::fault::Fault;
+use crate::files::Files;
+use base::Shape;
+use clap::ArgMatches;
+use std::alloc::Global;
+use trials::Setup;
+use world::Tables;
+
+/// What a command line asks for, with all that its options and their files say.
+#[derive(Drop)]
+pub enum Task {
+    /// Play the steps of the input in a world of this shape, under these tables.
+    Play(Shape, Tables),
+    /// Make the trial of this number.
+    Trial(Setup, u32),
+    /// Make so many trials.
+    Batch(Setup, u32),
+    /// Replay a recording.
+    Replay,
+    /// Print the cells of these tables.
+    Tables(Tables),
+}
+
+impl Task {
+    /// The task of a command line that `clap` has read, for which the file that it names is loaded.
+    ///
+    /// `None` where no command was named.
+    pub fn of<F: Files>(
+        alloc: Global,
+        matches: &ArgMatches<'_>,
+        files: &mut F,
+    ) -> Result<Option<Task>, Fault> {
+        let Some((name, options)) = matches.subcommand() else {
+            return Ok(None);
+        };
+        Ok(Some(match name {
+            "play" => Task::Play(shape(options)?, tables(alloc, options, files)?),
+            "trial" => Task::Trial(setup(alloc, options, files)?, number(options, "number")),
+            "batch" => Task::Batch(setup(alloc, options, files)?, number(options, "trials")),
+            "tables" => Task::Tables(tables(alloc, options, files)?),
+            _ => Task::Replay,
+        }))
+    }
+}
+
+fn shape(options: &ArgMatches<'_>) -> Result<Shape, Fault> {
+    Ok(Shape::new(number(options, "caches"), number(options, "blocks"))?)
+}
+
+/// What trials are made under. Every block opens at 0.
+fn setup<F: Files>(alloc: Global, options: &ArgMatches<'_>, files: &mut F) -> Result<Setup, Fault> {
+    let shape = shape(options)?;
+    let tables = tables(alloc, options, files)?;
+    let opening = vec![in alloc; 0; shape.blocks() as usize]?;
+    let seed = options.get_one::<u64>("seed").unwrap_or(0);
+    let limit = number(options, "limit");
+    Ok(Setup::new(shape, tables, opening, seed, limit)?)
+}
+
+/// The protocol's own tables, with the cells of the named file laid over them where one is named.
+fn tables<F: Files>(
+    alloc: Global,
+    options: &ArgMatches<'_>,
+    files: &mut F,
+) -> Result<Tables, Fault> {
+    let Some(name) = options.get_str("tables") else {
+        return Ok(Tables::baseline());
+    };
+    let bytes = files.load(name)?;
+    Ok(Tables::from_json(alloc, bytes.as_slice())?)
+}
+
+/// The number that an option was given, which `clap` has tested.
+fn number(options: &ArgMatches<'_>, name: &str) -> u32 {
+    options.get_one::<u32>(name).unwrap_or(0)
+}

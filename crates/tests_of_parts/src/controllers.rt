@@ -1,0 +1,198 @@
+ghost use Rattle.std.specs.Prelude.{◌≡◌};
+
+use base::{Ask, CacheId, Place};
+use cache_table::{CacheAction, CacheActions, CacheEvent, CacheState};
+use control::{
+    Completion, Home, HomeInput, Line, LineInput, Needs, home_act, home_event, home_needs,
+    home_reserve, line_act, line_ask_event, line_completion, line_event, line_needs, line_reserve,
+};
+use directory_table::{DirectoryAction, DirectoryActions, DirectoryEvent, DirectoryState};
+use network::{Forward, ForwardKind, Request, RequestKind, Response, Wires};
+use std::test::Fail;
+
+const FIRST: CacheId = CacheId(0);
+
+const SECOND: CacheId = CacheId(1);
+
+fn data(from: Place, acks: u32) -> LineInput {
+    LineInput::Response(Response::Data {
+        from,
+        to: Place::Cache(FIRST),
+        value: 3,
+        acks,
+    })
+}
+
+fn request(kind: RequestKind, from: CacheId) -> HomeInput
+    ensures { result ≡ HomeInput.Request (record { kind = kind; from = from }) }
+{
+    HomeInput::Request(Request { kind, from })
+}
+
+#[test]
+fn events_at_a_line(rt: HostRuntime) {
+    let mut line = Line::opened();
+    let ack = LineInput::Response(Response::InvAck {
+        from: SECOND,
+        to: FIRST,
+    });
+    let inv = LineInput::Forward(Forward {
+        kind: ForwardKind::Inv,
+        requestor: SECOND,
+    });
+    assert_eq!(rt; line_ask_event(Ask::Replace), CacheEvent::Replacement);
+    for (acks, input, event) in [
+        (0, LineInput::Ask(Ask::Store(1)), CacheEvent::Store),
+        (0, inv, CacheEvent::Inv),
+        (0, data(Place::Dir, 0), CacheEvent::DataDirZero),
+        (0, data(Place::Dir, 1), CacheEvent::DataDirMore),
+        (-1, data(Place::Dir, 1), CacheEvent::DataDirZero),
+        (-2, data(Place::Dir, 1), CacheEvent::DataDirMore),
+        (i64::MAX, data(Place::Dir, 1), CacheEvent::DataDirMore),
+        (0, data(Place::Cache(SECOND), 0), CacheEvent::DataOwner),
+        (1, ack, CacheEvent::LastInvAck),
+        (0, ack, CacheEvent::InvAck),
+        (2, ack, CacheEvent::InvAck),
+    ] {
+        line.acks = acks;
+        assert_eq!(rt; line_event(&line, input), event, "with {acks} at {input:?}");
+    }
+}
+
+#[test]
+fn a_store_waits_for_its_data(rt: HostRuntime) -> Result<(), Fail> {
+    let mut wires = Wires::open(rt.alloc(), 2)?;
+    let mut line = Line::opened();
+    let ask = LineInput::Ask(Ask::Store(7));
+    let getm = CacheActions::none().with(CacheAction::GetM);
+    assert_eq!(rt;
+        line_needs(ask, getm),
+        Needs {
+            requests: 1,
+            responses: 0
+        }
+    );
+    line_reserve(ask, getm, &mut wires)?;
+    let sent = line_act(&mut line, FIRST, ask, CacheState::ImAd, getm, &mut wires)?;
+    assert_eq!(rt; sent, None);
+    assert_eq!(rt; line.pending, Some(Ask::Store(7)));
+    assert_eq!(rt;
+        wires.request(0),
+        Some(Request {
+            kind: RequestKind::GetM,
+            from: FIRST
+        })
+    );
+    let came = data(Place::Dir, 0);
+    let done = Some(Completion::Store(7));
+    assert_eq!(rt; line_completion(&line, came, CacheState::M), done);
+    let quiet = CacheActions::none();
+    assert_eq!(rt;
+        line_act(&mut line, FIRST, came, CacheState::M, quiet, &mut wires)?,
+        done
+    );
+    assert_eq!(rt;
+        line,
+        Line {
+            state: CacheState::M,
+            value: 7,
+            acks: 0,
+            pending: None
+        }
+    );
+    Ok(())
+}
+
+#[test]
+fn events_at_a_home(rt: HostRuntime) -> Result<(), Fail> {
+    let mut home = Home::open(rt.alloc(), 2, 5)?;
+    assert_eq!(rt; home.sharers.caches(), 2);
+    home.owner = Some(SECOND);
+    home.sharers.add(FIRST);
+    home.sharers.add(SECOND);
+    assert!(rt; !home.sharers.is_only(FIRST));
+    home.sharers.remove(SECOND);
+    for (input, event) in [
+        (request(RequestKind::GetS, FIRST), DirectoryEvent::GetS),
+        (request(RequestKind::PutS, FIRST), DirectoryEvent::PutSLast),
+        (
+            request(RequestKind::PutS, SECOND),
+            DirectoryEvent::PutSNotLast,
+        ),
+        (
+            request(RequestKind::PutM(1), FIRST),
+            DirectoryEvent::PutMNonOwner,
+        ),
+        (
+            request(RequestKind::PutM(1), SECOND),
+            DirectoryEvent::PutMOwner,
+        ),
+        (HomeInput::Data(1), DirectoryEvent::Data),
+    ] {
+        assert_eq!(rt; home_event(&home, input), event, "at {input:?}");
+    }
+    home.sharers.clear();
+    assert_eq!(rt;
+        home_event(&home, request(RequestKind::PutS, FIRST)),
+        DirectoryEvent::PutSNotLast
+    );
+    Ok(())
+}
+
+#[test]
+fn a_sharer_is_invalidated(rt: HostRuntime) -> Result<(), Fail> {
+    let alloc = rt.alloc();
+    let mut wires = Wires::open(alloc, 2)?;
+    let mut home = Home::open(alloc, 2, 5)?;
+    let gets = request(RequestKind::GetS, FIRST);
+    let shares = DirectoryActions::none()
+        .with(DirectoryAction::DataReq)
+        .with(DirectoryAction::AddReq);
+    home_act(&mut home, gets, DirectoryState::S, shares, &mut wires)?;
+    assert!(rt; home.sharers.contains(FIRST));
+    let getm = request(RequestKind::GetM, SECOND);
+    let owns = DirectoryActions::none()
+        .with(DirectoryAction::DataAcks)
+        .with(DirectoryAction::InvSharers)
+        .with(DirectoryAction::ClearSharers)
+        .with(DirectoryAction::SetOwner);
+    home_reserve(&home, getm, owns, &mut wires)?;
+    home_act(&mut home, getm, DirectoryState::M, owns, &mut wires)?;
+    assert_eq!(rt; home.owner, Some(SECOND));
+    assert!(rt; !home.sharers.contains(FIRST));
+    let inv = Forward {
+        kind: ForwardKind::Inv,
+        requestor: SECOND,
+    };
+    assert_eq!(rt; wires.head(FIRST), Some(inv));
+    let data = Response::Data {
+        from: Place::Dir,
+        to: Place::Cache(SECOND),
+        value: 5,
+        acks: 1,
+    };
+    assert_eq!(rt; wires.response(1), Some(data));
+    Ok(())
+}
+
+#[test]
+fn links_that_an_act_needs(rt: HostRuntime) -> Result<(), Fail> {
+    let alloc = rt.alloc();
+    let home = Home::open(alloc, 2, 5)?;
+    let mut links = Vec::new(alloc);
+    let put = request(RequestKind::PutS, SECOND);
+    let twice = DirectoryActions::none()
+        .with(DirectoryAction::PutAck)
+        .with(DirectoryAction::DataReq)
+        .with(DirectoryAction::PutAck);
+    let needs = home_needs(&home, put, twice, &mut links)?;
+    assert_eq!(rt;
+        needs,
+        Needs {
+            requests: 0,
+            responses: 1
+        }
+    );
+    assert_eq!(rt; links.as_slice(), [SECOND, SECOND].as_slice());
+    Ok(())
+}

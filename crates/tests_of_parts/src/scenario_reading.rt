@@ -1,0 +1,352 @@
+use base::{Buffer, Faltering, Shape};
+use scenario::{SaveFault, Scenario, ScenarioFault};
+use std::alloc::Global;
+use std::test::Fail;
+
+/// The numbers are of two caches and three blocks.
+fn read(alloc: Global, text: &[u8]) -> Result<Scenario<Global>, ScenarioFault> {
+    let Ok(shape) = Shape::new(2, 3) else {
+        return Err(ScenarioFault::NoMemory);
+    };
+    Scenario::read(alloc, alloc, text, shape)
+}
+
+/// Why the text is refused, if it is, but for want of memory.
+fn fault_of(alloc: Global, text: &[u8]) -> Result<Option<ScenarioFault>, Fail> {
+    match read(alloc, text) {
+        Ok(_) => Ok(None),
+        Err(ScenarioFault::NoMemory) => Err(Fail::from("NoMemory")),
+        Err(fault) => Ok(Some(fault)),
+    }
+}
+
+/// What comes before so many times, then the inner text, and then what comes behind so many times.
+fn nested(
+    alloc: Global,
+    before: &str,
+    inner: &str,
+    behind: &str,
+    times: u32,
+) -> Result<String, Fail> {
+    let mut text = String::new(alloc);
+    for _ in 0..times {
+        text.push_str(before)?;
+    }
+    text.push_str(inner)?;
+    for _ in 0..times {
+        text.push_str(behind)?;
+    }
+    Ok(text)
+}
+
+const LOAD: &str = r#"{"block":0,"core":0,"op":"load"}"#;
+
+#[test]
+fn texts_that_are_refused(rt: HostRuntime) -> Result<(), Fail> {
+    let refused = [
+        ("", ScenarioFault::NotJson),
+        ("{", ScenarioFault::NotJson),
+        (r#"{"seq":[],}"#, ScenarioFault::NotJson),
+        (r#"{"seq":[]} x"#, ScenarioFault::NotJson),
+        ("[]", ScenarioFault::BadShape),
+        ("null", ScenarioFault::BadShape),
+        ("{}", ScenarioFault::BadShape),
+        (r#"{"seq":{}}"#, ScenarioFault::BadShape),
+        (r#"{"seq":[],"any":[]}"#, ScenarioFault::BadShape),
+        (r#"{"all":[]}"#, ScenarioFault::BadShape),
+        (r#"{"times":1}"#, ScenarioFault::BadShape),
+        (r#"{"of":{"seq":[]}}"#, ScenarioFault::BadShape),
+        (r#"{"times":-1,"of":{"seq":[]}}"#, ScenarioFault::BadShape),
+        (
+            r#"{"times":4294967296,"of":{"seq":[]}}"#,
+            ScenarioFault::BadShape,
+        ),
+        (
+            r#"{"times":1,"of":{"seq":[]},"seq":[]}"#,
+            ScenarioFault::BadShape,
+        ),
+        (r#"{"op":"load","core":0}"#, ScenarioFault::BadShape),
+        (
+            r#"{"op":"loads","core":0,"block":0}"#,
+            ScenarioFault::BadShape,
+        ),
+        (
+            r#"{"op":"load","core":0,"block":0,"value":1}"#,
+            ScenarioFault::BadShape,
+        ),
+        (
+            r#"{"op":"load","core":0,"block":0,"x":1}"#,
+            ScenarioFault::BadShape,
+        ),
+        (
+            r#"{"op":"replace","core":0,"block":0,"value":1}"#,
+            ScenarioFault::BadShape,
+        ),
+        (
+            r#"{"op":"store","core":0,"block":0}"#,
+            ScenarioFault::BadShape,
+        ),
+        (
+            r#"{"op":"store","core":0,"block":0,"valu":1}"#,
+            ScenarioFault::BadShape,
+        ),
+        (
+            r#"{"op":"store","core":0,"block":0,"value":1,"x":1}"#,
+            ScenarioFault::BadShape,
+        ),
+        (r#"{"any":[]}"#, ScenarioFault::EmptyAny),
+        (r#"{"seq":[{"any":[]}]}"#, ScenarioFault::EmptyAny),
+        (r#"{"times":0,"of":{"any":[]}}"#, ScenarioFault::EmptyAny),
+        (
+            r#"{"op":"load","core":2,"block":0}"#,
+            ScenarioFault::OutOfShape,
+        ),
+        (
+            r#"{"op":"load","core":0,"block":3}"#,
+            ScenarioFault::OutOfShape,
+        ),
+        (
+            r#"{"op":"store","core":2,"block":0,"value":1}"#,
+            ScenarioFault::OutOfShape,
+        ),
+        (
+            r#"{"op":"replace","core":0,"block":4294967295}"#,
+            ScenarioFault::OutOfShape,
+        ),
+        (
+            r#"{"times":4294967295,"of":{"op":"load","core":0,"block":0}}"#,
+            ScenarioFault::TooLong,
+        ),
+        (
+            r#"{"times":1000000,"of":{"times":1000000,"of":{"op":"load","core":0,"block":0}}}"#,
+            ScenarioFault::TooLong,
+        ),
+        (
+            r#"{"both":[{"times":1000000,"of":{"op":"load","core":0,"block":0}},{"op":"load","core":1,"block":2}]}"#,
+            ScenarioFault::TooLong,
+        ),
+    ];
+    for (text, fault) in refused {
+        assert_eq!(rt;
+            fault_of(rt.alloc(), text.as_bytes())?,
+            Some(fault),
+            "at {text}"
+        );
+    }
+    assert_eq!(rt;
+        fault_of(rt.alloc(), b"{\"\xff\":[]}")?,
+        Some(ScenarioFault::NotJson)
+    );
+    Ok(())
+}
+
+#[test]
+fn numbers_that_are_refused(rt: HostRuntime) -> Result<(), Fail> {
+    let alloc = rt.alloc();
+    for number in [
+        "1.0",
+        "1e0",
+        "-0",
+        "-1",
+        "4294967296",
+        "18446744073709551616",
+        "\"0\"",
+        "null",
+    ] {
+        for text in [
+            format!(in alloc; r#"{{"op":"load","core":{number},"block":0}}"#)?,
+            format!(in alloc; r#"{{"op":"load","core":0,"block":{number}}}"#)?,
+            format!(in alloc; r#"{{"times":{number},"of":{{"seq":[]}}}}"#)?,
+        ] {
+            assert_eq!(rt;
+                fault_of(alloc, text.as_bytes())?,
+                Some(ScenarioFault::BadShape),
+                "at {text}"
+            );
+        }
+    }
+    for number in [
+        "1.0",
+        "1e0",
+        "-0",
+        "-1",
+        "18446744073709551616",
+        "\"0\"",
+        "null",
+    ] {
+        let text = format!(in alloc; r#"{{"op":"store","core":0,"block":0,"value":{number}}}"#)?;
+        assert_eq!(rt;
+            fault_of(alloc, text.as_bytes())?,
+            Some(ScenarioFault::BadShape),
+            "at {text}"
+        );
+    }
+    Ok(())
+}
+
+#[test]
+fn the_first_fault_of_a_text(rt: HostRuntime) -> Result<(), Fail> {
+    let refused = [
+        (
+            r#"{"seq":[{"op":"load","core":2,"block":0},{"any":[]}]}"#,
+            ScenarioFault::OutOfShape,
+        ),
+        (
+            r#"{"seq":[{"any":[]},{"op":"load","core":2,"block":0}]}"#,
+            ScenarioFault::EmptyAny,
+        ),
+        (
+            r#"{"seq":[{"seq":[{"any":[]}]},{}]}"#,
+            ScenarioFault::EmptyAny,
+        ),
+        (
+            r#"{"seq":[{"seq":[{}]},{"any":[]}]}"#,
+            ScenarioFault::BadShape,
+        ),
+        (r#"{"any":[{}],"x":1}"#, ScenarioFault::BadShape),
+        (
+            r#"{"seq":[{"times":4294967295,"of":{"op":"load","core":0,"block":0}},{"any":[]}]}"#,
+            ScenarioFault::EmptyAny,
+        ),
+    ];
+    for (text, fault) in refused {
+        assert_eq!(rt;
+            fault_of(rt.alloc(), text.as_bytes())?,
+            Some(fault),
+            "at {text}"
+        );
+    }
+    Ok(())
+}
+
+#[test]
+fn levels_and_lengths(rt: HostRuntime) -> Result<(), Fail> {
+    let alloc = rt.alloc();
+    let seq = r#"{"seq":["#;
+    let most = r#"{"times":4294967295,"of":"#;
+    let million = r#"{"times":0,"of":{"times":1000000,"of":{"times":1000000,"of":"#;
+    let rows = [
+        (nested(alloc, seq, r#"{"seq":[]}"#, "]}", 47)?, None),
+        (nested(alloc, seq, LOAD, "]}", 47)?, None),
+        (
+            nested(alloc, seq, r#"{"seq":[]}"#, "]}", 48)?,
+            Some(ScenarioFault::TooDeep),
+        ),
+        (
+            nested(alloc, seq, "{}", "]}", 48)?,
+            Some(ScenarioFault::TooDeep),
+        ),
+        (
+            nested(alloc, seq, r#"{"any":[]}"#, "]}", 48)?,
+            Some(ScenarioFault::TooDeep),
+        ),
+        (
+            nested(alloc, seq, "{}", "]}", 47)?,
+            Some(ScenarioFault::BadShape),
+        ),
+        (
+            nested(alloc, seq, r#"{"seq":[]}"#, "]}", 62)?,
+            Some(ScenarioFault::TooDeep),
+        ),
+        (
+            nested(alloc, seq, r#"{"seq":[]}"#, "]}", 63)?,
+            Some(ScenarioFault::NotJson),
+        ),
+        (
+            nested(alloc, most, LOAD, "}", 47)?,
+            Some(ScenarioFault::TooLong),
+        ),
+        (nested(alloc, most, r#"{"seq":[]}"#, "}", 1)?, None),
+        (nested(alloc, most, r#"{"seq":[]}"#, "}", 47)?, None),
+        (nested(alloc, million, LOAD, "}}}", 1)?, None),
+        (
+            nested(alloc, r#"{"times":1000000,"of":"#, LOAD, "}", 1)?,
+            None,
+        ),
+        (
+            nested(alloc, r#"{"times":1000001,"of":"#, LOAD, "}", 1)?,
+            Some(ScenarioFault::TooLong),
+        ),
+    ];
+    for (text, fault) in rows {
+        assert_eq!(rt; fault_of(alloc, text.as_bytes())?, fault, "at {text}");
+    }
+    Ok(())
+}
+
+/// Texts as they are written.
+const TEXTS: [&str; 9] = [
+    r#"{"block":0,"core":0,"op":"load"}"#,
+    r#"{"block":2,"core":1,"op":"store","value":18446744073709551615}"#,
+    r#"{"block":0,"core":1,"op":"replace"}"#,
+    r#"{"seq":[]}"#,
+    r#"{"both":[]}"#,
+    r#"{"of":{"any":[{"block":0,"core":0,"op":"load"},{"block":0,"core":0,"op":"store","value":5}]},"times":2}"#,
+    r#"{"both":[{"seq":[{"block":0,"core":0,"op":"load"},{"block":0,"core":0,"op":"store","value":5}]},{"block":0,"core":1,"op":"replace"}]}"#,
+    r#"{"seq":[{"of":{"block":0,"core":0,"op":"load"},"times":0},{"block":0,"core":0,"op":"store","value":5}]}"#,
+    r#"{"any":[{"seq":[]},{"block":0,"core":0,"op":"load"}]}"#,
+];
+
+#[test]
+fn texts_read_and_written(rt: HostRuntime) -> Result<(), Fail> {
+    let alloc = rt.alloc();
+    for text in TEXTS {
+        let scenario = read(alloc, text.as_bytes())?;
+        let mut sink = Buffer::open(alloc);
+        scenario.write(alloc, &mut sink)?;
+        assert_eq!(rt; sink.bytes(), text.as_bytes(), "at {text}");
+    }
+    Ok(())
+}
+
+#[test]
+fn other_spellings_of_a_text(rt: HostRuntime) -> Result<(), Fail> {
+    let alloc = rt.alloc();
+    let spelled = [
+        r#"{"op":"store","core":1,"block":2,"value":7}"#,
+        " { \"core\" : 1 , \"value\" : 7 ,\n\"op\" : \"store\" , \"block\" : 2 } ",
+        r#"{"op":"load","core":9,"block":2,"value":7,"op":"store","core":1}"#,
+    ];
+    for text in spelled {
+        let scenario = read(alloc, text.as_bytes())?;
+        let mut sink = Buffer::open(alloc);
+        scenario.write(alloc, &mut sink)?;
+        assert_eq!(rt;
+            sink.bytes(),
+            br#"{"block":2,"core":1,"op":"store","value":7}"#.as_slice(),
+            "at {text}"
+        );
+    }
+    Ok(())
+}
+
+#[test]
+fn sinks_that_fail_on_the_way(rt: HostRuntime) -> Result<(), Fail> {
+    let alloc = rt.alloc();
+    let text = TEXTS[6].as_bytes();
+    let scenario = read(alloc, text)?;
+    for (most, enough) in [(1, 133), (7, 19), (200, 1)] {
+        for calls in 0..=enough {
+            let mut sink = Faltering::over(Buffer::open(alloc), most, calls);
+            let written = scenario.write(alloc, &mut sink);
+            if written == Err(SaveFault::NoMemory) {
+                return Err(Fail::from("NoMemory"));
+            }
+            let out = sink.end().bytes();
+            let count = out.len() as u64;
+            assert!(rt; text.starts_with(out), "at {most} {calls}");
+            assert_eq!(rt;
+                count == text.len() as u64,
+                calls == enough,
+                "at {most} {calls}"
+            );
+            if calls == enough {
+                assert_eq!(rt; written, Ok(()), "at {most} {calls}");
+            } else {
+                let fault = SaveFault::Device { written: count };
+                assert_eq!(rt; written, Err(fault), "at {most} {calls}");
+            }
+        }
+    }
+    Ok(())
+}

@@ -1,0 +1,119 @@
+use base::{Ask, BlockId, CacheId, CoreAsk, Shape, Step};
+use cores::Cores;
+use scenario::Scenario;
+use schedule::{Choice, Dice, choices};
+use std::alloc::Global;
+use std::test::Fail;
+use world::{Tables, World};
+
+const BLOCK: BlockId = BlockId(0);
+
+fn ask(core: u32, ask: Ask) -> CoreAsk {
+    CoreAsk {
+        core: CacheId(core),
+        block: BLOCK,
+        ask,
+    }
+}
+
+/// A world of two caches and one block that opens at 0.
+fn opened(alloc: Global) -> Result<World, Fail> {
+    let shape = Shape::new(2, 1)?;
+    Ok(World::open(alloc, shape, Tables::baseline(), vec![in alloc; 0; 1]?)?)
+}
+
+/// What can happen next, where these cores are busy.
+fn listed(
+    alloc: Global,
+    world: &World,
+    busy: &[u32],
+    scenario: &Scenario<Global>,
+) -> Result<Vec<Choice>, Fail> {
+    let mut cores = Cores::open(alloc, 2)?;
+    for core in busy {
+        if cores.free(CacheId(*core)) {
+            cores.issue(CacheId(*core), Ask::Load);
+        }
+    }
+    Ok(choices(alloc, world, &cores, scenario)?)
+}
+
+fn play(world: &mut World, steps: &[&str]) -> Result<(), Fail> {
+    for line in steps {
+        let Some(step) = Step::read(line.as_bytes()) else {
+            return Err(Fail::from("the text of a step isn't read"));
+        };
+        world.step(step)?;
+    }
+    Ok(())
+}
+
+#[test]
+fn the_first_words(rt: HostRuntime) {
+    let mut dice = Dice::new(42, 54);
+    for word in [
+        0xa15c02b7, 0x7b47f409, 0xba1d3330, 0x83d2f293, 0xbfa4784b, 0xcbed606e,
+    ] {
+        assert_eq!(rt; dice.pick(4294967296), word);
+    }
+    let mut dice = Dice::new(42, 54);
+    for choice in [(2, 1), (2, 1), (2, 0), (2, 1), (1, 0), (1, 0)] {
+        assert_eq!(rt; dice.pick(choice.0), choice.1);
+    }
+}
+
+#[test]
+fn offers_before_deliveries(rt: HostRuntime) -> Result<(), Fail> {
+    let alloc = rt.alloc();
+    let (load, store) = (ask(0, Ask::Load), ask(1, Ask::Store(9)));
+    let mut children = Vec::new(alloc);
+    children.push(Scenario::One(load))?;
+    children.push(Scenario::One(store))?;
+    let scenario = Scenario::Any(children);
+    let mut world = opened(alloc)?;
+    let both = [Choice::Offer(0, load), Choice::Offer(1, store)];
+    assert_eq!(rt;
+        listed(alloc, &world, &[], &scenario)?.as_slice(),
+        both.as_slice()
+    );
+    play(&mut world, &["ask 1 0 store 9"])?;
+    let request = Choice::Deliver(Step::Request {
+        block: BLOCK,
+        index: 0,
+    });
+    let then = [Choice::Offer(0, load), request];
+    assert_eq!(rt;
+        listed(alloc, &world, &[1], &scenario)?.as_slice(),
+        then.as_slice()
+    );
+    assert_eq!(rt;
+        listed(alloc, &world, &[0, 1], &scenario)?.as_slice(),
+        [request].as_slice()
+    );
+    Ok(())
+}
+
+#[test]
+fn what_is_held_is_no_choice(rt: HostRuntime) -> Result<(), Fail> {
+    let alloc = rt.alloc();
+    let mut world = opened(alloc)?;
+    play(
+        &mut world,
+        &[
+            "ask 0 0 store 7",
+            "request 0 0",
+            "ask 1 0 load",
+            "request 0 0",
+        ],
+    )?;
+    let scenario = Scenario::One(ask(0, Ask::Store(8)));
+    let response = Choice::Deliver(Step::Response {
+        block: BLOCK,
+        index: 0,
+    });
+    assert_eq!(rt;
+        listed(alloc, &world, &[], &scenario)?.as_slice(),
+        [response].as_slice()
+    );
+    Ok(())
+}

@@ -1,0 +1,13 @@
+//! Tests of worlds and of what is made of them: worked runs, violations, choices, recordings and trials.
+#![tactic(auto)]
+
+#[cfg(test)]
+mod choosing;
+#[cfg(test)]
+mod recordings;
+#[cfg(test)]
+mod trying;
+#[cfg(test)]
+mod violations;
+#[cfg(test)]
+mod worlds;
