@@ -1,3 +1,4 @@
+use crate::asserting::same;
 use cache_table::{CacheAction, CacheActions, CacheEntry, CacheEvent, CacheState, CacheTable};
 use std::test::Fail;
 
@@ -58,21 +59,25 @@ fn baseline_cells_of_each_kind(rt: HostRuntime) {
 fn one_cell_is_replaced(rt: HostRuntime) {
     let baseline = CacheTable::baseline();
     let table = baseline.with(CacheState::IsD, CacheEvent::Inv, CacheEntry::Blank);
-    assert_eq!(rt;
-        table.entry(CacheState::IsD, CacheEvent::Inv),
-        CacheEntry::Blank
+    same(
+        &rt,
+        &table.entry(CacheState::IsD, CacheEvent::Inv),
+        &CacheEntry::Blank,
     );
-    assert_eq!(rt;
-        table.entry(CacheState::IsD, CacheEvent::Load),
-        CacheEntry::Stall
+    same(
+        &rt,
+        &table.entry(CacheState::IsD, CacheEvent::Load),
+        &CacheEntry::Stall,
     );
-    assert_eq!(rt;
-        table.entry(CacheState::SiA, CacheEvent::Load),
-        CacheEntry::Stall
+    same(
+        &rt,
+        &table.entry(CacheState::SiA, CacheEvent::Load),
+        &CacheEntry::Stall,
     );
-    assert_eq!(rt;
-        table.with(CacheState::IsD, CacheEvent::Inv, CacheEntry::Stall),
-        baseline
+    same(
+        &rt,
+        &table.with(CacheState::IsD, CacheEvent::Inv, CacheEntry::Stall),
+        &baseline,
     );
 }
 
@@ -89,12 +94,12 @@ fn at_most_eight_actions(rt: HostRuntime) -> Result<(), Fail> {
         CacheAction::InvAck,
         CacheAction::GetS,
     ];
-    assert_eq!(rt; CacheActions::of(&nine), None);
+    same(&rt, &CacheActions::of(&nine), &None);
     let Some(eight) = CacheActions::of(&nine[..8]) else {
         return Err(Fail::from("eight actions are refused"));
     };
-    assert_eq!(rt; eight.as_slice(), &nine[..8]);
-    assert_eq!(rt; eight.len(), 8);
+    same(&rt, &eight.as_slice(), &&nine[..8]);
+    same(&rt, &eight.len(), &8);
     assert!(rt; !eight.is_empty());
     assert!(rt; CacheActions::none().is_empty());
     Ok(())

@@ -1,5 +1,6 @@
 ghost use Rattle.std.specs.Prelude.{◌≡◌};
 
+use crate::asserting::same;
 use base::{Ask, CacheId, Place};
 use cache_table::{CacheAction, CacheActions, CacheEvent, CacheState};
 use control::{
@@ -40,7 +41,7 @@ fn events_at_a_line(rt: HostRuntime) {
         kind: ForwardKind::Inv,
         requestor: SECOND,
     });
-    assert_eq!(rt; line_ask_event(Ask::Replace), CacheEvent::Replacement);
+    same(&rt, &line_ask_event(Ask::Replace), &CacheEvent::Replacement);
     for (acks, input, event) in [
         (0, LineInput::Ask(Ask::Store(1)), CacheEvent::Store),
         (0, inv, CacheEvent::Inv),
@@ -65,40 +66,44 @@ fn a_store_waits_for_its_data(rt: HostRuntime) -> Result<(), Fail> {
     let mut line = Line::opened();
     let ask = LineInput::Ask(Ask::Store(7));
     let getm = CacheActions::none().with(CacheAction::GetM);
-    assert_eq!(rt;
-        line_needs(ask, getm),
-        Needs {
+    same(
+        &rt,
+        &line_needs(ask, getm),
+        &Needs {
             requests: 1,
-            responses: 0
-        }
+            responses: 0,
+        },
     );
     line_reserve(ask, getm, &mut wires)?;
     let sent = line_act(&mut line, FIRST, ask, CacheState::ImAd, getm, &mut wires)?;
-    assert_eq!(rt; sent, None);
-    assert_eq!(rt; line.pending, Some(Ask::Store(7)));
-    assert_eq!(rt;
-        wires.request(0),
-        Some(Request {
+    same(&rt, &sent, &None);
+    same(&rt, &line.pending, &Some(Ask::Store(7)));
+    same(
+        &rt,
+        &wires.request(0),
+        &Some(Request {
             kind: RequestKind::GetM,
-            from: FIRST
-        })
+            from: FIRST,
+        }),
     );
     let came = data(Place::Dir, 0);
     let done = Some(Completion::Store(7));
-    assert_eq!(rt; line_completion(&line, came, CacheState::M), done);
+    same(&rt, &line_completion(&line, came, CacheState::M), &done);
     let quiet = CacheActions::none();
-    assert_eq!(rt;
-        line_act(&mut line, FIRST, came, CacheState::M, quiet, &mut wires)?,
-        done
+    same(
+        &rt,
+        &line_act(&mut line, FIRST, came, CacheState::M, quiet, &mut wires)?,
+        &done,
     );
-    assert_eq!(rt;
-        line,
-        Line {
+    same(
+        &rt,
+        &line,
+        &Line {
             state: CacheState::M,
             value: 7,
             acks: 0,
-            pending: None
-        }
+            pending: None,
+        },
     );
     Ok(())
 }
@@ -106,7 +111,7 @@ fn a_store_waits_for_its_data(rt: HostRuntime) -> Result<(), Fail> {
 #[test]
 fn events_at_a_home(rt: HostRuntime) -> Result<(), Fail> {
     let mut home = Home::open(rt.alloc(), 2, 5)?;
-    assert_eq!(rt; home.sharers.caches(), 2);
+    same(&rt, &home.sharers.caches(), &2);
     home.owner = Some(SECOND);
     home.sharers.add(FIRST);
     home.sharers.add(SECOND);
@@ -132,9 +137,10 @@ fn events_at_a_home(rt: HostRuntime) -> Result<(), Fail> {
         assert_eq!(rt; home_event(&home, input), event, "at {input:?}");
     }
     home.sharers.clear();
-    assert_eq!(rt;
-        home_event(&home, request(RequestKind::PutS, FIRST)),
-        DirectoryEvent::PutSNotLast
+    same(
+        &rt,
+        &home_event(&home, request(RequestKind::PutS, FIRST)),
+        &DirectoryEvent::PutSNotLast,
     );
     Ok(())
 }
@@ -158,20 +164,20 @@ fn a_sharer_is_invalidated(rt: HostRuntime) -> Result<(), Fail> {
         .with(DirectoryAction::SetOwner);
     home_reserve(&home, getm, owns, &mut wires)?;
     home_act(&mut home, getm, DirectoryState::M, owns, &mut wires)?;
-    assert_eq!(rt; home.owner, Some(SECOND));
+    same(&rt, &home.owner, &Some(SECOND));
     assert!(rt; !home.sharers.contains(FIRST));
     let inv = Forward {
         kind: ForwardKind::Inv,
         requestor: SECOND,
     };
-    assert_eq!(rt; wires.head(FIRST), Some(inv));
+    same(&rt, &wires.head(FIRST), &Some(inv));
     let data = Response::Data {
         from: Place::Dir,
         to: Place::Cache(SECOND),
         value: 5,
         acks: 1,
     };
-    assert_eq!(rt; wires.response(1), Some(data));
+    same(&rt, &wires.response(1), &Some(data));
     Ok(())
 }
 
@@ -186,13 +192,14 @@ fn links_that_an_act_needs(rt: HostRuntime) -> Result<(), Fail> {
         .with(DirectoryAction::DataReq)
         .with(DirectoryAction::PutAck);
     let needs = home_needs(&home, put, twice, &mut links)?;
-    assert_eq!(rt;
-        needs,
-        Needs {
+    same(
+        &rt,
+        &needs,
+        &Needs {
             requests: 0,
-            responses: 1
-        }
+            responses: 1,
+        },
     );
-    assert_eq!(rt; links.as_slice(), [SECOND, SECOND].as_slice());
+    same(&rt, &links.as_slice(), &[SECOND, SECOND].as_slice());
     Ok(())
 }

@@ -1,3 +1,4 @@
+use crate::asserting::same;
 use directory_table::{
     DirectoryAction, DirectoryActions, DirectoryEntry, DirectoryEvent, DirectoryState,
     DirectoryTable,
@@ -105,25 +106,29 @@ fn one_cell_is_replaced(rt: HostRuntime) {
         DirectoryEvent::GetS,
         DirectoryEntry::Blank,
     );
-    assert_eq!(rt;
-        table.entry(DirectoryState::SD, DirectoryEvent::GetS),
-        DirectoryEntry::Blank
+    same(
+        &rt,
+        &table.entry(DirectoryState::SD, DirectoryEvent::GetS),
+        &DirectoryEntry::Blank,
     );
-    assert_eq!(rt;
-        table.entry(DirectoryState::SD, DirectoryEvent::GetM),
-        DirectoryEntry::Stall
+    same(
+        &rt,
+        &table.entry(DirectoryState::SD, DirectoryEvent::GetM),
+        &DirectoryEntry::Stall,
     );
-    assert_eq!(rt;
-        table.entry(DirectoryState::S, DirectoryEvent::GetS),
-        baseline.entry(DirectoryState::S, DirectoryEvent::GetS)
+    same(
+        &rt,
+        &table.entry(DirectoryState::S, DirectoryEvent::GetS),
+        &baseline.entry(DirectoryState::S, DirectoryEvent::GetS),
     );
-    assert_eq!(rt;
-        table.with(
+    same(
+        &rt,
+        &table.with(
             DirectoryState::SD,
             DirectoryEvent::GetS,
-            DirectoryEntry::Stall
+            DirectoryEntry::Stall,
         ),
-        baseline
+        &baseline,
     );
 }
 
@@ -140,12 +145,12 @@ fn at_most_eight_actions(rt: HostRuntime) -> Result<(), Fail> {
         DirectoryAction::SetOwner,
         DirectoryAction::CopyData,
     ];
-    assert_eq!(rt; DirectoryActions::of(&nine), None);
+    same(&rt, &DirectoryActions::of(&nine), &None);
     let Some(eight) = DirectoryActions::of(&nine[..8]) else {
         return Err(Fail::from("eight actions are refused"));
     };
-    assert_eq!(rt; eight.as_slice(), &nine[..8]);
-    assert_eq!(rt; eight.len(), 8);
+    same(&rt, &eight.as_slice(), &&nine[..8]);
+    same(&rt, &eight.len(), &8);
     assert!(rt; !eight.is_empty());
     assert!(rt; DirectoryActions::none().is_empty());
     Ok(())

@@ -1,3 +1,4 @@
+use crate::asserting::same;
 use base::{Ask, CacheId};
 use cores::Cores;
 use std::test::Fail;
@@ -11,23 +12,33 @@ fn one_core_among_others(rt: HostRuntime) -> Result<(), Fail> {
         if cores.free(first) {
             cores.issue(first, ask);
         }
-        assert_eq!(rt;
-            (cores.free(first), cores.counts(first)),
-            (false, (issued, issued - 1))
+        same(
+            &rt,
+            &(cores.free(first), cores.counts(first)),
+            &(false, (issued, issued - 1)),
         );
-        assert_eq!(rt; (cores.free(second), cores.counts(second)), (true, (0, 0)));
+        same(
+            &rt,
+            &(cores.free(second), cores.counts(second)),
+            &(true, (0, 0)),
+        );
         assert!(rt; !cores.all_free());
         if !cores.free(first) {
             cores.finish(first);
         }
-        assert_eq!(rt;
-            (cores.free(first), cores.counts(first)),
-            (true, (issued, issued))
+        same(
+            &rt,
+            &(cores.free(first), cores.counts(first)),
+            &(true, (issued, issued)),
         );
     }
     if cores.free(absent) {
         cores.issue(absent, Ask::Load);
     }
-    assert_eq!(rt; (cores.free(absent), cores.counts(absent)), (true, (0, 0)));
+    same(
+        &rt,
+        &(cores.free(absent), cores.counts(absent)),
+        &(true, (0, 0)),
+    );
     Ok(())
 }

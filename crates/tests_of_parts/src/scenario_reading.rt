@@ -1,3 +1,4 @@
+use crate::asserting::same;
 use base::{Buffer, Faltering, Shape};
 use scenario::{SaveFault, Scenario, ScenarioFault};
 use std::alloc::Global;
@@ -133,9 +134,10 @@ fn texts_that_are_refused(rt: HostRuntime) -> Result<(), Fail> {
             "at {text}"
         );
     }
-    assert_eq!(rt;
-        fault_of(rt.alloc(), b"{\"\xff\":[]}")?,
-        Some(ScenarioFault::NotJson)
+    same(
+        &rt,
+        &fault_of(rt.alloc(), b"{\"\xff\":[]}")?,
+        &Some(ScenarioFault::NotJson),
     );
     Ok(())
 }

@@ -1,3 +1,4 @@
+use crate::asserting::same;
 use base::{Ask, BlockId, CacheId, CoreAsk, Shape};
 use bumpalo::Bump;
 use scenario::Scenario;
@@ -49,10 +50,10 @@ fn follow<A: Allocator + Clone>(
     moments: &[Moment],
 ) -> Result<(), Fail> {
     for (offers, ends, at, taken) in moments {
-        assert_eq!(rt; offered(heap, tree)?.as_str(), *offers);
-        assert_eq!(rt; tree.may_end(), *ends);
+        same(&rt, &offered(heap, tree)?.as_str(), &*offers);
+        same(&rt, &tree.may_end(), &*ends);
         let ask = tree.take(alloc.clone()?, *at)?;
-        assert_eq!(rt; ask.and_then(letter), *taken);
+        same(&rt, &ask.and_then(letter), &*taken);
     }
     Ok(())
 }
@@ -121,9 +122,9 @@ fn a_long_scenario_stays_shallow(rt: HostRuntime) -> Result<(), Fail> {
     let mut tree = read(rt.alloc(), text.as_str())?;
     for _ in 0..100_000 {
         let ask = tree.take(rt.alloc(), 0)?;
-        assert_eq!(rt; ask.and_then(letter), Some('L'));
+        same(&rt, &ask.and_then(letter), &Some('L'));
     }
-    assert_eq!(rt; offered(rt.alloc(), &tree)?.as_str(), "");
+    same(&rt, &offered(rt.alloc(), &tree)?.as_str(), &"");
     assert!(rt; tree.may_end());
     Ok(())
 }
@@ -142,12 +143,12 @@ fn a_refused_take_changes_nothing(rt: HostRuntime) -> Result<(), Fail> {
         let mut taken = tree.take(&bump, 0);
         if taken.is_err() {
             refused = true;
-            assert_eq!(rt; offered(heap, &tree)?.as_str(), before.as_str());
+            same(&rt, &offered(heap, &tree)?.as_str(), &before.as_str());
             bump.set_allocation_limit(None);
             taken = tree.take(&bump, 0);
         }
         let ask = if turn % 2 == 0 { 'L' } else { 'S' };
-        assert_eq!(rt; taken.ok().flatten().and_then(letter), Some(ask));
+        same(&rt, &taken.ok().flatten().and_then(letter), &Some(ask));
     }
     assert!(rt; refused);
     Ok(())

@@ -1,3 +1,4 @@
+use crate::asserting::same;
 use base::text::{cut, number_of, small_number_of, spells_one_step};
 use base::{
     Ask, BlockId, Buffer, CacheId, Failed, Faltering, FromRead, Outcome, Shape, ShapeFault, Sink,
@@ -11,8 +12,8 @@ fn shapes_within_the_limits(rt: HostRuntime) -> Result<(), Fail> {
         let Ok(shape) = Shape::new(caches, blocks) else {
             return Err(Fail::from("a shape within the limits is refused"));
         };
-        assert_eq!(rt; shape.caches(), caches);
-        assert_eq!(rt; shape.blocks(), blocks);
+        same(&rt, &shape.caches(), &caches);
+        same(&rt, &shape.blocks(), &blocks);
     }
     Ok(())
 }
@@ -54,7 +55,7 @@ fn steps_read_and_shown(rt: HostRuntime) -> Result<(), Fail> {
             return Err(Fail::from("the text of a step isn't read"));
         };
         let shown = format!(in rt.alloc(); "{step}")?;
-        assert_eq!(rt; shown.as_str(), line);
+        same(&rt, &shown.as_str(), &line);
     }
     Ok(())
 }
@@ -135,7 +136,7 @@ fn lines_that_are_no_step(rt: HostRuntime) {
     for line in lines {
         assert_eq!(rt; Step::read(line.as_bytes()), None, "at {line}");
     }
-    assert_eq!(rt; Step::read(b"request 0 \xff"), None);
+    same(&rt, &Step::read(b"request 0 \xff"), &None);
 }
 
 #[test]
@@ -165,7 +166,7 @@ fn outcomes_read_and_shown(rt: HostRuntime) -> Result<(), Fail> {
     ];
     for (outcome, line) in outcomes {
         let shown = format!(in rt.alloc(); "{outcome}")?;
-        assert_eq!(rt; shown.as_str(), line);
+        same(&rt, &shown.as_str(), &line);
         assert_eq!(rt; Outcome::read(line.as_bytes()), Some(outcome), "at {line}");
     }
     Ok(())
@@ -193,19 +194,20 @@ fn lines_that_are_no_outcome(rt: HostRuntime) {
 #[test]
 fn words_and_numbers(rt: HostRuntime) {
     let (word, rest) = cut(b"one  three");
-    assert_eq!(rt; word, b"one".as_slice());
-    assert_eq!(rt; rest, Some(b" three".as_slice()));
+    same(&rt, &word, &b"one".as_slice());
+    same(&rt, &rest, &Some(b" three".as_slice()));
     let (word, rest) = cut(b"one");
-    assert_eq!(rt; word, b"one".as_slice());
-    assert_eq!(rt; rest, None);
-    assert_eq!(rt;
-        number_of(b"18446744073709551615"),
-        Some(18446744073709551615)
+    same(&rt, &word, &b"one".as_slice());
+    same(&rt, &rest, &None);
+    same(
+        &rt,
+        &number_of(b"18446744073709551615"),
+        &Some(18446744073709551615),
     );
-    assert_eq!(rt; number_of(b"18446744073709551616"), None);
-    assert_eq!(rt; number_of(b""), None);
-    assert_eq!(rt; small_number_of(b"4294967295"), Some(4294967295));
-    assert_eq!(rt; small_number_of(b"4294967296"), None);
+    same(&rt, &number_of(b"18446744073709551616"), &None);
+    same(&rt, &number_of(b""), &None);
+    same(&rt, &small_number_of(b"4294967295"), &Some(4294967295));
+    same(&rt, &small_number_of(b"4294967296"), &None);
     spells_one_step();
 }
 
@@ -240,9 +242,9 @@ fn pull_all<S: Source>(rt: HostRuntime, source: &mut S) -> Result<(Vec<u8>, bool
 fn sources_of_bytes(rt: HostRuntime) -> Result<(), Fail> {
     let text = b"steps and outcomes".as_slice();
     let (found, failed) = pull_all(rt, &mut { text })?;
-    assert_eq!(rt; (found.as_slice(), failed), (text, false));
+    same(&rt, &(found.as_slice(), failed), &(text, false));
     let (found, failed) = pull_all(rt, &mut FromRead::new(text))?;
-    assert_eq!(rt; (found.as_slice(), failed), (text, false));
+    same(&rt, &(found.as_slice(), failed), &(text, false));
     for (most, calls, whole, failed) in [
         (1, 100, 18, false),
         (2, 4, 8, true),
@@ -280,6 +282,6 @@ fn sinks_of_bytes(rt: HostRuntime) -> Result<(), Fail> {
     }
     let mut out = Vec::new(rt.alloc());
     assert!(rt; put_all(&mut ToWrite::new(&mut out), text).is_ok());
-    assert_eq!(rt; out.as_slice(), text);
+    same(&rt, &out.as_slice(), &text);
     Ok(())
 }

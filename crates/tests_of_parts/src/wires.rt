@@ -1,3 +1,4 @@
+use crate::asserting::same;
 use base::CacheId;
 use network::{Forward, ForwardKind, Message, Request, RequestKind, Response, Wires};
 use std::test::Fail;
@@ -28,17 +29,17 @@ fn requests_and_responses_are_taken_from_any_place(rt: HostRuntime) -> Result<()
     };
     let mut wires = Wires::open(rt.alloc(), 2)?;
     wires.reserve(2, [].as_slice(), 1)?;
-    assert_eq!(rt; wires.send_request(request(FIRST)), Ok(()));
-    assert_eq!(rt; wires.send_request(request(SECOND)), Ok(()));
-    assert_eq!(rt; wires.send_response(ack), Ok(()));
-    assert_eq!(rt; wires.request(1), Some(request(SECOND)));
-    assert_eq!(rt; wires.take_request(2), None);
-    assert_eq!(rt; wires.take_request(0), Some(request(FIRST)));
-    assert_eq!(rt; wires.take_request(0), Some(request(SECOND)));
-    assert_eq!(rt; wires.request(0), None);
-    assert_eq!(rt; wires.response(0), Some(ack));
-    assert_eq!(rt; wires.take_response(0), Some(ack));
-    assert_eq!(rt; wires.take_response(0), None);
+    same(&rt, &wires.send_request(request(FIRST)), &Ok(()));
+    same(&rt, &wires.send_request(request(SECOND)), &Ok(()));
+    same(&rt, &wires.send_response(ack), &Ok(()));
+    same(&rt, &wires.request(1), &Some(request(SECOND)));
+    same(&rt, &wires.take_request(2), &None);
+    same(&rt, &wires.take_request(0), &Some(request(FIRST)));
+    same(&rt, &wires.take_request(0), &Some(request(SECOND)));
+    same(&rt, &wires.request(0), &None);
+    same(&rt, &wires.response(0), &Some(ack));
+    same(&rt, &wires.take_response(0), &Some(ack));
+    same(&rt, &wires.take_response(0), &None);
     Ok(())
 }
 
@@ -46,18 +47,18 @@ fn requests_and_responses_are_taken_from_any_place(rt: HostRuntime) -> Result<()
 fn a_link_keeps_its_order(rt: HostRuntime) -> Result<(), Fail> {
     let (inv, put_ack) = (forward(ForwardKind::Inv), forward(ForwardKind::PutAck));
     let mut wires = Wires::open(rt.alloc(), 2)?;
-    assert_eq!(rt; wires.head(SECOND), None);
+    same(&rt, &wires.head(SECOND), &None);
     wires.reserve(0, [SECOND, FIRST, SECOND].as_slice(), 0)?;
     wires.reserve_link(SECOND, 3)?;
     wires.reserve_ends(1, 1)?;
-    assert_eq!(rt; wires.send_forward(SECOND, inv), Ok(()));
-    assert_eq!(rt; wires.send_forward(SECOND, put_ack), Ok(()));
-    assert_eq!(rt; wires.head(FIRST), None);
-    assert_eq!(rt; wires.head(SECOND), Some(inv));
-    assert_eq!(rt; wires.take_head(SECOND), Some(inv));
-    assert_eq!(rt; wires.take_head(SECOND), Some(put_ack));
-    assert_eq!(rt; wires.take_head(SECOND), None);
-    assert_eq!(rt; wires.take_head(CacheId(2)), None);
+    same(&rt, &wires.send_forward(SECOND, inv), &Ok(()));
+    same(&rt, &wires.send_forward(SECOND, put_ack), &Ok(()));
+    same(&rt, &wires.head(FIRST), &None);
+    same(&rt, &wires.head(SECOND), &Some(inv));
+    same(&rt, &wires.take_head(SECOND), &Some(inv));
+    same(&rt, &wires.take_head(SECOND), &Some(put_ack));
+    same(&rt, &wires.take_head(SECOND), &None);
+    same(&rt, &wires.take_head(CacheId(2)), &None);
     Ok(())
 }
 
@@ -66,6 +67,6 @@ fn a_message_is_placed_on_its_wire(rt: HostRuntime) -> Result<(), Fail> {
     let mut wires = Wires::open(rt.alloc(), 1)?;
     wires.reserve_ends(1, 0)?;
     wires.place(Message::Request(request(FIRST)));
-    assert_eq!(rt; wires.request(0), Some(request(FIRST)));
+    same(&rt, &wires.request(0), &Some(request(FIRST)));
     Ok(())
 }

@@ -1,3 +1,4 @@
+use crate::asserting::same;
 use base::{Ask, BlockId, CacheId, CoreAsk, Shape, Step};
 use cores::Cores;
 use scenario::Scenario;
@@ -54,11 +55,11 @@ fn the_first_words(rt: HostRuntime) {
     for word in [
         0xa15c02b7, 0x7b47f409, 0xba1d3330, 0x83d2f293, 0xbfa4784b, 0xcbed606e,
     ] {
-        assert_eq!(rt; dice.pick(4294967296), word);
+        same(&rt, &dice.pick(4294967296), &word);
     }
     let mut dice = Dice::new(42, 54);
     for choice in [(2, 1), (2, 1), (2, 0), (2, 1), (1, 0), (1, 0)] {
-        assert_eq!(rt; dice.pick(choice.0), choice.1);
+        same(&rt, &dice.pick(choice.0), &choice.1);
     }
 }
 
@@ -72,9 +73,10 @@ fn offers_before_deliveries(rt: HostRuntime) -> Result<(), Fail> {
     let scenario = Scenario::Any(children);
     let mut world = opened(alloc)?;
     let both = [Choice::Offer(0, load), Choice::Offer(1, store)];
-    assert_eq!(rt;
-        listed(alloc, &world, &[], &scenario)?.as_slice(),
-        both.as_slice()
+    same(
+        &rt,
+        &listed(alloc, &world, &[], &scenario)?.as_slice(),
+        &both.as_slice(),
     );
     play(&mut world, &["ask 1 0 store 9"])?;
     let request = Choice::Deliver(Step::Request {
@@ -82,13 +84,15 @@ fn offers_before_deliveries(rt: HostRuntime) -> Result<(), Fail> {
         index: 0,
     });
     let then = [Choice::Offer(0, load), request];
-    assert_eq!(rt;
-        listed(alloc, &world, &[1], &scenario)?.as_slice(),
-        then.as_slice()
+    same(
+        &rt,
+        &listed(alloc, &world, &[1], &scenario)?.as_slice(),
+        &then.as_slice(),
     );
-    assert_eq!(rt;
-        listed(alloc, &world, &[0, 1], &scenario)?.as_slice(),
-        [request].as_slice()
+    same(
+        &rt,
+        &listed(alloc, &world, &[0, 1], &scenario)?.as_slice(),
+        &[request].as_slice(),
     );
     Ok(())
 }
@@ -111,9 +115,10 @@ fn what_is_held_is_no_choice(rt: HostRuntime) -> Result<(), Fail> {
         block: BLOCK,
         index: 0,
     });
-    assert_eq!(rt;
-        listed(alloc, &world, &[], &scenario)?.as_slice(),
-        [response].as_slice()
+    same(
+        &rt,
+        &listed(alloc, &world, &[], &scenario)?.as_slice(),
+        &[response].as_slice(),
     );
     Ok(())
 }

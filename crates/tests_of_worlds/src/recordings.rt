@@ -1,3 +1,4 @@
+use crate::asserting::same;
 use base::{BlockId, Buffer, CacheId, Faltering, Outcome, Shape, Step};
 use cache_table::{CacheEntry, CacheEvent, CacheState};
 use monitor::Violation;
@@ -65,9 +66,9 @@ fn texts_of_recordings(rt: HostRuntime) -> Result<(), Fail> {
     for (recording, text) in rows {
         let mut sink = Buffer::open(alloc);
         recording.write(&mut sink)?;
-        assert_eq!(rt; sink.bytes(), text.as_bytes());
+        same(&rt, &sink.bytes(), &text.as_bytes());
     }
-    assert_eq!(rt; ONE_LOAD_TEXT.len(), 122);
+    same(&rt, &ONE_LOAD_TEXT.len(), &122);
     Ok(())
 }
 
@@ -99,10 +100,10 @@ fn sinks_that_fail(rt: HostRuntime) -> Result<(), Fail> {
 fn what_a_recording_holds(rt: HostRuntime) -> Result<(), Fail> {
     let alloc = rt.alloc();
     let recording = recorded(alloc, 1, Tables::baseline(), &ONE_LOAD)?;
-    assert_eq!(rt; recording.shape().caches(), 1);
-    assert_eq!(rt; recording.opening(), [0u64].as_slice());
-    assert_eq!(rt; recording.entries().len(), 3);
-    assert_eq!(rt; recording.entries()[0].outcome, Outcome::Sent);
+    same(&rt, &recording.shape().caches(), &1);
+    same(&rt, &recording.opening(), &[0u64].as_slice());
+    same(&rt, &recording.entries().len(), &3);
+    same(&rt, &recording.entries()[0].outcome, &Outcome::Sent);
     assert!(rt; recording.tables() == Tables::baseline());
     let refused = Recording::open(
         alloc,
@@ -110,7 +111,7 @@ fn what_a_recording_holds(rt: HostRuntime) -> Result<(), Fail> {
         Tables::baseline(),
         Vec::new(alloc),
     );
-    assert_eq!(rt; refused.err(), Some(OpenFault::OpeningLength));
+    same(&rt, &refused.err(), &Some(OpenFault::OpeningLength));
     Ok(())
 }
 
@@ -129,19 +130,20 @@ fn replayed(
 fn replays(rt: HostRuntime) -> Result<(), Fail> {
     let alloc = rt.alloc();
     let recording = recorded(alloc, 2, Tables::baseline(), &LOAD_FROM_OWNER)?;
-    assert_eq!(rt; replayed(alloc, &recording), Ok((8, None)));
+    same(&rt, &replayed(alloc, &recording), &Ok((8, None)));
 
     let mut lines = LOAD_FROM_OWNER;
     lines[6] = "response 0 0 = load 1 6";
     let recording = recorded(alloc, 2, Tables::baseline(), &lines)?;
     let cache = CacheId(1);
-    assert_eq!(rt;
-        replayed(alloc, &recording),
-        Err(ReplayFault::Differs {
+    same(
+        &rt,
+        &replayed(alloc, &recording),
+        &Err(ReplayFault::Differs {
             entry: 6,
             told: Outcome::Load { cache, value: 6 },
             found: Outcome::Load { cache, value: 7 },
-        })
+        }),
     );
 
     let mut tables = Tables::baseline();
@@ -169,8 +171,8 @@ fn entries_up_to_the_most(rt: HostRuntime) -> Result<(), Fail> {
     for _ in 0..MOST_ENTRIES {
         recording.push(entry)?;
     }
-    assert_eq!(rt; recording.push(entry), Err(PushFault::Full));
-    assert_eq!(rt; recording.entries().len(), MOST_ENTRIES);
+    same(&rt, &recording.push(entry), &Err(PushFault::Full));
+    same(&rt, &recording.entries().len(), &MOST_ENTRIES);
     Ok(())
 }
 
@@ -191,7 +193,7 @@ fn texts_read_and_written_back(rt: HostRuntime) -> Result<(), Fail> {
             let recording = Recording::read(alloc, &mut source)?;
             let mut sink = Buffer::open(alloc);
             recording.write(&mut sink)?;
-            assert_eq!(rt; sink.bytes(), text.as_bytes());
+            same(&rt, &sink.bytes(), &text.as_bytes());
         }
     }
     Ok(())
@@ -209,7 +211,7 @@ fn beginnings_of_a_text(rt: HostRuntime) -> Result<(), Fail> {
             line = line.saturating_add(1);
         }
     }
-    assert_eq!(rt; line, 10);
+    same(&rt, &line, &10);
     Ok(())
 }
 
@@ -255,9 +257,10 @@ fn texts_that_are_refused(rt: HostRuntime) -> Result<(), Fail> {
         long.push(b'x')?;
     }
     let kind = OverLimit;
-    assert_eq!(rt;
-        fault_of(alloc, long.as_slice()),
-        Some(ReadFault { line: 3, kind })
+    same(
+        &rt,
+        &fault_of(alloc, long.as_slice()),
+        &Some(ReadFault { line: 3, kind }),
     );
     Ok(())
 }

@@ -1,3 +1,4 @@
+use crate::asserting::same;
 use base::{BlockId, Buffer, CacheId, Outcome, Place, Shape, Step};
 use cache_table::{CacheEntry, CacheEvent, CacheState};
 use directory_table::{DirectoryEntry, DirectoryEvent, DirectoryState};
@@ -43,30 +44,31 @@ fn a_racing_pair(rt: HostRuntime) -> Result<(), Fail> {
         "request 0 0 = moved",
         "forward 0 1 = moved",
     ];
-    assert_eq!(rt; cut.recording.entries().len(), lines.len());
+    same(&rt, &cut.recording.entries().len(), &lines.len());
     for (entry, line) in cut.recording.entries().iter().zip(lines) {
         let (step, outcome) = line.split_once(" = ").ok_or("no outcome")?;
         let told = Entry {
             step: Step::read(step.as_bytes()).ok_or("not a step")?,
             outcome: Outcome::read(outcome.as_bytes()).ok_or("not an outcome")?,
         };
-        assert_eq!(rt; *entry, told);
+        same(&rt, &*entry, &told);
     }
     let cut_at_six = TrialResult {
         number: 54,
         verdict: Verdict::Cut,
         steps: 6,
     };
-    assert_eq!(rt; cut.result, cut_at_six);
+    same(&rt, &cut.result, &cut_at_six);
     let quiet = trial(
         alloc,
         &pair,
         &setup(alloc, 2, Tables::baseline(), 42, 100)?,
         54,
     )?;
-    assert_eq!(rt;
-        (quiet.result.verdict, quiet.result.steps),
-        (Verdict::Quiet, 8)
+    same(
+        &rt,
+        &(quiet.result.verdict, quiet.result.steps),
+        &(Verdict::Quiet, 8),
     );
     Ok(())
 }
@@ -103,8 +105,8 @@ fn one_load(rt: HostRuntime) -> Result<(), Fail> {
             verdict,
             steps,
         };
-        assert_eq!(rt; made.result, result);
-        assert_eq!(rt; made.recording.entries().len(), steps as usize);
+        same(&rt, &made.result, &result);
+        same(&rt, &made.recording.entries().len(), &(steps as usize));
     }
     Ok(())
 }
@@ -118,8 +120,8 @@ fn the_text_of_a_trial(rt: HostRuntime) -> Result<(), Fail> {
     made.recording.write(&mut sink)?;
     let text =
         "msi-recording 1\nshape 1 1\nopening 0\ncells 0\nentries 3\nask 0 0 load = sent\nrequest 0 0 = moved\nresponse 0 0 = load 0 0\nend\n";
-    assert_eq!(rt; sink.bytes(), text.as_bytes());
-    assert_eq!(rt; text.len(), 122);
+    same(&rt, &sink.bytes(), &text.as_bytes());
+    same(&rt, &text.len(), &122);
     Ok(())
 }
 
@@ -141,14 +143,14 @@ fn batches_of_trials(rt: HostRuntime) -> Result<(), Fail> {
             Ok(results) => results,
             Err(_) => batch(alloc, &tree, &setup, n)?,
         };
-        assert_eq!(rt; results.len(), n as usize);
+        same(&rt, &results.len(), &(n as usize));
         for (number, result) in results.iter().enumerate() {
             let wanted = TrialResult {
                 number: number as u32,
                 verdict,
                 steps,
             };
-            assert_eq!(rt; *result, wanted);
+            same(&rt, &*result, &wanted);
         }
     }
     Ok(())
@@ -165,21 +167,24 @@ fn what_is_refused(rt: HostRuntime) -> Result<(), Fail> {
         (2, 1_000_001, SetupFault::OverLimit),
     ] {
         let opening = vec![in alloc; 0; values]?;
-        assert_eq!(rt;
-            Setup::new(shape, own, opening, 0, limit).err(),
-            Some(fault)
+        same(
+            &rt,
+            &Setup::new(shape, own, opening, 0, limit).err(),
+            &Some(fault),
         );
     }
     let widest = Setup::new(shape, own, vec![in alloc; 0; 2]?, 0, 1_000_000)?;
-    assert_eq!(rt; (widest.seed(), widest.limit()), (0, 1_000_000));
-    assert_eq!(rt;
-        (widest.shape(), widest.tables(), widest.opening()),
-        (shape, own, [0, 0].as_slice())
+    same(&rt, &(widest.seed(), widest.limit()), &(0, 1_000_000));
+    same(
+        &rt,
+        &(widest.shape(), widest.tables(), widest.opening()),
+        &(shape, own, [0, 0].as_slice()),
     );
     let load = scenario(alloc, ONE_LOAD, 1)?;
-    assert_eq!(rt;
-        batch(alloc, &load, &widest, 1_000_001).err(),
-        Some(BatchFault::TooMany)
+    same(
+        &rt,
+        &batch(alloc, &load, &widest, 1_000_001).err(),
+        &Some(BatchFault::TooMany),
     );
     Ok(())
 }

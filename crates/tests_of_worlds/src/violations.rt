@@ -1,3 +1,4 @@
+use crate::asserting::same;
 use base::{BlockId, CacheId, Outcome, Place, Shape, Step};
 use cache_table::{CacheAction, CacheActions, CacheEntry, CacheEvent, CacheState, CacheTable};
 use monitor::{Violation, Watch};
@@ -155,7 +156,7 @@ fn spellings(rt: HostRuntime) -> Result<(), Fail> {
         ),
     ];
     for (violation, text) in rows {
-        assert_eq!(rt; format!(in rt.alloc(); "{violation}")?.as_str(), text);
+        same(&rt, &format!(in rt.alloc(); "{violation}")?.as_str(), &text);
     }
     Ok(())
 }

@@ -1,3 +1,4 @@
+use crate::asserting::same;
 use base::{Ask, BlockId, CacheId, NoMemory, Outcome, Place, Shape, Step};
 use cache_table::{CacheAction, CacheActions, CacheEntry, CacheEvent, CacheState};
 use directory_table::{DirectoryEntry, DirectoryEvent, DirectoryState};
@@ -115,12 +116,12 @@ fn a_putm_meets_a_load(rt: HostRuntime) -> Result<(), Fail> {
     let race =
         "ask 0 0 store 7,request 0 0,response 0 0,ask 0 0 replace,ask 1 0 load,request 0 1,request 0 0,forward 0 0,forward 0 0,response 0 0,response 0 0";
     let copy = after(alloc, 2, race)?.try_clone(alloc)?;
-    assert_eq!(rt; copy.home(BLOCK), Some((DirectoryState::S, None, 7)));
+    same(&rt, &copy.home(BLOCK), &Some((DirectoryState::S, None, 7)));
     assert!(rt; copy.shares(CacheId(1), BLOCK) && !copy.shares(CacheId(0), BLOCK));
     assert!(rt; copy.empty() && !copy.broken());
-    assert_eq!(rt; copy.latest(BLOCK), Some(7));
-    assert_eq!(rt; copy.readers(BLOCK), 1);
-    assert_eq!(rt; copy.writer(BLOCK), None);
+    same(&rt, &copy.latest(BLOCK), &Some(7));
+    same(&rt, &copy.readers(BLOCK), &1);
+    same(&rt, &copy.writer(BLOCK), &None);
     Ok(())
 }
 
@@ -129,7 +130,7 @@ fn a_putm_meets_a_load_and_waits(rt: HostRuntime) -> Result<(), Fail> {
     let late =
         "ask 0 0 store 7,request 0 0,response 0 0,ask 0 0 replace,ask 1 0 load,request 0 1,forward 0 0,response 0 1,response 0 0,ask 1 0 replace,request 0 1,forward 0 1,request 0 0";
     let world = after(rt.alloc(), 2, late)?;
-    assert_eq!(rt; world.home(BLOCK), Some((DirectoryState::S, None, 7)));
+    same(&rt, &world.home(BLOCK), &Some((DirectoryState::S, None, 7)));
     assert!(rt; !world.shares(CacheId(0), BLOCK) && !world.shares(CacheId(1), BLOCK));
     Ok(())
 }
@@ -139,13 +140,14 @@ fn deliveries_in_their_order(rt: HostRuntime) -> Result<(), Fail> {
     let alloc = rt.alloc();
     let held = "ask 0 0 store 7,request 0 0,ask 1 0 load,request 0 0";
     let world = after(alloc, 2, held)?;
-    assert_eq!(rt;
-        world.enabled(alloc)?.as_slice(),
-        steps(alloc, "response 0 0")?.as_slice()
+    same(
+        &rt,
+        &world.enabled(alloc)?.as_slice(),
+        &steps(alloc, "response 0 0")?.as_slice(),
     );
-    assert_eq!(rt; world.writer(BLOCK), None);
+    same(&rt, &world.writer(BLOCK), &None);
     let owned = after(alloc, 2, STORED)?;
-    assert_eq!(rt; owned.writer(BLOCK), Some(CacheId(0)));
+    same(&rt, &owned.writer(BLOCK), &Some(CacheId(0)));
     for (text, place) in [
         ("ask 1 0 load", Some(Place::Cache(CacheId(1)))),
         ("ask 2 0 load", None),
@@ -172,7 +174,7 @@ fn a_held_inv_gets_stuck(rt: HostRuntime) -> Result<(), Fail> {
     let mut found = Vec::new(alloc);
     world.run(steps(alloc, made)?.as_slice(), &mut found)?;
     let came = "sent,moved,load 0 0,sent,sent,moved,moved,moved,held";
-    assert_eq!(rt; found.as_slice(), outcomes(alloc, came)?.as_slice());
+    same(&rt, &found.as_slice(), &outcomes(alloc, came)?.as_slice());
     assert!(rt; world.enabled(alloc)?.is_empty() && !world.empty());
     Ok(())
 }
@@ -189,9 +191,9 @@ fn a_blank_breaks_the_world(rt: HostRuntime) -> Result<(), Fail> {
         block: BLOCK,
         ask: Ask::Load,
     };
-    assert_eq!(rt; world.step(load)?, Outcome::Blank);
+    same(&rt, &world.step(load)?, &Outcome::Blank);
     assert!(rt; world.broken());
-    assert_eq!(rt; world.step(load)?, Outcome::Broken);
+    same(&rt, &world.step(load)?, &Outcome::Broken);
     assert!(rt; world.enabled(rt.alloc())?.is_empty());
     Ok(())
 }
@@ -205,9 +207,13 @@ fn an_opening_of_another_length(rt: HostRuntime) -> Result<(), Fail> {
     let one = World::open(alloc, shape, Tables::baseline(), vec![in alloc; 0]?);
     assert!(rt; matches!(one, Err(OpenFault::OpeningLength)));
     let two = World::open(alloc, shape, Tables::baseline(), vec![in alloc; 3, 4]?)?;
-    assert_eq!(rt; two.shape(), shape);
-    assert_eq!(rt; two.home(BlockId(1)), Some((DirectoryState::I, None, 4)));
-    assert_eq!(rt; two.line(CacheId(1), BLOCK), None);
+    same(&rt, &two.shape(), &shape);
+    same(
+        &rt,
+        &two.home(BlockId(1)),
+        &Some((DirectoryState::I, None, 4)),
+    );
+    same(&rt, &two.line(CacheId(1), BLOCK), &None);
     Ok(())
 }
 
