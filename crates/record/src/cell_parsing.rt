@@ -1,6 +1,6 @@
 //! What a line of a cell spells.
 
-ghost use Rattle.std.specs.Prelude.{◌≡◌, ◌≢◌, ◌≤◌, ◌<◌, ◌∷◌, [], List, IfSome, MatchOption, map, length};
+ghost use Rattle.std.specs.Prelude.{◌≡◌, ◌≢◌, ◌≤◌, ◌<◌, ◌∷◌, [], List, IfSome, MatchOption, codes, map, length};
 ghost use Rattle.cache_table.specs.declared.actions.CacheAction as cache_action;
 ghost use Rattle.directory_table.specs.declared.actions.DirectoryAction as directory_action;
 ghost use Rattle.base.specs.Spelling.{words};
@@ -195,25 +195,42 @@ pub(crate) fn cell_of(line: &[u8]) -> Option<Cell>
 {
     let (first, rest) = cut(line);
     let (side, rest) = cut(rest?);
-    let (state, rest) = cut(rest?);
-    let (event, rest) = cut(rest?);
-    let entry = rest?;
+    let rest = rest?;
     if first != b"cell".as_slice() {
-        return None;
-    }
-    if side == b"cache".as_slice() {
-        Some(Cell::Cache {
-            state: cache_state_of(state)?,
-            event: cache_event_of(event)?,
-            entry: cache_entry_of(entry)?,
-        })
+        None
+    } else if side == b"cache".as_slice() {
+        cache_cell_of(rest)
     } else if side == b"directory".as_slice() {
-        Some(Cell::Directory {
-            state: directory_state_of(state)?,
-            event: directory_event_of(event)?,
-            entry: directory_entry_of(entry)?,
-        })
+        directory_cell_of(rest)
     } else {
         None
     }
+}
+
+/// The cell of a cache's table, behind the words of the side.
+fn cache_cell_of(line: &[u8]) -> Option<Cell>
+    ensures fits { IfSome result FitsCell }
+    ensures cell { MatchOption result (IsNoCell (codes "cell" ∷ codes "cache" ∷ words line.now)) (λ cell. codes "cell" ∷ codes "cache" ∷ words line.now ≡ cell_words cell) }
+{
+    let (state, rest) = cut(line);
+    let (event, rest) = cut(rest?);
+    Some(Cell::Cache {
+        state: cache_state_of(state)?,
+        event: cache_event_of(event)?,
+        entry: cache_entry_of(rest?)?,
+    })
+}
+
+/// The cell of the directory's table, behind the words of the side.
+fn directory_cell_of(line: &[u8]) -> Option<Cell>
+    ensures fits { IfSome result FitsCell }
+    ensures cell { MatchOption result (IsNoCell (codes "cell" ∷ codes "directory" ∷ words line.now)) (λ cell. codes "cell" ∷ codes "directory" ∷ words line.now ≡ cell_words cell) }
+{
+    let (state, rest) = cut(line);
+    let (event, rest) = cut(rest?);
+    Some(Cell::Directory {
+        state: directory_state_of(state)?,
+        event: directory_event_of(event)?,
+        entry: directory_entry_of(rest?)?,
+    })
 }

@@ -1,3 +1,4 @@
+use Rattle.std.proofs.lemmas.Grind.{common_steps}
 use Rattle.std.proofs.Common.{rules, arith, ◌≡◌, ◌+◌, ◌++◌, ◌∷◌, [], Some, Ok, true, false, drop, ap, sym, ◌∙◌}
 use Rattle.std.specs.List.{list_any}
 use Rattle.serde_json.specs.Data.{item}
@@ -33,3 +34,18 @@ loop-value-preserved c =
     ap (λ before. changes_after directory_change is_same_directory_cell before (items_view (drop (c.loop-value.value-index + 1) c.args.values.now))) pushed
     ∙ sym (changes-more directory_change is_same_directory_cell c.loop-value.changes.items (view c.value-item.result) (items_view (drop (c.loop-value.value-index + 1) c.args.values.now)) (seen_cell c.in_ok-cell.cell) c.in_ok-change.change form known new)
     ∙ sym (ap (λ ds. changes_after directory_change is_same_directory_cell c.loop-value.changes.items ds) next) ∙ c.loop-value.invariant
+
+pub loop-value-init : goal.loop-value-init
+loop-value-init c = grind (arith, common_steps)
+
+pub returns-in_err-cell-clause-changes : goal.returns-in_err-cell-clause-changes
+returns-in_err-cell-clause-changes c = grind (arith, common_steps)
+
+pub returns-in_err-change-clause-changes : goal.returns-in_err-change-clause-changes
+returns-in_err-change-clause-changes c = grind (arith, common_steps)
+
+pub returns-in_err-push-clause-changes : goal.returns-in_err-push-clause-changes
+returns-in_err-push-clause-changes c = grind (arith, common_steps)
+
+pub returns-clause-changes : goal.returns-clause-changes
+returns-clause-changes c = grind (arith, common_steps)
