@@ -11,7 +11,7 @@ use thiserror::Error;
 use world::World;
 
 /// What the replay of a recording found.
-#[derive(Debug, Drop)]
+#[derive(Drop)]
 pub struct Replayed {
     /// The steps of the recording, each with the outcome that it had.
     pub entries: Vec<Entry>,
