@@ -19,7 +19,7 @@ pub fn cache_changes(alloc: Global, values: &[Value]) -> Result<Vec<CacheChange>
     let mut changes = Vec::new(alloc);
     for value in values {
         let cell = written_cell(value).ok_or(TablesFault::BadShape)?;
-        let change = cache_change(&cell)?;
+        let change = cache_change(cell)?;
         if is_changed(changes.as_slice(), &change) {
             return Err(TablesFault::SameCellTwice);
         }
@@ -40,9 +40,9 @@ fn is_changed(changes: &[CacheChange], change: &CacheChange) -> bool
     false
 }
 
-fn cache_change(cell: &WrittenCell<'_>) -> Result<CacheChange, TablesFault>
-    requires { HasFew cell.now.entry }
-    ensures change { result ≡ cache_change (seen_cell cell.now) }
+fn cache_change(cell: WrittenCell<'_>) -> Result<CacheChange, TablesFault>
+    requires { HasFew cell.entry }
+    ensures change { result ≡ cache_change (seen_cell cell.entry) }
     ensures json { IsErrOf result TablesFault.NotJson → ⊥ }
 {
     let state = CacheState::named(cell.state).ok_or(TablesFault::UnknownState)?;

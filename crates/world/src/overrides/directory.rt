@@ -25,7 +25,7 @@ pub fn directory_changes(
     let mut changes = Vec::new(alloc);
     for value in values {
         let cell = written_cell(value).ok_or(TablesFault::BadShape)?;
-        let change = directory_change(&cell)?;
+        let change = directory_change(cell)?;
         if is_changed(changes.as_slice(), &change) {
             return Err(TablesFault::SameCellTwice);
         }
@@ -46,9 +46,9 @@ fn is_changed(changes: &[DirectoryChange], change: &DirectoryChange) -> bool
     false
 }
 
-fn directory_change(cell: &WrittenCell<'_>) -> Result<DirectoryChange, TablesFault>
-    requires { HasFew cell.now.entry }
-    ensures change { result ≡ directory_change (seen_cell cell.now) }
+fn directory_change(cell: WrittenCell<'_>) -> Result<DirectoryChange, TablesFault>
+    requires { HasFew cell.entry }
+    ensures change { result ≡ directory_change (seen_cell cell.entry) }
     ensures json { IsErrOf result TablesFault.NotJson → ⊥ }
 {
     let state = DirectoryState::named(cell.state).ok_or(TablesFault::UnknownState)?;
