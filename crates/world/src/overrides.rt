@@ -93,7 +93,9 @@ fn overridden(alloc: Global, value: &Value) -> Result<Tables, TablesFault>
     ensures gives { Gives (λ t. t) result (overridden (view value.now)) }
     ensures json { IsErrOf result TablesFault.NotJson → ⊥ }
 {
-    let sides = written_sides(value).ok_or(TablesFault::BadShape)?;
+    let Some(sides) = written_sides(value) else {
+        return Err(TablesFault::BadShape);
+    };
     let of_cache = cache_changes(alloc, sides.cache)?;
     let of_directory = directory_changes(alloc, sides.directory)?;
     let baseline = Tables::baseline();

@@ -35,10 +35,10 @@ pub fn written_sides(value: &Value) -> Option<WrittenSides<'_>>
     if !has_keys(value, present(value, "cache") + present(value, "directory")) {
         return None;
     }
-    Some(WrittenSides {
-        cache: side_at(value, "cache")?,
-        directory: side_at(value, "directory")?,
-    })
+    match (side_at(value, "cache"), side_at(value, "directory")) {
+        (Some(cache), Some(directory)) => Some(WrittenSides { cache, directory }),
+        _ => None,
+    }
 }
 
 pub fn written_cell(value: &Value) -> Option<WrittenCell<'_>>
@@ -48,14 +48,18 @@ pub fn written_cell(value: &Value) -> Option<WrittenCell<'_>>
     if !has_keys(value, 3) {
         return None;
     }
-    let state = text_at(value, "state")?;
-    let event = text_at(value, "event")?;
-    let entry = entry_at(value)?;
-    Some(WrittenCell {
-        state,
-        event,
-        entry,
-    })
+    match (
+        text_at(value, "state"),
+        text_at(value, "event"),
+        entry_at(value),
+    ) {
+        (Some(state), Some(event), Some(entry)) => Some(WrittenCell {
+            state,
+            event,
+            entry,
+        }),
+        _ => None,
+    }
 }
 
 fn entry_at(value: &Value) -> Option<WrittenEntry<'_, &str>>
@@ -84,9 +88,10 @@ fn written_act(value: &Value) -> Option<WrittenEntry<'_, &str>>
     if !has_keys(value, 2) {
         return None;
     }
-    let next = text_at(value, "next")?;
-    let actions = texts_at(value, "do")?;
-    Some(WrittenEntry::Act { next, actions })
+    match (text_at(value, "next"), texts_at(value, "do")) {
+        (Some(next), Some(actions)) => Some(WrittenEntry::Act { next, actions }),
+        _ => None,
+    }
 }
 
 /// The texts of the array at the key, which are eight at most.
