@@ -13,12 +13,14 @@ fitting xs fits k d low = subst (λ x. x < 2 ^ 64) (get_or_default xs k 0 d low)
 pub returns-in_err-total-clause-err : goal.returns-in_err-total-clause-err
 returns-in_err-total-clause-err g c =
     handed-on c.from_residual.result _ _ _ c.from_residual.ensures.1 (
-    cut-at (λ value. 32 ∷ decimal value) c.args.values.now c.loop-value.value-index 0 _ (g.S.Sink.taken c.loop-value.sink) _ _ c.loop-value.total _ c.as_slice.result.now (omega arith)
+    cut-at (λ value. 32 ∷ decimal value) c.args.values.now c.loop-value.value-index 0 _
+    (g.S.Sink.taken c.loop-value.sink) _ _ c.loop-value.total _ c.as_slice.result.now (omega arith)
     (grind (arith, c.as_slice.ensures.text, c.push_number.ensures.text)) c.loop-value.invariant.0 c.in_err-total.ensures.err)
 
 pub loop-value-preserved : goal.loop-value-preserved
 loop-value-preserved g c = (
-  out-more (λ value. 32 ∷ decimal value) c.args.values.now c.loop-value.value-index 0 _ (g.S.Sink.taken c.loop-value.sink) _ _ c.loop-value.total _ c.as_slice.result.now (omega arith)
+  out-more (λ value. 32 ∷ decimal value) c.args.values.now c.loop-value.value-index 0 _
+      (g.S.Sink.taken c.loop-value.sink) _ _ c.loop-value.total _ c.as_slice.result.now (omega arith)
       (grind (arith, c.as_slice.ensures.text, c.push_number.ensures.text)) c.loop-value.invariant.0 c.in_ok-total.ensures.ok,
   c.in_ok-total.ensures.mark ∙ c.loop-value.invariant.1,
   grind (arith, c.in_ok-total.ensures.ok.sum, c.as_slice.ensures.text, c.push_number.ensures.short),
