@@ -14,24 +14,7 @@ use Rattle.monitor.specs.Watching.{HasSeen, LeadTo, AnswersHistory, SeesNext, Ar
 use Rattle.record.specs.declared.recording.Entry.{Entry}
 use Rattle.record.specs.Kept.{Kept, steps_of}
 use Rattle.record.specs.Replaying.{IsFirstToDiffer, HasNoViolation, AnswersFirst}
-
--- the steps of entries
-abbrev pub steps_in : List Entry → List Step
-steps_in entries = map (λ e. e.step) entries
-
--- the outcomes of entries
-abbrev pub outcomes_in : List Entry → List Outcome
-outcomes_in entries = map (λ e. e.outcome) entries
-
--- the entries so far have been made as they are told
-pub record IsSoFar (r : Kept) (done : List Entry) (world : View) (watch : List ℕ) (entries : List Entry) (violation : Option (ℕ × Violation)) : Type 0 where
-  pub shape : world.shape ≡ r.shape
-  pub tables : world.tables ≡ r.tables
-  pub state : world.state ≡ state_after r.tables (opened r.shape r.opening) (steps_in done)
-  pub seen : HasSeen world r.opening (steps_in done) watch
-  pub same : entries ≡ done
-  pub legal : outcomes_in done ≡ outcomes_of r.tables (opened r.shape r.opening) (steps_in done)
-  pub first : AnswersFirst r.shape r.tables r.opening (steps_in done) violation
+use Rattle.record.specs.SoFar.{IsSoFar, steps_in}
 
 -- an element of a list with one more is one of the list, or that one
 get-push : {X : Type 0} (xs : List X) (x y : X) (k : ℕ) → slice_get (xs ++ x ∷ []) k ≡ Some y → ((slice_get xs k ≡ Some y) × (k < length xs)) ⊎ ((k ≡ length xs) × (x ≡ y))

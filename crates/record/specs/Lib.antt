@@ -3,6 +3,7 @@ pub mod Cells
 pub mod Text
 pub mod Putting
 pub mod Replaying
+pub mod SoFar
 pub mod Grammar
 pub mod Recordable
 pub mod Refused

@@ -1,6 +1,6 @@
 //! What a line of a cell spells.
 
-ghost use Rattle.std.specs.Prelude.{◌≡◌, ◌≢◌, ◌≤◌, ◌<◌, ◌∷◌, [], List, IfSome, MatchOption, map, length};
+ghost use Rattle.std.specs.Prelude.{◌≡◌, ◌≢◌, ◌≤◌, ◌<◌, ◌∷◌, [], List, IfSome, MatchOption, codes, map, length};
 ghost use Rattle.cache_table.specs.declared.actions.CacheAction as cache_action;
 ghost use Rattle.directory_table.specs.declared.actions.DirectoryAction as directory_action;
 ghost use Rattle.base.specs.Spelling.{words};
@@ -84,9 +84,10 @@ fn cache_entry_of(line: &[u8]) -> Option<CacheEntry>
         return None;
     }
     let (next, rest) = cut(rest);
-    let next = cache_state_of(next)?;
-    let actions = cache_actions_of(rest)?;
-    Some(CacheEntry::Act { next, actions })
+    match (cache_state_of(next), cache_actions_of(rest)) {
+        (Some(next), Some(actions)) => Some(CacheEntry::Act { next, actions }),
+        _ => None,
+    }
 }
 
 /// What a cache does, in this one word.
@@ -143,9 +144,10 @@ fn directory_entry_of(line: &[u8]) -> Option<DirectoryEntry>
         return None;
     }
     let (next, rest) = cut(rest);
-    let next = directory_state_of(next)?;
-    let actions = directory_actions_of(rest)?;
-    Some(DirectoryEntry::Act { next, actions })
+    match (directory_state_of(next), directory_actions_of(rest)) {
+        (Some(next), Some(actions)) => Some(DirectoryEntry::Act { next, actions }),
+        _ => None,
+    }
 }
 
 /// What the directory does, in this one word.
@@ -193,27 +195,69 @@ pub(crate) fn cell_of(line: &[u8]) -> Option<Cell>
     ensures fits { IfSome result FitsCell }
     ensures cell { MatchOption result (IsNoCell (words line.now)) (λ cell. words line.now ≡ cell_words cell) }
 {
-    let (first, rest) = cut(line);
-    let (side, rest) = cut(rest?);
-    let (state, rest) = cut(rest?);
-    let (event, rest) = cut(rest?);
-    let entry = rest?;
-    if first != b"cell".as_slice() {
+    let (first, Some(rest)) = cut(line) else {
         return None;
-    }
-    if side == b"cache".as_slice() {
-        Some(Cell::Cache {
-            state: cache_state_of(state)?,
-            event: cache_event_of(event)?,
-            entry: cache_entry_of(entry)?,
-        })
+    };
+    let (side, Some(rest)) = cut(rest) else {
+        return None;
+    };
+    if first != b"cell".as_slice() {
+        None
+    } else if side == b"cache".as_slice() {
+        cache_cell_of(rest)
     } else if side == b"directory".as_slice() {
-        Some(Cell::Directory {
-            state: directory_state_of(state)?,
-            event: directory_event_of(event)?,
-            entry: directory_entry_of(entry)?,
-        })
+        directory_cell_of(rest)
     } else {
         None
+    }
+}
+
+/// The cell of a cache's table, behind the words of the side.
+fn cache_cell_of(line: &[u8]) -> Option<Cell>
+    ensures fits { IfSome result FitsCell }
+    ensures cell { MatchOption result (IsNoCell (codes "cell" ∷ codes "cache" ∷ words line.now)) (λ cell. codes "cell" ∷ codes "cache" ∷ words line.now ≡ cell_words cell) }
+{
+    let (state, Some(rest)) = cut(line) else {
+        return None;
+    };
+    let (event, Some(rest)) = cut(rest) else {
+        return None;
+    };
+    match (
+        cache_state_of(state),
+        cache_event_of(event),
+        cache_entry_of(rest),
+    ) {
+        (Some(state), Some(event), Some(entry)) => Some(Cell::Cache {
+            state,
+            event,
+            entry,
+        }),
+        _ => None,
+    }
+}
+
+/// The cell of the directory's table, behind the words of the side.
+fn directory_cell_of(line: &[u8]) -> Option<Cell>
+    ensures fits { IfSome result FitsCell }
+    ensures cell { MatchOption result (IsNoCell (codes "cell" ∷ codes "directory" ∷ words line.now)) (λ cell. codes "cell" ∷ codes "directory" ∷ words line.now ≡ cell_words cell) }
+{
+    let (state, Some(rest)) = cut(line) else {
+        return None;
+    };
+    let (event, Some(rest)) = cut(rest) else {
+        return None;
+    };
+    match (
+        directory_state_of(state),
+        directory_event_of(event),
+        directory_entry_of(rest),
+    ) {
+        (Some(state), Some(event), Some(entry)) => Some(Cell::Directory {
+            state,
+            event,
+            entry,
+        }),
+        _ => None,
     }
 }

@@ -11,14 +11,14 @@ use world::Tables;
 pub(crate) const SPOTS: usize = 160;
 
 /// The place of a cell.
-#[derive(Clone, Copy, Debug, PartialEq, Eq)]
+#[derive(Clone, Copy)]
 pub(crate) enum Spot {
     Cache(CacheState, CacheEvent),
     Directory(DirectoryState, DirectoryEvent),
 }
 
 /// A cell with its place.
-#[derive(Clone, Copy, Debug, PartialEq, Eq)]
+#[derive(Clone, Copy)]
 pub(crate) enum Cell {
     Cache {
         state: CacheState,

@@ -1,35 +1,51 @@
+use std::{error, fmt};
 use thiserror::Error;
 
 /// What is wrong with a text that isn't a recording's. Of one line `Truncated` is tested first, then `OverLimit`,
 /// `BadHeader`, `CountDiffers` and `BadOutcome`, and `BadLine` last; but a line that is too long is `OverLimit` whether
 /// it ends or not.
-#[derive(Clone, Copy, Debug, PartialEq, Eq, Error)]
+#[derive(Clone, Copy, Debug, PartialEq, Eq)]
 pub enum ReadKind {
     /// The first line is another.
-    #[error("BadHeader")]
     BadHeader,
     /// The line isn't the one that is due.
-    #[error("BadLine")]
     BadLine,
     /// The input ends within the line.
-    #[error("Truncated")]
     Truncated,
     /// The end stands where an entry is due, or an entry where the end is due.
-    #[error("CountDiffers")]
     CountDiffers,
     /// What follows an entry's step isn't an outcome.
-    #[error("BadOutcome")]
     BadOutcome,
     /// The line has over 90,000 bytes, or its shape or its count is past the limits.
-    #[error("OverLimit")]
     OverLimit,
     /// A growth was refused.
-    #[error("NoMemory")]
     NoMemory,
     /// The source failed.
-    #[error("Device")]
     Device,
 }
+
+impl ReadKind {
+    fn name(self) -> &'static str {
+        match self {
+            ReadKind::BadHeader => "BadHeader",
+            ReadKind::BadLine => "BadLine",
+            ReadKind::Truncated => "Truncated",
+            ReadKind::CountDiffers => "CountDiffers",
+            ReadKind::BadOutcome => "BadOutcome",
+            ReadKind::OverLimit => "OverLimit",
+            ReadKind::NoMemory => "NoMemory",
+            ReadKind::Device => "Device",
+        }
+    }
+}
+
+impl fmt::Display for ReadKind {
+    fn fmt<W: fmt::Write>(&self, f: &mut fmt::Formatter<W>) -> fmt::Result {
+        f.write_str(self.name())
+    }
+}
+
+impl error::Error for ReadKind {}
 
 /// Why a text wasn't read.
 #[derive(Clone, Copy, Debug, PartialEq, Eq, Error)]

@@ -46,15 +46,13 @@ fn named_word<'a>(line: &'a [u8], name: &[u8]) -> Option<&'a [u8]>
         ((word : List ℕ) → words line.now ≢ name.now ∷ word ∷ [])
         (λ word. words line.now ≡ name.now ∷ word.now ∷ []) }
 {
-    let (first, rest) = cut(line);
-    let (word, rest) = cut(rest?);
-    if first != name {
+    let (first, Some(rest)) = cut(line) else {
         return None;
-    }
-    match rest {
-        None => Some(word),
-        Some(_) => None,
-    }
+    };
+    let (word, None) = cut(rest) else {
+        return None;
+    };
+    if first == name { Some(word) } else { None }
 }
 
 /// The number up to this one that is spelled so.
@@ -90,15 +88,19 @@ fn named_pair<'a>(line: &'a [u8], name: &[u8]) -> Option<(&'a [u8], &'a [u8])>
         ((first second : List ℕ) → words line.now ≢ name.now ∷ first ∷ second ∷ [])
         (λ pair. words line.now ≡ name.now ∷ pair.0.now ∷ pair.1.now ∷ []) }
 {
-    let (word, rest) = cut(line);
-    let (first, rest) = cut(rest?);
-    let (second, rest) = cut(rest?);
-    if word != name {
+    let (word, Some(rest)) = cut(line) else {
         return None;
-    }
-    match rest {
-        None => Some((first, second)),
-        Some(_) => None,
+    };
+    let (first, Some(rest)) = cut(rest) else {
+        return None;
+    };
+    let (second, None) = cut(rest) else {
+        return None;
+    };
+    if word == name {
+        Some((first, second))
+    } else {
+        None
     }
 }
 

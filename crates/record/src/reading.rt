@@ -168,8 +168,9 @@ fn listed_cell(line: &[u8], from: usize) -> Option<Cell>
 }
 
 /// Whether the cell is spelled as the baseline's in its place.
-fn is_baseline(cell: &Cell) -> bool
-    ensures { result ≡ is_same cell.now (cell_at baseline (spot_of cell.now)) }
+pub(crate) fn is_baseline(cell: &Cell) -> bool
+    ensures same { result ≡ is_same cell.now (cell_at baseline (spot_of cell.now)) }
+    ensures fits { FitsCell cell.now }
 {
     let baseline = Cell::at(&Tables::baseline(), cell.spot());
     cell_line(cell).as_slice() == cell_line(&baseline).as_slice()

@@ -68,7 +68,12 @@ impl Recording {
         if opening.len() != shape.blocks() as usize {
             return Err(OpenFault::OpeningLength);
         }
-        Ok(Recording::of(shape, tables, opening, Vec::new(alloc)))
+        Ok(Recording {
+            shape,
+            tables,
+            opening,
+            entries: Vec::new(alloc),
+        })
     }
 
     /// The recording of these entries.

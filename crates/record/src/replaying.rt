@@ -1,6 +1,7 @@
-ghost use Rattle.std.specs.Prelude.{◌≡◌, IfOk, IfErr};
+ghost use Rattle.std.specs.Prelude.{◌≡◌, [], None, IfOk, IfErr};
 ghost use Rattle.record.specs.Kept.{IsLegal, steps_of};
 ghost use Rattle.record.specs.Replaying.{AnswersFirst, FaultOf};
+ghost use Rattle.record.specs.SoFar.{IsSoFar};
 
 use crate::recording::{Entry, Recording};
 use base::Outcome;
@@ -10,7 +11,7 @@ use thiserror::Error;
 use world::World;
 
 /// What the replay of a recording found.
-#[derive(Debug, Drop)]
+#[derive(Drop)]
 pub struct Replayed {
     /// The steps of the recording, each with the outcome that it had.
     pub entries: Vec<Entry>,
@@ -46,7 +47,6 @@ pub fn replay(alloc: Global, recording: &Recording) -> Result<Replayed, ReplayFa
     ensures differs { IfErr result (FaultOf recording.now) }
 {
     let opening = recording.opening();
-    let told = recording.entries();
     let Ok(values) = Vec::from_slice(alloc, opening) else {
         return Err(ReplayFault::NoMemory);
     };
@@ -57,12 +57,28 @@ pub fn replay(alloc: Global, recording: &Recording) -> Result<Replayed, ReplayFa
         return Err(ReplayFault::NoMemory);
     };
     let mut entries = Vec::new(alloc);
+    let violation = replay_in(&mut world, &mut watch, recording, &mut entries)?;
+    Ok(Replayed { entries, violation })
+}
+
+/// Makes the steps of a recording in a world that was opened for it, and answers the first violation.
+fn replay_in(
+    world: &mut World,
+    watch: &mut Watch,
+    recording: &Recording,
+    entries: &mut Vec<Entry>,
+) -> Result<Option<(u64, Violation)>, ReplayFault>
+    requires { IsSoFar recording.now [] world.old watch.old entries.old.items None }
+    ensures ok { IfOk result (λ violation. IsSoFar recording.now recording.now.entries world.new watch.new entries.new.items violation) }
+    ensures differs { IfErr result (FaultOf recording.now) }
+{
+    let told = recording.entries();
     let mut violation = None;
     for (number, entry) in told.iter().enumerate() {
         let Ok(found) = world.step(entry.step) else {
             return Err(ReplayFault::NoMemory);
         };
-        let seen = watch.see(&world, entry.step, found);
+        let seen = watch.see(world, entry.step, found);
         violation = violation.or(Some(number as u64).zip(seen));
         if found != entry.outcome {
             return Err(ReplayFault::Differs {
@@ -79,5 +95,5 @@ pub fn replay(alloc: Global, recording: &Recording) -> Result<Replayed, ReplayFa
             return Err(ReplayFault::NoMemory);
         }
     }
-    Ok(Replayed { entries, violation })
+    Ok(violation)
 }

@@ -11,6 +11,7 @@ ghost use Rattle.record.specs.Putting.{IsInWhole, IsOut, IsCutOff, head_text, op
 
 use crate::cells::{Cell, SPOTS, Spot, spot_at};
 use crate::line::Line;
+use crate::reading::is_baseline;
 use crate::recording::{Entry, Recording};
 use crate::spelling::{cell_line, entry_line};
 use base::{Shape, Sink, put_all};
@@ -103,9 +104,7 @@ pub(crate) fn is_changed(tables: &Tables, spot: Spot) -> bool
     ensures fits { FitsCell (cell_at tables.now spot) }
     ensures whole { IsInWhole tables.now spot }
 {
-    let own = cell_line(&Cell::at(tables, spot));
-    let baseline = cell_line(&Cell::at(&Tables::baseline(), spot));
-    own.as_slice() != baseline.as_slice()
+    !is_baseline(&Cell::at(tables, spot))
 }
 
 /// How many cells differ from the baseline's.

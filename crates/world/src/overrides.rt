@@ -6,7 +6,7 @@ ghost use Rattle.world.specs.Seen.{Gives};
 use crate::tables::Tables;
 use serde_json::Value;
 use std::alloc::{AllocFailed, Global};
-use thiserror::Error;
+use std::{error, fmt};
 
 mod cache;
 mod directory;
@@ -20,30 +20,45 @@ use written::written_sides;
 ///
 /// `NotJson` is tested first, and then the form of the outer object. Then the cells are read in order, the cache's before
 /// the directory's, and the first fault counts; of one cell `BadShape` is tested first and `SameCellTwice` last.
-#[derive(Clone, Copy, Debug, PartialEq, Eq, Error)]
+#[derive(Clone, Copy, Debug, PartialEq, Eq)]
 pub enum TablesFault {
     /// The bytes aren't JSON.
-    #[error("not JSON")]
     NotJson,
     /// A key is missing or one too many, or there is something of another kind, or a cell has more than eight actions.
-    #[error("not of the form of overrides")]
     BadShape,
     /// A cell's state or its next state is none of its side.
-    #[error("an unknown state")]
     UnknownState,
     /// A cell's event is none of its side.
-    #[error("an unknown event")]
     UnknownEvent,
     /// An action is none of its side.
-    #[error("an unknown action")]
     UnknownAction,
     /// A cell before has this state and this event too.
-    #[error("the same cell twice")]
     SameCellTwice,
     /// A growth was refused.
-    #[error("no memory")]
     NoMemory,
 }
+
+impl TablesFault {
+    fn text(self) -> &'static str {
+        match self {
+            TablesFault::NotJson => "not JSON",
+            TablesFault::BadShape => "not of the form of overrides",
+            TablesFault::UnknownState => "an unknown state",
+            TablesFault::UnknownEvent => "an unknown event",
+            TablesFault::UnknownAction => "an unknown action",
+            TablesFault::SameCellTwice => "the same cell twice",
+            TablesFault::NoMemory => "no memory",
+        }
+    }
+}
+
+impl fmt::Display for TablesFault {
+    fn fmt<W: fmt::Write>(&self, f: &mut fmt::Formatter<W>) -> fmt::Result {
+        f.write_str(self.text())
+    }
+}
+
+impl error::Error for TablesFault {}
 
 impl<T: Drop> From<AllocFailed<T>> for TablesFault {
     ghost use Rattle.std.specs.Prelude.{◌≡◌};
@@ -78,7 +93,9 @@ fn overridden(alloc: Global, value: &Value) -> Result<Tables, TablesFault>
     ensures gives { Gives (λ t. t) result (overridden (view value.now)) }
     ensures json { IsErrOf result TablesFault.NotJson → ⊥ }
 {
-    let sides = written_sides(value).ok_or(TablesFault::BadShape)?;
+    let Some(sides) = written_sides(value) else {
+        return Err(TablesFault::BadShape);
+    };
     let of_cache = cache_changes(alloc, sides.cache)?;
     let of_directory = directory_changes(alloc, sides.directory)?;
     let baseline = Tables::baseline();

@@ -18,8 +18,10 @@ pub fn cache_changes(alloc: Global, values: &[Value]) -> Result<Vec<CacheChange>
 {
     let mut changes = Vec::new(alloc);
     for value in values {
-        let cell = written_cell(value).ok_or(TablesFault::BadShape)?;
-        let change = cache_change(&cell)?;
+        let Some(cell) = written_cell(value) else {
+            return Err(TablesFault::BadShape);
+        };
+        let change = cache_change(cell)?;
         if is_changed(changes.as_slice(), &change) {
             return Err(TablesFault::SameCellTwice);
         }
@@ -40,15 +42,23 @@ fn is_changed(changes: &[CacheChange], change: &CacheChange) -> bool
     false
 }
 
-fn cache_change(cell: &WrittenCell<'_>) -> Result<CacheChange, TablesFault>
-    requires { HasFew cell.now.entry }
-    ensures change { result ≡ cache_change (seen_cell cell.now) }
+fn cache_change(cell: WrittenCell<'_>) -> Result<CacheChange, TablesFault>
+    requires { HasFew cell.entry }
+    ensures change { result ≡ cache_change (seen_cell cell.entry) }
     ensures json { IsErrOf result TablesFault.NotJson → ⊥ }
 {
-    let state = CacheState::named(cell.state).ok_or(TablesFault::UnknownState)?;
-    let entry = known_next(cell.entry).ok_or(TablesFault::UnknownState)?;
-    let event = CacheEvent::named(cell.event).ok_or(TablesFault::UnknownEvent)?;
-    let entry = cache_entry(entry).ok_or(TablesFault::UnknownAction)?;
+    let Some(state) = CacheState::named(cell.state) else {
+        return Err(TablesFault::UnknownState);
+    };
+    let Some(entry) = known_next(cell.entry) else {
+        return Err(TablesFault::UnknownState);
+    };
+    let Some(event) = CacheEvent::named(cell.event) else {
+        return Err(TablesFault::UnknownEvent);
+    };
+    let Some(entry) = cache_entry(entry) else {
+        return Err(TablesFault::UnknownAction);
+    };
     Ok(CacheChange {
         state,
         event,

@@ -24,8 +24,10 @@ pub fn directory_changes(
 {
     let mut changes = Vec::new(alloc);
     for value in values {
-        let cell = written_cell(value).ok_or(TablesFault::BadShape)?;
-        let change = directory_change(&cell)?;
+        let Some(cell) = written_cell(value) else {
+            return Err(TablesFault::BadShape);
+        };
+        let change = directory_change(cell)?;
         if is_changed(changes.as_slice(), &change) {
             return Err(TablesFault::SameCellTwice);
         }
@@ -46,15 +48,23 @@ fn is_changed(changes: &[DirectoryChange], change: &DirectoryChange) -> bool
     false
 }
 
-fn directory_change(cell: &WrittenCell<'_>) -> Result<DirectoryChange, TablesFault>
-    requires { HasFew cell.now.entry }
-    ensures change { result ≡ directory_change (seen_cell cell.now) }
+fn directory_change(cell: WrittenCell<'_>) -> Result<DirectoryChange, TablesFault>
+    requires { HasFew cell.entry }
+    ensures change { result ≡ directory_change (seen_cell cell.entry) }
     ensures json { IsErrOf result TablesFault.NotJson → ⊥ }
 {
-    let state = DirectoryState::named(cell.state).ok_or(TablesFault::UnknownState)?;
-    let entry = known_next(cell.entry).ok_or(TablesFault::UnknownState)?;
-    let event = DirectoryEvent::named(cell.event).ok_or(TablesFault::UnknownEvent)?;
-    let entry = directory_entry(entry).ok_or(TablesFault::UnknownAction)?;
+    let Some(state) = DirectoryState::named(cell.state) else {
+        return Err(TablesFault::UnknownState);
+    };
+    let Some(entry) = known_next(cell.entry) else {
+        return Err(TablesFault::UnknownState);
+    };
+    let Some(event) = DirectoryEvent::named(cell.event) else {
+        return Err(TablesFault::UnknownEvent);
+    };
+    let Some(entry) = directory_entry(entry) else {
+        return Err(TablesFault::UnknownAction);
+    };
     Ok(DirectoryChange {
         state,
         event,

@@ -1,12 +1,13 @@
-ghost use Rattle.std.specs.Prelude.{◌≡◌, IfSome, option_map, codes};
+ghost use Rattle.std.specs.Prelude.{◌≡◌, ◌≤◌, IfSome, option_and_then, option_map, codes, length};
+ghost use Rattle.serde_json.specs.Find.{as_array, get};
 ghost use Rattle.serde_json.specs.View.{view, items_view};
-ghost use Rattle.world.specs.Written.{are_texts, has_keys, present, side_at, text_at, written_act, written_cell, written_entry, written_sides, written_word};
+ghost use Rattle.world.specs.Written.{are_texts, few_texts, has_keys, present, side_at, text_at, written_act, written_cell, written_entry, written_sides, written_word};
 ghost use Rattle.world.specs.Seen.{HasFew, seen_cell, seen_entry, seen_sides, text};
 
 use serde_json::Value;
 
 /// The entry of a cell as it is written. `S` is a state, or its name.
-#[derive(Clone, Copy)]
+#[derive(Drop)]
 pub enum WrittenEntry<'a, S> {
     Blank,
     Stall,
@@ -14,7 +15,7 @@ pub enum WrittenEntry<'a, S> {
 }
 
 /// A cell as it is written, before its names are looked up.
-#[derive(Clone, Copy)]
+#[derive(Drop)]
 pub struct WrittenCell<'a> {
     pub state: &'a str,
     pub event: &'a str,
@@ -22,7 +23,7 @@ pub struct WrittenCell<'a> {
 }
 
 /// The cells of both sides.
-#[derive(Clone, Copy)]
+#[derive(Drop)]
 pub struct WrittenSides<'a> {
     pub cache: &'a [Value],
     pub directory: &'a [Value],
@@ -34,10 +35,10 @@ pub fn written_sides(value: &Value) -> Option<WrittenSides<'_>>
     if !has_keys(value, present(value, "cache") + present(value, "directory")) {
         return None;
     }
-    Some(WrittenSides {
-        cache: side_at(value, "cache")?,
-        directory: side_at(value, "directory")?,
-    })
+    match (side_at(value, "cache"), side_at(value, "directory")) {
+        (Some(cache), Some(directory)) => Some(WrittenSides { cache, directory }),
+        _ => None,
+    }
 }
 
 pub fn written_cell(value: &Value) -> Option<WrittenCell<'_>>
@@ -47,11 +48,25 @@ pub fn written_cell(value: &Value) -> Option<WrittenCell<'_>>
     if !has_keys(value, 3) {
         return None;
     }
-    Some(WrittenCell {
-        state: text_at(value, "state")?,
-        event: text_at(value, "event")?,
-        entry: written_entry(value.get("entry")?)?,
-    })
+    match (
+        text_at(value, "state"),
+        text_at(value, "event"),
+        entry_at(value),
+    ) {
+        (Some(state), Some(event), Some(entry)) => Some(WrittenCell {
+            state,
+            event,
+            entry,
+        }),
+        _ => None,
+    }
+}
+
+fn entry_at(value: &Value) -> Option<WrittenEntry<'_, &str>>
+    ensures entry { option_map (seen_entry text) result ≡ option_and_then written_entry (get (codes "entry") (view value.now)) }
+    ensures few { IfSome result HasFew }
+{
+    written_entry(value.get("entry")?)
 }
 
 fn written_entry(value: &Value) -> Option<WrittenEntry<'_, &str>>
@@ -66,7 +81,6 @@ fn written_entry(value: &Value) -> Option<WrittenEntry<'_, &str>>
     }
 }
 
-#[tactic(auto, using(crate::proofs::Overriding::counts))]
 fn written_act(value: &Value) -> Option<WrittenEntry<'_, &str>>
     ensures entry { option_map (seen_entry text) result ≡ written_act (view value.now) }
     ensures few { IfSome result HasFew }
@@ -74,12 +88,23 @@ fn written_act(value: &Value) -> Option<WrittenEntry<'_, &str>>
     if !has_keys(value, 2) {
         return None;
     }
-    let next = text_at(value, "next")?;
-    let actions = value.get("do")?.as_array()?.as_slice();
-    if actions.len() > 8 || !are_texts(actions) {
+    match (text_at(value, "next"), texts_at(value, "do")) {
+        (Some(next), Some(actions)) => Some(WrittenEntry::Act { next, actions }),
+        _ => None,
+    }
+}
+
+/// The texts of the array at the key, which are eight at most.
+#[tactic(auto, using(crate::proofs::Overriding::counts))]
+fn texts_at<'a>(value: &'a Value, key: &str) -> Option<&'a [Value]>
+    ensures texts { option_map (λ vs. items_view vs.now) result ≡ option_and_then few_texts (option_and_then as_array (get key.now (view value.now))) }
+    ensures few { IfSome result (λ vs. length vs.now ≤ 8) }
+{
+    let texts = value.get(key)?.as_array()?.as_slice();
+    if texts.len() > 8 || !are_texts(texts) {
         return None;
     }
-    Some(WrittenEntry::Act { next, actions })
+    Some(texts)
 }
 
 /// Whether each value is a text.

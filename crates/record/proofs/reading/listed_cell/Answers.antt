@@ -7,7 +7,7 @@ pub returns-then-is_baseline : goal.returns-then-is_baseline
 returns-then-is_baseline c = λ other listed spelled.
     let same = sym c.in_ok-cell.ensures.cell ∙ spelled in
     let no = differs c.args.from c.in_ok-cell.cell other same listed in
-    cc (no, c.is_baseline.ensures, c.if-is_baseline.true)
+    cc (no, c.is_baseline.ensures.same, c.if-is_baseline.true)
 
 pub returns-then-spot_number-from : goal.returns-then-spot_number-from
 returns-then-spot_number-from c = λ other listed spelled.

@@ -86,3 +86,21 @@ returns-in_err-read_end-clause-back g c r h is =
 
 pub returns-clause-back : goal.returns-clause-back
 returns-clause-back g c r h is = read-back _ _ r c.of.result h (returns-clause-recordable g c) is (returns-clause-text g c)
+
+pub returns-in_err-read_header-clause-device : goal.returns-in_err-read_header-clause-device
+returns-in_err-read_header-clause-device g c = handed-on c.from_residual.result _ _ _ c.from_residual.ensures.1 c.in_err-read_header.ensures.device
+
+pub returns-in_err-shape-clause-device : goal.returns-in_err-shape-clause-device
+returns-in_err-shape-clause-device g c = handed-on c.from_residual-in_err-shape.result _ _ _ c.from_residual-in_err-shape.ensures.1 c.in_err-shape.ensures.device
+
+pub returns-in_err-opening-clause-device : goal.returns-in_err-opening-clause-device
+returns-in_err-opening-clause-device g c = handed-on c.from_residual-in_err-opening.result _ _ _ c.from_residual-in_err-opening.ensures.1 c.in_err-opening.ensures.device
+
+pub returns-in_err-tables-clause-device : goal.returns-in_err-tables-clause-device
+returns-in_err-tables-clause-device g c = handed-on c.from_residual-in_err-tables.result _ _ _ c.from_residual-in_err-tables.ensures.1 c.in_err-tables.ensures.device
+
+pub returns-in_err-entries-clause-device : goal.returns-in_err-entries-clause-device
+returns-in_err-entries-clause-device g c = handed-on c.from_residual-in_err-entries.result _ _ _ c.from_residual-in_err-entries.ensures.1 c.in_err-entries.ensures.device
+
+pub returns-in_err-read_end-clause-device : goal.returns-in_err-read_end-clause-device
+returns-in_err-read_end-clause-device g c = handed-on c.from_residual-in_err-read_end.result _ _ _ c.from_residual-in_err-read_end.ensures.1 c.in_err-read_end.ensures.device

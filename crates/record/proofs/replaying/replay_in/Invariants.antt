@@ -1,6 +1,6 @@
 use Rattle.std.proofs.Common.{take}
-use Rattle.record.proofs.Replays.{IsSoFar}
-use Rattle.record.proofs.replaying.replay.Given as goal
+use Rattle.record.specs.SoFar.{IsSoFar}
+use Rattle.record.proofs.replaying.replay_in.Given as goal
 
 abbrev pub invariant-loop-number : goal.invariant-loop-number
 invariant-loop-number l = IsSoFar l.recording (take l.number l.told) l.world l.watch l.entries.items l.violation
