@@ -2,6 +2,7 @@ use Rattle.std.proofs.Common.{arith}
 use Rattle.std.proofs.lemmas.Grind.{common_steps}
 use Rattle.scenario.proofs.Children.{children}
 use Rattle.scenario.proofs.Fronts.{fronts}
+use Rattle.scenario.specs.declared.tree.Scenario.TheFolds.{the_lemmas}
 use Rattle.scenario.proofs.looking.+offering.Goals as goal
 
 pub offers_in_turn-returns-in_err-offers_of_tree-clause-ok : goal.offers_in_turn-returns-in_err-offers_of_tree-clause-ok
@@ -81,3 +82,36 @@ offers_of_tree-returns-in-Any-clause-ok g t c = grind (arith, common_steps, chil
 
 pub offers_of_tree-returns-in-Any-clause-front : goal.offers_of_tree-returns-in-Any-clause-front
 offers_of_tree-returns-in-Any-clause-front g t c = grind (arith, common_steps, children, fronts)
+
+pub offers_in_turn-loop-child-init : goal.offers_in_turn-loop-child-init
+offers_in_turn-loop-child-init g t c = grind (arith, common_steps)
+
+pub offers_in_turn-offset_bounds-children-child-index : goal.offers_in_turn-offset_bounds-children-child-index
+offers_in_turn-offset_bounds-children-child-index g t c = grind (arith, common_steps)
+
+pub offers_in_turn-loop-child-smaller : goal.offers_in_turn-loop-child-smaller
+offers_in_turn-loop-child-smaller g t c = grind (arith, common_steps)
+
+pub offers_of_all-loop-child-init : goal.offers_of_all-loop-child-init
+offers_of_all-loop-child-init g t c = grind (arith, common_steps)
+
+pub offers_of_all-offset_bounds-children-child-index : goal.offers_of_all-offset_bounds-children-child-index
+offers_of_all-offset_bounds-children-child-index g t c = grind (arith, common_steps)
+
+pub offers_of_all-loop-child-smaller : goal.offers_of_all-loop-child-smaller
+offers_of_all-loop-child-smaller g t c = grind (arith, common_steps)
+
+pub offers_in_turn-offers_of_tree-requires : goal.offers_in_turn-offers_of_tree-requires
+offers_in_turn-offers_of_tree-requires g t c = grind (the_lemmas, arith, common_steps)
+
+pub offers_of_all-offers_of_tree-requires : goal.offers_of_all-offers_of_tree-requires
+offers_of_all-offers_of_tree-requires g t c = grind (the_lemmas, arith, common_steps)
+
+pub offers_of_tree-offers_in_turn-requires : goal.offers_of_tree-offers_in_turn-requires
+offers_of_tree-offers_in_turn-requires g t c = grind (the_lemmas, arith, common_steps)
+
+pub offers_of_tree-offers_of_tree-requires : goal.offers_of_tree-offers_of_tree-requires
+offers_of_tree-offers_of_tree-requires g t c = grind (the_lemmas, arith, common_steps)
+
+pub offers_of_tree-offers_of_all-requires : goal.offers_of_tree-offers_of_all-requires
+offers_of_tree-offers_of_all-requires g t c = grind (the_lemmas, arith, common_steps)

@@ -1,6 +1,7 @@
 use Rattle.std.proofs.Common.{arith}
 use Rattle.std.proofs.lemmas.Grind.{common_steps}
 use Rattle.scenario.proofs.Children.{children}
+use Rattle.scenario.specs.declared.tree.Scenario.TheFolds.{the_lemmas}
 use Rattle.scenario.proofs.taking.+skipping.Goals as goal
 
 pub skip-returns-then-turns-eq0 : goal.skip-returns-then-turns-eq0
@@ -38,3 +39,36 @@ skip_in_turn-loop-child-preserved g t c = grind (arith, common_steps, children)
 
 pub skip_in_turn-returns : goal.skip_in_turn-returns
 skip_in_turn-returns g t c = grind (arith, common_steps, children)
+
+pub skip_all-loop-child-init : goal.skip_all-loop-child-init
+skip_all-loop-child-init g t c = grind (arith, common_steps)
+
+pub skip_all-offset_bounds-children-child-index : goal.skip_all-offset_bounds-children-child-index
+skip_all-offset_bounds-children-child-index g t c = grind (arith, common_steps)
+
+pub skip_all-loop-child-smaller : goal.skip_all-loop-child-smaller
+skip_all-loop-child-smaller g t c = grind (arith, common_steps)
+
+pub skip_in_turn-loop-child-init : goal.skip_in_turn-loop-child-init
+skip_in_turn-loop-child-init g t c = grind (arith, common_steps)
+
+pub skip_in_turn-offset_bounds-children-child-index : goal.skip_in_turn-offset_bounds-children-child-index
+skip_in_turn-offset_bounds-children-child-index g t c = grind (arith, common_steps)
+
+pub skip_in_turn-loop-child-smaller : goal.skip_in_turn-loop-child-smaller
+skip_in_turn-loop-child-smaller g t c = grind (arith, common_steps)
+
+pub skip-skip_in_turn-requires : goal.skip-skip_in_turn-requires
+skip-skip_in_turn-requires g t c = grind (the_lemmas, arith, common_steps)
+
+pub skip-skip-requires : goal.skip-skip-requires
+skip-skip-requires g t c = grind (the_lemmas, arith, common_steps)
+
+pub skip-skip_all-requires : goal.skip-skip_all-requires
+skip-skip_all-requires g t c = grind (the_lemmas, arith, common_steps)
+
+pub skip_all-skip-requires : goal.skip_all-skip-requires
+skip_all-skip-requires g t c = grind (the_lemmas, arith, common_steps)
+
+pub skip_in_turn-skip-requires : goal.skip_in_turn-skip-requires
+skip_in_turn-skip-requires g t c = grind (the_lemmas, arith, common_steps)
