@@ -176,7 +176,7 @@ fn take_from_turn<A: Allocator + Clone>(
     ensures ok { IfOk result (λ turn. LeavesTurn (plain child.old) at turn) }
     ensures child { plain child.new ≡ plain child.old }
 {
-    let mut turn = copy_one(child, alloc.clone()?)?;
+    let mut turn = copy_one(child, &alloc)?;
     let taken = take_one(child, alloc, at)?;
     mem::swap(child, &mut turn);
     match taken {
