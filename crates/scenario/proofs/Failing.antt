@@ -9,3 +9,7 @@ if_ok-failed (Err x) P e = tt
 pub on_err-always : {T E : Type 0} (r : Result T E) (P : Type 0) → P → OnErr r P
 on_err-always (Ok x) P p = tt
 on_err-always (Err e) P p = p
+
+pub on_err-map : {T E : Type 0} (r : Result T E) (P Q : Type 0) → (P → Q) → OnErr r P → OnErr r Q
+on_err-map (Ok x) P Q f h = tt
+on_err-map (Err e) P Q f h = f h

@@ -1,6 +1,6 @@
 //! Parts of scenarios, made in the memory of an allocator that is lent.
 
-ghost use Rattle.std.specs.Prelude.{◌≡◌, [], IfOk};
+ghost use Rattle.std.specs.Prelude.{◌≡◌, ◌≤◌, [], vec_capacity, IfOk};
 ghost use Rattle.scenario.specs.Tree as tree;
 ghost use Rattle.scenario.specs.Tree.{plain};
 
@@ -12,7 +12,8 @@ pub(crate) fn children_in<A: Allocator + Clone>(
     alloc: &A,
     room: usize,
 ) -> Result<Vec<Scenario<A>, A>, AllocError>
-    ensures { IfOk result (λ children. children.items ≡ []) }
+    ensures items { IfOk result (λ children. children.items ≡ []) }
+    ensures room { IfOk result (λ children. room ≤ vec_capacity children) }
 {
     Vec::with_capacity(alloc.clone()?, room)
 }
