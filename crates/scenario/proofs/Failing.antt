@@ -1,5 +1,5 @@
 -- What is said of the value of a call says nothing where the call failed.
-use Rattle.std.proofs.Common.{◌≡◌, Bool, true, Result, Ok, Err, IfOk, OnErr}
+use Rattle.std.proofs.Common.{◌≡◌, true, Result, Ok, Err, IfOk, OnErr}
 use Rattle.std.specs.Result.{is_err}
 
 pub if_ok-failed : {T E : Type 0} (r : Result T E) (P : T → Type 0) → is_err r ≡ true → IfOk r P

@@ -204,6 +204,12 @@ HereAmong ss i j k s = (k < length (offers (plain s)))
     × (rest_of_one (plain_all ss) i ≡ rest (plain s) k)
     × (rest_of_all (plain_all ss) i ≡ trees_of (slice_set (map plain ss) j (rest (plain s) k)))
 
+pub within_turn : {A : Type 0} (ss : List (Scenario A)) (at j k : ℕ) (s : Scenario A) → slice_get ss j ≡ Some s → IsPlaceInTurn ss at j k → k < length (offers (plain s))
+within_turn ss at j k s e place = let here = subst (λ (o : Option _). IfSome o (λ u. HereInTurn ss at j k u)) e place in here.0
+
+pub within_child : {A : Type 0} (ss : List (Scenario A)) (at j k : ℕ) (s : Scenario A) → slice_get ss j ≡ Some s → IsPlaceAmong ss at j k → k < length (offers (plain s))
+within_child ss at j k s e place = let here = subst (λ (o : Option _). IfSome o (λ u. HereAmong ss at j k u)) e place in here.0
+
 pub leaves_in_turn : {A : Type 0} (ss new : List (Scenario A)) (at j k : ℕ) (s t : Scenario A) (ask : CoreAsk) → slice_get ss j ≡ Some s → IsPlaceInTurn ss at j k
     → Leaves (plain s) k (Some ask) (plain t) → new ≡ drop j (slice_set ss j t) → LeavesInTurn (plain_all ss) at ask (plain_all new)
 leaves_in_turn ss new at j k s t ask e place takes n =

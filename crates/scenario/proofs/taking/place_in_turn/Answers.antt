@@ -18,3 +18,21 @@ loop-i-preserved g c =
     let end = goes_on c.args.children.now c.loop-i.i c.loop-i.rest c.in-Some.behind c.index-children-i.result at behind (still _ _ _ _ i.0 c.requires) in
     let more = passed_in_turn c.args.children.now c.args.at c.loop-i.i c.loop-i.rest c.in-Some.behind c.index-children-i.result at behind end i.1 i.2 in
     (grind (arith, common_steps), more.0, more.1)
+
+pub loop-i-init : goal.loop-i-init
+loop-i-init g c = grind (arith, common_steps)
+
+pub offset_bounds-children-i : goal.offset_bounds-children-i
+offset_bounds-children-i g c = grind (arith, common_steps)
+
+pub bounds-children-i : goal.bounds-children-i
+bounds-children-i g c = grind (arith, common_steps)
+
+pub returns-in-None-clause-within : goal.returns-in-None-clause-within
+returns-in-None-clause-within g c = grind (arith, common_steps)
+
+pub unreachable-requires : goal.unreachable-requires
+unreachable-requires g c = grind (arith, common_steps)
+
+pub unreachable-unreachable : goal.unreachable-unreachable
+unreachable-unreachable g c = grind (arith, common_steps)
