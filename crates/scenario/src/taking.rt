@@ -144,7 +144,8 @@ fn take_among<A: Allocator + Clone>(
     ensures err { OnErr result (plain_all children.new.items ≡ plain_all children.old.items) }
 {
     let offer = place_among(children.as_slice(), at);
-    take_one(&mut children[offer.child], alloc, offer.at)
+    let child = &mut children[offer.child];
+    take_one(child, alloc, offer.at)
 }
 
 /// What is left of a turn of the child, which itself stays as it is.

@@ -28,7 +28,7 @@ take_in_turn-returns-clause-ok g t c =
 pub take_among-returns-clause-ok : goal.take_among-returns-clause-ok
 take_among-returns-clause-ok g t c =
     let offer = c.place_among-offer.result in
-    let child = c.index_mut.result.now in
+    let child = c.index_mut-child.result.now in
     let at : slice_get c.args.children.now.items offer.child ≡ Some child = slice_get-get_or c.args.children.now.items offer.child child (search rules) ∙ ap Some (search rules) in
     let place = subst (λ ss. IsPlaceAmong ss c.args.at offer.child offer.at) c.as_slice.ensures.value c.place_among-offer.ensures.place in
     IfOk-weaker c.take_one.result _ _ (λ ask. leaves_among c.args.children.now.items c.args.at offer.child offer.at child c.take_one.new.tree ask at place) c.take_one.ensures.ok
@@ -36,7 +36,7 @@ take_among-returns-clause-ok g t c =
 pub take_among-returns-clause-err : goal.take_among-returns-clause-err
 take_among-returns-clause-err g t c =
     let offer = c.place_among-offer.result in
-    let child = c.index_mut.result.now in
+    let child = c.index_mut-child.result.now in
     let at : slice_get c.args.children.now.items offer.child ≡ Some child = slice_get-get_or c.args.children.now.items offer.child child (search rules) ∙ ap Some (search rules) in
     on_err-map c.take_one.result _ _ (same_child c.args.children.now.items offer.child child c.take_one.new.tree at) c.take_one.ensures.err
 
@@ -72,7 +72,7 @@ take_among-place_among-offer-requires g t c = grind (arith, common_steps)
 pub take_among-take_one-requires : goal.take_among-take_one-requires
 take_among-take_one-requires g t c κs within =
     let offer = c.place_among-offer.result in
-    let child = c.index_mut.result.now in
+    let child = c.index_mut-child.result.now in
     let at : slice_get c.args.children.now.items offer.child ≡ Some child = slice_get-get_or c.args.children.now.items offer.child child (search rules) ∙ ap Some (search rules) in
     let place = subst (λ ss. IsPlaceAmong ss c.args.at offer.child offer.at) c.as_slice.ensures.value c.place_among-offer.ensures.place in
     (search (rules, the_lemmas), (search rules, within_child c.args.children.now.items c.args.at offer.child offer.at child at place))
