@@ -6,7 +6,7 @@ use Rattle.scenario.specs.Tree.{plain}
 use Rattle.scenario.specs.Rests.{IsPlaceInTurn, IsPlaceAmong}
 use Rattle.scenario.specs.declared.tree.Scenario.TheFolds.{the_lemmas}
 use Rattle.scenario.proofs.Children.{children}
-use Rattle.scenario.proofs.Failing.{on_err-always, on_err-map}
+use Rattle.scenario.proofs.Failing.{if_ok-failed, on_err-always, on_err-map}
 use Rattle.scenario.proofs.Places.{same_child, within_turn, within_child, leaves_in_turn, leaves_among, leaves_of_any}
 use Rattle.scenario.proofs.taking.+taking.Goals as goal
 
@@ -84,7 +84,7 @@ pub take_from_any-returns-clause-err : goal.take_from_any-returns-clause-err
 take_from_any-returns-clause-err g t c = grind (arith, common_steps, children)
 
 pub take_from_any-returns-in_err-ask-clause-ok : goal.take_from_any-returns-in_err-ask-clause-ok
-take_from_any-returns-in_err-ask-clause-ok g t c = grind (arith, common_steps, children)
+take_from_any-returns-in_err-ask-clause-ok g t c = if_ok-failed _ _ c.from_residual.ensures.0
 
 pub take_from_any-swap_remove-requires : goal.take_from_any-swap_remove-requires
 take_from_any-swap_remove-requires g t c = grind (arith, common_steps)
@@ -107,13 +107,13 @@ pub take_from_turn-returns-in_err-ask-clause-child : goal.take_from_turn-returns
 take_from_turn-returns-in_err-ask-clause-child g t c = grind (arith, common_steps, children)
 
 pub take_from_turn-returns-in_err-ask-clause-ok : goal.take_from_turn-returns-in_err-ask-clause-ok
-take_from_turn-returns-in_err-ask-clause-ok g t c = grind (arith, common_steps, children)
+take_from_turn-returns-in_err-ask-clause-ok g t c = if_ok-failed _ _ c.from_residual-in_err-ask.ensures.0
 
 pub take_from_turn-returns-in_err-turn-clause-child : goal.take_from_turn-returns-in_err-turn-clause-child
 take_from_turn-returns-in_err-turn-clause-child g t c = grind (arith, common_steps, children)
 
 pub take_from_turn-returns-in_err-turn-clause-ok : goal.take_from_turn-returns-in_err-turn-clause-ok
-take_from_turn-returns-in_err-turn-clause-ok g t c = grind (arith, common_steps, children)
+take_from_turn-returns-in_err-turn-clause-ok g t c = if_ok-failed _ _ c.from_residual.ensures.0
 
 pub take_from_turn-take_one-requires : goal.take_from_turn-take_one-requires
 take_from_turn-take_one-requires g t c κs within = (search (rules, the_lemmas), grind (arith, common_steps))
@@ -128,7 +128,7 @@ pub take_in_turn-returns-clause-err : goal.take_in_turn-returns-clause-err
 take_in_turn-returns-clause-err g t c = grind (arith, common_steps, children)
 
 pub take_in_turn-returns-in_err-ask-clause-ok : goal.take_in_turn-returns-in_err-ask-clause-ok
-take_in_turn-returns-in_err-ask-clause-ok g t c = grind (arith, common_steps, children)
+take_in_turn-returns-in_err-ask-clause-ok g t c = if_ok-failed _ _ c.from_residual.ensures.0
 
 pub take_in_turn-take_one-requires : goal.take_in_turn-take_one-requires
 take_in_turn-take_one-requires g t c κs within =
@@ -175,25 +175,25 @@ pub take_one-returns-in_err-ask-in-Any-clause-err : goal.take_one-returns-in_err
 take_one-returns-in_err-ask-in-Any-clause-err g t c = grind (arith, common_steps, children)
 
 pub take_one-returns-in_err-ask-in-Any-clause-ok : goal.take_one-returns-in_err-ask-in-Any-clause-ok
-take_one-returns-in_err-ask-in-Any-clause-ok g t c = grind (arith, common_steps, children)
+take_one-returns-in_err-ask-in-Any-clause-ok g t c = if_ok-failed _ _ c.from_residual-in_err-ask-in-Any.ensures.0
 
 pub take_one-returns-in_err-ask-in-Seq-clause-err : goal.take_one-returns-in_err-ask-in-Seq-clause-err
 take_one-returns-in_err-ask-in-Seq-clause-err g t c = grind (arith, common_steps, children)
 
 pub take_one-returns-in_err-ask-in-Seq-clause-ok : goal.take_one-returns-in_err-ask-in-Seq-clause-ok
-take_one-returns-in_err-ask-in-Seq-clause-ok g t c = grind (arith, common_steps, children)
+take_one-returns-in_err-ask-in-Seq-clause-ok g t c = if_ok-failed _ _ c.from_residual.ensures.0
 
 pub take_one-returns-in_err-ask-in-Times-clause-err : goal.take_one-returns-in_err-ask-in-Times-clause-err
 take_one-returns-in_err-ask-in-Times-clause-err g t c = grind (arith, common_steps, children)
 
 pub take_one-returns-in_err-ask-in-Times-clause-ok : goal.take_one-returns-in_err-ask-in-Times-clause-ok
-take_one-returns-in_err-ask-in-Times-clause-ok g t c = grind (arith, common_steps, children)
+take_one-returns-in_err-ask-in-Times-clause-ok g t c = if_ok-failed _ _ c.from_residual-in_err-ask-in-Times.ensures.0
 
 pub take_one-returns-in_err-parts-in-Times-clause-err : goal.take_one-returns-in_err-parts-in-Times-clause-err
 take_one-returns-in_err-parts-in-Times-clause-err g t c = grind (arith, common_steps, children)
 
 pub take_one-returns-in_err-parts-in-Times-clause-ok : goal.take_one-returns-in_err-parts-in-Times-clause-ok
-take_one-returns-in_err-parts-in-Times-clause-ok g t c = grind (arith, common_steps, children)
+take_one-returns-in_err-parts-in-Times-clause-ok g t c = if_ok-failed _ _ c.from_residual-in_err-parts-in-Times.ensures.0
 
 pub take_one-returns-in_ok-ask-in-Any-clause-err : goal.take_one-returns-in_ok-ask-in-Any-clause-err
 take_one-returns-in_ok-ask-in-Any-clause-err g t c = grind (arith, common_steps, children)
