@@ -21,10 +21,10 @@ pub copy_all-returns : goal.copy_all-returns
 copy_all-returns g t c = grind (arith, common_steps, children)
 
 pub copy_all-returns-in_err-copies : goal.copy_all-returns-in_err-copies
-copy_all-returns-in_err-copies g t c = grind (arith, common_steps, children)
+copy_all-returns-in_err-copies g t c = if_ok-failed _ _ c.from_residual.ensures.0
 
 pub copy_all-returns-in_err-copy_one : goal.copy_all-returns-in_err-copy_one
-copy_all-returns-in_err-copy_one g t c = grind (arith, common_steps, children)
+copy_all-returns-in_err-copy_one g t c = if_ok-failed _ _ c.from_residual-in_err-copy_one.ensures.0
 
 pub copy_all-returns-in_err-push : goal.copy_all-returns-in_err-push
 copy_all-returns-in_err-push g t c = if_ok-failed _ _ c.from_residual-in_err-push.ensures.0
@@ -33,19 +33,19 @@ pub copy_one-returns-in-One : goal.copy_one-returns-in-One
 copy_one-returns-in-One g t c = grind (arith, common_steps, children)
 
 pub copy_one-returns-in_err-copy_all-in-Any : goal.copy_one-returns-in_err-copy_all-in-Any
-copy_one-returns-in_err-copy_all-in-Any g t c = grind (arith, common_steps, children)
+copy_one-returns-in_err-copy_all-in-Any g t c = if_ok-failed _ _ c.from_residual-in_err-copy_all-in-Any.ensures.0
 
 pub copy_one-returns-in_err-copy_all-in-Both : goal.copy_one-returns-in_err-copy_all-in-Both
-copy_one-returns-in_err-copy_all-in-Both g t c = grind (arith, common_steps, children)
+copy_one-returns-in_err-copy_all-in-Both g t c = if_ok-failed _ _ c.from_residual-in_err-copy_all-in-Both.ensures.0
 
 pub copy_one-returns-in_err-copy_all-in-Seq : goal.copy_one-returns-in_err-copy_all-in-Seq
-copy_one-returns-in_err-copy_all-in-Seq g t c = grind (arith, common_steps, children)
+copy_one-returns-in_err-copy_all-in-Seq g t c = if_ok-failed _ _ c.from_residual.ensures.0
 
 pub copy_one-returns-in_err-copy_one-in-Times : goal.copy_one-returns-in_err-copy_one-in-Times
-copy_one-returns-in_err-copy_one-in-Times g t c = grind (arith, common_steps, children)
+copy_one-returns-in_err-copy_one-in-Times g t c = if_ok-failed _ _ c.from_residual-in_err-copy_one-in-Times.ensures.0
 
 pub copy_one-returns-in_err-times_in-in-Times : goal.copy_one-returns-in_err-times_in-in-Times
-copy_one-returns-in_err-times_in-in-Times g t c = grind (arith, common_steps, children)
+copy_one-returns-in_err-times_in-in-Times g t c = if_ok-failed _ _ c.from_residual-in_err-times_in-in-Times.ensures.0
 
 pub copy_one-returns-in_ok-copy_all-in-Any : goal.copy_one-returns-in_ok-copy_all-in-Any
 copy_one-returns-in_ok-copy_all-in-Any g t c = grind (arith, common_steps, children)

@@ -21,43 +21,43 @@ pub scenario_at-overflow_sub-left : goal.scenario_at-overflow_sub-left
 scenario_at-overflow_sub-left g t c = grind (arith, common_steps)
 
 pub scenario_at-returns-in-None : goal.scenario_at-returns-in-None
-scenario_at-returns-in-None g t c = grind (arith, common_steps, walking)
+scenario_at-returns-in-None g t c = grind (arith, walking)
 
 pub scenario_at-returns-in-Some-Any-empty : goal.scenario_at-returns-in-Some-Any-empty
 scenario_at-returns-in-Some-Any-empty g t c = grind (arith, common_steps, walking)
 
 pub scenario_at-returns-in-Some-One : goal.scenario_at-returns-in-Some-One
-scenario_at-returns-in-Some-One g t c = grind (arith, common_steps, walking)
+scenario_at-returns-in-Some-One g t c = grind (arith, walking)
 
 pub scenario_at-returns-in-Some-One-2 : goal.scenario_at-returns-in-Some-One-2
-scenario_at-returns-in-Some-One-2 g t c = grind (arith, common_steps, walking)
+scenario_at-returns-in-Some-One-2 g t c = grind (arith, walking)
 
 pub scenario_at-returns-in_err-child-in-Some-Times : goal.scenario_at-returns-in_err-child-in-Some-Times
-scenario_at-returns-in_err-child-in-Some-Times g t c = grind (arith, common_steps, walking)
+scenario_at-returns-in_err-child-in-Some-Times g t c = grind (arith, walking)
 
 pub scenario_at-returns-in_err-scenarios_at-in-Some-Any : goal.scenario_at-returns-in_err-scenarios_at-in-Some-Any
-scenario_at-returns-in_err-scenarios_at-in-Some-Any g t c = grind (arith, common_steps, walking)
+scenario_at-returns-in_err-scenarios_at-in-Some-Any g t c = grind (arith, walking)
 
 pub scenario_at-returns-in_err-scenarios_at-in-Some-Both : goal.scenario_at-returns-in_err-scenarios_at-in-Some-Both
-scenario_at-returns-in_err-scenarios_at-in-Some-Both g t c = grind (arith, common_steps, walking)
+scenario_at-returns-in_err-scenarios_at-in-Some-Both g t c = grind (arith, walking)
 
 pub scenario_at-returns-in_err-scenarios_at-in-Some-Seq : goal.scenario_at-returns-in_err-scenarios_at-in-Some-Seq
-scenario_at-returns-in_err-scenarios_at-in-Some-Seq g t c = grind (arith, common_steps, walking)
+scenario_at-returns-in_err-scenarios_at-in-Some-Seq g t c = grind (arith, walking)
 
 pub scenario_at-returns-in_err-times_in-in-Some-Times : goal.scenario_at-returns-in_err-times_in-in-Some-Times
-scenario_at-returns-in_err-times_in-in-Some-Times g t c = grind (arith, common_steps, walking)
+scenario_at-returns-in_err-times_in-in-Some-Times g t c = grind (arith, walking)
 
 pub scenario_at-returns-in_ok-scenarios_at-in-Some-Both : goal.scenario_at-returns-in_ok-scenarios_at-in-Some-Both
-scenario_at-returns-in_ok-scenarios_at-in-Some-Both g t c = grind (arith, common_steps, walking)
+scenario_at-returns-in_ok-scenarios_at-in-Some-Both g t c = grind (arith, walking)
 
 pub scenario_at-returns-in_ok-scenarios_at-in-Some-Seq : goal.scenario_at-returns-in_ok-scenarios_at-in-Some-Seq
-scenario_at-returns-in_ok-scenarios_at-in-Some-Seq g t c = grind (arith, common_steps, walking)
+scenario_at-returns-in_ok-scenarios_at-in-Some-Seq g t c = grind (arith, walking)
 
 pub scenario_at-returns-in_ok-times_in-in-Some-Times : goal.scenario_at-returns-in_ok-times_in-in-Some-Times
-scenario_at-returns-in_ok-times_in-in-Some-Times g t c = grind (arith, common_steps, walking)
+scenario_at-returns-in_ok-times_in-in-Some-Times g t c = grind (arith, walking)
 
 pub scenario_at-returns-then-left-eq0 : goal.scenario_at-returns-then-left-eq0
-scenario_at-returns-then-left-eq0 g t c = grind (arith, common_steps, walking)
+scenario_at-returns-then-left-eq0 g t c = grind (arith, walking)
 
 pub scenarios_at-loop-value-init : goal.scenarios_at-loop-value-init
 scenarios_at-loop-value-init g t c = grind (arith, common_steps)
@@ -75,10 +75,10 @@ pub scenarios_at-returns : goal.scenarios_at-returns
 scenarios_at-returns g t c = grind (arith, common_steps, walking)
 
 pub scenarios_at-returns-in_err-children : goal.scenarios_at-returns-in_err-children
-scenarios_at-returns-in_err-children g t c = grind (arith, common_steps, walking)
+scenarios_at-returns-in_err-children g t c = grind (arith, walking)
 
 pub scenarios_at-returns-in_err-push : goal.scenarios_at-returns-in_err-push
-scenarios_at-returns-in_err-push g t c = grind (arith, common_steps, walking)
+scenarios_at-returns-in_err-push g t c = grind (arith, walking)
 
 pub scenarios_at-returns-in_err-scenario_at : goal.scenarios_at-returns-in_err-scenario_at
 scenarios_at-returns-in_err-scenario_at g t c = grind (arith, common_steps, walking)

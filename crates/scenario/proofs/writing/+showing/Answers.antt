@@ -3,6 +3,7 @@ use Rattle.std.proofs.lemmas.Grind.{common_steps}
 use Rattle.scenario.proofs.Children.{children}
 use Rattle.scenario.proofs.Shown.{items_shown}
 use Rattle.scenario.specs.declared.tree.Scenario.TheFolds.{the_lemmas}
+use Rattle.scenario.proofs.Failing.{if_ok-failed}
 use Rattle.scenario.proofs.writing.+showing.Goals as goal
 
 pub value_of-returns-in-Seq : goal.value_of-returns-in-Seq
@@ -18,7 +19,7 @@ pub value_under-returns : goal.value_under-returns
 value_under-returns g t c = grind (arith, common_steps, items_shown)
 
 pub value_of-returns-in_err-value_of-in-Times : goal.value_of-returns-in_err-value_of-in-Times
-value_of-returns-in_err-value_of-in-Times g t c = grind (arith, common_steps)
+value_of-returns-in_err-value_of-in-Times g t c = if_ok-failed _ _ c.from_residual.ensures.0
 
 pub value_of-returns-in-One : goal.value_of-returns-in-One
 value_of-returns-in-One g t c = grind (arith, common_steps)
@@ -27,7 +28,7 @@ pub value_of-returns-in_ok-value_of-in-Times : goal.value_of-returns-in_ok-value
 value_of-returns-in_ok-value_of-in-Times g t c = grind (arith, common_steps)
 
 pub value_under-returns-in_err-values : goal.value_under-returns-in_err-values
-value_under-returns-in_err-values g t c = grind (arith, common_steps)
+value_under-returns-in_err-values g t c = if_ok-failed _ _ c.from_residual.ensures.0
 
 pub value_under-loop-child-init : goal.value_under-loop-child-init
 value_under-loop-child-init g t c = grind (arith, common_steps)
@@ -39,10 +40,10 @@ pub value_under-bounds-children-child-index : goal.value_under-bounds-children-c
 value_under-bounds-children-child-index g t c = grind (arith, common_steps)
 
 pub value_under-returns-in_err-value_of : goal.value_under-returns-in_err-value_of
-value_under-returns-in_err-value_of g t c = grind (arith, common_steps)
+value_under-returns-in_err-value_of g t c = if_ok-failed _ _ c.from_residual-in_err-value_of.ensures.0
 
 pub value_under-returns-in_err-push : goal.value_under-returns-in_err-push
-value_under-returns-in_err-push g t c = grind (arith, common_steps)
+value_under-returns-in_err-push g t c = if_ok-failed _ _ c.from_residual-in_err-push.ensures.0
 
 pub value_under-loop-child-smaller : goal.value_under-loop-child-smaller
 value_under-loop-child-smaller g t c = grind (arith, common_steps)
