@@ -252,5 +252,6 @@ goes_on ss i rest' r s e some h =
     by_case : (b : Bool) (os more : List CoreAsk) (k : ℕ) → length os ≤ k → k < length (os ++ cond b more []) → b ≡ true
     by_case true os more k low high = refl
     by_case false os more k low high = absurd (omega (arith, length-append os [], low, high))
+
     by_end : (t : Tree) (ts : Trees) (k : ℕ) → length (offers t) ≤ k → k < length (offers_in_turn (Cons t ts)) → ends t ≡ true
     by_end t ts k low high = by_case (ends t) (offers t) (offers_in_turn ts) k low high
