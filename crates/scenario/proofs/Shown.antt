@@ -13,7 +13,8 @@ shown_items [] = refl
 shown_items (s ∷ children) = ap (item (shown (plain s))) (shown_items children)
 
 -- values that are those of the children, one by one, are as items those of the row
-pub items_shown : {A : Type 0} (values : List Value) (children : List (Scenario A)) → map view values ≡ map (λ s. shown (plain s)) children → items_view values ≡ shown_all (plain_all children)
+pub items_shown : {A : Type 0} (values : List Value) (children : List (Scenario A)) → map view values ≡ map (λ s. shown (plain s)) children
+    → items_view values ≡ shown_all (plain_all children)
 items_shown values children e = ap items_of e ∙ sym (shown_items children)
 
 pub ruleset arrays = (view-Array, view-Object)

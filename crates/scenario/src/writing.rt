@@ -121,7 +121,8 @@ fn word_value(heap: Global, ask: CoreAsk, word: &str) -> Result<Value, AllocErro
 }
 
 fn store_value(heap: Global, ask: CoreAsk, value: u64) -> Result<Value, AllocError>
-    ensures { IfOk result (λ v. view v ≡ with_place ask (member (codes "op") (string (codes "store")) (member (codes "value") (shown_number value) no_members))) }
+    ensures { IfOk result (λ v. view v ≡
+        with_place ask (member (codes "op") (string (codes "store")) (member (codes "value") (shown_number value) no_members))) }
 {
     json!(in heap; {"block": ask.block.0, "core": ask.core.0, "op": "store", "value": value})
 }

@@ -14,46 +14,53 @@ pub take_in_turn-returns-in_err-ask-clause-err : goal.take_in_turn-returns-in_er
 take_in_turn-returns-in_err-ask-clause-err g t c =
     let offer = c.place_in_turn-offer.result in
     let child = c.index_mut.result.now in
-    let at : slice_get c.args.children.now.items offer.child ≡ Some child = slice_get-get_or c.args.children.now.items offer.child child (search rules) ∙ ap Some (search rules) in
-    on_err-always c.from_residual.result _ (same_child c.args.children.now.items offer.child child c.take_one.new.tree at c.in_err-ask.ensures.err)
+    let ss = c.args.children.now.items in
+    let at : slice_get ss offer.child ≡ Some child = slice_get-get_or ss offer.child child (search rules) ∙ ap Some (search rules) in
+    on_err-always c.from_residual.result _ (same_child ss offer.child child c.take_one.new.tree at c.in_err-ask.ensures.err)
 
 pub take_in_turn-returns-clause-ok : goal.take_in_turn-returns-clause-ok
 take_in_turn-returns-clause-ok g t c =
     let offer = c.place_in_turn-offer.result in
     let child = c.index_mut.result.now in
-    let at : slice_get c.args.children.now.items offer.child ≡ Some child = slice_get-get_or c.args.children.now.items offer.child child (search rules) ∙ ap Some (search rules) in
-    let place = subst (λ ss. IsPlaceInTurn ss c.args.at offer.child offer.at) c.as_slice.ensures.value c.place_in_turn-offer.ensures.place in
-    leaves_in_turn c.args.children.now.items c.drop_front.new.items.items c.args.at offer.child offer.at child c.take_one.new.tree c.in_ok-ask.ask at place c.in_ok-ask.ensures.ok c.drop_front.ensures
+    let ss = c.args.children.now.items in
+    let at : slice_get ss offer.child ≡ Some child = slice_get-get_or ss offer.child child (search rules) ∙ ap Some (search rules) in
+    let place = subst (λ us. IsPlaceInTurn us c.args.at offer.child offer.at) c.as_slice.ensures.value c.place_in_turn-offer.ensures.place in
+    let new = c.drop_front.new.items.items in
+    leaves_in_turn ss new c.args.at offer.child offer.at child c.take_one.new.tree c.in_ok-ask.ask at place c.in_ok-ask.ensures.ok c.drop_front.ensures
 
 pub take_among-returns-clause-ok : goal.take_among-returns-clause-ok
 take_among-returns-clause-ok g t c =
     let offer = c.place_among-offer.result in
     let child = c.index_mut-child.result.now in
-    let at : slice_get c.args.children.now.items offer.child ≡ Some child = slice_get-get_or c.args.children.now.items offer.child child (search rules) ∙ ap Some (search rules) in
-    let place = subst (λ ss. IsPlaceAmong ss c.args.at offer.child offer.at) c.as_slice.ensures.value c.place_among-offer.ensures.place in
-    IfOk-weaker c.take_one.result _ _ (λ ask. leaves_among c.args.children.now.items c.args.at offer.child offer.at child c.take_one.new.tree ask at place) c.take_one.ensures.ok
+    let ss = c.args.children.now.items in
+    let at : slice_get ss offer.child ≡ Some child = slice_get-get_or ss offer.child child (search rules) ∙ ap Some (search rules) in
+    let place = subst (λ us. IsPlaceAmong us c.args.at offer.child offer.at) c.as_slice.ensures.value c.place_among-offer.ensures.place in
+    IfOk-weaker c.take_one.result _ _ (λ ask. leaves_among ss c.args.at offer.child offer.at child c.take_one.new.tree ask at place) c.take_one.ensures.ok
 
 pub take_among-returns-clause-err : goal.take_among-returns-clause-err
 take_among-returns-clause-err g t c =
     let offer = c.place_among-offer.result in
     let child = c.index_mut-child.result.now in
-    let at : slice_get c.args.children.now.items offer.child ≡ Some child = slice_get-get_or c.args.children.now.items offer.child child (search rules) ∙ ap Some (search rules) in
-    on_err-map c.take_one.result _ _ (same_child c.args.children.now.items offer.child child c.take_one.new.tree at) c.take_one.ensures.err
+    let ss = c.args.children.now.items in
+    let at : slice_get ss offer.child ≡ Some child = slice_get-get_or ss offer.child child (search rules) ∙ ap Some (search rules) in
+    on_err-map c.take_one.result _ _ (same_child ss offer.child child c.take_one.new.tree at) c.take_one.ensures.err
 
 pub take_from_any-returns-in_err-ask-clause-err : goal.take_from_any-returns-in_err-ask-clause-err
 take_from_any-returns-in_err-ask-clause-err g t c =
     let offer = c.place_among-offer.result in
     let child = c.index_mut.result.now in
-    let at : slice_get c.args.children.now.items offer.child ≡ Some child = slice_get-get_or c.args.children.now.items offer.child child (search rules) ∙ ap Some (search rules) in
-    on_err-always c.from_residual.result _ (same_child c.args.children.now.items offer.child child c.take_one.new.tree at c.in_err-ask.ensures.err)
+    let ss = c.args.children.now.items in
+    let at : slice_get ss offer.child ≡ Some child = slice_get-get_or ss offer.child child (search rules) ∙ ap Some (search rules) in
+    on_err-always c.from_residual.result _ (same_child ss offer.child child c.take_one.new.tree at c.in_err-ask.ensures.err)
 
 pub take_from_any-returns-clause-ok : goal.take_from_any-returns-clause-ok
 take_from_any-returns-clause-ok g t c =
     let offer = c.place_among-offer.result in
     let child = c.index_mut.result.now in
-    let at : slice_get c.args.children.now.items offer.child ≡ Some child = slice_get-get_or c.args.children.now.items offer.child child (search rules) ∙ ap Some (search rules) in
-    let place = subst (λ ss. IsPlaceAmong ss c.args.at offer.child offer.at) c.as_slice.ensures.value c.place_among-offer.ensures.place in
-    let taken = leaves_of_any c.args.children.now.items c.args.at offer.child offer.at child c.take_one.new.tree c.in_ok-ask.ask at place c.in_ok-ask.ensures.ok in
+    let ss = c.args.children.now.items in
+    let at : slice_get ss offer.child ≡ Some child = slice_get-get_or ss offer.child child (search rules) ∙ ap Some (search rules) in
+    let place = subst (λ us. IsPlaceAmong us c.args.at offer.child offer.at) c.as_slice.ensures.value c.place_among-offer.ensures.place in
+    let taken = leaves_of_any ss c.args.at offer.child offer.at child c.take_one.new.tree c.in_ok-ask.ask at place c.in_ok-ask.ensures.ok in
     let gone : plain c.swap_remove.result ≡ plain c.take_one.new.tree = search rules in
     (taken.0, gone ∙ taken.1)
 
@@ -73,9 +80,10 @@ pub take_among-take_one-requires : goal.take_among-take_one-requires
 take_among-take_one-requires g t c κs within =
     let offer = c.place_among-offer.result in
     let child = c.index_mut-child.result.now in
-    let at : slice_get c.args.children.now.items offer.child ≡ Some child = slice_get-get_or c.args.children.now.items offer.child child (search rules) ∙ ap Some (search rules) in
-    let place = subst (λ ss. IsPlaceAmong ss c.args.at offer.child offer.at) c.as_slice.ensures.value c.place_among-offer.ensures.place in
-    (search (rules, the_lemmas), (search rules, within_child c.args.children.now.items c.args.at offer.child offer.at child at place))
+    let ss = c.args.children.now.items in
+    let at : slice_get ss offer.child ≡ Some child = slice_get-get_or ss offer.child child (search rules) ∙ ap Some (search rules) in
+    let place = subst (λ us. IsPlaceAmong us c.args.at offer.child offer.at) c.as_slice.ensures.value c.place_among-offer.ensures.place in
+    (search (rules, the_lemmas), (search rules, within_child ss c.args.at offer.child offer.at child at place))
 
 pub take_from_any-place_among-offer-requires : goal.take_from_any-place_among-offer-requires
 take_from_any-place_among-offer-requires g t c = grind (arith, common_steps)
@@ -93,9 +101,10 @@ pub take_from_any-take_one-requires : goal.take_from_any-take_one-requires
 take_from_any-take_one-requires g t c κs within =
     let offer = c.place_among-offer.result in
     let child = c.index_mut.result.now in
-    let at : slice_get c.args.children.now.items offer.child ≡ Some child = slice_get-get_or c.args.children.now.items offer.child child (search rules) ∙ ap Some (search rules) in
-    let place = subst (λ ss. IsPlaceAmong ss c.args.at offer.child offer.at) c.as_slice.ensures.value c.place_among-offer.ensures.place in
-    (search (rules, the_lemmas), (search rules, within_child c.args.children.now.items c.args.at offer.child offer.at child at place))
+    let ss = c.args.children.now.items in
+    let at : slice_get ss offer.child ≡ Some child = slice_get-get_or ss offer.child child (search rules) ∙ ap Some (search rules) in
+    let place = subst (λ us. IsPlaceAmong us c.args.at offer.child offer.at) c.as_slice.ensures.value c.place_among-offer.ensures.place in
+    (search (rules, the_lemmas), (search rules, within_child ss c.args.at offer.child offer.at child at place))
 
 pub take_from_turn-returns-clause-child : goal.take_from_turn-returns-clause-child
 take_from_turn-returns-clause-child g t c = grind (arith, common_steps, children)
@@ -134,9 +143,10 @@ pub take_in_turn-take_one-requires : goal.take_in_turn-take_one-requires
 take_in_turn-take_one-requires g t c κs within =
     let offer = c.place_in_turn-offer.result in
     let child = c.index_mut.result.now in
-    let at : slice_get c.args.children.now.items offer.child ≡ Some child = slice_get-get_or c.args.children.now.items offer.child child (search rules) ∙ ap Some (search rules) in
-    let place = subst (λ ss. IsPlaceInTurn ss c.args.at offer.child offer.at) c.as_slice.ensures.value c.place_in_turn-offer.ensures.place in
-    (search (rules, the_lemmas), (search rules, within_turn c.args.children.now.items c.args.at offer.child offer.at child at place))
+    let ss = c.args.children.now.items in
+    let at : slice_get ss offer.child ≡ Some child = slice_get-get_or ss offer.child child (search rules) ∙ ap Some (search rules) in
+    let place = subst (λ us. IsPlaceInTurn us c.args.at offer.child offer.at) c.as_slice.ensures.value c.place_in_turn-offer.ensures.place in
+    (search (rules, the_lemmas), (search rules, within_turn ss c.args.at offer.child offer.at child at place))
 
 pub take_one-overflow_sub-turns : goal.take_one-overflow_sub-turns
 take_one-overflow_sub-turns g t c = grind (arith, common_steps, children)
