@@ -1,11 +1,12 @@
 -- What the walk over a value that was read says of the answer.
-use Rattle.std.proofs.Common.{◌≡◌, ◌≤◌, ◌<◌, ℕ, List, None, Result, Ok, Err, refl, subst, IsErrOf}
-use Rattle.serde_json.specs.Data.{Data}
+use Rattle.std.proofs.Common.{◌≡◌, ◌≤◌, ◌<◌, ℕ, zero, suc, Bool, true, false, if◌then◌else◌, List, [], ◌∷◌, Option, Some, None, Result, Ok, Err, subst}
+use Rattle.std.specs.Prelude.{⊤}
+use Rattle.serde_json.specs.Data.{Data, no_items, item}
 use Rattle.base.specs.Extent.{Extent}
 use Rattle.scenario.specs.Tree.{Tree}
 use Rattle.scenario.specs.Form.{IsJson, shown}
 use Rattle.scenario.specs.Limits.{IsWithin, longest}
-use Rattle.scenario.specs.Refusals.{first_fault, IsRefusal}
+use Rattle.scenario.specs.Refusals.{Node, one, seq, any, times, both, node_of, fault_of, fault_at, is_in_shape, or_else, Visit, visited, first_some, first_fault, IsRefusal}
 use Rattle.scenario.specs.Walk.{tree_at, Gives}
 use Rattle.scenario.specs.declared.reading.ScenarioFault.{ScenarioFault}
 use Rattle.scenario.specs.declared.reading.ScenarioFault.TheVariants.{NotJson, BadShape, EmptyAny, TooDeep, TooLong, OutOfShape, NoMemory}
@@ -20,16 +21,52 @@ fault-of shape d r is = subst (λ r. HasFault r (first_fault shape d)) is (walk-
 pub built-of : (shape : Extent) (d : Data) (t : Tree) → Rises d → tree_at shape 48 d ≡ Ok t → IsBuilt shape 48 d (Ok t)
 built-of shape d t up is = subst (IsBuilt shape 48 d) is (tree-built shape 48 d up)
 
+-- a fault that one node may have
+abbrev IsOfNode : Option ScenarioFault → Type 0
+IsOfNode (Some NotJson) = ⊥
+IsOfNode (Some TooLong) = ⊥
+IsOfNode (Some NoMemory) = ⊥
+IsOfNode found = ⊤
+
+node-or : (a b : Option ScenarioFault) → IsOfNode a → IsOfNode b → IsOfNode (or_else a b)
+node-or None b p q = q
+node-or (Some fault) b p q = p
+
+node-ask : (b : Bool) → IsOfNode (if b then None else Some OutOfShape)
+node-ask true = tt
+node-ask false = tt
+
+node-form : (shape : Extent) (o : Option Node) → IsOfNode (elim o [ None ↦ Some BadShape | Some node ↦ fault_of shape node ])
+node-form shape None = tt
+node-form shape (Some (one ask)) = node-ask (is_in_shape shape ask)
+node-form shape (Some (seq ds)) = tt
+node-form shape (Some (any no_items)) = tt
+node-form shape (Some (any (item d ds))) = tt
+node-form shape (Some (times n d)) = tt
+node-form shape (Some (both ds)) = tt
+
+node-at : (shape : Extent) (left : ℕ) (d : Data) → IsOfNode (fault_at shape left d)
+node-at shape zero d = tt
+node-at shape (suc left) d = node-form shape (node_of d)
+
+node-first : (shape : Extent) (visits : List Visit) → IsOfNode (first_some (λ visit. fault_at shape visit.0 visit.1) visits)
+node-first shape [] = tt
+node-first shape (visit ∷ visits) = node-or (fault_at shape visit.0 visit.1) _ (node-at shape visit.0 visit.1) (node-first shape visits)
+
+node-fault : (shape : Extent) (d : Data) → IsOfNode (first_fault shape d)
+unfolding first_fault
+node-fault shape d = node-first shape (visited 48 d)
+
 -- a fault that the walk came to
 pub refused : {X : Type 0} (seen : X → Tree) (shape : Extent) (bytes : List ℕ) (d : Data) (fault : ScenarioFault) → IsJson bytes d → Gives seen (Err fault) (tree_at shape 48 d)
-    → (IsErrOf {T = X} (Err fault) NotJson → ⊥) → (IsErrOf {T = X} (Err fault) TooLong → ⊥) → IsRefusal shape bytes fault
-refused seen shape bytes d NotJson json gives a b = absurd (a refl)
-refused seen shape bytes d BadShape json gives a b = (d, json, fault-of shape d (Err BadShape) gives)
-refused seen shape bytes d EmptyAny json gives a b = (d, json, fault-of shape d (Err EmptyAny) gives)
-refused seen shape bytes d TooDeep json gives a b = (d, json, fault-of shape d (Err TooDeep) gives)
-refused seen shape bytes d TooLong json gives a b = absurd (b refl)
-refused seen shape bytes d OutOfShape json gives a b = (d, json, fault-of shape d (Err OutOfShape) gives)
-refused seen shape bytes d NoMemory json gives a b = tt
+    → IsRefusal shape bytes fault
+refused seen shape bytes d NotJson json gives = absurd (subst IsOfNode (fault-of shape d (Err NotJson) gives) (node-fault shape d))
+refused seen shape bytes d BadShape json gives = (d, json, fault-of shape d (Err BadShape) gives)
+refused seen shape bytes d EmptyAny json gives = (d, json, fault-of shape d (Err EmptyAny) gives)
+refused seen shape bytes d TooDeep json gives = (d, json, fault-of shape d (Err TooDeep) gives)
+refused seen shape bytes d TooLong json gives = absurd (subst IsOfNode (fault-of shape d (Err TooLong) gives) (node-fault shape d))
+refused seen shape bytes d OutOfShape json gives = (d, json, fault-of shape d (Err OutOfShape) gives)
+refused seen shape bytes d NoMemory json gives = tt
 
 -- the bytes say the tree
 pub says : (shape : Extent) (bytes : List ℕ) (d : Data) (t : Tree) → IsJson bytes d → tree_at shape 48 d ≡ Ok t → IsJson bytes (shown t)

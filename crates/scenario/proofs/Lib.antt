@@ -4,6 +4,7 @@ pub mod Built
 pub mod Children
 pub mod Depths
 pub mod Distinct
+pub mod Failing
 pub mod Flat
 pub mod Fronts
 pub mod Inverses

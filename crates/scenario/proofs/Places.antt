@@ -1,9 +1,9 @@
 -- Where an offer of several children is.
-use Rattle.std.proofs.Common.{◌≡◌, ℕ, zero, suc, ◌+◌, ◌-◌, ◌<◌, ◌≤◌, List, [], ◌∷◌, ◌++◌, Option, Some, None, Bool, true, false, cond, nat_lt, length, drop, take, map, slice_get, slice_set, IfSome, refl, sym, ap, ◌∙◌, subst, arith, add-one}
+use Rattle.std.proofs.Common.{◌≡◌, ℕ, zero, suc, ◌+◌, ◌-◌, ◌<◌, ◌≤◌, List, [], ◌∷◌, ◌++◌, Option, Some, None, Bool, true, false, cond, nat_lt, length, drop, take, map, slice_get, slice_set, IfSome, refl, sym, ap, ◌∙◌, subst, arith, add-one, length-append}
 use Rattle.std.proofs.lemmas.Bool.Decides.{nat_tests}
 use Rattle.base.specs.declared.step.CoreAsk.{CoreAsk}
 use Rattle.scenario.specs.declared.tree.Scenario.{Scenario}
-use Rattle.scenario.specs.Tree.{Tree, Trees, Cons, Seq, Both, plain, plain_all, trees_of}
+use Rattle.scenario.specs.Tree.{Tree, Trees, Cons, Seq, Any, Both, plain, plain_all, trees_of}
 use Rattle.scenario.specs.Taking.{offers, offers_in_turn, offers_of_all, ends}
 use Rattle.scenario.specs.Rests.{rest, rest_in_turn, rest_of_one, rest_of_all, row_of, past, IsPlaceInTurn, IsPlaceAmong, Leaves, LeavesInTurn}
 
@@ -204,35 +204,54 @@ HereAmong ss i j k s = (k < length (offers (plain s)))
     × (rest_of_one (plain_all ss) i ≡ rest (plain s) k)
     × (rest_of_all (plain_all ss) i ≡ trees_of (slice_set (map plain ss) j (rest (plain s) k)))
 
-pub leaves_in_turn : {A : Type 0} (ss new : List (Scenario A)) (at j k : ℕ) (s t : Scenario A) (r : Option CoreAsk) → slice_get ss j ≡ Some s → IsPlaceInTurn ss at j k → Leaves (plain s) k r (plain t)
-    → new ≡ drop j (slice_set ss j t) → LeavesInTurn (plain_all ss) at r (plain_all new)
-leaves_in_turn ss new at j k s t None e place takes n =
-    let here = subst (λ (o : Option _). IfSome o (λ u. HereInTurn ss at j k u)) e place in
-    absurd (omega (arith, here.0, takes.0))
-leaves_in_turn ss new at j k s t (Some ask) e place takes n =
+pub within_turn : {A : Type 0} (ss : List (Scenario A)) (at j k : ℕ) (s : Scenario A) → slice_get ss j ≡ Some s → IsPlaceInTurn ss at j k → k < length (offers (plain s))
+within_turn ss at j k s e place = let here = subst (λ (o : Option _). IfSome o (λ u. HereInTurn ss at j k u)) e place in here.0
+
+pub within_child : {A : Type 0} (ss : List (Scenario A)) (at j k : ℕ) (s : Scenario A) → slice_get ss j ≡ Some s → IsPlaceAmong ss at j k → k < length (offers (plain s))
+within_child ss at j k s e place = let here = subst (λ (o : Option _). IfSome o (λ u. HereAmong ss at j k u)) e place in here.0
+
+pub leaves_in_turn : {A : Type 0} (ss new : List (Scenario A)) (at j k : ℕ) (s t : Scenario A) (ask : CoreAsk) → slice_get ss j ≡ Some s → IsPlaceInTurn ss at j k
+    → Leaves (plain s) k (Some ask) (plain t) → new ≡ drop j (slice_set ss j t) → LeavesInTurn (plain_all ss) at ask (plain_all new)
+leaves_in_turn ss new at j k s t ask e place takes n =
     let here = subst (λ (o : Option _). IfSome o (λ u. HereInTurn ss at j k u)) e place in
     let left_is : plain_all new ≡ Cons (plain t) (plain_all (drop (j + 1) ss)) = rw (n, set_here ss j s t e, add-one) refl in (
       here.1 ∙ takes.0,
       ap row_of (left_is ∙ ap (λ x. Cons x (plain_all (drop (j + 1) ss))) takes.1) ∙ sym here.2,
     )
 
-pub leaves_among : {A : Type 0} (ss : List (Scenario A)) (at j k : ℕ) (s t : Scenario A) (r : Option CoreAsk) → slice_get ss j ≡ Some s → IsPlaceAmong ss at j k → Leaves (plain s) k r (plain t)
-    → Leaves (Both (plain_all ss)) at r (Both (plain_all (slice_set ss j t)))
-leaves_among ss at j k s t None e place takes =
-    let here = subst (λ (o : Option _). IfSome o (λ u. HereAmong ss at j k u)) e place in
-    absurd (omega (arith, here.0, takes.0))
-leaves_among ss at j k s t (Some ask) e place takes =
+pub leaves_among : {A : Type 0} (ss : List (Scenario A)) (at j k : ℕ) (s t : Scenario A) (ask : CoreAsk) → slice_get ss j ≡ Some s → IsPlaceAmong ss at j k
+    → Leaves (plain s) k (Some ask) (plain t) → Leaves (Both (plain_all ss)) at (Some ask) (Both (plain_all (slice_set ss j t)))
+leaves_among ss at j k s t ask e place takes =
     let here = subst (λ (o : Option _). IfSome o (λ u. HereAmong ss at j k u)) e place in (
       here.1 ∙ takes.0,
       ap Both (ap trees_of (sym (map_set ss j t) ∙ ap (slice_set (map plain ss) j) takes.1) ∙ sym here.3),
     )
 
 pub leaves_of_any : {A : Type 0} (ss : List (Scenario A)) (at j k : ℕ) (s t : Scenario A) (ask : CoreAsk) → slice_get ss j ≡ Some s → IsPlaceAmong ss at j k → Leaves (plain s) k (Some ask) (plain t)
-    → (slice_get (offers_of_all (plain_all ss)) at ≡ Some ask) × (plain t ≡ rest_of_one (plain_all ss) at)
+    → Leaves (Any (plain_all ss)) at (Some ask) (plain t)
 leaves_of_any ss at j k s t ask e place takes =
     let here = subst (λ (o : Option _). IfSome o (λ u. HereAmong ss at j k u)) e place in (here.1 ∙ takes.0, takes.1 ∙ sym here.2)
 
--- a child offers what is at its place
-pub not_refused : {A : Type 0} (ss : List (Scenario A)) (at j k : ℕ) (s t : Scenario A) → slice_get ss j ≡ Some s → IsPlaceAmong ss at j k → Leaves (plain s) k None (plain t) → ⊥
-not_refused ss at j k s t e place takes =
-    let here = subst (λ (o : Option _). IfSome o (λ u. HereAmong ss at j k u)) e place in absurd (omega (arith, here.0, takes.0))
+-- ---- an offer that is there
+
+below_past : (n i : ℕ) → i < n → past n i ≡ None
+below_past n i h = ap (λ b. cond b None (Some (i - n))) (is_below i n h)
+
+-- an offer that is one of all is one of those behind the children that were passed
+pub still : (n m i k : ℕ) → past n i ≡ past m k → k < m → i < n
+still n m i k e h = past_none n i (e ∙ below_past m k h)
+
+-- where an offer is behind a child of a row, that child may end
+pub goes_on : {A : Type 0} (ss : List (Scenario A)) (i rest' r : ℕ) (s : Scenario A) → slice_get ss i ≡ Some s → past (length (offers (plain s))) rest' ≡ Some r
+    → rest' < length (offers_in_turn (plain_all (drop i ss))) → ends (plain s) ≡ true
+goes_on ss i rest' r s e some h =
+    let high = past_some (length (offers (plain s))) rest' r some in
+    let here = ap (λ ts. length (offers_in_turn ts)) (ap plain_all (drop_here ss i s e)) in
+    by_end (plain s) (plain_all (drop (i + 1) ss)) rest' high.0 (omega (arith, h, here))
+  where
+    by_case : (b : Bool) (os more : List CoreAsk) (k : ℕ) → length os ≤ k → k < length (os ++ cond b more []) → b ≡ true
+    by_case true os more k low high = refl
+    by_case false os more k low high = absurd (omega (arith, length-append os [], low, high))
+
+    by_end : (t : Tree) (ts : Trees) (k : ℕ) → length (offers t) ≤ k → k < length (offers_in_turn (Cons t ts)) → ends t ≡ true
+    by_end t ts k low high = by_case (ends t) (offers t) (offers_in_turn ts) k low high

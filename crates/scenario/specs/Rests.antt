@@ -37,15 +37,9 @@ abbrev pub Leaves : Tree → ℕ → Option CoreAsk → Tree → Type 0
 Leaves old i None new = (length (offers old) ≤ i) × (new ≡ old)
 Leaves old i (Some ask) new = (slice_get (offers old) i ≡ Some ask) × (new ≡ rest old i)
 
--- the same of children in turn: these children are what is left, as a row
-abbrev pub LeavesInTurn : Trees → ℕ → Option CoreAsk → Trees → Type 0
-LeavesInTurn old i None new = (length (offers_in_turn old) ≤ i) × (new ≡ old)
-LeavesInTurn old i (Some ask) new = (slice_get (offers_in_turn old) i ≡ Some ask) × (row_of new ≡ rest_in_turn old i)
-
--- the same of a turn: what is left of it stands beside the ask
-abbrev pub LeavesTurn : {A : Type 0} → Tree → ℕ → Option (CoreAsk × Scenario A) → Type 0
-LeavesTurn old i None = length (offers old) ≤ i
-LeavesTurn old i (Some turn) = Leaves old i (Some turn.0) (plain turn.1)
+-- the same of children in turn, where an offer is taken: these children are what is left, as a row
+abbrev pub LeavesInTurn : Trees → ℕ → CoreAsk → Trees → Type 0
+LeavesInTurn old i ask new = (slice_get (offers_in_turn old) i ≡ Some ask) × (row_of new ≡ rest_in_turn old i)
 
 -- where an offer is: among the first n, or so far behind them
 abbrev pub past : ℕ → ℕ → Option ℕ

@@ -3,6 +3,7 @@
 ghost use Rattle.std.specs.Prelude.{◌≡◌, map, IfOk};
 ghost use Rattle.scenario.specs.Tree.{plain};
 
+use crate::making::{children_in, times_in};
 use crate::tree::Scenario;
 use base::NoMemory;
 use std::alloc::Allocator;
@@ -12,7 +13,7 @@ impl<A: Allocator> Scenario<A> {
     pub fn copy_in<B: Allocator + Clone>(&self, alloc: B) -> Result<Scenario<B>, NoMemory>
         ensures { IfOk result (λ copy. plain copy ≡ plain self.now) }
     {
-        copy_one(self, alloc)
+        copy_one(self, &alloc)
     }
 }
 
@@ -20,7 +21,7 @@ impl<A: Allocator> Scenario<A> {
 #[tactic(auto, using(crate::proofs::Children::children))]
 pub(crate) fn copy_one<A: Allocator, B: Allocator + Clone>(
     scenario: &Scenario<A>,
-    alloc: B,
+    alloc: &B,
 ) -> Result<Scenario<B>, NoMemory>
     ensures { IfOk result (λ copy. plain copy ≡ plain scenario.now) }
 {
@@ -28,11 +29,7 @@ pub(crate) fn copy_one<A: Allocator, B: Allocator + Clone>(
         Scenario::One(ask) => Ok(Scenario::One(*ask)),
         Scenario::Seq(children) => Ok(Scenario::Seq(copy_all(children.as_slice(), alloc)?)),
         Scenario::Any(children) => Ok(Scenario::Any(copy_all(children.as_slice(), alloc)?)),
-        Scenario::Times(turns, child) => {
-            let child: &Scenario<A> = child;
-            let copy = copy_one(child, alloc.clone()?)?;
-            Ok(Scenario::Times(*turns, Box::new(alloc, copy)?))
-        }
+        Scenario::Times(turns, child) => Ok(times_in(alloc, *turns, copy_one(child, alloc)?)?),
         Scenario::Both(children) => Ok(Scenario::Both(copy_all(children.as_slice(), alloc)?)),
     }
 }
@@ -40,13 +37,13 @@ pub(crate) fn copy_one<A: Allocator, B: Allocator + Clone>(
 #[cycle(copying)]
 fn copy_all<A: Allocator, B: Allocator + Clone>(
     children: &[Scenario<A>],
-    alloc: B,
+    alloc: &B,
 ) -> Result<Vec<Scenario<B>, B>, NoMemory>
     ensures { IfOk result (λ copies. map plain copies.items ≡ map plain children.now) }
 {
-    let mut copies = Vec::with_capacity(alloc.clone()?, children.len())?;
+    let mut copies = children_in(alloc, children.len())?;
     for child in children {
-        copies.push(copy_one(child, alloc.clone()?)?)?;
+        copies.push(copy_one(child, alloc)?)?;
     }
     Ok(copies)
 }

@@ -5,6 +5,7 @@ mod copying;
 mod forms;
 mod laws;
 mod looking;
+mod making;
 mod measuring;
 mod reading;
 mod taking;

@@ -1,6 +1,6 @@
 //! Scenarios read from JSON.
 
-ghost use Rattle.std.specs.Prelude.{◌≡◌, ◌≤◌, [], map, IfOk, IfErr, IsErrOf};
+ghost use Rattle.std.specs.Prelude.{◌≡◌, ◌≤◌, [], map, IfOk, IfErr};
 ghost use Rattle.serde_json.specs.View.{view, items_view};
 ghost use Rattle.scenario.specs.Tree.{plain};
 ghost use Rattle.scenario.specs.Form.{IsJson, shown};
@@ -9,6 +9,7 @@ ghost use Rattle.scenario.specs.Refusals.{IsRefusal, is_in_shape};
 ghost use Rattle.scenario.specs.Walk.{Gives, tree_at, trees_behind};
 
 use crate::forms::{Form, form_of};
+use crate::making::{children_in, times_in};
 use crate::measuring::longest_word;
 use crate::tree::Scenario;
 use base::{CoreAsk, Shape};
@@ -91,7 +92,7 @@ impl<A: Allocator + Clone> Scenario<A> {
             Err(error) if error.is_memory() => return Err(ScenarioFault::NoMemory),
             Err(_) => return Err(ScenarioFault::NotJson),
         };
-        let scenario = scenario_at(alloc, &value, shape, DEEPEST)?;
+        let scenario = scenario_at(&alloc, &value, shape, DEEPEST)?;
         if longest_word(&scenario) > u64::from(LONGEST) {
             return Err(ScenarioFault::TooLong);
         }
@@ -103,14 +104,12 @@ impl<A: Allocator + Clone> Scenario<A> {
 #[cycle(reading)]
 #[tactic(auto, using(crate::proofs::Walking::walking))]
 fn scenario_at<A: Allocator + Clone>(
-    alloc: A,
+    alloc: &A,
     value: &Value,
     shape: Shape,
     left: u32,
 ) -> Result<Scenario<A>, ScenarioFault>
-    ensures gives { Gives plain result (tree_at shape left (view value.now)) }
-    ensures json { IsErrOf result ScenarioFault.NotJson → ⊥ }
-    ensures long { IsErrOf result ScenarioFault.TooLong → ⊥ }
+    ensures { Gives plain result (tree_at shape left (view value.now)) }
 {
     if left == 0 {
         return Err(ScenarioFault::TooDeep);
@@ -125,8 +124,8 @@ fn scenario_at<A: Allocator + Clone>(
         Some(Form::Any(values)) => Ok(Scenario::Any(scenarios_at(alloc, values, shape, left)?)),
         Some(Form::Both(values)) => Ok(Scenario::Both(scenarios_at(alloc, values, shape, left)?)),
         Some(Form::Times(turns, value)) => {
-            let child = scenario_at(alloc.clone()?, value, shape, left)?;
-            Ok(Scenario::Times(turns, Box::new(alloc, child)?))
+            let child = scenario_at(alloc, value, shape, left)?;
+            Ok(times_in(alloc, turns, child)?)
         }
     }
 }
@@ -134,18 +133,16 @@ fn scenario_at<A: Allocator + Clone>(
 #[cycle(reading)]
 #[tactic(auto, using(crate::proofs::Walking::walking))]
 fn scenarios_at<A: Allocator + Clone>(
-    alloc: A,
+    alloc: &A,
     values: &[Value],
     shape: Shape,
     left: u32,
 ) -> Result<Vec<Scenario<A>, A>, ScenarioFault>
-    ensures gives { Gives (λ v. map plain v.items) result (trees_behind (tree_at shape left) [] (items_view values.now)) }
-    ensures json { IsErrOf result ScenarioFault.NotJson → ⊥ }
-    ensures long { IsErrOf result ScenarioFault.TooLong → ⊥ }
+    ensures { Gives (λ v. map plain v.items) result (trees_behind (tree_at shape left) [] (items_view values.now)) }
 {
-    let mut children = Vec::new(alloc.clone()?);
+    let mut children = children_in(alloc, 0)?;
     for value in values {
-        children.push(scenario_at(alloc.clone()?, value, shape, left)?)?;
+        children.push(scenario_at(alloc, value, shape, left)?)?;
     }
     Ok(children)
 }

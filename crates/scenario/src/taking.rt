@@ -1,15 +1,16 @@
 //! Taking an offer: the ask goes out, and the scenario becomes what is left.
 
-ghost use Rattle.std.specs.Prelude.{◌≡◌, ◌<◌, ◌≤◌, drop, length, IfNone, IfOk, IfSome, OnErr};
+ghost use Rattle.std.specs.Prelude.{◌≡◌, ◌<◌, ◌≤◌, [], Some, drop, length, vec_capacity, IfNone, IfOk, IfSome, OnErr};
 ghost use Rattle.scenario.specs.Tree as tree;
 ghost use Rattle.scenario.specs.Tree.{plain, plain_all};
 ghost use Rattle.scenario.specs.Taking.{offers, offers_in_turn, offers_of_all};
 ghost use Rattle.scenario.specs.Alike.{Takes};
 ghost use Rattle.scenario.specs.Limits.{reach};
-ghost use Rattle.scenario.specs.Rests.{IsPlaceAmong, IsPlaceInTurn, Leaves, LeavesInTurn, LeavesTurn, past, row_of};
+ghost use Rattle.scenario.specs.Rests.{IsPlaceAmong, IsPlaceInTurn, Leaves, LeavesInTurn, past, row_of};
 
 use crate::copying::copy_one;
 use crate::looking::tree_may_end;
+use crate::making::children_in;
 use crate::tree::Scenario;
 use base::{CoreAsk, NoMemory};
 use std::alloc::Allocator;
@@ -34,8 +35,10 @@ impl<A: Allocator + Clone> Scenario<A> {
         ensures err { OnErr result (plain self.new ≡ plain self.old) }
         ensures shallow { reach (plain self.new) ≤ reach (plain self.old) }
     {
-        let taken = take_one(self, alloc, at)?;
-        Ok(taken)
+        if skip(self, at).is_some() {
+            return Ok(None);
+        }
+        Ok(Some(take_one(self, alloc, at)?))
     }
 }
 
@@ -45,50 +48,35 @@ fn take_one<A: Allocator + Clone>(
     tree: &mut Scenario<A>,
     alloc: A,
     at: usize,
-) -> Result<Option<CoreAsk>, NoMemory>
-    ensures ok { IfOk result (λ taken. Leaves (plain tree.old) at taken (plain tree.new)) }
+) -> Result<CoreAsk, NoMemory>
+    requires { at < length (offers (plain tree.old)) }
+    ensures ok { IfOk result (λ ask. Leaves (plain tree.old) at (Some ask) (plain tree.new)) }
     ensures err { OnErr result (plain tree.new ≡ plain tree.old) }
 {
     match tree {
         Scenario::One(ask) => {
-            if at != 0 {
-                return Ok(None);
-            }
             let ask = *ask;
             *tree = Scenario::Seq(Vec::new(alloc));
-            Ok(Some(ask))
+            Ok(ask)
         }
         Scenario::Seq(children) => {
-            let Some(ask) = take_in_turn(children, alloc, at)? else {
-                return Ok(None);
-            };
+            let ask = take_in_turn(children, alloc, at)?;
             if let Some(only) = only_child(children) {
                 *tree = only;
             }
-            Ok(Some(ask))
+            Ok(ask)
         }
         Scenario::Any(children) => {
-            let Some((ask, left)) = take_from_any(children, alloc, at)? else {
-                return Ok(None);
-            };
+            let (ask, left) = take_from_any(children, alloc, at)?;
             *tree = left;
-            Ok(Some(ask))
+            Ok(ask)
         }
         Scenario::Times(turns, child) => {
-            if *turns == 0 || skip(child, at).is_some() {
-                return Ok(None);
-            }
-            let mut parts = Vec::with_capacity(alloc.clone()?, 2)?;
-            let nothing = Vec::new(alloc.clone()?);
-            let Some((ask, turn)) = take_from_turn(child, alloc, at)? else {
-                return Ok(None);
-            };
+            let parts = children_in(&alloc, 2)?;
+            let (ask, turn) = take_from_turn(child, alloc, at)?;
             *turns -= 1;
-            let later = mem::replace(tree, Scenario::Seq(nothing));
-            parts.push_reserved(turn);
-            parts.push_reserved(later);
-            *tree = Scenario::Seq(parts);
-            Ok(Some(ask))
+            put_before(tree, ask, turn, parts);
+            Ok(ask)
         }
         Scenario::Both(children) => take_among(children, alloc, at),
     }
@@ -101,16 +89,15 @@ fn take_in_turn<A: Allocator + Clone>(
     children: &mut Vec<Scenario<A>, A>,
     alloc: A,
     at: usize,
-) -> Result<Option<CoreAsk>, NoMemory>
-    ensures ok { IfOk result (λ taken. LeavesInTurn (plain_all children.old.items) at taken (plain_all children.new.items)) }
+) -> Result<CoreAsk, NoMemory>
+    requires { at < length (offers_in_turn (plain_all children.old.items)) }
+    ensures ok { IfOk result (λ ask. LeavesInTurn (plain_all children.old.items) at ask (plain_all children.new.items)) }
     ensures err { OnErr result (plain_all children.new.items ≡ plain_all children.old.items) }
 {
-    let Some(offer) = place_in_turn(children.as_slice(), at) else {
-        return Ok(None);
-    };
-    let taken = take_one(&mut children[offer.child], alloc, offer.at)?;
+    let offer = place_in_turn(children.as_slice(), at);
+    let ask = take_one(&mut children[offer.child], alloc, offer.at)?;
     drop_front(children, offer.child);
-    Ok(taken)
+    Ok(ask)
 }
 
 /// The child of a row that has no other: it is taken out, and stands for the row.
@@ -134,18 +121,14 @@ fn take_from_any<A: Allocator + Clone>(
     children: &mut Vec<Scenario<A>, A>,
     alloc: A,
     at: usize,
-) -> Result<Option<(CoreAsk, Scenario<A>)>, NoMemory>
-    ensures ok { IfOk result (λ turn. LeavesTurn (tree.Any (plain_all children.old.items)) at turn) }
-    ensures none { IfOk result (λ turn. IfNone turn (plain_all children.new.items ≡ plain_all children.old.items)) }
+) -> Result<(CoreAsk, Scenario<A>), NoMemory>
+    requires { at < length (offers_of_all (plain_all children.old.items)) }
+    ensures ok { IfOk result (λ turn. Leaves (tree.Any (plain_all children.old.items)) at (Some turn.0) (plain turn.1)) }
     ensures err { OnErr result (plain_all children.new.items ≡ plain_all children.old.items) }
 {
-    let Some(offer) = place_among(children.as_slice(), at) else {
-        return Ok(None);
-    };
-    match take_one(&mut children[offer.child], alloc, offer.at)? {
-        Some(ask) => Ok(Some((ask, children.swap_remove(offer.child)))),
-        None => Ok(None),
-    }
+    let offer = place_among(children.as_slice(), at);
+    let ask = take_one(&mut children[offer.child], alloc, offer.at)?;
+    Ok((ask, children.swap_remove(offer.child)))
 }
 
 /// Takes from children that go on at once. The others stay.
@@ -155,15 +138,14 @@ fn take_among<A: Allocator + Clone>(
     children: &mut Vec<Scenario<A>, A>,
     alloc: A,
     at: usize,
-) -> Result<Option<CoreAsk>, NoMemory>
-    ensures ok { IfOk result (λ taken. Leaves (tree.Both (plain_all children.old.items)) at taken (tree.Both (plain_all children.new.items))) }
+) -> Result<CoreAsk, NoMemory>
+    requires { at < length (offers_of_all (plain_all children.old.items)) }
+    ensures ok { IfOk result (λ ask. Leaves (tree.Both (plain_all children.old.items)) at (Some ask) (tree.Both (plain_all children.new.items))) }
     ensures err { OnErr result (plain_all children.new.items ≡ plain_all children.old.items) }
 {
-    let Some(offer) = place_among(children.as_slice(), at) else {
-        return Ok(None);
-    };
-    let taken = take_one(&mut children[offer.child], alloc, offer.at)?;
-    Ok(taken)
+    let offer = place_among(children.as_slice(), at);
+    let child = &mut children[offer.child];
+    take_one(child, alloc, offer.at)
 }
 
 /// What is left of a turn of the child, which itself stays as it is.
@@ -172,17 +154,34 @@ fn take_from_turn<A: Allocator + Clone>(
     child: &mut Scenario<A>,
     alloc: A,
     at: usize,
-) -> Result<Option<(CoreAsk, Scenario<A>)>, NoMemory>
-    ensures ok { IfOk result (λ turn. LeavesTurn (plain child.old) at turn) }
+) -> Result<(CoreAsk, Scenario<A>), NoMemory>
+    requires { at < length (offers (plain child.old)) }
+    ensures ok { IfOk result (λ turn. Leaves (plain child.old) at (Some turn.0) (plain turn.1)) }
     ensures child { plain child.new ≡ plain child.old }
 {
-    let mut turn = copy_one(child, alloc.clone()?)?;
-    let taken = take_one(child, alloc, at)?;
+    let mut turn = copy_one(child, &alloc)?;
+    let ask = take_one(child, alloc, at)?;
     mem::swap(child, &mut turn);
-    match taken {
-        Some(ask) => Ok(Some((ask, turn))),
-        None => Ok(None),
-    }
+    Ok((ask, turn))
+}
+
+/// What is left of a turn goes before the scenario: the row of both stands in its place.
+#[tactic(auto, using(crate::proofs::Children::children))]
+fn put_before<A: Allocator>(
+    scenario: &mut Scenario<A>,
+    ask: CoreAsk,
+    turn: Scenario<A>,
+    mut parts: Vec<Scenario<A>, A>,
+)
+    requires empty { parts.items ≡ [] }
+    requires room { 2 ≤ vec_capacity parts }
+    ensures { plain scenario.new ≡ tree.Seq (tree.Cons (plain turn) (tree.Cons (plain scenario.old) tree.Nil)) }
+{
+    // An ask takes no memory, so it stands in the place until the row does.
+    let later = mem::replace(scenario, Scenario::One(ask));
+    parts.push_reserved(turn);
+    parts.push_reserved(later);
+    *scenario = Scenario::Seq(parts);
 }
 
 fn drop_front<T: Drop, A: Allocator>(items: &mut Vec<T, A>, n: usize)
@@ -194,41 +193,38 @@ fn drop_front<T: Drop, A: Allocator>(items: &mut Vec<T, A>, n: usize)
     }
 }
 
-/// Where offer `at` of the children in turn is, if it is there.
+/// Where offer `at` of the children in turn is.
 #[tactic(auto, using(crate::proofs::Children::children))]
-fn place_in_turn<A: Allocator>(children: &[Scenario<A>], at: usize) -> Option<Offer>
-    ensures none { IfNone result (length (offers_in_turn (plain_all children.now)) ≤ at) }
-    ensures within { IfSome result (λ offer. offer.child < length children.now) }
-    ensures place { IfSome result (λ offer. IsPlaceInTurn children.now at offer.child offer.at) }
+fn place_in_turn<A: Allocator>(children: &[Scenario<A>], at: usize) -> Offer
+    requires { at < length (offers_in_turn (plain_all children.now)) }
+    ensures within { result.child < length children.now }
+    ensures place { IsPlaceInTurn children.now at result.child result.at }
 {
     let mut rest = at;
     for (i, child) in children.iter().enumerate() {
         match skip(child, rest) {
-            None => return Some(Offer { child: i, at: rest }),
+            None => return Offer { child: i, at: rest },
             Some(behind) => rest = behind,
         }
-        if !tree_may_end(child) {
-            return None;
-        }
     }
-    None
+    unreachable!()
 }
 
-/// Where offer `at` of all the children is, if it is there.
+/// Where offer `at` of all the children is.
 #[tactic(auto, using(crate::proofs::Children::children))]
-fn place_among<A: Allocator>(children: &[Scenario<A>], at: usize) -> Option<Offer>
-    ensures none { IfNone result (length (offers_of_all (plain_all children.now)) ≤ at) }
-    ensures within { IfSome result (λ offer. offer.child < length children.now) }
-    ensures place { IfSome result (λ offer. IsPlaceAmong children.now at offer.child offer.at) }
+fn place_among<A: Allocator>(children: &[Scenario<A>], at: usize) -> Offer
+    requires { at < length (offers_of_all (plain_all children.now)) }
+    ensures within { result.child < length children.now }
+    ensures place { IsPlaceAmong children.now at result.child result.at }
 {
     let mut rest = at;
     for (i, child) in children.iter().enumerate() {
         match skip(child, rest) {
-            None => return Some(Offer { child: i, at: rest }),
+            None => return Offer { child: i, at: rest },
             Some(behind) => rest = behind,
         }
     }
-    None
+    unreachable!()
 }
 
 /// How far offer `at` is behind the tree's offers. `None` where it is one of them.

@@ -1,11 +1,11 @@
 //! Scenarios written as JSON.
 
-ghost use Rattle.std.specs.Prelude.{◌≡◌, ◌≤◌, map, string_bytes, IfOk};
-ghost use Rattle.serde_json.specs.Data.{array};
+ghost use Rattle.std.specs.Prelude.{◌≡◌, ◌≤◌, codes, string_bytes, IfOk};
+ghost use Rattle.serde_json.specs.Data.{array, string, member, no_members};
 ghost use Rattle.serde_json.specs.View.{view, items_view};
 ghost use Rattle.serde_json.specs.Written.{compact_text};
-ghost use Rattle.scenario.specs.Tree.{plain};
-ghost use Rattle.scenario.specs.Form.{IsJson, shown, shown_ask, shown_under};
+ghost use Rattle.scenario.specs.Tree.{plain, plain_all};
+ghost use Rattle.scenario.specs.Form.{IsJson, shown, shown_all, shown_ask, shown_number, shown_times, shown_under, with_place};
 ghost use Rattle.scenario.specs.Limits.{depth};
 ghost use Rattle.scenario.specs.Saving.{GoesOut, MarksSave, ReadsBack};
 
@@ -59,45 +59,33 @@ fn text_of<A: Allocator>(heap: Global, scenario: &Scenario<A>) -> Result<String,
 }
 
 #[cycle(showing)]
-#[tactic(auto, using(crate::proofs::Shown::shows))]
+#[tactic(auto, using(crate::proofs::Children::children))]
 fn value_of<A: Allocator>(heap: Global, scenario: &Scenario<A>) -> Result<Value, AllocError>
     ensures { IfOk result (λ v. view v ≡ shown (plain scenario.now)) }
 {
     match scenario {
         Scenario::One(ask) => ask_value(heap, *ask),
-        Scenario::Seq(children) => list_value(heap, "seq", values_of(heap, children.as_slice())?),
-        Scenario::Any(children) => list_value(heap, "any", values_of(heap, children.as_slice())?),
-        Scenario::Both(children) => list_value(heap, "both", values_of(heap, children.as_slice())?),
-        Scenario::Times(turns, child) => {
-            let child = value_of(heap, child)?;
-            json!(in heap; {"of": child, "times": *turns})
-        }
+        Scenario::Seq(children) => value_under(heap, "seq", children.as_slice()),
+        Scenario::Any(children) => value_under(heap, "any", children.as_slice()),
+        Scenario::Both(children) => value_under(heap, "both", children.as_slice()),
+        Scenario::Times(turns, child) => times_value(heap, *turns, value_of(heap, child)?),
     }
 }
 
+/// An object of one key, which has the values of these children.
 #[cycle(showing)]
-fn values_of<A: Allocator>(heap: Global, children: &[Scenario<A>]) -> Result<Vec<Value>, AllocError>
-    ensures { IfOk result (λ v. map view v.items ≡ map (λ s. shown (plain s)) children.now) }
+fn value_under<A: Allocator>(
+    heap: Global,
+    key: &str,
+    children: &[Scenario<A>],
+) -> Result<Value, AllocError>
+    ensures { IfOk result (λ v. view v ≡ shown_under key.now (array (shown_all (plain_all children.now)))) }
 {
     let mut values = Vec::with_capacity(heap, children.len())?;
     for child in children {
         values.push(value_of(heap, child)?)?;
     }
-    Ok(values)
-}
-
-fn ask_value(heap: Global, ask: CoreAsk) -> Result<Value, AllocError>
-    ensures { IfOk result (λ v. view v ≡ shown_ask ask) }
-{
-    let block = ask.block.0;
-    let core = ask.core.0;
-    match ask.ask {
-        Ask::Load => json!(in heap; {"block": block, "core": core, "op": "load"}),
-        Ask::Store(value) => {
-            json!(in heap; {"block": block, "core": core, "op": "store", "value": value})
-        }
-        Ask::Replace => json!(in heap; {"block": block, "core": core, "op": "replace"}),
-    }
+    list_value(heap, key, values)
 }
 
 /// An object of one key, which has an array of these values.
@@ -107,4 +95,34 @@ fn list_value(heap: Global, key: &str, values: Vec<Value>) -> Result<Value, Allo
 {
     let values = Value::Array(values);
     json!(in heap; {key: values})
+}
+
+fn times_value(heap: Global, turns: u32, child: Value) -> Result<Value, AllocError>
+    ensures { IfOk result (λ v. view v ≡ shown_times turns (view child)) }
+{
+    json!(in heap; {"of": child, "times": turns})
+}
+
+fn ask_value(heap: Global, ask: CoreAsk) -> Result<Value, AllocError>
+    ensures { IfOk result (λ v. view v ≡ shown_ask ask) }
+{
+    match ask.ask {
+        Ask::Load => word_value(heap, ask, "load"),
+        Ask::Store(value) => store_value(heap, ask, value),
+        Ask::Replace => word_value(heap, ask, "replace"),
+    }
+}
+
+/// An ask of which the word says all, beside its place.
+fn word_value(heap: Global, ask: CoreAsk, word: &str) -> Result<Value, AllocError>
+    ensures { IfOk result (λ v. view v ≡ with_place ask (member (codes "op") (string word.now) no_members)) }
+{
+    json!(in heap; {"block": ask.block.0, "core": ask.core.0, "op": word})
+}
+
+fn store_value(heap: Global, ask: CoreAsk, value: u64) -> Result<Value, AllocError>
+    ensures { IfOk result (λ v. view v ≡
+        with_place ask (member (codes "op") (string (codes "store")) (member (codes "value") (shown_number value) no_members))) }
+{
+    json!(in heap; {"block": ask.block.0, "core": ask.core.0, "op": "store", "value": value})
 }

@@ -2,6 +2,7 @@ use Rattle.std.proofs.Common.{arith}
 use Rattle.std.proofs.lemmas.Grind.{common_steps}
 use Rattle.scenario.proofs.Children.{children}
 use Rattle.scenario.proofs.Lengths.{cut_product}
+use Rattle.scenario.specs.declared.tree.Scenario.TheFolds.{the_lemmas}
 use Rattle.scenario.proofs.measuring.+measuring.Goals as goal
 
 pub greatest_length-loop-child-preserved : goal.greatest_length-loop-child-preserved
@@ -27,3 +28,42 @@ total_length-loop-child-preserved g t c = grind (arith, common_steps, children, 
 
 pub total_length-returns : goal.total_length-returns
 total_length-returns g t c = grind (arith, common_steps, children, cut_product)
+
+pub greatest_length-loop-child-init : goal.greatest_length-loop-child-init
+greatest_length-loop-child-init g t c = grind (arith, common_steps)
+
+pub greatest_length-offset_bounds-children-child-index : goal.greatest_length-offset_bounds-children-child-index
+greatest_length-offset_bounds-children-child-index g t c = grind (arith, common_steps)
+
+pub greatest_length-loop-child-smaller : goal.greatest_length-loop-child-smaller
+greatest_length-loop-child-smaller g t c = grind (arith, common_steps)
+
+pub longest_word-overflow_mul-from : goal.longest_word-overflow_mul-from
+longest_word-overflow_mul-from g t c = grind (arith, common_steps)
+
+pub total_length-loop-child-init : goal.total_length-loop-child-init
+total_length-loop-child-init g t c = grind (arith, common_steps)
+
+pub total_length-offset_bounds-children-child-index : goal.total_length-offset_bounds-children-child-index
+total_length-offset_bounds-children-child-index g t c = grind (arith, common_steps)
+
+pub total_length-overflow_add-length : goal.total_length-overflow_add-length
+total_length-overflow_add-length g t c = grind (arith, common_steps)
+
+pub total_length-loop-child-smaller : goal.total_length-loop-child-smaller
+total_length-loop-child-smaller g t c = grind (arith, common_steps)
+
+pub greatest_length-longest_word-requires : goal.greatest_length-longest_word-requires
+greatest_length-longest_word-requires g t c = grind (the_lemmas, arith, common_steps)
+
+pub longest_word-greatest_length-requires : goal.longest_word-greatest_length-requires
+longest_word-greatest_length-requires g t c = grind (the_lemmas, arith, common_steps)
+
+pub longest_word-longest_word-requires : goal.longest_word-longest_word-requires
+longest_word-longest_word-requires g t c = grind (the_lemmas, arith, common_steps)
+
+pub longest_word-total_length-requires : goal.longest_word-total_length-requires
+longest_word-total_length-requires g t c = grind (the_lemmas, arith, common_steps)
+
+pub total_length-longest_word-requires : goal.total_length-longest_word-requires
+total_length-longest_word-requires g t c = grind (the_lemmas, arith, common_steps)

@@ -1,80 +1,93 @@
+use Rattle.std.proofs.Common.{arith, map, rules, ◌≡◌, ◌<◌, Some, Ok, length, ap, sym, ◌∙◌}
 use Rattle.std.proofs.lemmas.Grind.{common_steps}
-use Rattle.std.proofs.Common.{arith}
-use Rattle.scenario.proofs.Walking.{walking}
-use Rattle.std.proofs.Common.{map, rules, ◌≡◌, ◌<◌, Some, Ok, length, ap, sym, ◌∙◌}
 use Rattle.serde_json.specs.View.{view, items_view}
 use Rattle.scenario.specs.Tree.{plain}
 use Rattle.scenario.specs.Refusals.{node_of, any}
 use Rattle.scenario.proofs.Children.{plain-Any}
-use Rattle.scenario.proofs.Walking.{choice_level}
+use Rattle.scenario.proofs.Walking.{walking, choice_level}
 use Rattle.scenario.proofs.reading.+reading.Goals as goal
 
 -- a choice of some values
-pub scenario_at-returns-in-Some-Any-clause-gives : goal.scenario_at-returns-in-Some-Any-clause-gives
-scenario_at-returns-in-Some-Any-clause-gives g t c =
+pub scenario_at-returns-in_ok-scenarios_at-in-Some-Any : goal.scenario_at-returns-in_ok-scenarios_at-in-Some-Any
+scenario_at-returns-in_ok-scenarios_at-in-Some-Any g t c =
     let form : node_of (view c.args.value.now) ≡ Some (any (items_view c.in-Some-Any.values.now)) = search rules in
     let some : 0 < length c.in-Some-Any.values.now = search rules in
     let level : 0 < c.args.left = search rules in
     let children = c.in_ok-scenarios_at-in-Some-Any.field-0 in
-    choice_level c.args.shape c.args.left (view c.args.value.now) c.in-Some-Any.values.now (map plain children.items) level form some c.in_ok-scenarios_at-in-Some-Any.ensures.gives
+    choice_level c.args.shape c.args.left (view c.args.value.now) c.in-Some-Any.values.now (map plain children.items) level form some c.in_ok-scenarios_at-in-Some-Any.ensures
     ∙ ap Ok (sym (plain-Any children))
 
-pub scenario_at-returns-then-left-eq0-clause-gives : goal.scenario_at-returns-then-left-eq0-clause-gives
-scenario_at-returns-then-left-eq0-clause-gives g t c = grind (arith, common_steps, walking)
+pub scenario_at-overflow_sub-left : goal.scenario_at-overflow_sub-left
+scenario_at-overflow_sub-left g t c = grind (arith, common_steps)
 
-pub scenario_at-returns-in-None-clause-gives : goal.scenario_at-returns-in-None-clause-gives
-scenario_at-returns-in-None-clause-gives g t c = grind (arith, common_steps, walking)
+pub scenario_at-returns-in-None : goal.scenario_at-returns-in-None
+scenario_at-returns-in-None g t c = grind (arith, walking)
 
-pub scenario_at-returns-in-Some-One-clause-gives : goal.scenario_at-returns-in-Some-One-clause-gives
-scenario_at-returns-in-Some-One-clause-gives g t c = grind (arith, common_steps, walking)
+pub scenario_at-returns-in-Some-Any-empty : goal.scenario_at-returns-in-Some-Any-empty
+scenario_at-returns-in-Some-Any-empty g t c = grind (arith, common_steps, walking)
 
-pub scenario_at-returns-in-Some-One-2-clause-gives : goal.scenario_at-returns-in-Some-One-2-clause-gives
-scenario_at-returns-in-Some-One-2-clause-gives g t c = grind (arith, common_steps, walking)
+pub scenario_at-returns-in-Some-One : goal.scenario_at-returns-in-Some-One
+scenario_at-returns-in-Some-One g t c = grind (arith, walking)
 
-pub scenario_at-returns-in-Some-Any-empty-clause-gives : goal.scenario_at-returns-in-Some-Any-empty-clause-gives
-scenario_at-returns-in-Some-Any-empty-clause-gives g t c = grind (arith, common_steps, walking)
+pub scenario_at-returns-in-Some-One-2 : goal.scenario_at-returns-in-Some-One-2
+scenario_at-returns-in-Some-One-2 g t c = grind (arith, walking)
 
-pub scenario_at-returns-in_err-scenarios_at-in-Some-Any-clause-gives : goal.scenario_at-returns-in_err-scenarios_at-in-Some-Any-clause-gives
-scenario_at-returns-in_err-scenarios_at-in-Some-Any-clause-gives g t c = grind (arith, common_steps, walking)
+pub scenario_at-returns-in_err-child-in-Some-Times : goal.scenario_at-returns-in_err-child-in-Some-Times
+scenario_at-returns-in_err-child-in-Some-Times g t c = grind (arith, walking)
 
-pub scenario_at-returns-in_err-scenarios_at-in-Some-Seq-clause-gives : goal.scenario_at-returns-in_err-scenarios_at-in-Some-Seq-clause-gives
-scenario_at-returns-in_err-scenarios_at-in-Some-Seq-clause-gives g t c = grind (arith, common_steps, walking)
+pub scenario_at-returns-in_err-scenarios_at-in-Some-Any : goal.scenario_at-returns-in_err-scenarios_at-in-Some-Any
+scenario_at-returns-in_err-scenarios_at-in-Some-Any g t c = grind (arith, walking)
 
-pub scenario_at-returns-in-Some-Seq-clause-gives : goal.scenario_at-returns-in-Some-Seq-clause-gives
-scenario_at-returns-in-Some-Seq-clause-gives g t c = grind (arith, common_steps, walking)
+pub scenario_at-returns-in_err-scenarios_at-in-Some-Both : goal.scenario_at-returns-in_err-scenarios_at-in-Some-Both
+scenario_at-returns-in_err-scenarios_at-in-Some-Both g t c = grind (arith, walking)
 
-pub scenario_at-returns-in_err-scenarios_at-in-Some-Both-clause-gives : goal.scenario_at-returns-in_err-scenarios_at-in-Some-Both-clause-gives
-scenario_at-returns-in_err-scenarios_at-in-Some-Both-clause-gives g t c = grind (arith, common_steps, walking)
+pub scenario_at-returns-in_err-scenarios_at-in-Some-Seq : goal.scenario_at-returns-in_err-scenarios_at-in-Some-Seq
+scenario_at-returns-in_err-scenarios_at-in-Some-Seq g t c = grind (arith, walking)
 
-pub scenario_at-returns-in-Some-Both-clause-gives : goal.scenario_at-returns-in-Some-Both-clause-gives
-scenario_at-returns-in-Some-Both-clause-gives g t c = grind (arith, common_steps, walking)
+pub scenario_at-returns-in_err-times_in-in-Some-Times : goal.scenario_at-returns-in_err-times_in-in-Some-Times
+scenario_at-returns-in_err-times_in-in-Some-Times g t c = grind (arith, walking)
 
-pub scenario_at-returns-in_err-clone-in-Some-Times-clause-gives : goal.scenario_at-returns-in_err-clone-in-Some-Times-clause-gives
-scenario_at-returns-in_err-clone-in-Some-Times-clause-gives g t c = grind (arith, common_steps, walking)
+pub scenario_at-returns-in_ok-scenarios_at-in-Some-Both : goal.scenario_at-returns-in_ok-scenarios_at-in-Some-Both
+scenario_at-returns-in_ok-scenarios_at-in-Some-Both g t c = grind (arith, walking)
 
-pub scenario_at-returns-in_err-child-in-Some-Times-clause-gives : goal.scenario_at-returns-in_err-child-in-Some-Times-clause-gives
-scenario_at-returns-in_err-child-in-Some-Times-clause-gives g t c = grind (arith, common_steps, walking)
+pub scenario_at-returns-in_ok-scenarios_at-in-Some-Seq : goal.scenario_at-returns-in_ok-scenarios_at-in-Some-Seq
+scenario_at-returns-in_ok-scenarios_at-in-Some-Seq g t c = grind (arith, walking)
 
-pub scenario_at-returns-in_err-new-in-Some-Times-clause-gives : goal.scenario_at-returns-in_err-new-in-Some-Times-clause-gives
-scenario_at-returns-in_err-new-in-Some-Times-clause-gives g t c = grind (arith, common_steps, walking)
+pub scenario_at-returns-in_ok-times_in-in-Some-Times : goal.scenario_at-returns-in_ok-times_in-in-Some-Times
+scenario_at-returns-in_ok-times_in-in-Some-Times g t c = grind (arith, walking)
 
-pub scenario_at-returns-clause-gives : goal.scenario_at-returns-clause-gives
-scenario_at-returns-clause-gives g t c = grind (arith, common_steps, walking)
+pub scenario_at-returns-then-left-eq0 : goal.scenario_at-returns-then-left-eq0
+scenario_at-returns-then-left-eq0 g t c = grind (arith, walking)
 
-pub scenarios_at-returns-in_err-clone-clause-gives : goal.scenarios_at-returns-in_err-clone-clause-gives
-scenarios_at-returns-in_err-clone-clause-gives g t c = grind (arith, common_steps, walking)
-
-pub scenarios_at-returns-in_err-clone-2-clause-gives : goal.scenarios_at-returns-in_err-clone-2-clause-gives
-scenarios_at-returns-in_err-clone-2-clause-gives g t c = grind (arith, common_steps, walking)
-
-pub scenarios_at-returns-in_err-scenario_at-clause-gives : goal.scenarios_at-returns-in_err-scenario_at-clause-gives
-scenarios_at-returns-in_err-scenario_at-clause-gives g t c = grind (arith, common_steps, walking)
-
-pub scenarios_at-returns-in_err-push-clause-gives : goal.scenarios_at-returns-in_err-push-clause-gives
-scenarios_at-returns-in_err-push-clause-gives g t c = grind (arith, common_steps, walking)
+pub scenarios_at-loop-value-init : goal.scenarios_at-loop-value-init
+scenarios_at-loop-value-init g t c = grind (arith, common_steps)
 
 pub scenarios_at-loop-value-preserved : goal.scenarios_at-loop-value-preserved
-scenarios_at-loop-value-preserved g t c = grind (arith, common_steps, walking)
+scenarios_at-loop-value-preserved g t c = grind (arith, common_steps)
 
-pub scenarios_at-returns-clause-gives : goal.scenarios_at-returns-clause-gives
-scenarios_at-returns-clause-gives g t c = grind (arith, common_steps, walking)
+pub scenarios_at-loop-value-smaller : goal.scenarios_at-loop-value-smaller
+scenarios_at-loop-value-smaller g t c = grind (arith, common_steps)
+
+pub scenarios_at-offset_bounds-values-value-index : goal.scenarios_at-offset_bounds-values-value-index
+scenarios_at-offset_bounds-values-value-index g t c = grind (arith, common_steps)
+
+pub scenarios_at-returns : goal.scenarios_at-returns
+scenarios_at-returns g t c = grind (arith, common_steps, walking)
+
+pub scenarios_at-returns-in_err-children : goal.scenarios_at-returns-in_err-children
+scenarios_at-returns-in_err-children g t c = grind (arith, walking)
+
+pub scenarios_at-returns-in_err-push : goal.scenarios_at-returns-in_err-push
+scenarios_at-returns-in_err-push g t c = grind (arith, walking)
+
+pub scenarios_at-returns-in_err-scenario_at : goal.scenarios_at-returns-in_err-scenario_at
+scenarios_at-returns-in_err-scenario_at g t c = grind (arith, common_steps, walking)
+
+pub scenario_at-scenario_at-requires : goal.scenario_at-scenario_at-requires
+scenario_at-scenario_at-requires g t c = grind (arith, common_steps)
+
+pub scenario_at-scenarios_at-requires : goal.scenario_at-scenarios_at-requires
+scenario_at-scenarios_at-requires g t c = grind (arith, common_steps)
+
+pub scenarios_at-scenario_at-requires : goal.scenarios_at-scenario_at-requires
+scenarios_at-scenario_at-requires g t c = grind (arith, common_steps)

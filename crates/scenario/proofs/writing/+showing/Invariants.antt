@@ -5,5 +5,5 @@ use Rattle.scenario.specs.Form.{shown}
 use Rattle.scenario.proofs.writing.+showing.Given as goal
 
 -- the values so far are those of the children so far
-abbrev pub invariant-values_of-loop-child : goal.invariant-values_of-loop-child
-invariant-values_of-loop-child g l = map view l.values.items ≡ map (λ s. shown (plain s)) (take l.child-index l.children)
+abbrev pub invariant-value_under-loop-child : goal.invariant-value_under-loop-child
+invariant-value_under-loop-child g l = map view l.values.items ≡ map (λ s. shown (plain s)) (take l.child-index l.children)

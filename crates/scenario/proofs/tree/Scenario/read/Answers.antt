@@ -11,21 +11,21 @@ pub returns-in_err-scenario-clause-fault : goal.returns-in_err-scenario-clause-f
 returns-in_err-scenario-clause-fault g c =
     let e = c.in_err-scenario.ensures in
     let same = err_from_is_err_and c.from_residual.result c.from_residual.ensures.1 in
-    rw (same.1, same.2) (refused plain c.args.shape c.args.bytes.now (view c.in-Ok.value) c.in_err-scenario.field-0.0 c.in-Ok.ensures.ok e.gives e.json e.long)
+    rw (same.1, same.2) (refused (plain {A = g.row.A.Denot}) c.args.shape c.args.bytes.now (view c.in-Ok.value) c.in_err-scenario.field-0.0 c.in-Ok.ensures.ok e)
 
 -- only its words are too long
 pub returns-then-longest_word-from-clause-fault : goal.returns-then-longest_word-from-clause-fault
 returns-then-longest_word-from-clause-fault g c =
     let t = plain c.in_ok-scenario.scenario in
     let long : 1000000 < longest t = omega (arith, c.longest_word.ensures, c.if-longest_word-from.true, c.from.ensures) in
-    too_long c.args.shape c.args.bytes.now (view c.in-Ok.value) t c.in-Ok.ensures.ok c.in_ok-scenario.ensures.gives long
+    too_long c.args.shape c.args.bytes.now (view c.in-Ok.value) t c.in-Ok.ensures.ok c.in_ok-scenario.ensures long
 
 pub returns-clause-tree : goal.returns-clause-tree
 returns-clause-tree g c =
-    says c.args.shape c.args.bytes.now (view c.in-Ok.value) (plain c.in_ok-scenario.scenario) c.in-Ok.ensures.ok c.in_ok-scenario.ensures.gives
+    says c.args.shape c.args.bytes.now (view c.in-Ok.value) (plain c.in_ok-scenario.scenario) c.in-Ok.ensures.ok c.in_ok-scenario.ensures
 
 pub returns-clause-within : goal.returns-clause-within
 returns-clause-within g c =
     let t = plain c.in_ok-scenario.scenario in
     let few : longest t ≤ 1000000 = omega (arith, c.longest_word.ensures, c.if-longest_word-from.false, c.from.ensures) in
-    within c.args.shape c.args.bytes.now (view c.in-Ok.value) t c.in-Ok.ensures.ok c.in_ok-scenario.ensures.gives few
+    within c.args.shape c.args.bytes.now (view c.in-Ok.value) t c.in-Ok.ensures.ok c.in_ok-scenario.ensures few
