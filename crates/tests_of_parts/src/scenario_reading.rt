@@ -128,11 +128,8 @@ fn texts_that_are_refused(rt: HostRuntime) -> Result<(), Fail> {
         ),
     ];
     for (text, fault) in refused {
-        assert_eq!(rt;
-            fault_of(rt.alloc(), text.as_bytes())?,
-            Some(fault),
-            "at {text}"
-        );
+        let found = fault_of(rt.alloc(), text.as_bytes())?;
+        assert_eq!(rt; found, Some(fault), "at {text}");
     }
     same(
         &rt,
@@ -142,46 +139,44 @@ fn texts_that_are_refused(rt: HostRuntime) -> Result<(), Fail> {
     Ok(())
 }
 
+/// What is refused as any number of a scenario.
+const NO_NUMBERS: [&str; 7] = [
+    "1.0",
+    "1e0",
+    "-0",
+    "-1",
+    "18446744073709551616",
+    "\"0\"",
+    "null",
+];
+
 #[test]
 fn numbers_that_are_refused(rt: HostRuntime) -> Result<(), Fail> {
     let alloc = rt.alloc();
-    for number in [
-        "1.0",
-        "1e0",
-        "-0",
-        "-1",
-        "4294967296",
-        "18446744073709551616",
-        "\"0\"",
-        "null",
+    for (before, behind) in [
+        (r#"{"op":"load","core":"#, r#","block":0}"#),
+        (r#"{"op":"load","core":0,"block":"#, "}"),
+        (r#"{"times":"#, r#","of":{"seq":[]}}"#),
+        (r#"{"op":"store","core":0,"block":0,"value":"#, "}"),
     ] {
-        for text in [
-            format!(in alloc; r#"{{"op":"load","core":{number},"block":0}}"#)?,
-            format!(in alloc; r#"{{"op":"load","core":0,"block":{number}}}"#)?,
-            format!(in alloc; r#"{{"times":{number},"of":{{"seq":[]}}}}"#)?,
-        ] {
-            assert_eq!(rt;
-                fault_of(alloc, text.as_bytes())?,
-                Some(ScenarioFault::BadShape),
-                "at {text}"
-            );
+        for number in NO_NUMBERS {
+            let text = format!(in alloc; "{before}{number}{behind}")?;
+            let fault = fault_of(alloc, text.as_bytes())?;
+            assert_eq!(rt; fault, Some(ScenarioFault::BadShape), "at {text}");
         }
     }
-    for number in [
-        "1.0",
-        "1e0",
-        "-0",
-        "-1",
-        "18446744073709551616",
-        "\"0\"",
-        "null",
+    Ok(())
+}
+
+#[test]
+fn small_numbers_that_are_refused(rt: HostRuntime) -> Result<(), Fail> {
+    for text in [
+        r#"{"op":"load","core":4294967296,"block":0}"#,
+        r#"{"op":"load","core":0,"block":4294967296}"#,
+        r#"{"times":4294967296,"of":{"seq":[]}}"#,
     ] {
-        let text = format!(in alloc; r#"{{"op":"store","core":0,"block":0,"value":{number}}}"#)?;
-        assert_eq!(rt;
-            fault_of(alloc, text.as_bytes())?,
-            Some(ScenarioFault::BadShape),
-            "at {text}"
-        );
+        let fault = fault_of(rt.alloc(), text.as_bytes())?;
+        assert_eq!(rt; fault, Some(ScenarioFault::BadShape), "at {text}");
     }
     Ok(())
 }
@@ -212,11 +207,8 @@ fn the_first_fault_of_a_text(rt: HostRuntime) -> Result<(), Fail> {
         ),
     ];
     for (text, fault) in refused {
-        assert_eq!(rt;
-            fault_of(rt.alloc(), text.as_bytes())?,
-            Some(fault),
-            "at {text}"
-        );
+        let found = fault_of(rt.alloc(), text.as_bytes())?;
+        assert_eq!(rt; found, Some(fault), "at {text}");
     }
     Ok(())
 }
@@ -227,50 +219,28 @@ fn levels_and_lengths(rt: HostRuntime) -> Result<(), Fail> {
     let seq = r#"{"seq":["#;
     let most = r#"{"times":4294967295,"of":"#;
     let million = r#"{"times":0,"of":{"times":1000000,"of":{"times":1000000,"of":"#;
-    let rows = [
-        (nested(alloc, seq, r#"{"seq":[]}"#, "]}", 47)?, None),
-        (nested(alloc, seq, LOAD, "]}", 47)?, None),
-        (
-            nested(alloc, seq, r#"{"seq":[]}"#, "]}", 48)?,
-            Some(ScenarioFault::TooDeep),
-        ),
-        (
-            nested(alloc, seq, "{}", "]}", 48)?,
-            Some(ScenarioFault::TooDeep),
-        ),
-        (
-            nested(alloc, seq, r#"{"any":[]}"#, "]}", 48)?,
-            Some(ScenarioFault::TooDeep),
-        ),
-        (
-            nested(alloc, seq, "{}", "]}", 47)?,
-            Some(ScenarioFault::BadShape),
-        ),
-        (
-            nested(alloc, seq, r#"{"seq":[]}"#, "]}", 62)?,
-            Some(ScenarioFault::TooDeep),
-        ),
-        (
-            nested(alloc, seq, r#"{"seq":[]}"#, "]}", 63)?,
-            Some(ScenarioFault::NotJson),
-        ),
-        (
-            nested(alloc, most, LOAD, "}", 47)?,
-            Some(ScenarioFault::TooLong),
-        ),
-        (nested(alloc, most, r#"{"seq":[]}"#, "}", 1)?, None),
-        (nested(alloc, most, r#"{"seq":[]}"#, "}", 47)?, None),
-        (nested(alloc, million, LOAD, "}}}", 1)?, None),
-        (
-            nested(alloc, r#"{"times":1000000,"of":"#, LOAD, "}", 1)?,
-            None,
-        ),
-        (
-            nested(alloc, r#"{"times":1000001,"of":"#, LOAD, "}", 1)?,
-            Some(ScenarioFault::TooLong),
-        ),
-    ];
-    for (text, fault) in rows {
+    let empty = r#"{"seq":[]}"#;
+    let one_million = r#"{"times":1000000,"of":"#;
+    let one_more = r#"{"times":1000001,"of":"#;
+    let deep = Some(ScenarioFault::TooDeep);
+    let long = Some(ScenarioFault::TooLong);
+    for (before, inner, behind, times, fault) in [
+        (seq, empty, "]}", 47, None),
+        (seq, LOAD, "]}", 47, None),
+        (seq, empty, "]}", 48, deep),
+        (seq, "{}", "]}", 48, deep),
+        (seq, r#"{"any":[]}"#, "]}", 48, deep),
+        (seq, "{}", "]}", 47, Some(ScenarioFault::BadShape)),
+        (seq, empty, "]}", 62, deep),
+        (seq, empty, "]}", 63, Some(ScenarioFault::NotJson)),
+        (most, LOAD, "}", 47, long),
+        (most, empty, "}", 1, None),
+        (most, empty, "}", 47, None),
+        (million, LOAD, "}}}", 1, None),
+        (one_million, LOAD, "}", 1, None),
+        (one_more, LOAD, "}", 1, long),
+    ] {
+        let text = nested(alloc, before, inner, behind, times)?;
         assert_eq!(rt; fault_of(alloc, text.as_bytes())?, fault, "at {text}");
     }
     Ok(())

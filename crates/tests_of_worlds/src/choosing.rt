@@ -9,13 +9,17 @@ use world::{Tables, World};
 
 const BLOCK: BlockId = BlockId(0);
 
-fn ask(core: u32, ask: Ask) -> CoreAsk {
-    CoreAsk {
-        core: CacheId(core),
-        block: BLOCK,
-        ask,
-    }
-}
+const LOAD: CoreAsk = CoreAsk {
+    core: CacheId(0),
+    block: BLOCK,
+    ask: Ask::Load,
+};
+
+const STORE: CoreAsk = CoreAsk {
+    core: CacheId(1),
+    block: BLOCK,
+    ask: Ask::Store(9),
+};
 
 /// A world of two caches and one block that opens at 0.
 fn opened(alloc: Global) -> Result<World, Fail> {
@@ -63,37 +67,31 @@ fn the_first_words(rt: HostRuntime) {
     }
 }
 
+/// One of a load of core 0 and a store of core 1.
+fn load_or_store(alloc: Global) -> Result<Scenario<Global>, Fail> {
+    let mut children = Vec::new(alloc);
+    children.push(Scenario::One(LOAD))?;
+    children.push(Scenario::One(STORE))?;
+    Ok(Scenario::Any(children))
+}
+
 #[test]
 fn offers_before_deliveries(rt: HostRuntime) -> Result<(), Fail> {
     let alloc = rt.alloc();
-    let (load, store) = (ask(0, Ask::Load), ask(1, Ask::Store(9)));
-    let mut children = Vec::new(alloc);
-    children.push(Scenario::One(load))?;
-    children.push(Scenario::One(store))?;
-    let scenario = Scenario::Any(children);
+    let scenario = load_or_store(alloc)?;
     let mut world = opened(alloc)?;
-    let both = [Choice::Offer(0, load), Choice::Offer(1, store)];
-    same(
-        &rt,
-        &listed(alloc, &world, &[], &scenario)?.as_slice(),
-        &both.as_slice(),
-    );
-    play(&mut world, &["ask 1 0 store 9"])?;
+    let (load, store) = (Choice::Offer(0, LOAD), Choice::Offer(1, STORE));
     let request = Choice::Deliver(Step::Request {
         block: BLOCK,
         index: 0,
     });
-    let then = [Choice::Offer(0, load), request];
-    same(
-        &rt,
-        &listed(alloc, &world, &[1], &scenario)?.as_slice(),
-        &then.as_slice(),
-    );
-    same(
-        &rt,
-        &listed(alloc, &world, &[0, 1], &scenario)?.as_slice(),
-        &[request].as_slice(),
-    );
+    let found = listed(alloc, &world, &[], &scenario)?;
+    same(&rt, &found.as_slice(), &[load, store].as_slice());
+    play(&mut world, &["ask 1 0 store 9"])?;
+    let found = listed(alloc, &world, &[1], &scenario)?;
+    same(&rt, &found.as_slice(), &[load, request].as_slice());
+    let found = listed(alloc, &world, &[0, 1], &scenario)?;
+    same(&rt, &found.as_slice(), &[request].as_slice());
     Ok(())
 }
 
@@ -110,7 +108,7 @@ fn what_is_held_is_no_choice(rt: HostRuntime) -> Result<(), Fail> {
             "request 0 0",
         ],
     )?;
-    let scenario = Scenario::One(ask(0, Ask::Store(8)));
+    let scenario = Scenario::One(LOAD);
     let response = Choice::Deliver(Step::Response {
         block: BLOCK,
         index: 0,

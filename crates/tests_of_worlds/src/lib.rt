@@ -6,6 +6,8 @@ mod asserting;
 #[cfg(test)]
 mod choosing;
 #[cfg(test)]
+mod entries;
+#[cfg(test)]
 mod recordings;
 #[cfg(test)]
 mod trying;

@@ -1,4 +1,5 @@
 use crate::asserting::same;
+use crate::entries::entry_of;
 use base::{BlockId, Buffer, CacheId, Faltering, Outcome, Shape, Step};
 use cache_table::{CacheEntry, CacheEvent, CacheState};
 use monitor::Violation;
@@ -16,11 +17,7 @@ fn recorded(alloc: Global, caches: u32, tables: Tables, lines: &[&str]) -> Resul
     };
     let mut recording = Recording::open(alloc, shape, tables, vec![in alloc; 0]?)?;
     for line in lines {
-        let (step, outcome) = line.split_once(" = ").ok_or("no outcome")?;
-        recording.push(Entry {
-            step: Step::read(step.as_bytes()).ok_or("not a step")?,
-            outcome: Outcome::read(outcome.as_bytes()).ok_or("not an outcome")?,
-        })?;
+        recording.push(entry_of(line).ok_or("not an entry")?)?;
     }
     Ok(recording)
 }
@@ -88,11 +85,6 @@ fn sinks_that_fail(rt: HostRuntime) -> Result<(), Fail> {
             assert_eq!(rt; fault.map(|f| f.written), expected, "at {most} {calls}");
         }
     }
-    for most in [1, 7, 200] {
-        let mut sink = Faltering::over(Buffer::open(alloc), most, 122);
-        recording.write(&mut sink)?;
-        assert_eq!(rt; sink.end().bytes(), text, "at {most}");
-    }
     Ok(())
 }
 
@@ -103,7 +95,8 @@ fn what_a_recording_holds(rt: HostRuntime) -> Result<(), Fail> {
     same(&rt, &recording.shape().caches(), &1);
     same(&rt, &recording.opening(), &[0u64].as_slice());
     same(&rt, &recording.entries().len(), &3);
-    same(&rt, &recording.entries()[0].outcome, &Outcome::Sent);
+    let first = recording.entries().first().map(|entry| entry.outcome);
+    same(&rt, &first, &Some(Outcome::Sent));
     assert!(rt; recording.tables() == Tables::baseline());
     let refused = Recording::open(
         alloc,
@@ -215,6 +208,12 @@ fn beginnings_of_a_text(rt: HostRuntime) -> Result<(), Fail> {
     Ok(())
 }
 
+/// The text of one load, with another part in place of this one.
+fn one_load_with(alloc: Global, old: &str, new: &str) -> Result<String, Fail> {
+    let (front, rest) = ONE_LOAD_TEXT.split_once(old).ok_or("no such part")?;
+    Ok(format!(in alloc; "{front}{new}{rest}")?)
+}
+
 #[test]
 fn texts_that_are_refused(rt: HostRuntime) -> Result<(), Fail> {
     use ReadKind::{BadHeader, BadLine, BadOutcome, CountDiffers, OverLimit};
@@ -247,16 +246,21 @@ fn texts_that_are_refused(rt: HostRuntime) -> Result<(), Fail> {
         ),
     ];
     for (old, new, kind, line) in rows {
-        let (front, rest) = ONE_LOAD_TEXT.split_once(old).ok_or("no such part")?;
-        let text = format!(in alloc; "{front}{new}{rest}")?;
+        let text = one_load_with(alloc, old, new)?;
         let fault = fault_of(alloc, text.as_bytes());
         assert_eq!(rt; fault, Some(ReadFault { line, kind }), "at {new}");
     }
+    Ok(())
+}
+
+#[test]
+fn a_line_that_is_too_long(rt: HostRuntime) -> Result<(), Fail> {
+    let alloc = rt.alloc();
     let mut long = Vec::from_slice(alloc, b"msi-recording 1\nshape 1 1\n")?;
     for _ in 0..90_001 {
         long.push(b'x')?;
     }
-    let kind = OverLimit;
+    let kind = ReadKind::OverLimit;
     same(
         &rt,
         &fault_of(alloc, long.as_slice()),

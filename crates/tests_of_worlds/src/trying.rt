@@ -1,13 +1,13 @@
 use crate::asserting::same;
-use base::{BlockId, Buffer, CacheId, Outcome, Place, Shape, Step};
+use crate::entries::entry_of;
+use base::{BlockId, Buffer, CacheId, NoMemory, Outcome, Place, Shape, Step};
 use cache_table::{CacheEntry, CacheEvent, CacheState};
 use directory_table::{DirectoryEntry, DirectoryEvent, DirectoryState};
 use monitor::Violation;
-use record::Entry;
 use scenario::Scenario;
 use std::alloc::Global;
 use std::test::Fail;
-use trials::{BatchFault, Setup, SetupFault, TrialResult, Verdict, batch, trial};
+use trials::{BatchFault, Setup, SetupFault, TrialResult, TrialRun, Verdict, batch, trial};
 use world::Tables;
 
 const RACING_PAIR: &str =
@@ -26,16 +26,25 @@ fn scenario(alloc: Global, text: &str, caches: u32) -> Result<Scenario<Global>, 
     Ok(Scenario::read(alloc, alloc, text.as_bytes(), shape)?)
 }
 
+/// The trial, which a second call makes where a growth was refused.
+fn made_at_last(
+    alloc: Global,
+    scenario: &Scenario<Global>,
+    setup: &Setup,
+    number: u32,
+) -> Result<TrialRun, NoMemory> {
+    match trial(alloc, scenario, setup, number) {
+        Ok(made) => Ok(made),
+        Err(_) => trial(alloc, scenario, setup, number),
+    }
+}
+
 #[test]
 fn a_racing_pair(rt: HostRuntime) -> Result<(), Fail> {
     let alloc = rt.alloc();
     let pair = scenario(alloc, RACING_PAIR, 2)?;
     let six = setup(alloc, 2, Tables::baseline(), 42, 6)?;
-    // Where a growth was refused, a second call makes the same trial.
-    let cut = match trial(alloc, &pair, &six, 54) {
-        Ok(made) => made,
-        Err(_) => trial(alloc, &pair, &six, 54)?,
-    };
+    let cut = made_at_last(alloc, &pair, &six, 54)?;
     let lines = [
         "ask 1 0 store 9 = sent",
         "request 0 0 = moved",
@@ -46,12 +55,7 @@ fn a_racing_pair(rt: HostRuntime) -> Result<(), Fail> {
     ];
     same(&rt, &cut.recording.entries().len(), &lines.len());
     for (entry, line) in cut.recording.entries().iter().zip(lines) {
-        let (step, outcome) = line.split_once(" = ").ok_or("no outcome")?;
-        let told = Entry {
-            step: Step::read(step.as_bytes()).ok_or("not a step")?,
-            outcome: Outcome::read(outcome.as_bytes()).ok_or("not an outcome")?,
-        };
-        same(&rt, &*entry, &told);
+        same(&rt, &Some(*entry), &entry_of(line));
     }
     let cut_at_six = TrialResult {
         number: 54,
@@ -59,17 +63,16 @@ fn a_racing_pair(rt: HostRuntime) -> Result<(), Fail> {
         steps: 6,
     };
     same(&rt, &cut.result, &cut_at_six);
-    let quiet = trial(
-        alloc,
-        &pair,
-        &setup(alloc, 2, Tables::baseline(), 42, 100)?,
-        54,
-    )?;
-    same(
-        &rt,
-        &(quiet.result.verdict, quiet.result.steps),
-        &(Verdict::Quiet, 8),
-    );
+    Ok(())
+}
+
+#[test]
+fn a_racing_pair_to_its_end(rt: HostRuntime) -> Result<(), Fail> {
+    let alloc = rt.alloc();
+    let pair = scenario(alloc, RACING_PAIR, 2)?;
+    let hundred = setup(alloc, 2, Tables::baseline(), 42, 100)?;
+    let quiet = trial(alloc, &pair, &hundred, 54)?.result;
+    same(&rt, &(quiet.verdict, quiet.steps), &(Verdict::Quiet, 8));
     Ok(())
 }
 
