@@ -31,12 +31,19 @@ fn overrides<'a>(alloc: Global) -> Arg<'a> {
         .action(ArgAction::Set)
 }
 
+fn command<'a>(
+    alloc: Global,
+    name: &'a str,
+    about: &'a str,
+    options: Vec<Arg<'a>>,
+) -> Result<Command<'a>, AllocError> {
+    Command::new(alloc, name).about(about).args(options)
+}
+
 fn play<'a>(alloc: Global) -> Result<Command<'a>, AllocError> {
-    Command::new(alloc, "play")
-        .about("Reads steps, one a line, and prints what each of them did")
-        .arg(caches(alloc))?
-        .arg(blocks(alloc))?
-        .arg(overrides(alloc))
+    let about = "Reads steps, one a line, and prints what each of them did";
+    let options = vec![in alloc; caches(alloc), blocks(alloc), overrides(alloc)]?;
+    command(alloc, "play", about, options)
 }
 
 fn number_of<'a>(
@@ -75,34 +82,35 @@ fn limit<'a>(alloc: Global) -> Arg<'a> {
     )
 }
 
-/// A command that makes trials, with the options that all of these have but the limit.
-fn of_trials<'a>(alloc: Global, name: &'a str, about: &'a str) -> Result<Command<'a>, AllocError> {
-    let command = Command::new(alloc, name).about(about);
-    let command = command.arg(caches(alloc))?.arg(blocks(alloc))?;
-    command.arg(overrides(alloc))?.arg(seed(alloc))
-}
-
 fn trial<'a>(alloc: Global) -> Result<Command<'a>, AllocError> {
     let about = "Reads a scenario, makes one trial of it and prints its recording";
     let number = number_of(alloc, "number", "K", "The trial's number", u32::MAX as i64);
-    of_trials(alloc, "trial", about)?
-        .arg(number)?
-        .arg(limit(alloc))
+    command(alloc, "trial", about, options_of_trials(alloc, number)?)
 }
 
 fn batch<'a>(alloc: Global) -> Result<Command<'a>, AllocError> {
     let about = "Reads a scenario, makes trials of it and prints their verdicts, one a line";
     let help = "How many trials are made, at most 1000000";
     let trials = number_of(alloc, "trials", "N", help, MOST_TRIALS as i64);
-    of_trials(alloc, "batch", about)?
-        .arg(trials)?
-        .arg(limit(alloc))
+    command(alloc, "batch", about, options_of_trials(alloc, trials)?)
+}
+
+/// The options of a command that makes trials: those that all of these have, and one of its own.
+fn options_of_trials<'a>(alloc: Global, own: Arg<'a>) -> Result<Vec<Arg<'a>>, AllocError> {
+    let options = vec![in alloc;
+        caches(alloc),
+        blocks(alloc),
+        overrides(alloc),
+        seed(alloc),
+        own,
+        limit(alloc),
+    ]?;
+    Ok(options)
 }
 
 fn tables<'a>(alloc: Global) -> Result<Command<'a>, AllocError> {
-    Command::new(alloc, "tables")
-        .about("Prints the cells of both controller tables, one a line")
-        .arg(overrides(alloc))
+    let about = "Prints the cells of both controller tables, one a line";
+    command(alloc, "tables", about, vec![in alloc; overrides(alloc)]?)
 }
 
 fn replay<'a>(alloc: Global) -> Command<'a> {

@@ -53,57 +53,75 @@ impl Fault {
 }
 
 /// A refusal of overrides, which shows its number and its name.
-#[derive(Clone, Copy, Debug, PartialEq, Eq)]
+#[derive(Clone, Copy, Debug)]
 pub struct Refusal(TablesFault);
+
+impl Refusal {
+    fn text(self) -> &'static str {
+        match self.0 {
+            TablesFault::NotJson => "1 NotJson",
+            TablesFault::BadShape => "2 BadShape",
+            TablesFault::UnknownState => "3 UnknownState",
+            TablesFault::UnknownEvent => "4 UnknownEvent",
+            TablesFault::UnknownAction => "5 UnknownAction",
+            TablesFault::SameCellTwice => "6 SameCellTwice",
+            TablesFault::NoMemory => "7 NoMemory",
+        }
+    }
+}
 
 impl fmt::Display for Refusal {
     fn fmt<W: fmt::Write>(&self, f: &mut fmt::Formatter<W>) -> fmt::Result {
-        match self.0 {
-            TablesFault::NotJson => write!(f, "1 NotJson"),
-            TablesFault::BadShape => write!(f, "2 BadShape"),
-            TablesFault::UnknownState => write!(f, "3 UnknownState"),
-            TablesFault::UnknownEvent => write!(f, "4 UnknownEvent"),
-            TablesFault::UnknownAction => write!(f, "5 UnknownAction"),
-            TablesFault::SameCellTwice => write!(f, "6 SameCellTwice"),
-            TablesFault::NoMemory => write!(f, "7 NoMemory"),
-        }
+        f.write_str(self.text())
     }
 }
 
 /// A refusal of a scenario, which shows its number and its name.
-#[derive(Clone, Copy, Debug, PartialEq, Eq)]
+#[derive(Clone, Copy, Debug)]
 pub struct ScenarioRefusal(ScenarioFault);
 
-impl fmt::Display for ScenarioRefusal {
-    fn fmt<W: fmt::Write>(&self, f: &mut fmt::Formatter<W>) -> fmt::Result {
+impl ScenarioRefusal {
+    fn text(self) -> &'static str {
         match self.0 {
-            ScenarioFault::NotJson => write!(f, "1 NotJson"),
-            ScenarioFault::BadShape => write!(f, "2 BadShape"),
-            ScenarioFault::EmptyAny => write!(f, "3 EmptyAny"),
-            ScenarioFault::TooDeep => write!(f, "4 TooDeep"),
-            ScenarioFault::TooLong => write!(f, "5 TooLong"),
-            ScenarioFault::OutOfShape => write!(f, "6 OutOfShape"),
-            ScenarioFault::NoMemory => write!(f, "7 NoMemory"),
+            ScenarioFault::NotJson => "1 NotJson",
+            ScenarioFault::BadShape => "2 BadShape",
+            ScenarioFault::EmptyAny => "3 EmptyAny",
+            ScenarioFault::TooDeep => "4 TooDeep",
+            ScenarioFault::TooLong => "5 TooLong",
+            ScenarioFault::OutOfShape => "6 OutOfShape",
+            ScenarioFault::NoMemory => "7 NoMemory",
         }
     }
 }
 
+impl fmt::Display for ScenarioRefusal {
+    fn fmt<W: fmt::Write>(&self, f: &mut fmt::Formatter<W>) -> fmt::Result {
+        f.write_str(self.text())
+    }
+}
+
 /// A refusal of a line of a recording, which shows its number and its name.
-#[derive(Clone, Copy, Debug, PartialEq, Eq)]
+#[derive(Clone, Copy, Debug)]
 pub struct LineRefusal(ReadKind);
+
+impl LineRefusal {
+    fn text(self) -> &'static str {
+        match self.0 {
+            ReadKind::BadHeader => "1 BadHeader",
+            ReadKind::BadLine => "2 BadLine",
+            ReadKind::Truncated => "3 Truncated",
+            ReadKind::CountDiffers => "4 CountDiffers",
+            ReadKind::BadOutcome => "5 BadOutcome",
+            ReadKind::OverLimit => "6 OverLimit",
+            ReadKind::NoMemory => "7 NoMemory",
+            ReadKind::Device => "8 Device",
+        }
+    }
+}
 
 impl fmt::Display for LineRefusal {
     fn fmt<W: fmt::Write>(&self, f: &mut fmt::Formatter<W>) -> fmt::Result {
-        match self.0 {
-            ReadKind::BadHeader => write!(f, "1 BadHeader"),
-            ReadKind::BadLine => write!(f, "2 BadLine"),
-            ReadKind::Truncated => write!(f, "3 Truncated"),
-            ReadKind::CountDiffers => write!(f, "4 CountDiffers"),
-            ReadKind::BadOutcome => write!(f, "5 BadOutcome"),
-            ReadKind::OverLimit => write!(f, "6 OverLimit"),
-            ReadKind::NoMemory => write!(f, "7 NoMemory"),
-            ReadKind::Device => write!(f, "8 Device"),
-        }
+        f.write_str(self.text())
     }
 }
 
