@@ -124,16 +124,16 @@ pub fn msi<'a>(alloc: Global) -> Result<Command<'a>, AllocError> {
     let msi = Command::new(alloc, "msi")
         .about("Plays, tries out and replays a directory MSI cache-coherence protocol")
         .subcommand_required(true);
-    let msi = with(msi, play(alloc))?;
-    let msi = with(msi, trial(alloc))?;
-    let msi = with(msi, batch(alloc))?;
-    let msi = msi.subcommand(replay(alloc))?;
+    let msi = with(Ok(msi), play(alloc));
+    let msi = with(msi, trial(alloc));
+    let msi = with(msi, batch(alloc));
+    let msi = with(msi, Ok(replay(alloc)));
     with(msi, tables(alloc))
 }
 
 fn with<'a>(
-    msi: Command<'a>,
+    msi: Result<Command<'a>, AllocError>,
     command: Result<Command<'a>, AllocError>,
 ) -> Result<Command<'a>, AllocError> {
-    msi.subcommand(command?)
+    msi?.subcommand(command?)
 }
