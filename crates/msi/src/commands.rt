@@ -3,6 +3,9 @@ use clap::{Arg, ArgAction, Command, value_parser};
 use std::alloc::{AllocError, Global};
 use trials::{MOST_STEPS, MOST_TRIALS};
 
+/// The project's version.
+pub const VERSION: &str = "0.1.0";
+
 fn caches<'a>(alloc: Global) -> Arg<'a> {
     Arg::new(alloc, "caches")
         .long("caches")
@@ -122,6 +125,7 @@ fn replay<'a>(alloc: Global) -> Command<'a> {
 /// The command line of `msi`.
 pub fn msi<'a>(alloc: Global) -> Result<Command<'a>, AllocError> {
     let msi = Command::new(alloc, "msi")
+        .version(VERSION)
         .about("Plays, tries out and replays a directory MSI cache-coherence protocol")
         .subcommand_required(true);
     let msi = with(Ok(msi), play(alloc));

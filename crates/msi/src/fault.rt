@@ -11,6 +11,9 @@ use world::TablesFault;
 /// Why a command ends early. Its text is what `msi` prints on standard error.
 #[derive(Debug, Drop, Error)]
 pub enum Fault {
+    /// A word of the command line isn't UTF-8.
+    #[error("msi: a word isn't UTF-8")]
+    BadWord,
     /// A line of the input, counted from 1, isn't a step.
     #[error("msi: line {0}: not a step")]
     NotAStep(u64),
@@ -22,13 +25,13 @@ pub enum Fault {
     Setup(SetupFault),
     /// The overrides of the tables are refused.
     #[error("msi: tables refused {0}")]
-    Tables(Refusal),
+    Tables(Refusal<TablesFault>),
     /// The scenario is refused.
     #[error("msi: scenario refused {0}")]
-    Scenario(ScenarioRefusal),
+    Scenario(Refusal<ScenarioFault>),
     /// The recording is refused at a line, counted from 1.
     #[error("msi: recording line {0} refused {1}")]
-    Recording(u64, LineRefusal),
+    Recording(u64, Refusal<ReadKind>),
     /// A read or a write failed.
     #[error("msi: device")]
     Device,
@@ -38,10 +41,19 @@ pub enum Fault {
 }
 
 impl Fault {
-    /// The exit status: 2 for bad input, 3 for device and memory.
+    /// Why the words of the command line couldn't be had: one isn't UTF-8, or there was no memory for them.
+    pub fn of_words(error: &io::Error) -> Fault {
+        match error.kind() {
+            io::ErrorKind::InvalidData => Fault::BadWord,
+            _ => Fault::NoMemory,
+        }
+    }
+
+    /// The exit status: 2 for bad words or input, 3 for device and memory.
     pub fn status(&self) -> u8 {
         match self {
-            Fault::NotAStep(_)
+            Fault::BadWord
+            | Fault::NotAStep(_)
             | Fault::Shape(_)
             | Fault::Setup(_)
             | Fault::Tables(_)
@@ -52,76 +64,16 @@ impl Fault {
     }
 }
 
-/// A refusal of overrides, which shows its number and its name.
+/// A refusal, which shows its number in its type's order of testing, counted from 1, and its name.
 #[derive(Clone, Copy, Debug)]
-pub struct Refusal(TablesFault);
-
-impl Refusal {
-    fn text(self) -> &'static str {
-        match self.0 {
-            TablesFault::NotJson => "1 NotJson",
-            TablesFault::BadShape => "2 BadShape",
-            TablesFault::UnknownState => "3 UnknownState",
-            TablesFault::UnknownEvent => "4 UnknownEvent",
-            TablesFault::UnknownAction => "5 UnknownAction",
-            TablesFault::SameCellTwice => "6 SameCellTwice",
-            TablesFault::NoMemory => "7 NoMemory",
-        }
-    }
+pub struct Refusal<F> {
+    number: u8,
+    fault: F,
 }
 
-impl fmt::Display for Refusal {
+impl<F: fmt::Debug> fmt::Display for Refusal<F> {
     fn fmt<W: fmt::Write>(&self, f: &mut fmt::Formatter<W>) -> fmt::Result {
-        f.write_str(self.text())
-    }
-}
-
-/// A refusal of a scenario, which shows its number and its name.
-#[derive(Clone, Copy, Debug)]
-pub struct ScenarioRefusal(ScenarioFault);
-
-impl ScenarioRefusal {
-    fn text(self) -> &'static str {
-        match self.0 {
-            ScenarioFault::NotJson => "1 NotJson",
-            ScenarioFault::BadShape => "2 BadShape",
-            ScenarioFault::EmptyAny => "3 EmptyAny",
-            ScenarioFault::TooDeep => "4 TooDeep",
-            ScenarioFault::TooLong => "5 TooLong",
-            ScenarioFault::OutOfShape => "6 OutOfShape",
-            ScenarioFault::NoMemory => "7 NoMemory",
-        }
-    }
-}
-
-impl fmt::Display for ScenarioRefusal {
-    fn fmt<W: fmt::Write>(&self, f: &mut fmt::Formatter<W>) -> fmt::Result {
-        f.write_str(self.text())
-    }
-}
-
-/// A refusal of a line of a recording, which shows its number and its name.
-#[derive(Clone, Copy, Debug)]
-pub struct LineRefusal(ReadKind);
-
-impl LineRefusal {
-    fn text(self) -> &'static str {
-        match self.0 {
-            ReadKind::BadHeader => "1 BadHeader",
-            ReadKind::BadLine => "2 BadLine",
-            ReadKind::Truncated => "3 Truncated",
-            ReadKind::CountDiffers => "4 CountDiffers",
-            ReadKind::BadOutcome => "5 BadOutcome",
-            ReadKind::OverLimit => "6 OverLimit",
-            ReadKind::NoMemory => "7 NoMemory",
-            ReadKind::Device => "8 Device",
-        }
-    }
-}
-
-impl fmt::Display for LineRefusal {
-    fn fmt<W: fmt::Write>(&self, f: &mut fmt::Formatter<W>) -> fmt::Result {
-        f.write_str(self.text())
+        write!(f, "{} {:?}", self.number, self.fault)
     }
 }
 
@@ -130,7 +82,13 @@ impl From<ReadFault> for Fault {
         match fault.kind {
             ReadKind::NoMemory => Fault::NoMemory,
             ReadKind::Device => Fault::Device,
-            kind => Fault::Recording(fault.line, LineRefusal(kind)),
+            kind => Fault::Recording(
+                fault.line,
+                Refusal {
+                    number: kind as u8 + 1,
+                    fault: kind,
+                },
+            ),
         }
     }
 }
@@ -151,7 +109,10 @@ impl From<TablesFault> for Fault {
     fn from(fault: TablesFault) -> Fault {
         match fault {
             TablesFault::NoMemory => Fault::NoMemory,
-            fault => Fault::Tables(Refusal(fault)),
+            fault => Fault::Tables(Refusal {
+                number: fault as u8 + 1,
+                fault,
+            }),
         }
     }
 }
@@ -160,7 +121,10 @@ impl From<ScenarioFault> for Fault {
     fn from(fault: ScenarioFault) -> Fault {
         match fault {
             ScenarioFault::NoMemory => Fault::NoMemory,
-            fault => Fault::Scenario(ScenarioRefusal(fault)),
+            fault => Fault::Scenario(Refusal {
+                number: fault as u8 + 1,
+                fault,
+            }),
         }
     }
 }

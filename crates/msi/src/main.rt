@@ -15,13 +15,13 @@ mod trying;
 
 use files::Disk;
 use serve::serve;
-use std::alloc::{AllocError, Global};
 use std::process::ExitCode;
 use std::{env, io};
 
 #[cfg(test)]
 mod tests;
 
+/// The words of the command line, the program's name first.
 fn words(rt: &HostRuntime) -> io::Result<Vec<String>> {
     let mut words = Vec::new(rt.alloc());
     for word in env::args(rt)? {
@@ -31,14 +31,11 @@ fn words(rt: &HostRuntime) -> io::Result<Vec<String>> {
 }
 
 fn main(rt: HostRuntime) -> ExitCode {
-    let Ok(words) = words(&rt) else {
-        let _ = eprintln!(rt; "msi: no memory");
-        return ExitCode::from(3);
-    };
+    let words = words(&rt);
     let mut disk = Disk::new(&rt);
     let code = serve(
         rt.alloc(),
-        words.as_slice(),
+        &words,
         &mut disk,
         rt.stdin(),
         rt.stdout(),

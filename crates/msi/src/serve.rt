@@ -10,19 +10,26 @@ use crate::trying::{batch, one_trial};
 use clap::error::ErrorKind;
 use clap::{ArgMatches, Error};
 use std::alloc::Global;
+use std::io;
 use std::io::{Read, Write};
 
 /// Serves the words of a command line over these files and streams, and answers the exit status:
 /// 0 where all went well, 1 where a violation or a difference was found, 2 for bad words or input, 3 for device and memory.
+///
+/// Where the words couldn't be had, it says why.
 pub fn serve<F: Files, I: Read + Drop, O: Write + Drop, E: Write + Drop>(
     alloc: Global,
-    words: &[String],
+    words: &io::Result<Vec<String>>,
     files: &mut F,
     input: I,
     output: O,
     errors: E,
 ) -> u8 {
     let mut errors = errors;
+    let words = match words {
+        Ok(words) => words.as_slice(),
+        Err(error) => return refuse(&Fault::of_words(error), &mut errors),
+    };
     let read = match commands::msi(alloc) {
         Ok(msi) => msi.try_get_matches_from(words),
         Err(_) => return refuse(&Fault::NoMemory, &mut errors),

@@ -24,7 +24,7 @@ pub enum Task {
 impl Task {
     /// The task of a command line that `clap` has read, for which the file that it names is loaded.
     ///
-    /// `None` where no command was named.
+    /// `None` where no command of `msi` was named.
     pub fn of<F: Files>(
         alloc: Global,
         matches: &ArgMatches<'_>,
@@ -33,13 +33,14 @@ impl Task {
         let Some((name, options)) = matches.subcommand() else {
             return Ok(None);
         };
-        Ok(Some(match name {
-            "play" => Task::Play(shape(options)?, tables(alloc, options, files)?),
-            "trial" => Task::Trial(setup(alloc, options, files)?, number(options, "number")),
-            "batch" => Task::Batch(setup(alloc, options, files)?, number(options, "trials")),
-            "tables" => Task::Tables(tables(alloc, options, files)?),
-            _ => Task::Replay,
-        }))
+        Ok(match name {
+            "play" => Some(Task::Play(shape(options)?, tables(alloc, options, files)?)),
+            "trial" => Some(Task::Trial(setup(alloc, options, files)?, number(options, "number"))),
+            "batch" => Some(Task::Batch(setup(alloc, options, files)?, number(options, "trials"))),
+            "replay" => Some(Task::Replay),
+            "tables" => Some(Task::Tables(tables(alloc, options, files)?)),
+            _ => None,
+        })
     }
 }
 

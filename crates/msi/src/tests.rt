@@ -1,13 +1,14 @@
+use crate::commands::VERSION;
 use crate::files::{Files, LoadFault};
 use crate::serve::serve;
 use std::alloc::{AllocError, Global};
-use std::io;
-use std::io::Write;
+use std::io::{Read, Write};
 use std::process::Abort;
 use std::test::Fail;
 
 mod broken;
 mod cells;
+mod ends;
 mod rows;
 mod trying;
 
@@ -15,7 +16,7 @@ use broken::BROKEN;
 use cells::CELLS;
 use rows::ROWS;
 
-/// The one file `table.json`, with its text.
+/// The file `table.json`, with its text, and the file `huge.json`, for which there is no memory.
 #[derive(Drop)]
 struct OneFile {
     alloc: Global,
@@ -24,6 +25,9 @@ struct OneFile {
 
 impl Files for OneFile {
     fn load(&mut self, name: &str) -> Result<Vec<u8>, LoadFault> {
+        if name == "huge.json" {
+            return Err(LoadFault::NoMemory);
+        }
         if name != "table.json" {
             return Err(LoadFault::Device);
         }
@@ -31,27 +35,6 @@ impl Files for OneFile {
             Ok(text) => Ok(text.into_bytes()),
             Err(_) => Err(LoadFault::NoMemory),
         }
-    }
-}
-
-/// A device that takes so many bytes and then fails.
-#[derive(Drop)]
-struct Short {
-    left: usize,
-}
-
-impl Write for Short {
-    fn write(&mut self, bytes: &[u8]) -> io::Result<usize> {
-        if self.left == 0 && !bytes.is_empty() {
-            return Err(io::Error::from(io::ErrorKind::BrokenPipe));
-        }
-        let taken = bytes.len().min(self.left);
-        self.left -= taken;
-        Ok(taken)
-    }
-
-    fn flush(&mut self) -> io::Result<()> {
-        Ok(())
     }
 }
 
@@ -82,22 +65,28 @@ fn run_over(
     text: &'static str,
     input: &str,
 ) -> Result<Served, AllocError> {
-    let words = words(alloc, line)?;
     let mut output = Vec::new(alloc);
-    let mut errors = Vec::new(alloc);
-    let status = serve(
-        alloc,
-        words.as_slice(),
-        &mut OneFile { alloc, text },
-        input.as_bytes(),
-        &mut output,
-        &mut errors,
-    );
+    let (status, errors) = serve_line(alloc, line, text, input.as_bytes(), &mut output)?;
     Ok(Served {
         status,
         output,
         errors,
     })
+}
+
+/// The exit status of a command line over this file, input and output, and what it says on the errors.
+fn serve_line<I: Read + Drop, O: Write + Drop>(
+    alloc: Global,
+    line: &str,
+    text: &'static str,
+    input: I,
+    output: O,
+) -> Result<(u8, Vec<u8>), AllocError> {
+    let words = words(alloc, line)?;
+    let mut files = OneFile { alloc, text };
+    let mut errors = Vec::new(alloc);
+    let status = serve(alloc, &Ok(words), &mut files, input, output, &mut errors);
+    Ok((status, errors))
 }
 
 fn expect(rt: &impl Abort, served: &Served, status: u8, output: &str, errors: &str) {
@@ -288,24 +277,8 @@ fn bad_words_and_help(rt: HostRuntime) -> Result<(), Fail> {
         assert!(rt; !served.output.is_empty());
         assert!(rt; served.errors.is_empty());
     }
-    Ok(())
-}
-
-#[test]
-fn a_device_that_fails(rt: HostRuntime) -> Result<(), Fail> {
-    let alloc = rt.alloc();
-    let words = words(alloc, "msi play --caches 2")?;
-    let mut errors = Vec::new(alloc);
-    let status = serve(
-        alloc,
-        words.as_slice(),
-        &mut OneFile { alloc, text: "{}" },
-        "ask 0 0 load\n".as_bytes(),
-        Short { left: 3 },
-        &mut errors,
-    );
-    assert_eq!(rt; status, 3);
-    assert_eq!(rt; errors.as_slice(), b"msi: device\n".as_slice());
+    let version = format!(in alloc; "msi {VERSION}\n")?;
+    expect(&rt, &run(alloc, "msi --version", "")?, 0, version.as_str(), "");
     Ok(())
 }
 

@@ -4,7 +4,7 @@ use std::test::Fail;
 const RACING_PAIR: &str =
     r#"{"both":[{"op":"load","core":0,"block":0},{"op":"store","core":1,"block":0,"value":9}]}"#;
 
-const ONE_LOAD: &str = r#"{"op":"load","core":0,"block":0}"#;
+pub const ONE_LOAD: &str = r#"{"op":"load","core":0,"block":0}"#;
 
 const ONE_LOAD_TEXT: &str =
     "msi-recording 1\nshape 1 1\nopening 0\ncells 0\nentries 3\nask 0 0 load = sent\nrequest 0 0 = moved\nresponse 0 0 = load 0 0\nend\n";
@@ -116,6 +116,23 @@ fn what_a_trial_recorded_is_replayed(rt: HostRuntime) -> Result<(), Fail> {
 }
 
 #[test]
+fn a_scenario_too_deep(rt: HostRuntime) -> Result<(), Fail> {
+    let alloc = rt.alloc();
+    let mut text = String::from_str(alloc, "")?;
+    for _ in 0..48 {
+        text.push_str(r#"{"seq":["#)?;
+    }
+    text.push_str(r#"{"seq":[]}"#)?;
+    for _ in 0..48 {
+        text.push_str("]}")?;
+    }
+    let line = "msi trial --caches 2 --seed 1 --number 0 --limit 9";
+    let served = run(alloc, line, text.as_str())?;
+    expect(&rt, &served, 2, "", "msi: scenario refused 4 TooDeep\n");
+    Ok(())
+}
+
+#[test]
 fn refused_scenarios(rt: HostRuntime) -> Result<(), Fail> {
     let alloc = rt.alloc();
     let none = r#"{"times":0,"of":{"op":"load","core":0,"block":0}}"#;
@@ -123,6 +140,12 @@ fn refused_scenarios(rt: HostRuntime) -> Result<(), Fail> {
         ("{", 2, "", "msi: scenario refused 1 NotJson\n"),
         ("{}", 2, "", "msi: scenario refused 2 BadShape\n"),
         (r#"{"any":[]}"#, 2, "", "msi: scenario refused 3 EmptyAny\n"),
+        (
+            r#"{"times":1000000,"of":{"times":1000000,"of":{"op":"load","core":0,"block":0}}}"#,
+            2,
+            "",
+            "msi: scenario refused 5 TooLong\n",
+        ),
         (
             r#"{"op":"load","core":2,"block":0}"#,
             2,
