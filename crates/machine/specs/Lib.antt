@@ -7,6 +7,7 @@ pub mod Completions
 pub mod Coherence
 pub mod Unstuck
 pub mod CoherenceRows
+pub mod WrongTables
 pub use Rattle.base.specs.Extent
 pub use Rattle.base.specs.Steps
 pub use Rattle.network.specs.Traffic

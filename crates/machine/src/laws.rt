@@ -8,6 +8,7 @@ ghost use Rattle.machine.specs.Tables.{Tables, baseline};
 ghost use Rattle.machine.specs.Coherence.{Safe};
 ghost use Rattle.machine.specs.Unstuck.{Unstuck};
 ghost use Rattle.machine.specs.CoherenceRows.{StoreThenLoad, StaleLoadIsRefused, EarlyLoadIsRefused, OneWriterOrManyReaders};
+ghost use Rattle.machine.specs.WrongTables.{HastyReaderIsUnsafe, HastyLoadIsUnsafe, BlankCacheIsUnsafe, HastyWriterIsUnsafe, SecondWriterIsUnsafe, DroppedValueIsUnsafe, BlankDirectoryIsUnsafe, DeafSharerIsStuck};
 ghost use Rattle.machine.specs.Block.{BlockState, IsWhole};
 ghost use Rattle.machine.specs.Transition.{decision_of, decided_outcome, messages_of, transition};
 ghost use Rattle.machine.specs.Machine.{State, IsRefusal, next, opened, after, sent_by};
@@ -43,6 +44,18 @@ pub fn worked_judgements()
     ensures stale_load { StaleLoadIsRefused }
     ensures early_load { EarlyLoadIsRefused }
     ensures one_writer_or_many_readers { OneWriterOrManyReaders }
+{}
+
+/// Tables with one wrong cell are refused: the definitions of a safe run and of not being stuck say something.
+pub fn wrong_tables_are_refused()
+    ensures hasty_reader { HastyReaderIsUnsafe }
+    ensures hasty_load { HastyLoadIsUnsafe }
+    ensures blank_cache { BlankCacheIsUnsafe }
+    ensures hasty_writer { HastyWriterIsUnsafe }
+    ensures second_writer { SecondWriterIsUnsafe }
+    ensures dropped_value { DroppedValueIsUnsafe }
+    ensures blank_directory { BlankDirectoryIsUnsafe }
+    ensures deaf_sharer { DeafSharerIsStuck }
 {}
 
 /// Under the protocol's own tables every run of every world is safe: each block always has one

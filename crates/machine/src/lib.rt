@@ -10,5 +10,5 @@ mod laws;
 pub use decision::{Decision, Origin};
 pub use laws::{
     blocks_stay_whole, nothing_sent_by_a_refusal, outcome_is_the_decisions, safe, unstuck,
-    worked_judgements, worked_rows,
+    worked_judgements, worked_rows, wrong_tables_are_refused,
 };
