@@ -1,10 +1,9 @@
 -- Loads that each give the latest value are explained.
-use Rattle.std.proofs.Common.{◌≡◌, ℕ, List, [], ◌∷◌, ◌++◌, refl, ap, sym, subst, ◌∙◌, zero, suc, inl, inr, Option, Some, Bool, true, false, cond, ◌==◌, slice_get, slice_set, filter, map, eq-eqb}
-use Rattle.std.proofs.lemmas.Bool.{cases_eq, ne_eqb}
+use Rattle.std.proofs.Common.{◌≡◌, ℕ, List, [], ◌∷◌, ◌++◌, ap, sym, subst, ◌∙◌, refl, Option, Some, slice_get, slice_set}
 use Rattle.std.specs.Option.{option_map}
-use Rattle.machine.specs.Completions.{Access, load, store, Completion, is_store_to, stored_to, last_of, due}
+use Rattle.machine.specs.Completions.{Access, load, store, Completion, last_of, due}
 use Rattle.machine.specs.Coherence.{Explained}
-use Rattle.machine.proofs.Places.{slice_get-set_other}
+use Rattle.machine.proofs.Due.{due-stored}
 
 -- a load gives the latest value of its block, where these are the latest values of all blocks
 abbrev pub FitsOne : Access → List ℕ → ℕ → ℕ → Type 0
@@ -21,30 +20,10 @@ abbrev pub Follows : List ℕ → List Completion → Type 0
 Follows latest [] = Unit {0}
 Follows latest (c ∷ cs) = FitsOne c.access latest c.block c.value × Follows (latest_by c.access latest c.block c.value) cs
 
--- what is written before it is read counts, if the block is there
-last-written : (values : List ℕ) (block value : ℕ) (later : List ℕ) → option_map (λ o. last_of o later) (slice_get (slice_set values block value) block) ≡ option_map (λ o. last_of o (value ∷ later)) (slice_get values block)
-last-written [] zero value later = refl
-last-written [] (suc block) value later = refl
-last-written (v ∷ vs) zero value later = refl
-last-written (v ∷ vs) (suc block) value later = last-written vs block value later
-
-values-cond : (test : Bool) (c : Completion) (cs : List Completion) → map (λ (x : Completion). x.value) (cond test (c ∷ cs) cs) ≡ cond test (c.value ∷ map (λ (x : Completion). x.value) cs) (map (λ (x : Completion). x.value) cs)
-values-cond true c cs = refl
-values-cond false c cs = refl
-
-due-stored : (values : List ℕ) (at value : ℕ) (cs : List Completion) (block : ℕ) → due (slice_set values at value) cs block ≡ option_map (λ o. last_of o (cond (at == block) (value ∷ stored_to block cs) (stored_to block cs))) (slice_get values block)
-due-stored values at value cs block = elim (cases_eq block at) as (λ _. due (slice_set values at value) cs block ≡ option_map (λ o. last_of o (cond (at == block) (value ∷ stored_to block cs) (stored_to block cs))) (slice_get values block)) [
-  | inl e ↦ rw (e, eq-eqb at at refl) (last-written values at value (stored_to at cs))
-  | inr ne ↦ rw (ne_eqb at block (λ e. ne (sym e))) (ap (option_map (λ o. last_of o (stored_to block cs))) (slice_get-set_other values at block value ne))
-]
-
 -- what is due after an access, and then some, is due after all of them
 due-after : (access : Access) (values : List ℕ) (c : Completion) (cs : List Completion) (block : ℕ) → c.access ≡ access → due (latest_by access values c.block c.value) cs block ≡ due values (c ∷ cs) block
 due-after load values c cs block e = rw e refl
-due-after store values c cs block e =
-    due-stored values c.block c.value cs block
-    ∙ ap (λ l. option_map (λ o. last_of o l) (slice_get values block)) (sym (values-cond (c.block == block) c (filter (is_store_to block) cs)))
-    ∙ rw e refl
+due-after store values c cs block e = due-stored values c cs block e
 
 read-first : (found : Option ℕ) (value : ℕ) → found ≡ Some value → option_map (λ o. last_of o []) found ≡ Some value
 read-first found value e = ap (option_map (λ o. last_of o [])) e

@@ -25,7 +25,7 @@ latests bs = map (λ b. b.latest) bs
 latest-at : (bs : List BlockState) (i : ℕ) (b : BlockState) → Some b ≡ slice_get bs i → slice_get (latests bs) i ≡ Some b.latest
 latest-at bs i b e = slice_get-map (λ b. b.latest) bs i ∙ ap (option_map (λ b. b.latest)) (sym e)
 
-latests-set_same : (bs : List BlockState) (i : ℕ) (b new : BlockState) → Some b ≡ slice_get bs i → new.latest ≡ b.latest → latests (slice_set bs i new) ≡ latests bs
+pub latests-set_same : (bs : List BlockState) (i : ℕ) (b new : BlockState) → Some b ≡ slice_get bs i → new.latest ≡ b.latest → latests (slice_set bs i new) ≡ latests bs
 latests-set_same bs i b new e same = map-set_same (λ b. b.latest) bs i new b (same ∙ ap (λ x. x.latest) (sym (get_or_from_slice_get bs i b b (sym e))))
 
 -- one transition that fits goes before what follows

@@ -35,8 +35,10 @@ pub mod Values
 pub mod LineValues
 pub mod HomeValues
 pub mod StepValues
+pub mod Due
 pub mod Completing
 pub mod Following
+pub mod Latest
 pub mod Quiet
 pub mod StallRules
 pub mod Ranks

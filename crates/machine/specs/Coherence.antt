@@ -7,7 +7,7 @@ use Rattle.control.specs.declared.line.Line.{Line}
 use Rattle.control.specs.LineEffect.{is_reader, is_writer}
 use Rattle.machine.specs.Tables.{Tables}
 use Rattle.machine.specs.Machine.{State, next, opened, after}
-use Rattle.machine.specs.Completions.{Completion, load, completions, due}
+use Rattle.machine.specs.Completions.{Completion, load, completions_of, due}
 
 -- the line of a cache for a block, if both are there
 abbrev pub line_at : State → ℕ → ℕ → Option Line
@@ -38,4 +38,4 @@ Explained opening done =
 pub record Safe (shape : Extent) (tables : Tables) (opening : List ℕ) (steps : List Step) : Type 0 where
   pub single : (front rest : List Step) → steps ≡ front ++ rest → Single (after tables (opened shape opening) front).state
   pub unmet : (front rest : List Step) (step : Step) → steps ≡ front ++ step ∷ rest → ¬ Met tables (after tables (opened shape opening) front).state step
-  pub explained : Explained opening (completions steps (after tables (opened shape opening) steps).outcomes)
+  pub explained : Explained opening (completions_of shape tables opening steps)

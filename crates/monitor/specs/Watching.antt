@@ -1,21 +1,15 @@
 -- What a watch has noted, and the histories that it has seen.
-use Rattle.std.specs.Prelude.{◌≡◌, ℕ, List, [], ◌∷◌, ◌++◌, Option, slice_get, slice_set}
+use Rattle.std.specs.Prelude.{◌≡◌, ℕ, List, [], ◌∷◌, ◌++◌, Option, slice_get}
 use Rattle.base.specs.Extent.{Extent}
 use Rattle.base.specs.Steps.{block_of}
 use Rattle.base.specs.declared.step.Step.{Step}
 use Rattle.base.specs.declared.step.Outcome.{Outcome}
-use Rattle.base.specs.declared.step.Outcome.TheVariants.{Store}
 use Rattle.machine.specs.Tables.{Tables}
 use Rattle.machine.specs.Machine.{Next, next, opened, after}
 use Rattle.world.specs.View.{View, stepped}
 use Rattle.monitor.specs.declared.violation.Violation.{Violation}
-use Rattle.machine.specs.Completions.{Completion, completions, due}
+use Rattle.machine.specs.Completions.{Completion, completions_of, due, noted}
 use Rattle.monitor.specs.Scenes.{Scene, scene_in, Answers}
-
--- the values of blocks after a step of this block: a completed store sets it
-abbrev pub noted : List ℕ → ℕ → Outcome → List ℕ
-noted values block (Store cache value) = slice_set values block value
-noted values block other = values
 
 -- the values of blocks after steps with these outcomes
 abbrev pub noted_all : List ℕ → List Step → List Outcome → List ℕ
@@ -26,10 +20,6 @@ noted_all values (step ∷ steps) (outcome ∷ outcomes) = noted_all (noted valu
 -- these are the values that are due to loads of the blocks
 abbrev pub AreDue : List ℕ → List Completion → List ℕ → Type 0
 AreDue opening done values = (block : ℕ) → slice_get values block ≡ due opening done block
-
--- the completions of steps that were made from an opened world
-abbrev pub completions_of : Extent → Tables → List ℕ → List Step → List Completion
-completions_of shape tables opening steps = completions steps (after tables (opened shape opening) steps).outcomes
 
 -- what comes of a step, made after these ones from an opened world
 abbrev pub made_after : Extent → Tables → List ℕ → List Step → Step → Next

@@ -10,7 +10,8 @@ use Rattle.machine.specs.Machine.{State, Next, next, opened, state_after, outcom
 use Rattle.world.specs.View.{View, stepped}
 use Rattle.monitor.specs.declared.violation.Violation.{Violation}
 use Rattle.monitor.specs.Scenes.{Scene, HasNone, IsViolation, Answers}
-use Rattle.monitor.specs.Watching.{HasSeen, LeadTo, AnswersHistory, SeesNext, AreDue, completions_of, made_after, scene_after}
+use Rattle.machine.specs.Completions.{completions_of}
+use Rattle.monitor.specs.Watching.{HasSeen, LeadTo, AnswersHistory, SeesNext, AreDue, made_after, scene_after}
 use Rattle.record.specs.declared.recording.Entry.{Entry}
 use Rattle.record.specs.Kept.{Kept, steps_of}
 use Rattle.record.specs.Replaying.{IsFirstToDiffer, HasNoViolation, AnswersFirst}

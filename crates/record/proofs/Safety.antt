@@ -14,13 +14,13 @@ use Rattle.machine.specs.Block.{BlockState, opened_block}
 use Rattle.machine.specs.Tables.{Tables}
 use Rattle.machine.specs.Transition.{transition}
 use Rattle.machine.specs.Machine.{State, Next, next, next_at, opened, state_after, outcomes_of}
-use Rattle.machine.specs.Completions.{Completion, load, completions, completed_by, due, last_of, stored_to}
+use Rattle.machine.specs.Completions.{Completion, load, completions, completed_by, due, last_of, stored_to, completions_of}
 use Rattle.machine.specs.Coherence.{Safe, Single, Met, Explained}
 use Rattle.world.specs.Looks.{place_at}
 use Rattle.monitor.specs.declared.violation.Violation.{Violation}
 use Rattle.monitor.specs.declared.violation.Violation.TheVariants.{Blank, SecondWriter, WriterBesideReader, StaleLoad}
 use Rattle.monitor.specs.Scenes.{HasNone, IsLoadOf}
-use Rattle.monitor.specs.Watching.{completions_of, scene_after}
+use Rattle.monitor.specs.Watching.{scene_after}
 use Rattle.record.specs.Replaying.{HasNoViolation, IsFirstViolation}
 use Rattle.record.proofs.Singles.{same_or_not, writes-reads, SingleAt, length-set, single-next}
 

@@ -10,7 +10,8 @@ use Rattle.machine.specs.Tables.{Tables}
 use Rattle.machine.specs.Machine.{State, Next, next, opened, state_after}
 use Rattle.monitor.specs.declared.violation.Violation.{Violation}
 use Rattle.monitor.specs.Scenes.{HasNone, IsViolation, Answers}
-use Rattle.monitor.specs.Watching.{HasSeen, LeadTo, AreDue, completions_of, made_after, scene_after}
+use Rattle.machine.specs.Completions.{completions_of}
+use Rattle.monitor.specs.Watching.{HasSeen, LeadTo, AreDue, made_after, scene_after}
 use Rattle.world.specs.View.{stepped}
 use Rattle.cores.specs.Cores.{Core}
 use Rattle.scenario.specs.Tree.{Tree}

@@ -9,8 +9,10 @@ use control::Line;
 use directory_table::DirectoryState;
 
 impl World {
-    ghost use Rattle.std.specs.Prelude.{◌≡◌, ◌<◌, ◌↔◌, IsSome, IsTrue};
-    ghost use Rattle.machine.specs.Machine.{next};
+    ghost use Rattle.std.specs.Prelude.{◌≡◌, ◌<◌, ◌↔◌, IsSome, IsTrue, List, ℕ};
+    ghost use Rattle.base.specs.declared.step.Step.{Step};
+    ghost use Rattle.machine.specs.Machine.{next, IsHistory};
+    ghost use Rattle.machine.specs.Completions.{completions_of, due};
     ghost use Rattle.machine.specs.Coherence.{line_at};
     ghost use Rattle.world.specs.View.{home_at, shares_at};
     ghost use Rattle.world.specs.Looks.{latest_at, readers_of, writer_of, all_quiet, place_at};
@@ -58,7 +60,19 @@ impl World {
     }
 
     /// The value of the last store to a block, or its opening value, if the block is in the shape.
+    ///
+    /// It is the value that a load of the block ought to return next: whatever steps led to the world, it is that of
+    /// the last of their completed stores to the block.
     pub fn latest(&self, block: BlockId) -> Option<u64>
+        ensures latest { result ≡ latest_at self.now.state block.0 }
+        ensures due { (opening : List ℕ) (steps : List Step) → IsHistory self.now.shape self.now.tables opening steps self.now.state →
+            result ≡ due opening (completions_of self.now.shape self.now.tables opening steps) block.0 }
+        ensures there { IsSome result ↔ (block.0 < self.now.shape.blocks) }
+    {
+        self.find_latest(block)
+    }
+
+    fn find_latest(&self, block: BlockId) -> Option<u64>
         ensures latest { result ≡ latest_at self.now.state block.0 }
         ensures there { IsSome result ↔ (block.0 < self.now.shape.blocks) }
     {
