@@ -9,43 +9,16 @@ use Rattle.base.specs.Steps.{block_of}
 use Rattle.base.specs.declared.step.Step.{Step}
 use Rattle.base.specs.declared.step.Outcome.{Outcome}
 use Rattle.base.specs.declared.step.Outcome.TheVariants as outcome
-use Rattle.machine.specs.Completions.{Completion, HasNoStoreTo, IsStoreTo, store, completions, completed_by, is_store_to, stored_to, last_of, due}
+use Rattle.machine.specs.Completions.{Completion, HasNoStoreTo, IsStoreTo, completions, completed_by, completions_of, is_store_to, stored_to, last_of, due, noted}
 use Rattle.machine.specs.Tables.{Tables}
 use Rattle.machine.specs.Machine.{State, next, opened, state_after, outcomes_of}
+use Rattle.machine.proofs.Due.{due-nothing, due-noted}
 use Rattle.world.specs.View.{View}
-use Rattle.monitor.specs.Watching.{AreDue, HasSeen, LeadTo, noted, noted_all}
-
--- a value is set, and the others are as they were
-last-set : (values : List ℕ) (at block value : ℕ) (rest : List ℕ) → option_map (λ o. last_of o rest) (slice_get (slice_set values at value) block) ≡ option_map (λ o. last_of o (cond (at == block) (value ∷ rest) rest)) (slice_get values block)
-last-set [] at block value rest = refl
-last-set (x ∷ xs) zero zero value rest = refl
-last-set (x ∷ xs) zero (suc block) value rest = grind arith
-last-set (x ∷ xs) (suc at) zero value rest = grind arith
-last-set (x ∷ xs) (suc at) (suc block) value rest = grind (arith, last-set xs at block value rest)
-
--- the values of completions, where one of them counts or not
-values-cond : (counts : Bool) (c : Completion) (done : List Completion) → map (λ c. c.value) (cond counts (c ∷ done) done) ≡ cond counts (c.value ∷ map (λ c. c.value) done) (map (λ c. c.value) done)
-values-cond true c done = refl
-values-cond false c done = refl
-
--- one more step: what it stores is due until a later store
-due-noted : (values : List ℕ) (step : Step) (what : Outcome) (done : List Completion) (block : ℕ) → due (noted values (block_of step) what) done block ≡ due values (completed_by step what ++ done) block
-due-noted values step (outcome.Store cache value) done block =
-    let c : Completion = record { cache = cache; block = block_of step; access = store; value = value } in
-    last-set values (block_of step) block value (stored_to block done)
-    ∙ ap (λ rest. option_map (λ o. last_of o rest) (slice_get values block)) (sym (values-cond (is_store_to block c) c (filter (is_store_to block) done)))
-due-noted values step (outcome.Load cache value) done block = refl
-due-noted values step outcome.Sent done block = refl
-due-noted values step outcome.Moved done block = refl
-due-noted values step outcome.Held done block = refl
-due-noted values step outcome.Absent done block = refl
-due-noted values step outcome.Idle done block = refl
-due-noted values step outcome.Blank done block = refl
-due-noted values step outcome.Broken done block = refl
+use Rattle.monitor.specs.Watching.{AreDue, HasSeen, LeadTo, noted_all}
 
 -- with nothing completed the opening values are due
 pub due-opening : (opening : List ℕ) → AreDue opening [] opening
-due-opening opening block = sym (option_map_id (slice_get opening block))
+due-opening opening block = sym (due-nothing opening block)
 
 -- whoever notes each store has the values that are due
 pub noted_all-due : (opening : List ℕ) (steps : List Step) (outcomes : List Outcome) → AreDue opening (completions steps outcomes) (noted_all opening steps outcomes)

@@ -1,3 +1,6 @@
 pub mod Findings
 pub mod Histories
 pub mod Blanks
+pub mod Singles
+pub mod Violations
+pub mod FirstViolations

@@ -2,6 +2,7 @@ pub use Rattle.machine.specs.Completions
 pub mod Scenes
 pub mod Finding
 pub mod Watching
+pub mod Violations
 pub use Rattle.base.specs.Steps
 pub use Rattle.control.specs.LineEffect
 pub use Rattle.machine.specs.Tables

@@ -3,12 +3,17 @@
 
 mod finding;
 mod laws;
+mod safety;
 mod violation;
 mod watch;
 
 pub use laws::{
     blank_has_a_place, due_is_the_last_store, nothing_wrong_where_nothing_was_done,
     one_violation_at_most, watch_knows_what_is_due,
+};
+pub use safety::{
+    no_violation_under_the_own_tables, one_step_more_may_have_the_first,
+    violations_are_what_isnt_safe,
 };
 pub use violation::Violation;
 pub use watch::Watch;

@@ -24,7 +24,8 @@ impl Watch {
     ghost use Rattle.base.specs.Steps.{block_of};
     ghost use Rattle.world.specs.View.{View};
     ghost use Rattle.monitor.specs.Scenes.{Answers, scene_in};
-    ghost use Rattle.monitor.specs.Watching.{AnswersHistory, HasSeen, SeesNext, noted};
+    ghost use Rattle.machine.specs.Completions.{noted};
+    ghost use Rattle.monitor.specs.Watching.{AnswersHistory, HasSeen, SeesNext};
 
     /// A watch over blocks that have their opening values, and to which nothing has happened.
     pub fn open(alloc: Global, opening: &[u64]) -> Result<Watch, NoMemory>

@@ -17,9 +17,7 @@ pub mod Openings
 pub mod Outs
 pub mod Refusals
 pub mod Replays
-pub mod Safety
 pub mod Shapes
-pub mod Singles
 pub mod Splitting
 pub mod Spots
 pub mod Standing

@@ -22,7 +22,7 @@ use Rattle.record.specs.Cells.{all_spots, cell_at, spot_number, spot_of, FitsCel
 use Rattle.record.specs.Putting.{IsInWhole}
 use Rattle.record.specs.Recordable.{AreWhole}
 use Rattle.record.proofs.Listed.{at, at-own, cache-state-at, directory-state-at, some_spot}
-use Rattle.record.proofs.Singles.{same_or_not}
+use Rattle.std.proofs.lemmas.Bool.{cases_eq}
 
 abbrev Stands : Tables → Spot → Type 0
 Stands t s = FitsCell (cell_at t s) × IsInWhole t s
@@ -56,7 +56,7 @@ pub whole-more : (t u : Tables) (c : Cell) → cell_at u (spot_of c) ≡ c → (
 whole-more t u c here others cache directory whole fits = record {
   cache = cache;
   directory = directory;
-  fits = λ s. fits-at t u c s here (others s) (whole.fits s) fits (same_or_not (spot_number s) (spot_number (spot_of c)));
+  fits = λ s. fits-at t u c s here (others s) (whole.fits s) fits (cases_eq (spot_number s) (spot_number (spot_of c)));
 }
 
 pub cache-more : (cells new : cache_table.Cells) (s : CacheState) (e : CacheEvent) (x : CacheEntry) → new ≡ cache_table.with_cell cells s e x → cache_table.IsWhole cells → cache_table.IsWhole new

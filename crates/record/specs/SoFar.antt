@@ -8,7 +8,7 @@ use Rattle.monitor.specs.declared.violation.Violation.{Violation}
 use Rattle.monitor.specs.Watching.{HasSeen}
 use Rattle.record.specs.declared.recording.Entry.{Entry}
 use Rattle.record.specs.Kept.{Kept}
-use Rattle.record.specs.Replaying.{AnswersFirst}
+use Rattle.monitor.specs.Violations.{AnswersFirst}
 
 -- the steps of entries
 abbrev pub steps_in : List Entry → List Step

@@ -4,7 +4,6 @@
 mod cell_parsing;
 mod cells;
 mod fault;
-mod laws;
 mod line;
 mod lines;
 mod parsing;
@@ -16,10 +15,6 @@ mod text_laws;
 mod writing;
 
 pub use fault::{ReadFault, ReadKind};
-pub use laws::{
-    no_violation_under_the_own_tables, one_step_more_may_have_the_first,
-    violations_are_what_isnt_safe,
-};
 pub use recording::{Entry, MOST_ENTRIES, PushFault, Recording};
 pub use replaying::{ReplayFault, Replayed, replay};
 pub use text_laws::{

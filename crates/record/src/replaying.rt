@@ -1,6 +1,7 @@
 ghost use Rattle.std.specs.Prelude.{◌≡◌, [], None, IfOk, IfErr};
 ghost use Rattle.record.specs.Kept.{IsLegal, steps_of};
-ghost use Rattle.record.specs.Replaying.{AnswersFirst, FaultOf};
+ghost use Rattle.monitor.specs.Violations.{AnswersFirst};
+ghost use Rattle.record.specs.Replaying.{FaultOf};
 ghost use Rattle.record.specs.SoFar.{IsSoFar};
 
 use crate::recording::{Entry, Recording};

@@ -10,7 +10,7 @@ use Rattle.monitor.specs.Scenes.{Scene, IsViolation}
 use Rattle.monitor.specs.Watching.{scene_after}
 use Rattle.record.specs.Kept.{Kept}
 use Rattle.record.specs.declared.recording.Entry.{Entry}
-use Rattle.record.specs.Replaying.{IsFirstViolation}
+use Rattle.monitor.specs.Violations.{IsFirstViolation}
 use Rattle.schedule.specs.Choices.{chosen_step}
 use Rattle.schedule.specs.declared.choosing.Choice.{Choice}
 use Rattle.trials.specs.Terms.{Terms}

@@ -22,7 +22,7 @@ use Rattle.schedule.specs.declared.choosing.Choice.{Choice}
 use Rattle.schedule.specs.declared.choosing.Choice.TheVariants.{Offer, Deliver}
 use Rattle.record.specs.declared.recording.Entry.{Entry}
 use Rattle.record.specs.Kept.{Kept, steps_of}
-use Rattle.record.specs.Replaying.{HasNoViolation, IsFirstViolation}
+use Rattle.monitor.specs.Violations.{HasNoViolation, IsFirstViolation}
 use Rattle.trials.specs.Terms.{Terms}
 use Rattle.trials.specs.Moments.{Moment, IsNext, IsPath, cores_after, entry_of, moment_behind, rest_after}
 use Rattle.trials.specs.Going.{Chooses, Course, GoesOn, IsGoing, IsOffered, Makes, choices_on}

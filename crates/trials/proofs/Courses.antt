@@ -18,7 +18,7 @@ use Rattle.schedule.specs.Words.{dice, dice_after}
 use Rattle.schedule.specs.declared.choosing.Choice.{Choice}
 use Rattle.record.specs.declared.recording.Entry.{Entry}
 use Rattle.record.specs.Kept.{Kept, steps_of}
-use Rattle.record.specs.Replaying.{HasNoViolation}
+use Rattle.monitor.specs.Violations.{HasNoViolation}
 use Rattle.trials.specs.Terms.{Terms}
 use Rattle.trials.specs.Moments.{Moment, IsPath, choices_at, first_moment}
 use Rattle.trials.specs.declared.verdict.Verdict.{Verdict}

@@ -8,7 +8,7 @@ use Rattle.machine.specs.Machine.{opened, state_after, outcomes_of}
 use Rattle.machine.specs.Coherence.{Safe}
 use Rattle.monitor.specs.declared.violation.Violation.{Violation}
 use Rattle.record.specs.Kept.{Kept, IsLegal, steps_of, told_by}
-use Rattle.record.specs.Replaying.{IsFirstViolation}
+use Rattle.monitor.specs.Violations.{IsFirstViolation}
 use Rattle.scenario.specs.Tree.{Tree}
 use Rattle.schedule.specs.Words.{word}
 use Rattle.trials.specs.Terms.{Terms}

@@ -6,7 +6,7 @@ use Rattle.scenario.specs.Tree.{Tree}
 use Rattle.scenario.specs.Taking.{offers}
 use Rattle.world.specs.Looks.{all_quiet}
 use Rattle.record.specs.Kept.{Kept, steps_of}
-use Rattle.record.specs.Replaying.{HasNoViolation, IsFirstViolation}
+use Rattle.monitor.specs.Violations.{HasNoViolation, IsFirstViolation}
 use Rattle.trials.specs.declared.verdict.Verdict.{Verdict}
 use Rattle.trials.specs.declared.verdict.Verdict.TheVariants.{Quiet, Cut, Stuck, Broke}
 use Rattle.trials.specs.declared.verdict.TrialResult.{TrialResult}

@@ -25,7 +25,7 @@ pub(crate) fn trials_go_on()
         IsGoing terms tree number c → length c.recording.entries ≡ terms.limit → Chooses c (Some choice) chosen →
         IsTrial terms tree number chosen.recording Cut }
 {
-    record::one_step_more_may_have_the_first();
+    monitor::one_step_more_may_have_the_first();
     scenario::alike_trees_stay_alike();
     schedule::alike_trees_give_the_same_choices();
     schedule::draws_follow_the_words();

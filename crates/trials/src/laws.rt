@@ -26,7 +26,7 @@ pub fn trials_break_where_they_arent_safe()
         IsTrial terms tree number recording verdict →
         HasBroken verdict ↔ (¬ Safe terms.shape terms.tables terms.opening (steps_of recording)) }
 {
-    record::violations_are_what_isnt_safe();
+    monitor::violations_are_what_isnt_safe();
 }
 
 /// Under the protocol's own tables no trial breaks or is stuck, and the completions of each are sequentially consistent.

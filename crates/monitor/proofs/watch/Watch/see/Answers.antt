@@ -1,5 +1,5 @@
 use Rattle.std.proofs.Common.{ap, ◌∙◌}
-use Rattle.monitor.specs.Watching.{noted}
+use Rattle.machine.specs.Completions.{noted}
 use Rattle.monitor.proofs.Histories.{seen-more}
 use Rattle.monitor.proofs.watch.Watch.see.Goals as goal
 

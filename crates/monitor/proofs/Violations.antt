@@ -1,6 +1,7 @@
 -- No step shows a violation exactly where the steps are safe.
 use Rattle.std.proofs.Common.{◌≡◌, ◌⊎◌, inl, inr, ℕ, zero, suc, ◌<◌, ◌+◌, true, false, List, [], ◌∷◌, ◌++◌, length, take, drop, map, Option, Some, None, IsSome, IsTrue, slice_get, refl, sym, ap, ◌∙◌, subst, arith, add-one, append_assoc}
 use Rattle.std.proofs.lemmas.List.{append-nil}
+use Rattle.std.proofs.lemmas.Bool.{cases_eq}
 use Rattle.std.specs.Prelude.{if◌then◌else◌, replicate}
 use Rattle.std.specs.Option.{option_map, option_and_then, IsSomeAnd}
 use Rattle.base.specs.Extent.{Extent}
@@ -21,8 +22,8 @@ use Rattle.monitor.specs.declared.violation.Violation.{Violation}
 use Rattle.monitor.specs.declared.violation.Violation.TheVariants.{Blank, SecondWriter, WriterBesideReader, StaleLoad}
 use Rattle.monitor.specs.Scenes.{HasNone, IsLoadOf}
 use Rattle.monitor.specs.Watching.{scene_after}
-use Rattle.record.specs.Replaying.{HasNoViolation, IsFirstViolation}
-use Rattle.record.proofs.Singles.{same_or_not, writes-reads, SingleAt, length-set, single-next}
+use Rattle.monitor.specs.Violations.{HasNoViolation, IsFirstViolation}
+use Rattle.monitor.proofs.Singles.{writes-reads, SingleAt, length-set, single-next}
 
 -- ---- an opened world has no writer
 
@@ -230,7 +231,7 @@ explained-from shape tables opening steps none before rest c e l =
     let opens = same-place s.blocks opening (block_of at.step) there.0 (after-length tables (opened shape opening) at.front ∙ map-length (opened_block shape.caches) opening) there.1 in
     let was_due = due-there opening (completions_of shape tables opening at.front) (block_of at.step) opens.0 opens.1 in
     let here : due opening before c.block ≡ Some was_due.0 = ap (λ cs. due opening cs c.block) at.earlier ∙ (ap (due opening (completions_of shape tables opening at.front)) loaded.same_block ∙ was_due.1) in
-    elim (same_or_not loaded.value was_due.0) [
+    elim (cases_eq loaded.value was_due.0) [
       | inl same ↦ here ∙ ap Some (sym (loaded.same_value ∙ same))
       | inr differs ↦ absurd (none at.front at.step at.later at.split (StaleLoad (record { 0 = block_of at.step }) loaded.value was_due.0) (refl, record { loaded = loaded.is_load; was_due = was_due.1; differs = differs }))
     ]

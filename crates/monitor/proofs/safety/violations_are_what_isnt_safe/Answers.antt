@@ -1,6 +1,6 @@
 use Rattle.std.proofs.Common.{take, ◌+◌}
-use Rattle.record.proofs.Safety.{none-safe, safe-none, first-before, first-behind}
-use Rattle.record.proofs.laws.violations_are_what_isnt_safe.Goals as goal
+use Rattle.monitor.proofs.Violations.{none-safe, safe-none, first-before, first-behind}
+use Rattle.monitor.proofs.safety.violations_are_what_isnt_safe.Goals as goal
 
 pub returns-clause-none : goal.returns-clause-none
 returns-clause-none c shape tables opening steps = (none-safe shape tables opening steps (c.blank_has_a_place.ensures tables), safe-none shape tables opening steps)

@@ -8,7 +8,9 @@ ghost use Rattle.machine.specs.Tables.{Tables, baseline};
 ghost use Rattle.monitor.specs.Scenes.{HasNone, IsViolation};
 ghost use Rattle.monitor.specs.Watching.{scene_after};
 ghost use Rattle.monitor.specs.declared.violation.Violation.{Violation};
-ghost use Rattle.record.specs.Replaying.{HasNoViolation, IsFirstViolation};
+ghost use Rattle.monitor.specs.Violations.{HasNoViolation, IsFirstViolation};
+
+use crate::laws::blank_has_a_place;
 
 /// Steps have no violation exactly where they are safe. Else the first one is at the last step of the shortest front of
 /// them that isn't.
@@ -20,7 +22,7 @@ pub fn violations_are_what_isnt_safe()
     ensures behind { (shape : Extent) (tables : Tables) (opening : List ℕ) (steps : List Step) (number : ℕ) (violation : Violation) →
         IsFirstViolation shape tables opening steps number violation → ¬ Safe shape tables opening (take (number + 1) steps) }
 {
-    monitor::blank_has_a_place();
+    blank_has_a_place();
 }
 
 /// Under the protocol's own tables no steps have a violation.

@@ -1,6 +1,6 @@
 use Rattle.std.proofs.Common.{None, Some, refl}
-use Rattle.record.proofs.Replays.{first-push}
-use Rattle.record.proofs.laws.one_step_more_may_have_the_first.Goals as goal
+use Rattle.monitor.proofs.FirstViolations.{first-push}
+use Rattle.monitor.proofs.safety.one_step_more_may_have_the_first.Goals as goal
 
 pub returns-clause-none : goal.returns-clause-none
 returns-clause-none c shape tables opening steps step none last = first-push shape tables opening steps step _ None None refl none last

@@ -1,5 +1,6 @@
 -- One writer or many readers of a block: kept by a step that shows no violation.
 use Rattle.std.proofs.Common.{◌≡◌, ◌≢◌, ◌⊎◌, inl, inr, ℕ, zero, suc, ◌<◌, Bool, true, false, List, [], ◌∷◌, length, Option, Some, None, IsTrue, slice_get, slice_set, refl, sym, ap, ◌∙◌, subst, arith}
+use Rattle.std.proofs.lemmas.Bool.{cases_eq}
 use Rattle.std.specs.Prelude.{if◌then◌else◌}
 use Rattle.std.specs.Option.{option_and_then, IsSomeAnd}
 use Rattle.base.specs.Steps.{block_of}
@@ -22,15 +23,6 @@ use Rattle.monitor.specs.declared.violation.Violation.TheVariants.{WriterBesideR
 use Rattle.monitor.specs.Scenes.{Scene, HasNone, IsLeast, IsLookedAt}
 use Rattle.monitor.specs.Watching.{scene_of}
 
-pub same_or_not : (m n : ℕ) → (m ≡ n) ⊎ (m ≢ n)
-same_or_not zero zero = inl refl
-same_or_not zero (suc n) = inr (λ e. absurd (omega (arith, e)))
-same_or_not (suc m) zero = inr (λ e. absurd (omega (arith, e)))
-same_or_not (suc m) (suc n) = elim (same_or_not m n) [
-  | inl e ↦ inl (ap suc e)
-  | inr ne ↦ inr (λ e. ne (omega (arith, e)))
-]
-
 -- ---- the least number for which a fact holds
 
 find-below : (P : ℕ → Type 0) → ((n : ℕ) → P n ⊎ ¬ P n) → (k : ℕ) → ((m : ℕ) × IsLeast P m) ⊎ ((m : ℕ) → m < k → ¬ P m)
@@ -39,7 +31,7 @@ find-below P decide (suc k) = elim (find-below P decide k) [
   | inl found ↦ inl found
   | inr none ↦ elim (decide k) [
     | inl p ↦ inl (k, record { holds = p; least = none })
-    | inr not ↦ inr (λ m h. elim (same_or_not m k) [
+    | inr not ↦ inr (λ m h. elim (cases_eq m k) [
       | inl e ↦ subst (λ n. ¬ P n) (sym e) not
       | inr ne ↦ none m (omega (arith, h, ne))
     ])
@@ -88,7 +80,7 @@ and-or-not P Q (inl p) (inr nq) = inr (λ both. nq both.1)
 and-or-not P Q (inr np) q = inr (λ both. np both.0)
 
 other-or-not : (m n : ℕ) → (m ≢ n) ⊎ ¬ (m ≢ n)
-other-or-not m n = elim (same_or_not m n) [
+other-or-not m n = elim (cases_eq m n) [
   | inl e ↦ inr (λ ne. ne e)
   | inr ne ↦ inl ne
 ]
@@ -107,9 +99,9 @@ single-looked : (scene : Scene) → IsLookedAt scene.outcome → HasNone scene �
 single-looked scene looked none writer reader writes reads =
     let block = block_of scene.step in
     let first = least-of (λ c. Writes scene.state c block) (λ c. writes-or-not scene.state c block) writer writes in
-    elim (same_or_not writer reader) [
+    elim (cases_eq writer reader) [
       | inl e ↦ e
-      | inr ne ↦ elim (same_or_not reader first.0) [
+      | inr ne ↦ elim (cases_eq reader first.0) [
         | inl e ↦ absurd (beside-shown scene looked none first.0 first.1 writer (λ f. ne (f ∙ sym e)) (writes-reads scene.state writer block writes))
         | inr beside ↦ absurd (beside-shown scene looked none first.0 first.1 reader beside reads)
       ]
@@ -169,7 +161,7 @@ set-same (x ∷ xs) (suc i) b c e same = ap (λ ys. x ∷ ys) (set-same xs i b c
 same-or-looked : (tables : Tables) (s : State) (step : Step) (found : Option BlockState) (block : ℕ) → slice_get s.blocks (block_of step) ≡ found
     → SameLines s (next_at tables s step found).state block ⊎ (IsLookedAt (next_at tables s step found).outcome × (block ≡ block_of step))
 same-or-looked tables s step None block there = inl (λ cache. refl)
-same-or-looked tables s step (Some b) block there = elim (same_or_not block (block_of step)) [
+same-or-looked tables s step (Some b) block there = elim (cases_eq block (block_of step)) [
   | inr ne ↦ inl (λ cache. ap (λ o. option_and_then (λ k. slice_get k.lines cache) o) (get-set-other s.blocks (block_of step) block (transition tables step b).block ne))
   | inl e ↦ elim (kept-or-looked (decision_of tables step b) b) [
     | inl kept ↦ inl (λ cache. ap (λ bs. option_and_then (λ k. slice_get k.lines cache) (slice_get bs block)) (set-same s.blocks (block_of step) b (transition tables step b).block there kept))
