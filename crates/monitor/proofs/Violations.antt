@@ -22,7 +22,7 @@ use Rattle.monitor.specs.declared.violation.Violation.{Violation}
 use Rattle.monitor.specs.declared.violation.Violation.TheVariants.{Blank, SecondWriter, WriterBesideReader, StaleLoad}
 use Rattle.monitor.specs.Scenes.{HasNone, IsLoadOf}
 use Rattle.monitor.specs.Watching.{scene_after}
-use Rattle.monitor.specs.Violations.{HasNoViolation, IsFirstViolation}
+use Rattle.monitor.specs.Violations.{HasNoViolation, IsFirstViolation, AnswersFirst}
 use Rattle.monitor.proofs.Singles.{writes-reads, SingleAt, length-set, single-next}
 
 -- ---- an opened world has no writer
@@ -318,3 +318,15 @@ first-behind shape tables opening steps number violation first none =
     let at = get-within steps number shown.step shown.there in
     let none' : HasNoViolation shape tables opening (take (suc number) steps) = subst (λ n. HasNoViolation shape tables opening (take n steps)) (add-one number) none in
     subst (λ fs. HasNone (scene_after shape tables opening fs shown.step)) at.1 (none' number shown.step at.0) violation shown.shown.shown
+
+-- ---- the answer of whoever looked for the first violation
+
+pub answered-none : (shape : Extent) (tables : Tables) (opening : List ℕ) (steps : List Step) (found : Option (ℕ × Violation)) →
+    found ≡ None → AnswersFirst shape tables opening steps found → HasNoViolation shape tables opening steps
+answered-none shape tables opening steps found none answers = subst (AnswersFirst shape tables opening steps) none answers
+
+pub none-answered : (shape : Extent) (tables : Tables) (opening : List ℕ) (steps : List Step) (found : Option (ℕ × Violation)) →
+    HasNoViolation shape tables opening steps → AnswersFirst shape tables opening steps found → found ≡ None
+none-answered shape tables opening steps None none answers = refl
+none-answered shape tables opening steps (Some (number, violation)) none first =
+    absurd (none number first.shown.step first.shown.there violation first.shown.shown.shown)

@@ -1,6 +1,6 @@
 //! Violations are what isn't safe.
 
-ghost use Rattle.std.specs.Prelude.{◌≡◌, ◌↔◌, ◌+◌, ◌++◌, ◌∷◌, [], ℕ, List, length, take};
+ghost use Rattle.std.specs.Prelude.{◌≡◌, ◌↔◌, ◌+◌, ◌++◌, ◌∷◌, [], ℕ, List, None, Option, length, take};
 ghost use Rattle.base.specs.Extent.{Extent, IsWithinLimits};
 ghost use Rattle.base.specs.declared.step.Step.{Step};
 ghost use Rattle.machine.specs.Coherence.{Safe};
@@ -8,7 +8,7 @@ ghost use Rattle.machine.specs.Tables.{Tables, baseline};
 ghost use Rattle.monitor.specs.Scenes.{HasNone, IsViolation};
 ghost use Rattle.monitor.specs.Watching.{scene_after};
 ghost use Rattle.monitor.specs.declared.violation.Violation.{Violation};
-ghost use Rattle.monitor.specs.Violations.{HasNoViolation, IsFirstViolation};
+ghost use Rattle.monitor.specs.Violations.{HasNoViolation, IsFirstViolation, AnswersFirst};
 
 use crate::laws::blank_has_a_place;
 
@@ -21,14 +21,18 @@ pub fn violations_are_what_isnt_safe()
         IsFirstViolation shape tables opening steps number violation → Safe shape tables opening (take number steps) }
     ensures behind { (shape : Extent) (tables : Tables) (opening : List ℕ) (steps : List Step) (number : ℕ) (violation : Violation) →
         IsFirstViolation shape tables opening steps number violation → ¬ Safe shape tables opening (take (number + 1) steps) }
+    ensures answer { (shape : Extent) (tables : Tables) (opening : List ℕ) (steps : List Step) (found : Option (ℕ × Violation)) →
+        AnswersFirst shape tables opening steps found → (found ≡ None ↔ Safe shape tables opening steps) }
 {
     blank_has_a_place();
 }
 
 /// Under the protocol's own tables no steps have a violation.
 pub fn no_violation_under_the_own_tables()
-    ensures { (shape : Extent) (opening : List ℕ) (steps : List Step) → IsWithinLimits shape → length opening ≡ shape.blocks →
+    ensures none { (shape : Extent) (opening : List ℕ) (steps : List Step) → IsWithinLimits shape → length opening ≡ shape.blocks →
         HasNoViolation shape baseline opening steps }
+    ensures answer { (shape : Extent) (opening : List ℕ) (steps : List Step) (found : Option (ℕ × Violation)) →
+        IsWithinLimits shape → length opening ≡ shape.blocks → AnswersFirst shape baseline opening steps found → found ≡ None }
 {
     machine::safe();
     violations_are_what_isnt_safe();

@@ -1,5 +1,5 @@
 use Rattle.std.proofs.Common.{take, ◌+◌}
-use Rattle.monitor.proofs.Violations.{none-safe, safe-none, first-before, first-behind}
+use Rattle.monitor.proofs.Violations.{none-safe, safe-none, first-before, first-behind, none-answered, answered-none}
 use Rattle.monitor.proofs.safety.violations_are_what_isnt_safe.Goals as goal
 
 pub returns-clause-none : goal.returns-clause-none
@@ -12,3 +12,9 @@ returns-clause-before c shape tables opening steps number violation first =
 pub returns-clause-behind : goal.returns-clause-behind
 returns-clause-behind c shape tables opening steps number violation first safe =
     first-behind shape tables opening steps number violation first (safe-none shape tables opening (take (number + 1) steps) safe)
+
+pub returns-clause-answer : goal.returns-clause-answer
+returns-clause-answer c shape tables opening steps found answers = (
+  λ none. none-safe shape tables opening steps (c.blank_has_a_place.ensures tables) (answered-none shape tables opening steps found none answers),
+  λ safe. none-answered shape tables opening steps found (safe-none shape tables opening steps safe) answers,
+)
