@@ -67,13 +67,13 @@ none-last shape tables opening steps step none last k s e =
     ]
 
 -- the violation found so far, or else the one that is seen after the step of this number
-abbrev first_of : Option (ℕ × Violation) → ℕ → Option Violation → Option (ℕ × Violation)
-first_of found number seen = option_or found (option_zip (Some number) seen)
+abbrev pub first_seen : Option (ℕ × Violation) → ℕ → Option Violation → Option (ℕ × Violation)
+first_seen found number seen = option_or found (option_zip (Some number) seen)
 
 -- one more step
 pub first-push : (shape : Extent) (tables : Tables) (opening : List ℕ) (steps : List Step) (step : Step) (n : ℕ) (found : Option (ℕ × Violation)) (seen : Option Violation) →
     n ≡ length steps → AnswersFirst shape tables opening steps found → Answers (scene_after shape tables opening steps step) seen →
-    AnswersFirst shape tables opening (steps ++ step ∷ []) (first_of found n seen)
+    AnswersFirst shape tables opening (steps ++ step ∷ []) (first_seen found n seen)
 first-push shape tables opening steps step n None None is none last = none-last shape tables opening steps step none last
 first-push shape tables opening steps step n None (Some violation) is none last = record {
   shown = record {

@@ -16,7 +16,7 @@ use Rattle.record.specs.declared.recording.Entry.{Entry}
 use Rattle.record.specs.Kept.{Kept, steps_of}
 use Rattle.record.specs.Replaying.{IsFirstToDiffer}
 use Rattle.monitor.specs.Violations.{AnswersFirst}
-use Rattle.monitor.proofs.FirstViolations.{first_of, first-push}
+use Rattle.monitor.proofs.FirstViolations.{first_seen, first-push}
 use Rattle.record.specs.SoFar.{IsSoFar, steps_in}
 
 outcome-at : (tables : Tables) (s : State) (steps : List Step) (k : ℕ) (step : Step) → slice_get steps k ≡ Some step → slice_get (outcomes_of tables s steps) k ≡ Some (next tables (state_after tables s (take k steps)) step).outcome
@@ -65,7 +65,7 @@ outcomes-push tables s (x ∷ xs) step = ap (λ os. (next tables s x).outcome �
 pub push-so-far : (r : Kept) (done : List Entry) (e : Entry) (world new : View) (old_watch watch : List ℕ) (entries : List Entry) (violation : Option (ℕ × Violation)) (seen : Option Violation) (what : Outcome) (n : ℕ) →
     n ≡ length done → IsSoFar r done world old_watch entries violation → next world.tables world.state e.step ≡ stepped new.state what → new.shape ≡ world.shape → new.tables ≡ world.tables → what ≡ e.outcome →
     AnswersHistory new old_watch e.step what seen → SeesNext new old_watch e.step what watch →
-    IsSoFar r (done ++ e ∷ []) new watch (entries ++ record { step = e.step; outcome = what } ∷ []) (first_of violation n seen)
+    IsSoFar r (done ++ e ∷ []) new watch (entries ++ record { step = e.step; outcome = what } ∷ []) (first_seen violation n seen)
 push-so-far r done e world new old_watch watch entries violation seen what n is h made shape tables told answers sees =
     let s : State = opened r.shape r.opening in
     let steps : steps_in (done ++ e ∷ []) ≡ steps_in done ++ e.step ∷ [] = map_push (λ (e : Entry). e.step) done e in
@@ -88,16 +88,16 @@ push-so-far r done e world new old_watch watch entries violation seen what n is 
       same = ap (λ l. l ++ record { step = e.step; outcome = what } ∷ []) h.same ∙ ap (λ o. let x : Entry = record { step = e.step; outcome = o } in done ++ x ∷ []) told;
       legal = map_push (λ (e : Entry). e.outcome) done e ∙ ap (λ os. os ++ e.outcome ∷ []) h.legal ∙ ap (λ o. outcomes_of r.tables s (steps_in done) ++ o ∷ []) (sym told ∙ ap (λ (n : Next). n.outcome) (sym here))
           ∙ sym (outcomes-push r.tables s (steps_in done) e.step) ∙ ap (outcomes_of r.tables s) (sym steps);
-      first = subst (λ (l : List Step). AnswersFirst r.shape r.tables r.opening l (first_of violation n seen)) (sym steps)
+      first = subst (λ (l : List Step). AnswersFirst r.shape r.tables r.opening l (first_seen violation n seen)) (sym steps)
           (first-push r.shape r.tables r.opening (steps_in done) e.step n violation seen (is ∙ sym (length-map done (λ (e : Entry). e.step))) h.first scene);
     }
 
 pub one-more : (r : Kept) (k : ℕ) (d : Entry) (world new : View) (old_watch watch : List ℕ) (entries : List Entry) (violation : Option (ℕ × Violation)) (seen : Option Violation) (what : Outcome) →
     k < length r.entries → IsSoFar r (take k r.entries) world old_watch entries violation → next world.tables world.state (get_or r.entries k d).step ≡ stepped new.state what → new.shape ≡ world.shape → new.tables ≡ world.tables → what ≡ (get_or r.entries k d).outcome →
     AnswersHistory new old_watch (get_or r.entries k d).step what seen → SeesNext new old_watch (get_or r.entries k d).step what watch →
-    IsSoFar r (take (k + 1) r.entries) new watch (entries ++ record { step = (get_or r.entries k d).step; outcome = what } ∷ []) (first_of violation k seen)
+    IsSoFar r (take (k + 1) r.entries) new watch (entries ++ record { step = (get_or r.entries k d).step; outcome = what } ∷ []) (first_seen violation k seen)
 one-more r k d world new old_watch watch entries violation seen what low h made shape tables told answers sees =
-    subst (λ (done : List Entry). IsSoFar r done new watch (entries ++ record { step = (get_or r.entries k d).step; outcome = what } ∷ []) (first_of violation k seen)) (sym (take_more r.entries k d low))
+    subst (λ (done : List Entry). IsSoFar r done new watch (entries ++ record { step = (get_or r.entries k d).step; outcome = what } ∷ []) (first_seen violation k seen)) (sym (take_more r.entries k d low))
     (push-so-far r (take k r.entries) (get_or r.entries k d) world new old_watch watch entries violation seen what k (sym (length-take-le k r.entries (omega (arith, low)))) h made shape tables told answers sees)
 
 -- the same, of equal entries
@@ -107,11 +107,11 @@ differs-told r told is = subst (λ (told : List Entry). (k : ℕ) (d : Entry) (w
 pub one-more-told : (r : Kept) (told : List Entry) → told ≡ r.entries → (k : ℕ) (d : Entry) (world new : View) (old_watch watch : List ℕ) (entries : List Entry) (violation : Option (ℕ × Violation)) (seen : Option Violation) (what : Outcome) →
     k < length told → IsSoFar r (take k told) world old_watch entries violation → next world.tables world.state (get_or told k d).step ≡ stepped new.state what → new.shape ≡ world.shape → new.tables ≡ world.tables → what ≡ (get_or told k d).outcome →
     AnswersHistory new old_watch (get_or told k d).step what seen → SeesNext new old_watch (get_or told k d).step what watch →
-    IsSoFar r (take (k + 1) told) new watch (entries ++ record { step = (get_or told k d).step; outcome = what } ∷ []) (first_of violation k seen)
+    IsSoFar r (take (k + 1) told) new watch (entries ++ record { step = (get_or told k d).step; outcome = what } ∷ []) (first_seen violation k seen)
 one-more-told r told is = subst (λ (told : List Entry). (k : ℕ) (d : Entry) (world new : View) (old_watch watch : List ℕ) (entries : List Entry) (violation : Option (ℕ × Violation)) (seen : Option Violation) (what : Outcome) →
     k < length told → IsSoFar r (take k told) world old_watch entries violation → next world.tables world.state (get_or told k d).step ≡ stepped new.state what → new.shape ≡ world.shape → new.tables ≡ world.tables → what ≡ (get_or told k d).outcome →
     AnswersHistory new old_watch (get_or told k d).step what seen → SeesNext new old_watch (get_or told k d).step what watch →
-    IsSoFar r (take (k + 1) told) new watch (entries ++ record { step = (get_or told k d).step; outcome = what } ∷ []) (first_of violation k seen)) (sym is) (one-more r)
+    IsSoFar r (take (k + 1) told) new watch (entries ++ record { step = (get_or told k d).step; outcome = what } ∷ []) (first_seen violation k seen)) (sym is) (one-more r)
 
 pub same-so-far : (r : Kept) (done : List Entry) (world : View) (watch : List ℕ) (entries es : List Entry) (violation v : Option (ℕ × Violation)) → es ≡ entries → v ≡ violation → IsSoFar r done world watch entries violation → IsSoFar r done world watch es v
 same-so-far r done world watch entries es violation v e f h =

@@ -1,6 +1,6 @@
 -- What a recording is, and when it is legal.
 use Rattle.std.specs.Prelude.{◌≡◌, ◌≤◌, ℕ, List, [], ◌∷◌, ◌++◌, length, map}
-use Rattle.base.specs.Extent.{Extent}
+use Rattle.base.specs.Extent.{Extent, IsWithinLimits}
 use Rattle.base.specs.declared.step.Step.{Step}
 use Rattle.base.specs.declared.step.Outcome.{Outcome}
 use Rattle.machine.specs.Tables.{Tables}
@@ -14,8 +14,9 @@ pub record Kept : Type 0 where
   pub opening : List ℕ
   pub entries : List Entry
 
--- one opening value for each block, and at most a million entries
+-- a shape within the limits, one opening value for each block, and at most a million entries
 pub record IsKept (r : Kept) : Type 0 where
+  pub within : IsWithinLimits r.shape
   pub each : length r.opening ≡ r.shape.blocks
   pub few : length r.entries ≤ 1000000
 

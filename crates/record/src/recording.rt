@@ -49,6 +49,7 @@ impl Model for Recording {
 
 impl Recording {
     ghost use Rattle.std.specs.Prelude.{◌≡◌, ◌≢◌, ◌≤◌, ◌↔◌, ◌∷◌, ◌++◌, [], IfOk, IsErrOf, OnErr, OnOk, length};
+    ghost use Rattle.base.specs.Extent.{IsWithinLimits};
     ghost use Rattle.record.specs.Kept.{opened_recording, with_entry};
     ghost use Rattle.world.specs.declared.worlds.OpenFault.TheVariants as fault;
 
@@ -83,6 +84,7 @@ impl Recording {
         opening: Vec<u64>,
         entries: Vec<Entry>,
     ) -> Recording
+        requires within { IsWithinLimits shape }
         requires each { length opening.items ≡ shape.blocks }
         requires few { length entries.items ≤ 1000000 }
         ensures { result ≡ record { shape = shape; tables = tables; opening = opening.items; entries = entries.items } }
@@ -114,7 +116,8 @@ impl Recording {
 
     /// How many caches and blocks the world has.
     pub fn shape(&self) -> Shape
-        ensures { result ≡ self.now.shape }
+        ensures value { result ≡ self.now.shape }
+        ensures within { IsWithinLimits self.now.shape }
     {
         self.shape
     }

@@ -1,4 +1,6 @@
-ghost use Rattle.std.specs.Prelude.{◌≡◌, [], None, IfOk, IfErr};
+ghost use Rattle.std.specs.Prelude.{◌≡◌, ◌↔◌, [], None, IfOk, IfErr};
+ghost use Rattle.machine.specs.Coherence.{Safe};
+ghost use Rattle.machine.specs.Tables.{baseline};
 ghost use Rattle.record.specs.Kept.{IsLegal, steps_of};
 ghost use Rattle.monitor.specs.Violations.{AnswersFirst};
 ghost use Rattle.record.specs.Replaying.{FaultOf};
@@ -6,7 +8,7 @@ ghost use Rattle.record.specs.SoFar.{IsSoFar};
 
 use crate::recording::{Entry, Recording};
 use base::Outcome;
-use monitor::{Violation, Watch};
+use monitor::{Violation, Watch, no_violation_under_the_own_tables, violations_are_what_isnt_safe};
 use std::alloc::Global;
 use thiserror::Error;
 use world::World;
@@ -40,13 +42,18 @@ pub enum ReplayFault {
 /// Makes the steps of a recording in a world of its own, from the recording's opening values and under its tables.
 ///
 /// It is refused `Differs` exactly where the recording isn't legal, memory aside: all outcomes are compared, also those
-/// behind a violation.
+/// behind a violation. No violation is found exactly where the steps are safe: where each block always has one writer or
+/// many readers, no blank cell is met, and each load returns the latest store. Under the protocol's own tables they are.
 pub fn replay(alloc: Global, recording: &Recording) -> Result<Replayed, ReplayFault>
     ensures legal { IfOk result (λ replayed. IsLegal recording.now) }
     ensures entries { IfOk result (λ replayed. replayed.entries.items ≡ recording.now.entries) }
     ensures violation { IfOk result (λ replayed. AnswersFirst recording.now.shape recording.now.tables recording.now.opening (steps_of recording.now) replayed.violation) }
+    ensures safe { IfOk result (λ replayed. replayed.violation ≡ None ↔ Safe recording.now.shape recording.now.tables recording.now.opening (steps_of recording.now)) }
+    ensures clean { recording.now.tables ≡ baseline → IfOk result (λ replayed. replayed.violation ≡ None) }
     ensures differs { IfErr result (FaultOf recording.now) }
 {
+    violations_are_what_isnt_safe();
+    no_violation_under_the_own_tables();
     let opening = recording.opening();
     let Ok(values) = Vec::from_slice(alloc, opening) else {
         return Err(ReplayFault::NoMemory);
