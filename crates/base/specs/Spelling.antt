@@ -1,5 +1,5 @@
-use Rattle.std.specs.Prelude.{◌≡◌, ◌≢◌, ℕ, ◌<◌, ◌^◌, ⊤, List, [], ◌∷◌, codes, eqb}
-use Rattle.std.specs.List.{slice_split}
+use Rattle.std.specs.Prelude.{◌≡◌, ◌≢◌, ℕ, ◌<◌, ◌^◌, ⊤, List, [], ◌∷◌, ◌++◌, codes, eqb}
+use Rattle.std.specs.List.{flat_map, slice_split}
 use Rattle.std.specs.Fmt.{decimal}
 use Rattle.base.specs.declared.step.Ask.{Ask}
 use Rattle.base.specs.declared.step.Ask.TheVariants.{Load, Store, Replace}
@@ -13,6 +13,15 @@ use Rattle.base.specs.declared.step.Outcome.TheVariants as outcome
 -- the words of a line, which stand between its blanks
 abbrev pub words : List ℕ → List (List ℕ)
 words line = slice_split (λ b. eqb b 32) line
+
+-- words with a blank before each
+abbrev pub spaced : List (List ℕ) → List ℕ
+spaced words = flat_map (λ word. 32 ∷ word) words
+
+-- words with a blank between two, and none at the ends
+abbrev pub joined : List (List ℕ) → List ℕ
+joined [] = []
+joined (word ∷ words) = word ++ spaced words
 
 -- the words that spell what a core asks
 abbrev pub ask_words : Ask → List (List ℕ)

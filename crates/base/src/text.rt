@@ -1,8 +1,10 @@
 //! Steps and outcomes as text: words with one blank between two.
 
 mod outcomes;
+mod short;
 mod steps;
 mod words;
 
+pub use short::Text;
 pub use steps::spells_one_step;
 pub use words::{cut, number_of, small_number_of};

@@ -1,8 +1,9 @@
-ghost use Rattle.std.specs.Prelude.{MatchOption};
-ghost use Rattle.base.specs.Spelling.{IsNoOutcome, IsOutcomeLine, IsNoOutcomeWord, IsOutcomeWord};
+ghost use Rattle.std.specs.Prelude.{◌≡◌, ◌≤◌, MatchOption, length};
+ghost use Rattle.base.specs.Spelling.{joined, outcome_words, FitsOutcome, IsNoOutcome, IsOutcomeLine, IsNoOutcomeWord, IsOutcomeWord};
 
 use crate::ids::CacheId;
 use crate::step::Outcome;
+use crate::text::short::Text;
 use crate::text::words::{cut, small_and_number};
 use std::fmt;
 
@@ -45,18 +46,39 @@ fn bare_outcome(word: &[u8]) -> Option<Outcome>
     }
 }
 
+impl Outcome {
+    /// The outcome's text.
+    pub fn text(self) -> Text
+        ensures text { result ≡ joined (outcome_words self) }
+        ensures short { length result ≤ 50 }
+        ensures fits { FitsOutcome self }
+    {
+        let mut text = Text::new();
+        match self {
+            Outcome::Sent => text.push(b"sent"),
+            Outcome::Moved => text.push(b"moved"),
+            Outcome::Load { cache, value } => {
+                text.push(b"load");
+                text.push_number(u64::from(cache.0));
+                text.push_number(value);
+            }
+            Outcome::Store { cache, value } => {
+                text.push(b"store");
+                text.push_number(u64::from(cache.0));
+                text.push_number(value);
+            }
+            Outcome::Held => text.push(b"held"),
+            Outcome::Absent => text.push(b"absent"),
+            Outcome::Idle => text.push(b"idle"),
+            Outcome::Blank => text.push(b"blank"),
+            Outcome::Broken => text.push(b"broken"),
+        }
+        text
+    }
+}
+
 impl fmt::Display for Outcome {
     fn fmt<W: fmt::Write>(&self, f: &mut fmt::Formatter<W>) -> fmt::Result {
-        match *self {
-            Outcome::Sent => write!(f, "sent"),
-            Outcome::Moved => write!(f, "moved"),
-            Outcome::Load { cache, value } => write!(f, "load {} {value}", cache.0),
-            Outcome::Store { cache, value } => write!(f, "store {} {value}", cache.0),
-            Outcome::Held => write!(f, "held"),
-            Outcome::Absent => write!(f, "absent"),
-            Outcome::Idle => write!(f, "idle"),
-            Outcome::Blank => write!(f, "blank"),
-            Outcome::Broken => write!(f, "broken"),
-        }
+        self.text().fmt(f)
     }
 }

@@ -1,8 +1,10 @@
-ghost use Rattle.std.specs.Prelude.{◌≡◌, MatchOption, codes};
-ghost use Rattle.base.specs.Spelling.{words, ask_words, IsSpelled, IsNoAsk, IsNoStep, IsStepLine, IsStepBehind, IsNoStepBehind, SpellsOneStep};
+ghost use Rattle.std.specs.Prelude.{◌≡◌, ◌≤◌, ◌+◌, ◌++◌, MatchOption, codes, length};
+ghost use Rattle.base.specs.Spelling.{words, joined, spaced, ask_words, step_words, FitsAsk, FitsStep};
+ghost use Rattle.base.specs.Spelling.{IsSpelled, IsNoAsk, IsNoStep, IsStepLine, IsStepBehind, IsNoStepBehind, SpellsOneStep};
 
 use crate::ids::{BlockId, CacheId};
 use crate::step::{Ask, Step};
+use crate::text::short::Text;
 use crate::text::words::{cut, only_number, small_and_number, small_number_of, two_small_numbers};
 use std::fmt;
 
@@ -101,24 +103,61 @@ fn response_step(line: &[u8]) -> Option<Step>
     })
 }
 
-impl fmt::Display for Ask {
-    fn fmt<W: fmt::Write>(&self, f: &mut fmt::Formatter<W>) -> fmt::Result {
-        match *self {
-            Ask::Load => write!(f, "load"),
-            Ask::Store(value) => write!(f, "store {value}"),
-            Ask::Replace => write!(f, "replace"),
+impl Step {
+    /// The step's text.
+    pub fn text(self) -> Text
+        ensures text { result ≡ joined (step_words self) }
+        ensures short { length result ≤ 80 }
+        ensures fits { FitsStep self }
+    {
+        let mut text = Text::new();
+        match self {
+            Step::Ask { cache, block, ask } => {
+                text.push(b"ask");
+                text.push_number(u64::from(cache.0));
+                text.push_number(u64::from(block.0));
+                push_ask(&mut text, ask);
+            }
+            Step::Request { block, index } => {
+                text.push(b"request");
+                text.push_number(u64::from(block.0));
+                text.push_number(index);
+            }
+            Step::Forward { block, cache } => {
+                text.push(b"forward");
+                text.push_number(u64::from(block.0));
+                text.push_number(u64::from(cache.0));
+            }
+            Step::Response { block, index } => {
+                text.push(b"response");
+                text.push_number(u64::from(block.0));
+                text.push_number(index);
+            }
         }
+        text
+    }
+}
+
+/// Adds what a core asks, with a blank before each word.
+fn push_ask(text: &mut Text, ask: Ask)
+    requires { length text.old ≤ 50 }
+    ensures text { text.new ≡ text.old ++ spaced (ask_words ask) }
+    ensures short { length text.new ≤ length text.old + 28 }
+    ensures fits { FitsAsk ask }
+{
+    match ask {
+        Ask::Load => text.push_word(b"load"),
+        Ask::Store(value) => {
+            text.push_word(b"store");
+            text.push_number(value);
+        }
+        Ask::Replace => text.push_word(b"replace"),
     }
 }
 
 impl fmt::Display for Step {
     fn fmt<W: fmt::Write>(&self, f: &mut fmt::Formatter<W>) -> fmt::Result {
-        match *self {
-            Step::Ask { cache, block, ask } => write!(f, "ask {} {} {ask}", cache.0, block.0),
-            Step::Request { block, index } => write!(f, "request {} {index}", block.0),
-            Step::Forward { block, cache } => write!(f, "forward {} {}", block.0, cache.0),
-            Step::Response { block, index } => write!(f, "response {} {index}", block.0),
-        }
+        self.text().fmt(f)
     }
 }
 
