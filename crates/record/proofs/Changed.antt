@@ -7,7 +7,7 @@ use Rattle.machine.specs.Tables.{Tables}
 use Rattle.record.specs.declared.cells.Spot.{Spot}
 use Rattle.record.specs.Cells.{cell_at, cell_words}
 use Rattle.record.specs.Text.{line, is_changed, changed}
-use Rattle.record.specs.Putting.{changed_line}
+use Rattle.record.specs.Pieces.{cell_piece}
 
 pub changed-cons : (tables : Tables) (spot : Spot) (spots : List Spot) (b : Bool) → is_changed tables spot ≡ b → changed tables (spot ∷ spots) ≡ cond b (cell_at tables spot ∷ changed tables spots) (changed tables spots)
 changed-cons tables spot spots true e = ap (λ t. map (cell_at tables) (cond t (spot ∷ filter (is_changed tables) spots) (filter (is_changed tables) spots))) e
@@ -33,10 +33,10 @@ count-more tables spots k d b low e =
     one false e = ap length (changed-cons tables (get_or spots k d) [] false e)
 
 -- the lines of the cells that differ
-pub changed-lines : (tables : Tables) (spots : List Spot) → flat_map (changed_line tables) spots ≡ flat_map line (map cell_words (changed tables spots))
+pub changed-lines : (tables : Tables) (spots : List Spot) → flat_map (cell_piece tables) spots ≡ flat_map line (map cell_words (changed tables spots))
 changed-lines tables [] = refl
 changed-lines tables (spot ∷ spots) =
-    elim (is_changed tables spot) as (λ b. cond b (line (cell_words (cell_at tables spot))) [] ++ flat_map (changed_line tables) spots ≡ flat_map line (map cell_words (map (cell_at tables) (cond b (spot ∷ filter (is_changed tables) spots) (filter (is_changed tables) spots))))) [
+    elim (is_changed tables spot) as (λ b. cond b (line (cell_words (cell_at tables spot))) [] ++ flat_map (cell_piece tables) spots ≡ flat_map line (map cell_words (map (cell_at tables) (cond b (spot ∷ filter (is_changed tables) spots) (filter (is_changed tables) spots))))) [
       | true ↦ ap (λ l. line (cell_words (cell_at tables spot)) ++ l) (changed-lines tables spots)
       | false ↦ changed-lines tables spots
     ]

@@ -23,7 +23,8 @@ use Rattle.record.specs.declared.cells.Cell.TheVariants as cell
 use Rattle.record.specs.declared.recording.Entry.{Entry}
 use Rattle.record.specs.Cells.{all_spots, cache_entry_words, directory_entry_words, cell_at, cell_words, spot_number}
 use Rattle.record.specs.Kept.{Kept}
-use Rattle.record.specs.Text.{text, line, lines, joined, shape_words, opening_words, cells_words, entries_words, entry_words, end_words, is_same, is_changed, changed, changed_cells}
+use Rattle.base.specs.Spelling.{joined}
+use Rattle.record.specs.Text.{text, line, lines, shape_words, opening_words, cells_words, entries_words, entry_words, end_words, is_same, is_changed, changed, changed_cells}
 use Rattle.record.specs.Grammar.{FitsEntry, header}
 use Rattle.record.specs.declared.fault.ReadKind.{ReadKind}
 use Rattle.record.specs.Refused.{IsOutside, IsRefused}

@@ -15,6 +15,7 @@ pub mod Names
 pub mod Naming
 pub mod Openings
 pub mod Outs
+pub mod PieceAt
 pub mod Refusals
 pub mod Replays
 pub mod Shapes

@@ -6,7 +6,7 @@ use Rattle.std.proofs.lemmas.Grind.{flat_map-append}
 use Rattle.std.specs.List.{flat_map}
 use Rattle.std.specs.Io.KnownBytes.{Appends}
 use Rattle.std.proofs.KnownBytes.{Appends-trans, Appends-nil}
-use Rattle.record.specs.Putting.{IsOut, IsCutOff}
+use Rattle.record.specs.Pieces.{IsOut, IsCutOff}
 
 -- nothing has gone out yet
 pub out-none : (b : Option (List ℕ)) (a : ℕ) → IsOut b b [] a a

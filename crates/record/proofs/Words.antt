@@ -2,10 +2,18 @@
 use Rattle.std.proofs.Common.{◌≡◌, ◌≢◌, Bool, arith, ℕ, ◌+◌, ◌<◌, List, [], ◌∷◌, ◌++◌, length, take, get_or, map, refl, ap, sym, ◌∙◌, append_assoc}
 use Rattle.std.proofs.lemmas.List.{map_more, append-nil}
 use Rattle.std.proofs.lemmas.Grind.{flat_map-append}
-use Rattle.std.specs.List.{join_with_byte, slice_split}
+use Rattle.std.specs.List.{flat_map, join_with_byte, slice_split}
+use Rattle.std.specs.Prelude.{codes}
+use Rattle.std.specs.Fmt.{decimal}
 use Rattle.std.proofs.lemmas.List.Splits.{join_with_byte-slice_split, length-slice_split}
-use Rattle.base.specs.Spelling.{words}
-use Rattle.record.specs.Text.{spaced, joined}
+use Rattle.base.specs.Spelling.{words, ask_words, step_words, outcome_words}
+use Rattle.base.specs.declared.step.Step.{Step}
+use Rattle.base.specs.declared.step.Step.TheVariants as step
+use Rattle.base.specs.declared.step.Outcome.{Outcome}
+use Rattle.base.specs.declared.step.Outcome.TheVariants as outcome
+use Rattle.record.specs.declared.recording.Entry.{Entry}
+use Rattle.record.specs.Text.{entry_words}
+use Rattle.base.specs.Spelling.{spaced, joined}
 
 -- one word more
 pub spaced-more : {X : Type 0} (f : X → List ℕ) (xs : List X) (i : ℕ) (d : X) → i < length xs → spaced (map f (take (i + 1) xs)) ≡ spaced (map f (take i xs)) ++ (32 ∷ f (get_or xs i d))
@@ -39,3 +47,35 @@ not_two p rest all a b x y e f = let n = length-slice_split p rest in absurd (om
 -- three words in front of others aren't alone
 pub not_three : (p : ℕ → Bool) (rest : List ℕ) (all : List (List ℕ)) (a b c x y z : List ℕ) → all ≡ a ∷ b ∷ c ∷ slice_split p rest → all ≢ x ∷ y ∷ z ∷ []
 not_three p rest all a b c x y z e f = let n = length-slice_split p rest in absurd (omega (arith, n, ap length (sym e ∙ f)))
+
+-- words and then others
+pub joined-then : (w v : List ℕ) (ws vs : List (List ℕ)) → joined (w ∷ ws ++ v ∷ vs) ≡ joined (w ∷ ws) ++ 32 ∷ joined (v ∷ vs)
+joined-then w v ws vs = ap (λ l. w ++ l) (flat_map-append (λ word. 32 ∷ word) ws (v ∷ vs)) ∙ sym (append_assoc w (spaced ws) (32 ∷ joined (v ∷ vs)))
+
+outcome-behind : (w : List ℕ) (ws : List (List ℕ)) (o : Outcome) →
+    joined (w ∷ ws ++ codes "=" ∷ outcome_words o) ≡ joined (w ∷ ws) ++ (32 ∷ 61 ∷ 32 ∷ joined (outcome_words o))
+outcome-behind w ws o = joined-then w (codes "=") ws (outcome_words o) ∙ ap (λ l. joined (w ∷ ws) ++ (32 ∷ 61 ∷ l)) (behind (outcome_words o) (some o))
+  where
+    behind : (vs : List (List ℕ)) → ((v : List ℕ) × (us : List (List ℕ)) × (vs ≡ v ∷ us)) → spaced vs ≡ 32 ∷ joined vs
+    behind vs (v, us, e) = rw e refl
+
+    some : (o : Outcome) → (v : List ℕ) × (us : List (List ℕ)) × (outcome_words o ≡ v ∷ us)
+    some outcome.Sent = (_, _, refl)
+    some outcome.Moved = (_, _, refl)
+    some (outcome.Load cache value) = (_, _, refl)
+    some (outcome.Store cache value) = (_, _, refl)
+    some outcome.Held = (_, _, refl)
+    some outcome.Absent = (_, _, refl)
+    some outcome.Idle = (_, _, refl)
+    some outcome.Blank = (_, _, refl)
+    some outcome.Broken = (_, _, refl)
+
+-- an entry's text is its step's and its outcome's
+pub step_then : (e : Entry) → joined (entry_words e) ≡ joined (step_words e.step) ++ (32 ∷ 61 ∷ 32 ∷ joined (outcome_words e.outcome))
+step_then e = by e.step e.outcome
+  where
+    by : (s : Step) (o : Outcome) → joined (step_words s ++ codes "=" ∷ outcome_words o) ≡ joined (step_words s) ++ (32 ∷ 61 ∷ 32 ∷ joined (outcome_words o))
+    by (step.Ask cache block ask) o = outcome-behind (codes "ask") (decimal cache.0 ∷ decimal block.0 ∷ ask_words ask) o
+    by (step.Request block index) o = outcome-behind (codes "request") (decimal block.0 ∷ decimal index ∷ []) o
+    by (step.Forward block cache) o = outcome-behind (codes "forward") (decimal block.0 ∷ decimal cache.0 ∷ []) o
+    by (step.Response block index) o = outcome-behind (codes "response") (decimal block.0 ∷ decimal index ∷ []) o

@@ -1,10 +1,10 @@
 pub mod Kept
 pub mod Cells
 pub mod Text
-pub mod Putting
 pub mod Replaying
 pub mod SoFar
 pub mod Grammar
 pub mod Recordable
+pub mod Pieces
 pub mod Refused
 pub mod Reading

@@ -4,22 +4,13 @@ use Rattle.std.specs.List.{flat_map}
 use Rattle.std.specs.Fmt.{decimal}
 use Rattle.std.specs.Str.{bytes_eq}
 use Rattle.base.specs.Extent.{Extent}
-use Rattle.base.specs.Spelling.{step_words, outcome_words}
+use Rattle.base.specs.Spelling.{joined, step_words, outcome_words}
 use Rattle.machine.specs.Tables.{Tables, baseline}
 use Rattle.record.specs.declared.recording.Entry.{Entry}
 use Rattle.record.specs.declared.cells.Spot.{Spot}
 use Rattle.record.specs.declared.cells.Cell.{Cell}
 use Rattle.record.specs.Cells.{all_spots, cell_at, cell_words}
 use Rattle.record.specs.Kept.{Kept}
-
--- words with a blank before each
-abbrev pub spaced : List (List ℕ) → List ℕ
-spaced words = flat_map (λ word. 32 ∷ word) words
-
--- words with a blank between two, and none at the ends
-abbrev pub joined : List (List ℕ) → List ℕ
-joined [] = []
-joined (word ∷ words) = word ++ spaced words
 
 -- a line of these words, with its end
 abbrev pub line : List (List ℕ) → List ℕ

@@ -4,7 +4,6 @@
 mod cell_parsing;
 mod cells;
 mod fault;
-mod line;
 mod lines;
 mod parsing;
 mod reading;

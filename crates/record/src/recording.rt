@@ -133,6 +133,7 @@ impl Recording {
     pub fn opening(&self) -> &[u64]
         ensures value { result.now ≡ self.now.opening }
         ensures each { length self.now.opening ≡ self.now.shape.blocks }
+        ensures within { IsWithinLimits self.now.shape }
     {
         self.opening.as_slice()
     }

@@ -2,7 +2,8 @@
 
 ghost use Rattle.std.specs.Prelude.{◌++◌, ◌≡◌, ◌≤◌, [], All, List, Option, Some, length, ℕ};
 ghost use Rattle.record.specs.Kept.{Kept};
-ghost use Rattle.record.specs.Text.{joined, lines, text};
+ghost use Rattle.base.specs.Spelling.{joined};
+ghost use Rattle.record.specs.Text.{lines, text};
 ghost use Rattle.record.specs.Grammar.{header};
 ghost use Rattle.record.specs.Refused.{IsOutside, IsRefused, IsWhole};
 ghost use Rattle.record.specs.Recordable.{IsRecordable};

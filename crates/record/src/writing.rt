@@ -1,19 +1,18 @@
-ghost use Rattle.std.specs.Prelude.{◌≡◌, All, ◌≤◌, ◌<◌, ◌+◌, ◌*◌, ◌^◌, IfOk, IfErr, OnOk, IsTrue, ◌↔◌, ◌++◌, ◌∷◌, [], codes, length, map, take};
-ghost use Rattle.std.specs.List.{flat_map};
-ghost use Rattle.std.specs.Fmt.{decimal};
+ghost use Rattle.std.specs.Prelude.{◌≡◌, ◌≤◌, ◌<◌, ◌+◌, ◌^◌, [], IfOk, IfErr, OnOk, get_or, length, take};
 ghost use Rattle.std.specs.Io.KnownBytes.{Appends};
 ghost use Rattle.base.specs.Ends.{Marks};
-ghost use Rattle.record.specs.Cells.{all_spots, cell_at, FitsCell};
-ghost use Rattle.record.specs.Grammar.{FitsEntry};
+ghost use Rattle.record.specs.Cells.{cell_at, FitsCell};
+ghost use Rattle.record.specs.Kept.{IsKept};
 ghost use Rattle.record.specs.Recordable.{AreWhole, IsRecordable};
-ghost use Rattle.record.specs.Text.{text, line, spaced, entry_words, changed_cells, is_changed};
-ghost use Rattle.record.specs.Putting.{IsInWhole, IsOut, IsCutOff, head_text, opening_text, cells_text, changed_line, changed_text, entries_text};
+ghost use Rattle.record.specs.Text.{text, changed_cells, is_changed};
+ghost use Rattle.record.specs.Pieces.{pieces, head_piece, value_piece, cells_piece, cell_piece, entries_piece, end_piece};
+ghost use Rattle.record.specs.Pieces.{IsInWhole, IsOut, IsCutOff, PieceFits};
 
 use crate::cells::{Cell, SPOTS, Spot, spot_at};
-use crate::line::Line;
 use crate::reading::is_baseline;
-use crate::recording::{Entry, Recording};
+use crate::recording::Recording;
 use crate::spelling::{cell_line, entry_line};
+use base::text::Text;
 use base::{Shape, Sink, put_all};
 use thiserror::Error;
 use world::Tables;
@@ -37,16 +36,122 @@ impl Recording {
         ensures mark { Marks (S.has_failed sink.old) result (S.has_failed sink.new) }
         ensures recordable { OnOk result (IsRecordable self.now) }
     {
-        let entries = self.entries();
-        let opening = self.opening();
-        // Called for its contract: a shape is within the limits.
-        let _limit = self.shape().blocks();
-        let total = put_head(sink, 0, self.shape())?;
-        let total = put_opening(sink, total, opening)?;
-        let total = put_cells(sink, total, &self.tables())?;
-        put_entries(sink, total, entries)?;
+        let changed = count_changed(&self.tables());
+        let mut written = 0;
+        for number in 0..self.count_of_pieces() {
+            let piece = self.piece(number, changed);
+            written = put_piece(sink, written, piece.as_slice())?;
+        }
         Ok(())
     }
+
+    /// How many pieces the text has: one for each opening value, cell and entry, and what stands before, between and
+    /// behind them.
+    fn count_of_pieces(&self) -> usize
+        ensures count { result ≡ length (pieces self.now) }
+        ensures few { result ≤ 1004260 }
+        ensures kept { IsKept self.now }
+    {
+        self.opening().len() + SPOTS + self.entries().len() + 4
+    }
+
+    /// The piece of this number of the text, where so many cells are changed.
+    fn piece(&self, number: usize, changed: u64) -> Text
+        requires within { number < length (pieces self.now) }
+        requires changed { changed ≡ length (changed_cells self.now.tables) }
+        ensures piece { result ≡ get_or (pieces self.now) number [] }
+        ensures short { length result ≤ 192 }
+        ensures fits { PieceFits self.now number }
+    {
+        let (opening, entries) = (self.opening(), self.entries());
+        let cells = opening.len() + 1;
+        let count = cells + SPOTS + 1;
+        if number == 0 {
+            head(self.shape())
+        } else if number < cells {
+            value(opening[number - 1])
+        } else if number == cells {
+            cells_head(changed)
+        } else if number < count {
+            cell_if_changed(&self.tables(), spot_at(number - cells - 1))
+        } else if number == count {
+            entries_head(entries.len() as u64)
+        } else if number < count + 1 + entries.len() {
+            entry_line(entries[number - count - 1])
+        } else {
+            end()
+        }
+    }
+}
+
+/// The first two lines, and the first word of the third.
+fn head(shape: Shape) -> Text
+    ensures piece { result ≡ head_piece shape }
+    ensures short { length result ≤ 192 }
+{
+    let mut text = Text::new();
+    text.push(b"msi-recording 1\nshape");
+    text.push_number(u64::from(shape.caches()));
+    text.push_number(u64::from(shape.blocks()));
+    text.push(b"\nopening");
+    text
+}
+
+/// An opening value, with a blank before it.
+fn value(value: u64) -> Text
+    ensures piece { result ≡ value_piece value }
+    ensures short { length result ≤ 192 }
+    ensures fits { value < 2 ^ 64 }
+{
+    let mut text = Text::new();
+    text.push_number(value);
+    text
+}
+
+/// The end of the line of the opening values, and the line that says how many cells follow.
+fn cells_head(changed: u64) -> Text
+    ensures piece { result ≡ cells_piece changed }
+    ensures short { length result ≤ 192 }
+{
+    let mut text = Text::new();
+    text.push(b"\ncells");
+    text.push_number(changed);
+    text.push(b"\n");
+    text
+}
+
+/// The line of a cell, if it differs from the baseline's, and else nothing.
+fn cell_if_changed(tables: &Tables, spot: Spot) -> Text
+    ensures piece { result ≡ cell_piece tables.now spot }
+    ensures short { length result ≤ 192 }
+{
+    if is_changed(tables, spot) {
+        cell_line(&Cell::at(tables, spot))
+    } else {
+        Text::new()
+    }
+}
+
+/// The line that says how many entries follow.
+fn entries_head(count: u64) -> Text
+    ensures piece { result ≡ entries_piece count }
+    ensures short { length result ≤ 192 }
+{
+    let mut text = Text::new();
+    text.push(b"entries");
+    text.push_number(count);
+    text.push(b"\n");
+    text
+}
+
+/// The last line.
+fn end() -> Text
+    ensures piece { result ≡ end_piece }
+    ensures short { length result ≤ 192 }
+{
+    let mut text = Text::new();
+    text.push(b"end\n");
+    text
 }
 
 /// Puts a text into a sink behind so many bytes, and answers how many it are then.
@@ -62,40 +167,6 @@ fn put_piece<S: Sink>(sink: &mut S, already: u64, piece: &[u8]) -> Result<u64, W
             written: already + fault.written as u64,
         }),
     }
-}
-
-/// Puts the header, the line of the shape and the first word of the line of the opening values.
-fn put_head<S: Sink>(sink: &mut S, already: u64, shape: Shape) -> Result<u64, WriteFault>
-    requires { already < 2 ^ 40 }
-    ensures ok { IfOk result (λ total. IsOut (S.taken sink.old) (S.taken sink.new) (head_text shape) already total) }
-    ensures err { IfErr result (λ fault. IsCutOff (S.taken sink.old) (S.taken sink.new) (head_text shape) already fault.written) }
-    ensures mark { Marks (S.has_failed sink.old) result (S.has_failed sink.new) }
-    ensures few { IfOk result (λ total. total ≤ already + 192) }
-{
-    let mut text = Line::new();
-    text.push(b"msi-recording 1\nshape");
-    text.push_number(u64::from(shape.caches()));
-    text.push_number(u64::from(shape.blocks()));
-    text.push(b"\nopening");
-    put_piece(sink, already, text.as_slice())
-}
-
-/// Puts the opening values, with a blank before each.
-fn put_opening<S: Sink>(sink: &mut S, already: u64, values: &[u64]) -> Result<u64, WriteFault>
-    requires { already + 192 * length values.now < 2 ^ 50 }
-    ensures ok { IfOk result (λ total. IsOut (S.taken sink.old) (S.taken sink.new) (opening_text values.now) already total) }
-    ensures err { IfErr result (λ fault. IsCutOff (S.taken sink.old) (S.taken sink.new) (opening_text values.now) already fault.written) }
-    ensures mark { Marks (S.has_failed sink.old) result (S.has_failed sink.new) }
-    ensures few { IfOk result (λ total. total ≤ already + 192 * length values.now) }
-    ensures small { All (λ value. value < 2 ^ 64) values.now }
-{
-    let mut total = already;
-    for value in values {
-        let mut text = Line::new();
-        text.push_number(*value);
-        total = put_piece(sink, total, text.as_slice())?;
-    }
-    Ok(total)
 }
 
 /// Whether the cell at a place differs from the baseline's.
@@ -120,89 +191,4 @@ fn count_changed(tables: &Tables) -> u64
         }
     }
     count
-}
-
-/// Puts the end of the line of the opening values, and the lines of the cells.
-fn put_cells<S: Sink>(sink: &mut S, already: u64, tables: &Tables) -> Result<u64, WriteFault>
-    requires { already < 2 ^ 51 }
-    ensures ok { IfOk result (λ total. IsOut (S.taken sink.old) (S.taken sink.new) (cells_text tables.now) already total) }
-    ensures err { IfErr result (λ fault. IsCutOff (S.taken sink.old) (S.taken sink.new) (cells_text tables.now) already fault.written) }
-    ensures mark { Marks (S.has_failed sink.old) result (S.has_failed sink.new) }
-    ensures few { IfOk result (λ total. total ≤ already + 192 * 161) }
-    ensures whole { AreWhole tables.now }
-{
-    let mut text = Line::new();
-    text.push(b"\ncells");
-    text.push_number(count_changed(tables));
-    text.push(b"\n");
-    let total = put_piece(sink, already, text.as_slice())?;
-    put_changed(sink, total, tables)
-}
-
-/// Puts the lines of the cells that differ from the baseline's.
-fn put_changed<S: Sink>(sink: &mut S, already: u64, tables: &Tables) -> Result<u64, WriteFault>
-    requires { already < 2 ^ 52 }
-    ensures ok { IfOk result (λ total. IsOut (S.taken sink.old) (S.taken sink.new) (changed_text tables.now) already total) }
-    ensures err { IfErr result (λ fault. IsCutOff (S.taken sink.old) (S.taken sink.new) (changed_text tables.now) already fault.written) }
-    ensures mark { Marks (S.has_failed sink.old) result (S.has_failed sink.new) }
-    ensures few { IfOk result (λ total. total ≤ already + 192 * 160) }
-{
-    let mut total = already;
-    for number in 0..SPOTS {
-        total = put_if_changed(sink, total, tables, spot_at(number))?;
-    }
-    Ok(total)
-}
-
-/// Puts the line of a cell, if it differs from the baseline's.
-fn put_if_changed<S: Sink>(
-    sink: &mut S,
-    already: u64,
-    tables: &Tables,
-    spot: Spot,
-) -> Result<u64, WriteFault>
-    requires { already < 2 ^ 53 }
-    ensures ok { IfOk result (λ total. IsOut (S.taken sink.old) (S.taken sink.new) (changed_line tables.now spot) already total) }
-    ensures err { IfErr result (λ fault. IsCutOff (S.taken sink.old) (S.taken sink.new) (changed_line tables.now spot) already fault.written) }
-    ensures mark { Marks (S.has_failed sink.old) result (S.has_failed sink.new) }
-    ensures few { IfOk result (λ total. total ≤ already + 192) }
-{
-    if !is_changed(tables, spot) {
-        return Ok(already);
-    }
-    let text = cell_line(&Cell::at(tables, spot));
-    put_piece(sink, already, text.as_slice())
-}
-
-/// Puts the lines of the entries, and the last line.
-fn put_entries<S: Sink>(sink: &mut S, already: u64, entries: &[Entry]) -> Result<u64, WriteFault>
-    requires { already + 192 * length entries.now < 2 ^ 60 }
-    ensures ok { IfOk result (λ total. IsOut (S.taken sink.old) (S.taken sink.new) (entries_text entries.now) already total) }
-    ensures err { IfErr result (λ fault. IsCutOff (S.taken sink.old) (S.taken sink.new) (entries_text entries.now) already fault.written) }
-    ensures mark { Marks (S.has_failed sink.old) result (S.has_failed sink.new) }
-    ensures fits { OnOk result (All FitsEntry entries.now) }
-{
-    let mut text = Line::new();
-    text.push(b"entries");
-    text.push_number(entries.len() as u64);
-    text.push(b"\n");
-    let total = put_piece(sink, already, text.as_slice())?;
-    let total = put_each(sink, total, entries)?;
-    put_piece(sink, total, b"end\n")
-}
-
-fn put_each<S: Sink>(sink: &mut S, already: u64, entries: &[Entry]) -> Result<u64, WriteFault>
-    requires { already + 192 * length entries.now < 2 ^ 61 }
-    ensures ok { IfOk result (λ total. IsOut (S.taken sink.old) (S.taken sink.new) (flat_map (λ e. line (entry_words e)) entries.now) already total) }
-    ensures err { IfErr result (λ fault. IsCutOff (S.taken sink.old) (S.taken sink.new) (flat_map (λ e. line (entry_words e)) entries.now) already fault.written) }
-    ensures mark { Marks (S.has_failed sink.old) result (S.has_failed sink.new) }
-    ensures few { IfOk result (λ total. total ≤ already + 192 * length entries.now) }
-    ensures fits { OnOk result (All FitsEntry entries.now) }
-{
-    let mut total = already;
-    for entry in entries {
-        let text = entry_line(*entry);
-        total = put_piece(sink, total, text.as_slice())?;
-    }
-    Ok(total)
 }

@@ -1,6 +1,6 @@
 use Rattle.std.proofs.Common.{◌≡◌, ◌≤◌, ◌+◌, ◌*◌, ◌++◌, length, map, take}
 use Rattle.cache_table.specs.Names.{action_name}
-use Rattle.record.specs.Text.{spaced}
+use Rattle.base.specs.Spelling.{spaced}
 use Rattle.record.proofs.spelling.push_cache_actions.Given as goal
 
 abbrev pub invariant-loop-action : goal.invariant-loop-action

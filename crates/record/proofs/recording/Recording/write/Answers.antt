@@ -1,70 +1,72 @@
-use Rattle.std.proofs.Common.{◌<◌, ◌^◌, ap, arith, length, subst, List, ℕ}
-use Rattle.std.specs.List.{All}
-use Rattle.base.specs.Extent.{IsWithinLimits}
-use Rattle.record.specs.Grammar.{FitsEntry}
+use Rattle.std.proofs.Common.{◌≡◌, ◌+◌, ap, arith, inl, inr, length, refl, subst, sym, take, ◌∙◌, []}
+use Rattle.std.proofs.lemmas.Bool.{cases_eq}
+use Rattle.std.proofs.lemmas.List.{take_all}
 use Rattle.record.specs.Recordable.{AreWhole}
-use Rattle.record.specs.Putting.{head_text, opening_text, cells_text, entries_text}
+use Rattle.record.specs.Text.{changed_cells}
+use Rattle.record.specs.Pieces.{IsOut, PieceFits, pieces, places_before}
 use Rattle.record.proofs.Exits.{handed-on}
-use Rattle.record.proofs.Outs.{cut-same, out-same}
-use Rattle.record.proofs.Whole.{Front, cut-head, cut-opening, out-opening, cut-cells, out-cells, cut-entries, out-whole}
+use Rattle.record.proofs.Outs.{cut-at, out-more}
+use Rattle.record.proofs.Whole.{flat, cut-text, out-text, pieces-count}
 use Rattle.record.proofs.recording.Recording.write.Goals as goal
 
-pub returns-in_err-total-clause-err : goal.returns-in_err-total-clause-err
-returns-in_err-total-clause-err g c = let front : Front c.args.self.now (g.S.Sink.taken c.args.sink.now) (g.S.Sink.taken c.put_head.new.sink) c.in_err-total.field-0.0.written = cut-head c.args.self.now _ (g.S.Sink.taken c.put_head.new.sink) c.in_err-total.field-0.0.written (cut-same _ _ (head_text c.shape-2.result) (head_text c.args.self.now.shape) 0 c.in_err-total.field-0.0.written (ap head_text c.shape-2.ensures.value) c.in_err-total.ensures.err) in
-    handed-on c.from_residual.result _ _ _ c.from_residual.ensures.1 (
-    front.0)
+pub piece-piece-requires-clause-changed : goal.piece-piece-requires-clause-changed
+piece-piece-requires-clause-changed g c = c.count_changed-changed.ensures.count ∙ ap (λ t. length (changed_cells t)) c.tables.ensures
 
-pub returns-in_err-total-clause-short : goal.returns-in_err-total-clause-short
-returns-in_err-total-clause-short g c = let front : Front c.args.self.now (g.S.Sink.taken c.args.sink.now) (g.S.Sink.taken c.put_head.new.sink) c.in_err-total.field-0.0.written = cut-head c.args.self.now _ (g.S.Sink.taken c.put_head.new.sink) c.in_err-total.field-0.0.written (cut-same _ _ (head_text c.shape-2.result) (head_text c.args.self.now.shape) 0 c.in_err-total.field-0.0.written (ap head_text c.shape-2.ensures.value) c.in_err-total.ensures.err) in
-    handed-on c.from_residual.result _ _ _ c.from_residual.ensures.1 (
-    front.1)
-
-pub returns-in_err-total-2-clause-err : goal.returns-in_err-total-2-clause-err
-returns-in_err-total-2-clause-err g c = let front : Front c.args.self.now (g.S.Sink.taken c.args.sink.now) (g.S.Sink.taken c.put_opening.new.sink) c.in_err-total-2.field-0.0.written = cut-opening c.args.self.now _ (g.S.Sink.taken c.put_head.new.sink) (g.S.Sink.taken c.put_opening.new.sink) c.in_ok-total.total c.in_err-total-2.field-0.0.written (out-same _ _ (head_text c.shape-2.result) (head_text c.args.self.now.shape) 0 c.in_ok-total.total (ap head_text c.shape-2.ensures.value) c.in_ok-total.ensures.ok) (cut-same _ _ (opening_text c.opening-opening.result.now) (opening_text c.args.self.now.opening) c.in_ok-total.total c.in_err-total-2.field-0.0.written (ap opening_text c.opening-opening.ensures.value) c.in_err-total-2.ensures.err) in
-    handed-on c.from_residual-in_err-total-2.result _ _ _ c.from_residual-in_err-total-2.ensures.1 (
-    front.0)
-
-pub returns-in_err-total-2-clause-short : goal.returns-in_err-total-2-clause-short
-returns-in_err-total-2-clause-short g c = let front : Front c.args.self.now (g.S.Sink.taken c.args.sink.now) (g.S.Sink.taken c.put_opening.new.sink) c.in_err-total-2.field-0.0.written = cut-opening c.args.self.now _ (g.S.Sink.taken c.put_head.new.sink) (g.S.Sink.taken c.put_opening.new.sink) c.in_ok-total.total c.in_err-total-2.field-0.0.written (out-same _ _ (head_text c.shape-2.result) (head_text c.args.self.now.shape) 0 c.in_ok-total.total (ap head_text c.shape-2.ensures.value) c.in_ok-total.ensures.ok) (cut-same _ _ (opening_text c.opening-opening.result.now) (opening_text c.args.self.now.opening) c.in_ok-total.total c.in_err-total-2.field-0.0.written (ap opening_text c.opening-opening.ensures.value) c.in_err-total-2.ensures.err) in
-    handed-on c.from_residual-in_err-total-2.result _ _ _ c.from_residual-in_err-total-2.ensures.1 (
-    front.1)
-
-pub returns-in_err-total-3-clause-err : goal.returns-in_err-total-3-clause-err
-returns-in_err-total-3-clause-err g c = let front : Front c.args.self.now (g.S.Sink.taken c.args.sink.now) (g.S.Sink.taken c.put_cells.new.sink) c.in_err-total-3.field-0.0.written = cut-cells c.args.self.now _ (g.S.Sink.taken c.put_opening.new.sink) (g.S.Sink.taken c.put_cells.new.sink) c.in_ok-total-2.total c.in_err-total-3.field-0.0.written (out-opening c.args.self.now _ (g.S.Sink.taken c.put_head.new.sink) (g.S.Sink.taken c.put_opening.new.sink) c.in_ok-total.total c.in_ok-total-2.total (out-same _ _ (head_text c.shape-2.result) (head_text c.args.self.now.shape) 0 c.in_ok-total.total (ap head_text c.shape-2.ensures.value) c.in_ok-total.ensures.ok) (out-same _ _ (opening_text c.opening-opening.result.now) (opening_text c.args.self.now.opening) c.in_ok-total.total c.in_ok-total-2.total (ap opening_text c.opening-opening.ensures.value) c.in_ok-total-2.ensures.ok)) (cut-same _ _ (cells_text c.tables.result) (cells_text c.args.self.now.tables) c.in_ok-total-2.total c.in_err-total-3.field-0.0.written (ap cells_text c.tables.ensures) c.in_err-total-3.ensures.err) in
-    handed-on c.from_residual-in_err-total-3.result _ _ _ c.from_residual-in_err-total-3.ensures.1 (
-    front.0)
-
-pub returns-in_err-total-3-clause-short : goal.returns-in_err-total-3-clause-short
-returns-in_err-total-3-clause-short g c = let front : Front c.args.self.now (g.S.Sink.taken c.args.sink.now) (g.S.Sink.taken c.put_cells.new.sink) c.in_err-total-3.field-0.0.written = cut-cells c.args.self.now _ (g.S.Sink.taken c.put_opening.new.sink) (g.S.Sink.taken c.put_cells.new.sink) c.in_ok-total-2.total c.in_err-total-3.field-0.0.written (out-opening c.args.self.now _ (g.S.Sink.taken c.put_head.new.sink) (g.S.Sink.taken c.put_opening.new.sink) c.in_ok-total.total c.in_ok-total-2.total (out-same _ _ (head_text c.shape-2.result) (head_text c.args.self.now.shape) 0 c.in_ok-total.total (ap head_text c.shape-2.ensures.value) c.in_ok-total.ensures.ok) (out-same _ _ (opening_text c.opening-opening.result.now) (opening_text c.args.self.now.opening) c.in_ok-total.total c.in_ok-total-2.total (ap opening_text c.opening-opening.ensures.value) c.in_ok-total-2.ensures.ok)) (cut-same _ _ (cells_text c.tables.result) (cells_text c.args.self.now.tables) c.in_ok-total-2.total c.in_err-total-3.field-0.0.written (ap cells_text c.tables.ensures) c.in_err-total-3.ensures.err) in
-    handed-on c.from_residual-in_err-total-3.result _ _ _ c.from_residual-in_err-total-3.ensures.1 (
-    front.1)
-
-pub returns-in_err-put_entries-clause-err : goal.returns-in_err-put_entries-clause-err
-returns-in_err-put_entries-clause-err g c = let front : Front c.args.self.now (g.S.Sink.taken c.args.sink.now) (g.S.Sink.taken c.put_entries.new.sink) c.in_err-put_entries.field-0.0.written = cut-entries c.args.self.now _ (g.S.Sink.taken c.put_cells.new.sink) (g.S.Sink.taken c.put_entries.new.sink) c.in_ok-total-3.total c.in_err-put_entries.field-0.0.written (out-cells c.args.self.now _ (g.S.Sink.taken c.put_opening.new.sink) (g.S.Sink.taken c.put_cells.new.sink) c.in_ok-total-2.total c.in_ok-total-3.total (out-opening c.args.self.now _ (g.S.Sink.taken c.put_head.new.sink) (g.S.Sink.taken c.put_opening.new.sink) c.in_ok-total.total c.in_ok-total-2.total (out-same _ _ (head_text c.shape-2.result) (head_text c.args.self.now.shape) 0 c.in_ok-total.total (ap head_text c.shape-2.ensures.value) c.in_ok-total.ensures.ok) (out-same _ _ (opening_text c.opening-opening.result.now) (opening_text c.args.self.now.opening) c.in_ok-total.total c.in_ok-total-2.total (ap opening_text c.opening-opening.ensures.value) c.in_ok-total-2.ensures.ok)) (out-same _ _ (cells_text c.tables.result) (cells_text c.args.self.now.tables) c.in_ok-total-2.total c.in_ok-total-3.total (ap cells_text c.tables.ensures) c.in_ok-total-3.ensures.ok)) (cut-same _ _ (entries_text c.entries-entries.result.now) (entries_text c.args.self.now.entries) c.in_ok-total-3.total c.in_err-put_entries.field-0.0.written (ap entries_text c.entries-entries.ensures.value) c.in_err-put_entries.ensures.err) in
-    handed-on c.from_residual-in_err-put_entries.result _ _ _ c.from_residual-in_err-put_entries.ensures.1 (
-    front.0)
-
-pub returns-in_err-put_entries-clause-short : goal.returns-in_err-put_entries-clause-short
-returns-in_err-put_entries-clause-short g c = let front : Front c.args.self.now (g.S.Sink.taken c.args.sink.now) (g.S.Sink.taken c.put_entries.new.sink) c.in_err-put_entries.field-0.0.written = cut-entries c.args.self.now _ (g.S.Sink.taken c.put_cells.new.sink) (g.S.Sink.taken c.put_entries.new.sink) c.in_ok-total-3.total c.in_err-put_entries.field-0.0.written (out-cells c.args.self.now _ (g.S.Sink.taken c.put_opening.new.sink) (g.S.Sink.taken c.put_cells.new.sink) c.in_ok-total-2.total c.in_ok-total-3.total (out-opening c.args.self.now _ (g.S.Sink.taken c.put_head.new.sink) (g.S.Sink.taken c.put_opening.new.sink) c.in_ok-total.total c.in_ok-total-2.total (out-same _ _ (head_text c.shape-2.result) (head_text c.args.self.now.shape) 0 c.in_ok-total.total (ap head_text c.shape-2.ensures.value) c.in_ok-total.ensures.ok) (out-same _ _ (opening_text c.opening-opening.result.now) (opening_text c.args.self.now.opening) c.in_ok-total.total c.in_ok-total-2.total (ap opening_text c.opening-opening.ensures.value) c.in_ok-total-2.ensures.ok)) (out-same _ _ (cells_text c.tables.result) (cells_text c.args.self.now.tables) c.in_ok-total-2.total c.in_ok-total-3.total (ap cells_text c.tables.ensures) c.in_ok-total-3.ensures.ok)) (cut-same _ _ (entries_text c.entries-entries.result.now) (entries_text c.args.self.now.entries) c.in_ok-total-3.total c.in_err-put_entries.field-0.0.written (ap entries_text c.entries-entries.ensures.value) c.in_err-put_entries.ensures.err) in
-    handed-on c.from_residual-in_err-put_entries.result _ _ _ c.from_residual-in_err-put_entries.ensures.1 (
-    front.1)
+pub loop-number-preserved : goal.loop-number-preserved
+loop-number-preserved g c =
+    let r = c.args.self.now in
+    let low = c.loop-number-test.true in
+    let count = c.count_of_pieces-number-end.ensures.count in
+    (
+      out-more (λ piece. piece) (pieces r) c.loop-number.number [] _ (g.S.Sink.taken c.loop-number.sink) _ 0 c.loop-number.written _ c.as_slice.result.now
+          (omega (arith, low, count)) (c.as_slice.ensures.text ∙ c.piece-piece.ensures.piece) c.loop-number.invariant.0 c.in_ok-written.ensures.ok,
+      c.in_ok-written.ensures.mark ∙ c.loop-number.invariant.1,
+      omega (arith, c.in_ok-written.ensures.ok.sum, ap length c.as_slice.ensures.text, c.piece-piece.ensures.short, c.loop-number.invariant.2),
+      λ n below. elim (cases_eq n c.loop-number.number) [
+        | inl here ↦ subst (PieceFits r) (sym here) c.piece-piece.ensures.fits
+        | inr not ↦ c.loop-number.invariant.3 n (omega (arith, below, not))
+      ],
+    )
 
 pub returns-clause-ok : goal.returns-clause-ok
 returns-clause-ok g c =
-    out-whole c.args.self.now _ (g.S.Sink.taken c.put_cells.new.sink) _ c.in_ok-total-3.total c.in_ok-put_entries.field-0 (out-cells c.args.self.now _ (g.S.Sink.taken c.put_opening.new.sink) (g.S.Sink.taken c.put_cells.new.sink) c.in_ok-total-2.total c.in_ok-total-3.total (out-opening c.args.self.now _ (g.S.Sink.taken c.put_head.new.sink) (g.S.Sink.taken c.put_opening.new.sink) c.in_ok-total.total c.in_ok-total-2.total (out-same _ _ (head_text c.shape-2.result) (head_text c.args.self.now.shape) 0 c.in_ok-total.total (ap head_text c.shape-2.ensures.value) c.in_ok-total.ensures.ok) (out-same _ _ (opening_text c.opening-opening.result.now) (opening_text c.args.self.now.opening) c.in_ok-total.total c.in_ok-total-2.total (ap opening_text c.opening-opening.ensures.value) c.in_ok-total-2.ensures.ok)) (out-same _ _ (cells_text c.tables.result) (cells_text c.args.self.now.tables) c.in_ok-total-2.total c.in_ok-total-3.total (ap cells_text c.tables.ensures) c.in_ok-total-3.ensures.ok)) (out-same _ _ (entries_text c.entries-entries.result.now) (entries_text c.args.self.now.entries) c.in_ok-total-3.total c.in_ok-put_entries.field-0 (ap entries_text c.entries-entries.ensures.value) c.in_ok-put_entries.ensures.ok)
+    let r = c.args.self.now in
+    let count = c.count_of_pieces-number-end.ensures.count in
+    let old = g.S.Sink.taken c.args.sink.now in
+    let new = g.S.Sink.taken c.loop-number.sink in
+    out-text r old new c.loop-number.written
+    (subst (λ l. IsOut old new (flat l) 0 c.loop-number.written) (take_all c.loop-number.number (pieces r) (omega (arith, count, c.loop-number-test.false))) c.loop-number.invariant.0)
 
 pub returns-clause-recordable : goal.returns-clause-recordable
-returns-clause-recordable g c = record {
-  shape = subst IsWithinLimits c.shape.ensures.value c.blocks-limit.ensures.within;
-  tables = subst AreWhole c.tables.ensures c.put_cells.ensures.whole;
-  opening = record { each = c.opening-opening.ensures.each; small = subst (λ (values : List ℕ). All (λ value. value < 2 ^ 64) values) c.opening-opening.ensures.value c.put_opening.ensures.small };
-  few = c.entries-entries.ensures.few;
-  fits = subst (All FitsEntry) c.entries-entries.ensures.value c.in_ok-put_entries.ensures.fits;
-}
+returns-clause-recordable g c =
+    let r = c.args.self.now in
+    let count = c.count_of_pieces-number-end.ensures.count in
+    let kept = c.count_of_pieces-number-end.ensures.kept in
+    let end = c.loop-number-test.false in
+    let pieces = pieces-count r in
+    record {
+      shape = kept.within;
+      tables = subst AreWhole c.tables.ensures c.count_changed-changed.ensures.whole;
+      opening = record {
+        each = kept.each;
+        small = λ k d low. (c.loop-number.invariant.3 (k + 1) (omega (arith, low, count, pieces, end))).value k d refl low;
+      };
+      few = kept.few;
+      fits = λ k d low. (c.loop-number.invariant.3 (places_before r + k) (omega (arith, low, count, pieces, end))).entry k d refl low;
+    }
 
-pub put_entries-requires : goal.put_entries-requires
-put_entries-requires g c =
-    let first = c.in_ok-total.ensures.few in
-    let second = c.in_ok-total-2.ensures.few in
-    let third = c.in_ok-total-3.ensures.few in
-    omega (arith, first, second, third, ap length c.opening-opening.ensures.value, ap length c.entries-entries.ensures.value, c.opening-opening.ensures.each, ap (λ s. s.blocks) c.shape.ensures.value, c.blocks-limit.ensures.within.few_blocks, c.entries-entries.ensures.few)
+pub returns-in_err-written-clause-err : goal.returns-in_err-written-clause-err
+returns-in_err-written-clause-err g c =
+    let low = c.loop-number-test.true in
+    let count = c.count_of_pieces-number-end.ensures.count in
+    handed-on c.from_residual.result _ _ _ c.from_residual.ensures.1 (
+    (cut-text c.args.self.now _ _ _ (cut-at (λ piece. piece) (pieces c.args.self.now) c.loop-number.number [] _ (g.S.Sink.taken c.loop-number.sink) _ 0 c.loop-number.written _ c.as_slice.result.now
+        (omega (arith, low, count)) (c.as_slice.ensures.text ∙ c.piece-piece.ensures.piece) c.loop-number.invariant.0 c.in_err-written.ensures.err)).0)
+
+pub returns-in_err-written-clause-short : goal.returns-in_err-written-clause-short
+returns-in_err-written-clause-short g c =
+    let low = c.loop-number-test.true in
+    let count = c.count_of_pieces-number-end.ensures.count in
+    handed-on c.from_residual.result _ _ _ c.from_residual.ensures.1 (
+    (cut-text c.args.self.now _ _ _ (cut-at (λ piece. piece) (pieces c.args.self.now) c.loop-number.number [] _ (g.S.Sink.taken c.loop-number.sink) _ 0 c.loop-number.written _ c.as_slice.result.now
+        (omega (arith, low, count)) (c.as_slice.ensures.text ∙ c.piece-piece.ensures.piece) c.loop-number.invariant.0 c.in_err-written.ensures.err)).1)

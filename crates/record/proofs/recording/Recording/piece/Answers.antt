@@ -1,0 +1,65 @@
+use Rattle.std.proofs.Common.{◌≡◌, ◌-◌, ◌+◌, ℕ, List, get_or, length, ap, sym, ◌∙◌, arith}
+use Rattle.record.specs.Pieces.{value_piece, cells_piece, cell_piece, entries_piece, entry_piece}
+use Rattle.record.proofs.PieceAt.{value-at, cells-at, cell-at, entries-at, entry-at, end-at, fits-at}
+use Rattle.record.proofs.Whole.{pieces-count}
+use Rattle.machine.specs.Tables.{Tables}
+use Rattle.record.specs.declared.recording.Entry.{Entry}
+use Rattle.record.proofs.recording.Recording.piece.Goals as goal
+
+pub returns-then-number-cells-clause-piece : goal.returns-then-number-cells-clause-piece
+returns-then-number-cells-clause-piece c =
+    let values = ap length c.opening-opening.ensures.value in
+    c.value.ensures.piece
+    ∙ ap (λ (l : List ℕ). value_piece (get_or l (c.args.number - 1) 0)) c.opening-opening.ensures.value
+    ∙ sym (value-at c.args.self.now c.args.number (c.args.number - 1) 0 (omega (arith, c.if-number-eq0.false)) (omega (arith, values, c.if-number-eq0.false, c.if-number-cells.true)))
+
+pub returns-then-number-cells-2-clause-piece : goal.returns-then-number-cells-2-clause-piece
+returns-then-number-cells-2-clause-piece c =
+    let values = ap length c.opening-opening.ensures.value in
+    c.cells_head.ensures.piece ∙ ap cells_piece c.requires.changed
+    ∙ sym (cells-at c.args.self.now c.args.number (omega (arith, values, c.if-number-cells-2.true)))
+
+pub returns-then-number-count-clause-piece : goal.returns-then-number-count-clause-piece
+returns-then-number-count-clause-piece c =
+    let values = ap length c.opening-opening.ensures.value in
+    let i = c.args.number - (length c.opening-opening.result.now + 1) - 1 in
+    c.cell_if_changed.ensures.piece
+    ∙ ap (λ (t : Tables). cell_piece t c.spot_at.result) c.tables.ensures
+    ∙ ap (cell_piece c.args.self.now.tables) c.spot_at.ensures
+    ∙ sym (cell-at c.args.self.now c.args.number i c.spot_at.result
+        (omega (arith, values, c.if-number-eq0.false, c.if-number-cells.false, c.if-number-cells-2.false))
+        (omega (arith, c.if-number-cells.false, c.if-number-cells-2.false, c.if-number-count.true)))
+
+pub returns-then-number-count-2-clause-piece : goal.returns-then-number-count-2-clause-piece
+returns-then-number-count-2-clause-piece c =
+    let values = ap length c.opening-opening.ensures.value in
+    c.entries_head.ensures.piece ∙ ap entries_piece (ap length c.entries-entries.ensures.value)
+    ∙ sym (entries-at c.args.self.now c.args.number (omega (arith, values, c.if-number-count-2.true)))
+
+pub returns-then-number-count-3-clause-piece : goal.returns-then-number-count-3-clause-piece
+returns-then-number-count-3-clause-piece c =
+    let values = ap length c.opening-opening.ensures.value in
+    let i = c.args.number - (length c.opening-opening.result.now + 1 + 160 + 1) - 1 in
+    c.entry_line.ensures.text
+    ∙ ap (λ (l : List Entry). entry_piece (get_or l i _)) c.entries-entries.ensures.value
+    ∙ sym (entry-at c.args.self.now c.args.number i _
+        (omega (arith, values, c.if-number-count.false, c.if-number-count-2.false))
+        (omega (arith, c.if-number-count.false, c.if-number-count-2.false, c.if-number-count-3.true, ap length c.entries-entries.ensures.value)))
+
+pub returns-else-number-count-3-clause-piece : goal.returns-else-number-count-3-clause-piece
+returns-else-number-count-3-clause-piece c =
+    let values = ap length c.opening-opening.ensures.value in
+    let entries = ap length c.entries-entries.ensures.value in
+    c.end.ensures.piece
+    ∙ sym (end-at c.args.self.now c.args.number
+        (omega (arith, values, entries, c.if-number-count-3.false, c.requires.within, pieces-count c.args.self.now)))
+
+pub returns-then-number-count-3-clause-fits : goal.returns-then-number-count-3-clause-fits
+returns-then-number-count-3-clause-fits c =
+    let values = ap length c.opening-opening.ensures.value in
+    let r = c.args.self.now in
+    let i = c.args.number - (length c.opening-opening.result.now + 1 + 160 + 1) - 1 in
+    record {
+      value = λ k d is low. absurd (omega (arith, is, low, values, c.if-number-cells.false));
+      entry = λ k d is low. fits-at r.entries c.entries-entries.result.now i k d c.entries-entries.ensures.value (omega (arith, is, values)) low c.entry_line.ensures.fits;
+    }

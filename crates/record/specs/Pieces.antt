@@ -1,0 +1,76 @@
+-- What goes out where a recording's text is put into a sink piece by piece. Only private clauses cite this file.
+use Rattle.std.specs.Prelude.{◌≡◌, ℕ, ◌<◌, ◌+◌, List, [], ◌∷◌, ◌++◌, Option, if◌then◌else◌, codes, get_or, length, map, take, ◌^◌}
+use Rattle.std.specs.Fmt.{decimal}
+use Rattle.std.specs.Io.KnownBytes.{Appends}
+use Rattle.base.specs.Extent.{Extent}
+use Rattle.cache_table.specs.Table as cache_table
+use Rattle.directory_table.specs.Table as directory_table
+use Rattle.machine.specs.Tables.{Tables}
+use Rattle.record.specs.declared.cells.Spot.{Spot}
+use Rattle.record.specs.declared.cells.Spot.TheVariants as spot
+use Rattle.record.specs.declared.recording.Entry.{Entry}
+use Rattle.record.specs.Cells.{all_spots, cell_at, cell_words}
+use Rattle.record.specs.Grammar.{FitsEntry}
+use Rattle.record.specs.Kept.{Kept}
+use Rattle.record.specs.Text.{line, header_words, shape_words, cells_words, changed_cells, is_changed, entries_words, entry_words, end_words}
+
+-- a sink failed before it had all of a text: exactly a front of it went out, and so many bytes in all
+pub record IsCutOff (before after : Option (List ℕ)) (text : List ℕ) (already in_all : ℕ) : Type 0 where
+  pub count : ℕ
+  pub short : count < length text
+  pub sum : in_all ≡ already + count
+  pub front : Appends before after (take count text)
+
+-- all of a text went out, and so many bytes in all
+pub record IsOut (before after : Option (List ℕ)) (text : List ℕ) (already in_all : ℕ) : Type 0 where
+  pub sum : in_all ≡ already + length text
+  pub all : Appends before after text
+
+-- the header, the line of the shape and the first word of the next line
+abbrev pub head_piece : Extent → List ℕ
+head_piece shape = line header_words ++ line (shape_words shape) ++ codes "opening"
+
+-- an opening value, with a blank before it
+abbrev pub value_piece : ℕ → List ℕ
+value_piece value = 32 ∷ decimal value
+
+-- the end of the line of the opening values, and the line that says how many cells follow
+abbrev pub cells_piece : ℕ → List ℕ
+cells_piece count = 10 ∷ line (cells_words count)
+
+-- the line of the cell at a place, if it differs from the baseline's
+abbrev pub cell_piece : Tables → Spot → List ℕ
+cell_piece tables spot = if is_changed tables spot then line (cell_words (cell_at tables spot)) else []
+
+-- the line that says how many entries follow
+abbrev pub entries_piece : ℕ → List ℕ
+entries_piece count = line (entries_words count)
+
+-- the line of an entry
+abbrev pub entry_piece : Entry → List ℕ
+entry_piece e = line (entry_words e)
+
+-- the last line
+abbrev pub end_piece : List ℕ
+end_piece = line end_words
+
+-- the pieces of a recording's text, in order
+abbrev pub pieces : Kept → List (List ℕ)
+pieces r =
+    head_piece r.shape ∷ map value_piece r.opening ++
+    (cells_piece (length (changed_cells r.tables)) ∷ map (cell_piece r.tables) all_spots ++
+    (entries_piece (length r.entries) ∷ map entry_piece r.entries ++ end_piece ∷ []))
+
+-- how many pieces stand before those of the entries
+abbrev pub places_before : Kept → ℕ
+places_before r = length r.opening + 163
+
+-- the opening value or the entry that the piece of this number tells has numbers in range of their types
+pub record PieceFits (r : Kept) (number : ℕ) : Type 0 where
+  pub value : (k d : ℕ) → number ≡ k + 1 → k < length r.opening → get_or r.opening k d < 2 ^ 64
+  pub entry : (k : ℕ) (d : Entry) → number ≡ places_before r + k → k < length r.entries → FitsEntry (get_or r.entries k d)
+
+-- the table of a place has all its cells
+abbrev pub IsInWhole : Tables → Spot → Type 0
+IsInWhole tables (spot.Cache state event) = cache_table.IsWhole tables.cache
+IsInWhole tables (spot.Directory state event) = directory_table.IsWhole tables.directory
