@@ -2,7 +2,7 @@ use Rattle.std.proofs.Common.{◌≡◌, ℕ, ◌+◌, ◌-◌, ◌<◌, List, [
 use Rattle.cache_table.specs.declared.actions.CacheAction.{CacheAction}
 use Rattle.cache_table.specs.declared.actions.CacheAction.TheVariants.{GetS}
 use Rattle.cache_table.specs.declared.actions.CacheActions.TheInside.{Inside}
-use Rattle.cache_table.specs.Filled.{IsFilled}
+use Rattle.cache_table.specs.inner.Filled.{IsFilled}
 
 -- the item behind the first list is set
 set-append : (xs ys : List CacheAction) (y x : CacheAction) → set (xs ++ y ∷ ys) (length xs) x ≡ xs ++ x ∷ ys

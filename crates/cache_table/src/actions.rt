@@ -37,7 +37,7 @@ impl Model for CacheActions {
 
     ghost Value = { List CacheAction };
 
-    ghost use Rattle.cache_table.specs.Filled.{IsFilled, filled, filled_back};
+    ghost use Rattle.cache_table.specs.inner.Filled.{IsFilled, filled, filled_back};
 
     ghost view = { λ s. take s.count s.items };
 

@@ -2,7 +2,7 @@ use Rattle.std.proofs.Common.{◌≡◌, ℕ, ◌+◌, ◌-◌, ◌<◌, List, [
 use Rattle.directory_table.specs.declared.actions.DirectoryAction.{DirectoryAction}
 use Rattle.directory_table.specs.declared.actions.DirectoryAction.TheVariants.{DataReq}
 use Rattle.directory_table.specs.declared.actions.DirectoryActions.TheInside.{Inside}
-use Rattle.directory_table.specs.Filled.{IsFilled}
+use Rattle.directory_table.specs.inner.Filled.{IsFilled}
 
 -- the item behind the first list is set
 set-append : (xs ys : List DirectoryAction) (y x : DirectoryAction) → set (xs ++ y ∷ ys) (length xs) x ≡ xs ++ x ∷ ys

@@ -1,4 +1,4 @@
 pub mod Names
-pub mod Filled
 pub mod Table
 pub mod Baseline
+pub mod inner

@@ -50,7 +50,7 @@ impl Model for DirectoryActions {
 
     ghost Value = { List DirectoryAction };
 
-    ghost use Rattle.directory_table.specs.Filled.{IsFilled, filled, filled_back};
+    ghost use Rattle.directory_table.specs.inner.Filled.{IsFilled, filled, filled_back};
 
     ghost view = { λ s. take s.count s.items };
 

@@ -7,7 +7,7 @@ use Rattle.base.specs.declared.step.Outcome.TheVariants as outcome
 use Rattle.monitor.specs.declared.violation.Violation.{Violation}
 use Rattle.monitor.specs.declared.violation.Violation.TheVariants.{Blank, SecondWriter, WriterBesideReader, StaleLoad}
 use Rattle.monitor.specs.Scenes.{Scene, Answers, HasNone, IsLeast, IsLoadOf, IsLookedAt, IsViolation, Shows, rank}
-use Rattle.monitor.specs.Finding.{AnswersWithin, IsFirst, ShowsNone}
+use Rattle.monitor.specs.inner.Finding.{AnswersWithin, IsFirst, ShowsNone}
 
 -- there are four kinds
 rank-small : (violation : Violation) → rank violation < 4

@@ -1,8 +1,8 @@
-pub use Rattle.machine.specs.Completions
 pub mod Scenes
-pub mod Finding
 pub mod Watching
 pub mod Violations
+pub mod inner
+pub use Rattle.machine.specs.Completions
 pub use Rattle.base.specs.Steps
 pub use Rattle.control.specs.LineEffect
 pub use Rattle.machine.specs.Tables

@@ -4,7 +4,7 @@ ghost use Rattle.base.specs.declared.step.Outcome.{Outcome};
 ghost use Rattle.machine.specs.Machine.{State};
 ghost use Rattle.machine.specs.Coherence.{Reads, Writes, line_at};
 ghost use Rattle.monitor.specs.Scenes.{Answers, IsLookedAt, scene_in};
-ghost use Rattle.monitor.specs.Finding.{AnswersWithin, IsLeastFrom, NoneFrom};
+ghost use Rattle.monitor.specs.inner.Finding.{AnswersWithin, IsLeastFrom, NoneFrom};
 
 use crate::violation::Violation;
 use base::{BlockId, CacheId, Outcome, Place, Step};

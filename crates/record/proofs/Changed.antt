@@ -7,7 +7,7 @@ use Rattle.machine.specs.Tables.{Tables}
 use Rattle.record.specs.declared.cells.Spot.{Spot}
 use Rattle.record.specs.Cells.{cell_at, cell_words}
 use Rattle.record.specs.Text.{line, is_changed, changed}
-use Rattle.record.specs.Pieces.{cell_piece}
+use Rattle.record.specs.inner.Pieces.{cell_piece}
 
 pub changed-cons : (tables : Tables) (spot : Spot) (spots : List Spot) (b : Bool) → is_changed tables spot ≡ b → changed tables (spot ∷ spots) ≡ cond b (cell_at tables spot ∷ changed tables spots) (changed tables spots)
 changed-cons tables spot spots true e = ap (λ t. map (cell_at tables) (cond t (spot ∷ filter (is_changed tables) spots) (filter (is_changed tables) spots))) e

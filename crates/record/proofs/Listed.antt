@@ -32,7 +32,7 @@ use Rattle.record.specs.Kept.{Kept}
 use Rattle.record.specs.declared.recording.Entry.{Entry}
 use Rattle.record.specs.Grammar.{FitsEntry, IsListed}
 use Rattle.record.specs.Refused.{ended}
-use Rattle.record.specs.Reading.{HasNextLine, Held, stream}
+use Rattle.record.specs.inner.Reading.{HasNextLine, Held, stream}
 use Rattle.record.proofs.Streams.{none-held}
 use Rattle.record.proofs.Changed.{changed-append}
 use Rattle.record.proofs.Spots.{at-cache, at-directory}

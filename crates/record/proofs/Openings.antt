@@ -9,7 +9,7 @@ use Rattle.std.proofs.lemmas.List.Splits.{length-slice_split}
 use Rattle.base.specs.Spelling.{words}
 use Rattle.record.specs.Text.{opening_words}
 use Rattle.record.specs.declared.fault.ReadKind.TheVariants.{BadLine}
-use Rattle.record.specs.Reading.{IsBadOpening, words_behind}
+use Rattle.record.specs.inner.Reading.{IsBadOpening, words_behind}
 
 -- the first word, and those behind its blank
 pub cut-words : (o : Option (Bor (List ℕ))) (ws : List (List ℕ)) (w : List ℕ) → MatchOption o (ws ≡ w ∷ []) (λ rest. ws ≡ w ∷ words rest.now) → ws ≡ w ∷ words_behind o

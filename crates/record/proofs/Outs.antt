@@ -6,11 +6,7 @@ use Rattle.std.proofs.lemmas.Grind.{flat_map-append}
 use Rattle.std.specs.List.{flat_map}
 use Rattle.std.specs.Io.KnownBytes.{Appends}
 use Rattle.std.proofs.KnownBytes.{Appends-trans, Appends-nil}
-use Rattle.record.specs.Pieces.{IsOut, IsCutOff}
-
--- nothing has gone out yet
-pub out-none : (b : Option (List ℕ)) (a : ℕ) → IsOut b b [] a a
-out-none b a = record { sum = omega arith; all = Appends-nil b }
+use Rattle.record.specs.inner.Pieces.{IsOut, IsCutOff}
 
 -- one text and then another
 pub out-then : (b m n : Option (List ℕ)) (s u : List ℕ) (a t to : ℕ) → IsOut b m s a t → IsOut m n u t to → IsOut b n (s ++ u) a to
@@ -60,24 +56,9 @@ cut-at f xs i d b m n a t to piece low is first second =
     subst (λ (l : List ℕ). IsCutOff b n l a to) (ap (λ l. flat_map f (take i xs) ++ (l ++ flat_map f (drop (i + 1) xs))) is ∙ sym (flat_map-parts f xs i d low))
     (cut-then b m n (flat_map f (take i xs)) (piece ++ flat_map f (drop (i + 1) xs)) a t to first (cut-more m n piece (flat_map f (drop (i + 1) xs)) t to second))
 
--- the same of what a call answers
-pub err-then : (r : Result ℕ WriteFault) (b m n : Option (List ℕ)) (s u : List ℕ) (a t : ℕ) → IsOut b m s a t → IfErr r (λ fault. IsCutOff m n u t fault.written) → IfErr r (λ fault. IsCutOff b n (s ++ u) a fault.written)
-err-then (Ok x) b m n s u a t first second = tt
-err-then (Err fault) b m n s u a t first second = cut-then b m n s u a t fault.written first second
-
-pub ok-then : (r : Result ℕ WriteFault) (b m n : Option (List ℕ)) (s u : List ℕ) (a t : ℕ) → IsOut b m s a t → IfOk r (λ to. IsOut m n u t to) → IfOk r (λ to. IsOut b n (s ++ u) a to)
-ok-then (Ok x) b m n s u a t first second = out-then b m n s u a t x first second
-ok-then (Err fault) b m n s u a t first second = tt
-
 -- under an equal text
 pub cut-same : (b n : Option (List ℕ)) (s u : List ℕ) (a to : ℕ) → s ≡ u → IsCutOff b n s a to → IsCutOff b n u a to
 cut-same b n s u a to e cut = subst (λ (l : List ℕ). IsCutOff b n l a to) e cut
 
 pub out-same : (b n : Option (List ℕ)) (s u : List ℕ) (a to : ℕ) → s ≡ u → IsOut b n s a to → IsOut b n u a to
 out-same b n s u a to e out = subst (λ (l : List ℕ). IsOut b n l a to) e out
-
-pub err-same : (r : Result ℕ WriteFault) (b n : Option (List ℕ)) (s u : List ℕ) (a : ℕ) → s ≡ u → IfErr r (λ fault. IsCutOff b n s a fault.written) → IfErr r (λ fault. IsCutOff b n u a fault.written)
-err-same r b n s u a e h = subst (λ (l : List ℕ). IfErr r (λ fault. IsCutOff b n l a fault.written)) e h
-
-pub ok-same : (r : Result ℕ WriteFault) (b n : Option (List ℕ)) (s u : List ℕ) (a : ℕ) → s ≡ u → IfOk r (λ to. IsOut b n s a to) → IfOk r (λ to. IsOut b n u a to)
-ok-same r b n s u a e h = subst (λ (l : List ℕ). IfOk r (λ to. IsOut b n l a to)) e h

@@ -11,7 +11,7 @@ use Rattle.record.specs.declared.recording.Entry.{Entry}
 use Rattle.record.specs.Cells.{all_spots}
 use Rattle.record.specs.Kept.{Kept}
 use Rattle.record.specs.Text.{changed_cells}
-use Rattle.record.specs.Pieces.{pieces, value_piece, cells_piece, cell_piece, entries_piece, entry_piece, end_piece}
+use Rattle.record.specs.inner.Pieces.{pieces, value_piece, cells_piece, cell_piece, entries_piece, entry_piece, end_piece}
 
 -- one behind a list and what follows it
 seam : {X : Type 0} (xs : List X) (y : X) (ys : List X) (n : ℕ) (d : X) → n ≡ length xs → get_or (xs ++ y ∷ ys) n d ≡ y

@@ -17,7 +17,7 @@ use Rattle.record.specs.Kept.{Kept, steps_of}
 use Rattle.record.specs.Replaying.{IsFirstToDiffer}
 use Rattle.monitor.specs.Violations.{AnswersFirst}
 use Rattle.monitor.proofs.FirstViolations.{first_seen, first-push}
-use Rattle.record.specs.SoFar.{IsSoFar, steps_in}
+use Rattle.record.specs.inner.SoFar.{IsSoFar, steps_in}
 
 outcome-at : (tables : Tables) (s : State) (steps : List Step) (k : ℕ) (step : Step) → slice_get steps k ≡ Some step → slice_get (outcomes_of tables s steps) k ≡ Some (next tables (state_after tables s (take k steps)) step).outcome
 outcome-at tables s [] k step e = absurd (cc)

@@ -9,7 +9,7 @@ use Rattle.base.specs.declared.step.Step.{Step}
 use Rattle.base.specs.declared.step.Step.TheVariants as step
 use Rattle.std.proofs.lemmas.List.{drop_more, take_rest}
 use Rattle.record.proofs.Words.{spelled-text}
-use Rattle.record.specs.Reading.{HasNoStep, HasNoStepBefore}
+use Rattle.record.specs.inner.Reading.{HasNoStep, HasNoStepBefore}
 
 onto : (x : ℕ) (parts more : List (List ℕ)) → 0 < length parts → onto_first x (parts ++ more) ≡ onto_first x parts ++ more
 onto x [] more some = absurd (omega (arith, some))

@@ -19,7 +19,7 @@ use Rattle.record.specs.declared.cells.Spot.{Spot}
 use Rattle.record.specs.declared.cells.Cell.{Cell}
 use Rattle.record.specs.declared.cells.Cell.TheVariants as cell
 use Rattle.record.specs.Cells.{all_spots, cell_at, spot_number, spot_of, FitsCell}
-use Rattle.record.specs.Pieces.{IsInWhole}
+use Rattle.record.specs.inner.Pieces.{IsInWhole}
 use Rattle.record.specs.Recordable.{AreWhole}
 use Rattle.record.proofs.Listed.{at, at-own, cache-state-at, directory-state-at, some_spot}
 use Rattle.std.proofs.lemmas.Bool.{cases_eq}

@@ -16,7 +16,7 @@ use Rattle.record.specs.Cells.{cell_words, spot_of, spot_number}
 use Rattle.record.specs.Text.{entry_words}
 use Rattle.record.specs.Grammar.{cells_due, entries_due, IsListed, FitsEntry, Due, header, shape_line, opening_line, cell_count, cell_line, entry_count, entry_line, end_line, nothing, Leads, Follow}
 use Rattle.record.specs.Refused.{ended, BeginsFaulty, IsFaultOfLine, IsFaultOfRest, IsRefused}
-use Rattle.record.specs.Reading.{Held, HasNextLine, HasRead, IsStop, Stops, IsBadShape, IsBadOpening, IsBadCount, stream}
+use Rattle.record.specs.inner.Reading.{Held, HasNextLine, HasRead, IsStop, Stops, IsBadShape, IsBadOpening, IsBadCount, stream}
 use Rattle.record.proofs.Streams.{let-go, none-held}
 
 -- one line

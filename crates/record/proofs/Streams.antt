@@ -4,7 +4,7 @@ use Rattle.std.proofs.lemmas.List.{drop_more, append-nil, length_push, take-appe
 use Rattle.std.proofs.lemmas.List.Elements.{All-push}
 use Rattle.record.specs.declared.fault.ReadKind.TheVariants.{Truncated, OverLimit, NoMemory, Device}
 use Rattle.record.specs.Refused.{ended, HasNoEnd}
-use Rattle.record.specs.Reading.{Stops}
+use Rattle.record.specs.inner.Reading.{Stops}
 use Rattle.std.specs.Io.KnownBytes.{Consumes, IsAtEnd, prepend_known, Keeps}
 use Rattle.std.proofs.KnownBytes.{Consumes-trans}
 

@@ -2,9 +2,7 @@ pub mod Kept
 pub mod Cells
 pub mod Text
 pub mod Replaying
-pub mod SoFar
 pub mod Grammar
 pub mod Recordable
-pub mod Pieces
 pub mod Refused
-pub mod Reading
+pub mod inner

@@ -7,7 +7,7 @@ ghost use Rattle.base.specs.Spelling.{words};
 ghost use Rattle.cache_table.specs.Names as cache_names;
 ghost use Rattle.directory_table.specs.Names as directory_names;
 ghost use Rattle.record.specs.Cells.{cell_words, cache_entry_words, directory_entry_words, FitsCell, FitsCacheEntry, FitsDirectoryEntry};
-ghost use Rattle.record.specs.Reading.{IsNoCell, IsNoCacheEntry, IsNoDirectoryEntry, words_behind};
+ghost use Rattle.record.specs.inner.Reading.{IsNoCell, IsNoCacheEntry, IsNoDirectoryEntry, words_behind};
 
 use crate::cells::Cell;
 use base::text::cut;

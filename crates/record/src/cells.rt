@@ -1,7 +1,7 @@
 ghost use Rattle.std.specs.Prelude.{◌≡◌, ◌<◌, slice_index_or};
 ghost use Rattle.machine.specs.Tables.{baseline};
 ghost use Rattle.record.specs.Cells.{all_spots, cell_at, spot_of, spot_number};
-ghost use Rattle.record.specs.Pieces.{IsInWhole};
+ghost use Rattle.record.specs.inner.Pieces.{IsInWhole};
 
 use cache_table::{CacheEntry, CacheEvent, CacheState};
 use directory_table::{DirectoryEntry, DirectoryEvent, DirectoryState};

@@ -1,7 +1,7 @@
 ghost use Rattle.std.specs.Prelude.{◌≡◌, ◌≢◌, ◌≤◌, ◌+◌, ◌<◌, ◌^◌, ◌∷◌, [], length, IfOk, IfErr, OnOk, OnErr, MatchOption, true};
 ghost use Rattle.std.specs.Io.KnownBytes.{Consumes, IsAtEnd};
 ghost use Rattle.base.specs.Ends.{Marks};
-ghost use Rattle.record.specs.Reading.{Held, HasNextLine, Stops, stream};
+ghost use Rattle.record.specs.inner.Reading.{Held, HasNextLine, Stops, stream};
 
 use crate::fault::{ReadFault, ReadKind};
 use base::{Failed, Source};
@@ -23,7 +23,7 @@ pub(crate) struct Lines {
 
 impl Model for Lines {
     ghost use Rattle.std.specs.Prelude.{◌≤◌, ◌-◌, take, drop};
-    ghost use Rattle.record.specs.Reading.{Held};
+    ghost use Rattle.record.specs.inner.Reading.{Held};
 
     ghost Value = { Held };
 

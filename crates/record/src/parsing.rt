@@ -8,7 +8,7 @@ ghost use Rattle.base.specs.Spelling.{words, step_words, FitsStep};
 ghost use Rattle.record.specs.Text.{header_words, shape_words, opening_words, end_words, entry_words};
 ghost use Rattle.record.specs.Grammar.{FitsEntry};
 ghost use Rattle.record.specs.Refused.{IsNumber};
-ghost use Rattle.record.specs.Reading.{IsBadCount, IsBadShape, IsBadOpening, IsBadEntry, HasNoStep, HasNoStepBefore};
+ghost use Rattle.record.specs.inner.Reading.{IsBadCount, IsBadShape, IsBadOpening, IsBadEntry, HasNoStep, HasNoStepBefore};
 
 use crate::fault::ReadKind;
 use crate::recording::Entry;

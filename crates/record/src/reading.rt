@@ -12,7 +12,7 @@ ghost use Rattle.record.specs.Grammar.{header, shape_line, opening_line, cell_co
 ghost use Rattle.record.specs.Kept.{Kept};
 ghost use Rattle.record.specs.Refused.{IsFaultOfLine, IsOutside, IsRefused, IsWhole};
 ghost use Rattle.record.specs.Recordable.{AreWhole, IsRecordable};
-ghost use Rattle.record.specs.Reading.{HasRead, stream};
+ghost use Rattle.record.specs.inner.Reading.{HasRead, stream};
 
 use crate::cell_parsing::cell_of;
 use crate::cells::{Cell, SPOTS, spot_number};

@@ -4,7 +4,7 @@ ghost use Rattle.machine.specs.Tables.{baseline};
 ghost use Rattle.record.specs.Kept.{IsLegal, steps_of};
 ghost use Rattle.monitor.specs.Violations.{AnswersFirst};
 ghost use Rattle.record.specs.Replaying.{FaultOf};
-ghost use Rattle.record.specs.SoFar.{IsSoFar};
+ghost use Rattle.record.specs.inner.SoFar.{IsSoFar};
 
 use crate::recording::{Entry, Recording};
 use base::Outcome;

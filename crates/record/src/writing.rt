@@ -5,8 +5,8 @@ ghost use Rattle.record.specs.Cells.{cell_at, FitsCell};
 ghost use Rattle.record.specs.Kept.{IsKept};
 ghost use Rattle.record.specs.Recordable.{AreWhole, IsRecordable};
 ghost use Rattle.record.specs.Text.{text, changed_cells, is_changed};
-ghost use Rattle.record.specs.Pieces.{pieces, head_piece, value_piece, cells_piece, cell_piece, entries_piece, end_piece};
-ghost use Rattle.record.specs.Pieces.{IsInWhole, IsOut, IsCutOff, PieceFits};
+ghost use Rattle.record.specs.inner.Pieces.{pieces, head_piece, value_piece, cells_piece, cell_piece, entries_piece, end_piece};
+ghost use Rattle.record.specs.inner.Pieces.{IsInWhole, IsOut, IsCutOff, PieceFits};
 
 use crate::cells::{Cell, SPOTS, Spot, spot_at};
 use crate::reading::is_baseline;

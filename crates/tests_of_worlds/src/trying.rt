@@ -7,7 +7,7 @@ use monitor::Violation;
 use scenario::Scenario;
 use std::alloc::Global;
 use std::test::Fail;
-use trials::{BatchFault, Setup, SetupFault, TrialResult, TrialRun, Verdict, batch, trial};
+use trials::{BatchFault, Setup, SetupFault, Trial, TrialResult, Verdict, batch, trial};
 use world::Tables;
 
 const RACING_PAIR: &str =
@@ -32,7 +32,7 @@ fn made_at_last(
     scenario: &Scenario<Global>,
     setup: &Setup,
     number: u32,
-) -> Result<TrialRun, NoMemory> {
+) -> Result<Trial, NoMemory> {
     match trial(alloc, scenario, setup, number) {
         Ok(made) => Ok(made),
         Err(_) => trial(alloc, scenario, setup, number),

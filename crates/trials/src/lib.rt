@@ -15,6 +15,6 @@ pub use laws::{
     cores_are_answered_in_turn, one_trial_a_number, trials_break_where_they_arent_safe,
     trials_under_the_own_tables,
 };
-pub use making::{TrialRun, trial};
+pub use making::trial;
 pub use setup::{MOST_STEPS, Setup, SetupFault};
-pub use verdict::{TrialResult, Verdict};
+pub use verdict::{Trial, TrialResult, Verdict};

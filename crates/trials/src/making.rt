@@ -11,20 +11,11 @@ use crate::laws::{
     cores_are_answered_in_turn, trials_break_where_they_arent_safe, trials_under_the_own_tables,
 };
 use crate::setup::Setup;
-use crate::verdict::TrialResult;
+use crate::verdict::{Trial, TrialResult};
 use base::NoMemory;
 use bumpalo::Bump;
-use record::Recording;
 use scenario::Scenario;
 use std::alloc::{Allocator, Global};
-
-/// A trial that was made.
-#[derive(Drop)]
-pub struct TrialRun {
-    /// Its steps with their outcomes. The step that shows a violation is the last one.
-    pub recording: Recording,
-    pub result: TrialResult,
-}
 
 /// The trial of this number: at each moment a word of the dice chooses what happens next, until a step shows a violation,
 /// nothing can happen, or the limit is reached.
@@ -38,7 +29,7 @@ pub fn trial<A: Allocator>(
     scenario: &Scenario<A>,
     setup: &Setup,
     number: u32,
-) -> Result<TrialRun, NoMemory>
+) -> Result<Trial, NoMemory>
     ensures trial { IfOk result (λ made. IsTrial setup.now (plain scenario.now) number made.recording made.result.verdict) }
     ensures number { IfOk result (λ made. made.result.number ≡ number) }
     ensures steps { IfOk result (λ made. made.result.steps ≡ length made.recording.entries) }
@@ -56,7 +47,7 @@ pub fn trial<A: Allocator>(
     let verdict = course.run(alloc, &arena, setup.limit())?;
     let recording = course.into_recording();
     let steps = recording.entries().len() as u32;
-    Ok(TrialRun {
+    Ok(Trial {
         recording,
         result: TrialResult {
             number,

@@ -1,4 +1,5 @@
 use monitor::Violation;
+use record::Recording;
 use std::fmt;
 
 /// How a trial ended.
@@ -49,4 +50,13 @@ impl fmt::Display for TrialResult {
             _ => Ok(()),
         }
     }
+}
+
+/// A trial that was made.
+#[derive(Drop)]
+pub struct Trial {
+    /// Its steps with their outcomes. The step that shows a violation is the last one.
+    pub recording: Recording,
+    /// Its number, how it ended, and after how many steps.
+    pub result: TrialResult,
 }

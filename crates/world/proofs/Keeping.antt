@@ -1,6 +1,6 @@
 use Rattle.std.proofs.Common.{◌≡◌, ◌↔◌, ℕ, ◌<◌, List, [], ◌∷◌, length, get_or, map, refl, ap, sym, ◌∙◌, Some, IsSome, slice_get, slice_set, zero, suc, arith, Bool}
 use Rattle.std.specs.Prelude.{option_and_then}
-use Rattle.base.specs.Extent.{Extent}
+use Rattle.base.specs.Extent.{Extent, IsWithinLimits}
 use Rattle.std.proofs.lemmas.List.{map-set, length-set, length-map, length-replicate, get_or-set_same}
 use Rattle.std.proofs.Math.Seq.{map-set_same}
 use Rattle.std.proofs.lemmas.Option.{slice_get-map, slice_get-get_or}
@@ -49,6 +49,7 @@ shaped-stepped shape broken after tables step number old new what h made =
     let moved : BlockState = (transition tables step b).block in
     let kept : length moved.lines ≡ length b.lines = lines-carried_out (decision_of tables step b) b in
     rw made.made.2 (record {
+      within = h.within;
       blocks = length-set old number moved ∙ h.blocks;
       lines = AllLined-set shape.caches old number b moved h.lines made.made.1 kept;
     })
@@ -58,8 +59,10 @@ AllLined-opened n [] = tt
 AllLined-opened n (v ∷ values) = (length-replicate n opened_line, AllLined-opened n values)
 
 -- an opened world has its shape
-pub shaped-opened : (shape : Extent) (values : List ℕ) (broken : Bool) → length values ≡ shape.blocks → IsShaped shape (record { blocks = map (opened_block shape.caches) values; broken = broken })
-shaped-opened shape values broken e = record {
+pub shaped-opened : (shape : Extent) (values : List ℕ) (broken : Bool) → IsWithinLimits shape → length values ≡ shape.blocks →
+    IsShaped shape (record { blocks = map (opened_block shape.caches) values; broken = broken })
+shaped-opened shape values broken within e = record {
+  within = within;
   blocks = length-map values (opened_block shape.caches) ∙ e;
   lines = AllLined-opened shape.caches values;
 }

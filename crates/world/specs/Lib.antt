@@ -6,7 +6,7 @@ pub mod Enabled
 pub mod Coherent
 pub mod Written
 pub mod Overrides
-pub mod Seen
+pub mod inner
 pub use Rattle.base.specs.Extent
 pub use Rattle.base.specs.Steps
 pub use Rattle.control.specs.Sharing

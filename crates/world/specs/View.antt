@@ -1,6 +1,6 @@
 use Rattle.std.specs.Prelude.{◌≡◌, ℕ, List, [], ◌∷◌, ◌++◌, Option, Some, None, Bool, false, slice_get, slice_set, length, map}
 use Rattle.std.specs.Option.{option_map, option_map_or}
-use Rattle.base.specs.Extent.{Extent}
+use Rattle.base.specs.Extent.{Extent, IsWithinLimits}
 use Rattle.base.specs.Steps.{block_of}
 use Rattle.base.specs.declared.ids.CacheId.{CacheId}
 use Rattle.base.specs.declared.step.Step.{Step}
@@ -35,8 +35,9 @@ abbrev pub AllLined : ℕ → List BlockState → Type 0
 AllLined caches [] = Unit {0}
 AllLined caches (b ∷ bs) = (length b.lines ≡ caches) × AllLined caches bs
 
--- a state has the blocks and the lines of its shape
+-- a shape is within the limits, and a state has the blocks and the lines of it
 pub record IsShaped (shape : Extent) (state : State) : Type 0 where
+  pub within : IsWithinLimits shape
   pub blocks : length state.blocks ≡ shape.blocks
   pub lines : AllLined shape.caches state.blocks
 

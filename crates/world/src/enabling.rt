@@ -33,8 +33,6 @@ impl World {
         if self.met_blank {
             return Ok(());
         }
-        // Called for its contract: a shape is within the limits.
-        let _limit = self.shape.blocks();
         match list_all(self.blocks.as_slice(), &self.tables, steps) {
             Ok(()) => Ok(()),
             Err(refused) => {

@@ -1,7 +1,7 @@
 ghost use Rattle.std.specs.Prelude.{◌≡◌, IsErrOf};
 ghost use Rattle.serde_json.specs.View.{view};
 ghost use Rattle.world.specs.Overrides.{AnswersOverrides, overridden};
-ghost use Rattle.world.specs.Seen.{Gives};
+ghost use Rattle.world.specs.inner.Seen.{Gives};
 
 use crate::tables::Tables;
 use serde_json::Value;

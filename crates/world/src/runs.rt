@@ -10,7 +10,7 @@ pub struct RunStop {
 }
 
 impl World {
-    ghost use Rattle.std.specs.Prelude.{◌<◌, IfErr, OnOk, length, take};
+    ghost use Rattle.std.specs.Prelude.{◌≡◌, ◌<◌, IfErr, OnOk, length, take};
     ghost use Rattle.world.specs.Coherent.{HasBeenSafe, IsUnstuck};
     ghost use Rattle.world.specs.View.{LeadsOn};
     ghost use Rattle.world.specs.Runs.{IsRun};
@@ -27,18 +27,16 @@ impl World {
         ensures safe { HasBeenSafe self.new }
         ensures unstuck { IsUnstuck self.new }
     {
-        // Called for its contract: a shape is within the limits.
-        let _limit = self.shape.blocks();
-        match self.advance_all(steps, outcomes) {
-            Ok(()) => return Ok(()),
-            Err(stop) => return Err(stop),
-        }
+        // A look at a field brings in what holds of every world.
+        let _ = &self.shape;
+        self.advance_all(steps, outcomes)
     }
 
     fn advance_all(&mut self, steps: &[Step], outcomes: &mut Vec<Outcome>) -> Result<(), RunStop>
         ensures ok { OnOk result (IsRun self.old steps.now outcomes.old.items self.new outcomes.new.items) }
         ensures err { IfErr result (λ stop. IsRun self.old (take stop.done steps.now) outcomes.old.items self.new outcomes.new.items) }
         ensures done { IfErr result (λ stop. stop.done < length steps.now) }
+        ensures shape { self.new.shape ≡ self.old.shape }
     {
         for (i, step) in steps.iter().enumerate() {
             if let Err(_) = outcomes.reserve(1) {

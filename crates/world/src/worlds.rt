@@ -59,6 +59,7 @@ impl Model for World {
 
 impl World {
     ghost use Rattle.std.specs.Prelude.{◌≡◌, ◌≢◌, ◌↔◌, ◌∷◌, [], IfOk, IsOk, IsErrOf, OnErr, OnOk, length};
+    ghost use Rattle.base.specs.Extent.{IsWithinLimits};
     ghost use Rattle.machine.specs.Machine.{IsHistory, next, opened, sent_by};
     ghost use Rattle.world.specs.Coherent.{HasBeenSafe, IsUnstuck};
     ghost use Rattle.world.specs.View.{HasRoomToStep, LeadsOn, stepped};
@@ -111,8 +112,6 @@ impl World {
         ensures succeeds { HasRoomToStep self.old step → IsOk result }
         ensures sends_nothing { sent_by self.old.tables self.old.state step ≡ [] → IsOk result }
     {
-        // Called for its contract: a shape is within the limits.
-        let _limit = self.shape.blocks();
         let outcome = self.advance(step)?;
         Ok(outcome)
     }
@@ -156,6 +155,7 @@ impl World {
     }
 
     pub(crate) fn advance(&mut self, step: Step) -> Result<Outcome, NoMemory>
+        ensures within { IsWithinLimits self.new.shape }
         ensures ok { IfOk result (λ what. next self.old.tables self.old.state step ≡ stepped self.new.state what) }
         ensures shape { self.new.shape ≡ self.old.shape }
         ensures tables { self.new.tables ≡ self.old.tables }
@@ -217,11 +217,7 @@ fn step_at(
     ensures err { OnErr result (states blocks.new.items ≡ states blocks.old.items) }
     ensures succeeds { HasRoomIn (sent_at tables.now step (slice_get (states blocks.old.items) number)) (slice_get (rooms_of blocks.old.items) number) → IsOk result }
 {
-    let block = &mut blocks[number];
-    match block.step(tables, step) {
-        Err(refused) => return Err(refused),
-        Ok(outcome) => return Ok(outcome),
-    }
+    blocks[number].step(tables, step)
 }
 
 /// Makes the room that a step at one of the blocks wants.
@@ -237,9 +233,5 @@ fn ready_at(
     ensures state { states blocks.new.items ≡ states blocks.old.items }
     ensures succeeds { HasRoomIn (sent_at tables.now step (slice_get (states blocks.old.items) number)) (slice_get (rooms_of blocks.old.items) number) → IsOk result }
 {
-    let block = &mut blocks[number];
-    match block.ready(tables, step) {
-        Err(refused) => return Err(refused),
-        Ok(outcome) => return Ok(outcome),
-    }
+    blocks[number].ready(tables, step)
 }

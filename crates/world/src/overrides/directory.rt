@@ -3,7 +3,7 @@ ghost use Rattle.std.specs.List.{list_any};
 ghost use Rattle.serde_json.specs.View.{items_view};
 ghost use Rattle.directory_table.specs.Names.{action_named, state_named};
 ghost use Rattle.world.specs.Overrides.{directory_change, directory_changes, directory_entry_of, is_same_directory_cell, known_actions, known_next};
-ghost use Rattle.world.specs.Seen.{Gives, HasFew, seen_cell, seen_entry, text};
+ghost use Rattle.world.specs.inner.Seen.{Gives, HasFew, seen_cell, seen_entry, text};
 
 use crate::overrides::TablesFault;
 use crate::overrides::written::{WrittenCell, WrittenEntry, written_cell};

@@ -1,7 +1,7 @@
 use Rattle.std.proofs.Common.{◌≡◌, ◌++◌, ◌∙◌, ap, sym, map, rules}
 use Rattle.base.specs.Spelling.{words}
 use Rattle.directory_table.specs.Names.{action_name}
-use Rattle.record.specs.Reading.{words_behind}
+use Rattle.record.specs.inner.Reading.{words_behind}
 use Rattle.record.proofs.Openings.{cut-words}
 use Rattle.record.proofs.Actions.{no-name, more-words}
 use Rattle.record.proofs.cell_parsing.directory_actions_of.Goals as goal

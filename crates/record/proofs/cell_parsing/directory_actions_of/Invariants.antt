@@ -1,6 +1,6 @@
 use Rattle.std.proofs.Common.{◌≡◌, ◌≤◌, ◌-◌, ◌++◌, length, map}
 use Rattle.directory_table.specs.Names.{action_name}
-use Rattle.record.specs.Reading.{words_behind}
+use Rattle.record.specs.inner.Reading.{words_behind}
 use Rattle.record.proofs.cell_parsing.directory_actions_of.Given as goal
 
 abbrev pub invariant-loop-rest : goal.invariant-loop-rest

@@ -1,7 +1,7 @@
 use Rattle.std.proofs.Common.{◌≡◌, ◌++◌, ◌∙◌, ap, rules}
 use Rattle.base.specs.Spelling.{words}
 use Rattle.record.specs.Text.{opening_words}
-use Rattle.record.specs.Reading.{words_behind}
+use Rattle.record.specs.inner.Reading.{words_behind}
 use Rattle.record.proofs.Openings.{cut-words, many-values, no-value}
 use Rattle.record.proofs.parsing.opening_of.Goals as goal
 

@@ -1,5 +1,5 @@
 use Rattle.record.proofs.Splitting.{no-step}
-use Rattle.record.specs.Reading.{HasNoStepBefore}
+use Rattle.record.specs.inner.Reading.{HasNoStepBefore}
 use Rattle.std.proofs.Common.{arith, below_more}
 use Rattle.record.proofs.parsing.step_at_front.Goals as goal
 

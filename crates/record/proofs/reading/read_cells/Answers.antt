@@ -3,7 +3,7 @@ use Rattle.base.specs.Spelling.{words}
 use Rattle.record.specs.declared.fault.ReadKind.TheVariants.{BadLine}
 use Rattle.record.specs.Cells.{all_spots, cell_words, spot_number, spot_of}
 use Rattle.record.specs.Grammar.{cell_line, cells_due}
-use Rattle.record.specs.Reading.{HasRead, stream}
+use Rattle.record.specs.inner.Reading.{HasRead, stream}
 use Rattle.record.proofs.Exits.{handed-on}
 use Rattle.record.proofs.Steps.{stop-refused, line-refused, refused-same, cell-more, cell-read, cell-refused, none-listed}
 use Rattle.std.proofs.lemmas.List.{length_push}

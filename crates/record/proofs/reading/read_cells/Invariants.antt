@@ -5,7 +5,7 @@ use Rattle.record.specs.Cells.{all_spots, cell_words}
 use Rattle.record.specs.Text.{changed, line}
 use Rattle.record.proofs.Listed.{IsBaselineFrom}
 use Rattle.record.specs.Grammar.{cells_due}
-use Rattle.record.specs.Reading.{HasRead, stream}
+use Rattle.record.specs.inner.Reading.{HasRead, stream}
 use Rattle.record.specs.Recordable.{AreWhole}
 use Rattle.record.proofs.reading.read_cells.Given as goal
 

@@ -4,7 +4,7 @@ use Rattle.record.specs.declared.fault.ReadKind.TheVariants.{NoMemory}
 use Rattle.record.specs.declared.fault.ReadFault.{ReadFault}
 use Rattle.record.specs.Grammar.{entry_line, entries_due}
 use Rattle.record.specs.Refused.{IsFaultOfLine}
-use Rattle.record.specs.Reading.{stream}
+use Rattle.record.specs.inner.Reading.{stream}
 use Rattle.record.proofs.Exits.{handed-on}
 use Rattle.record.proofs.Steps.{stop-refused, line-refused, room-refused, refused-same, entry-more, entry-read, entry-refused, not-device}
 use Rattle.record.specs.Text.{entry_words}

@@ -3,7 +3,7 @@ use Rattle.std.specs.List.{All, flat_map}
 use Rattle.std.specs.Io.KnownBytes.{Consumes}
 use Rattle.record.specs.Text.{entry_words, line}
 use Rattle.record.specs.Grammar.{entries_due, FitsEntry}
-use Rattle.record.specs.Reading.{HasRead, stream}
+use Rattle.record.specs.inner.Reading.{HasRead, stream}
 use Rattle.record.proofs.reading.read_each.Given as goal
 
 abbrev pub invariant-loop-index : goal.invariant-loop-index

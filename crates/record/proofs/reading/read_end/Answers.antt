@@ -4,7 +4,7 @@ use Rattle.base.specs.Spelling.{words}
 use Rattle.record.specs.declared.fault.ReadKind.TheVariants.{BadLine, Device}
 use Rattle.record.specs.Grammar.{end_line, nothing}
 use Rattle.record.specs.Refused.{IsFaultOfLine}
-use Rattle.record.specs.Reading.{stream}
+use Rattle.record.specs.inner.Reading.{stream}
 use Rattle.record.proofs.Exits.{handed-on}
 use Rattle.record.proofs.Steps.{one-line, stop-refused, line-refused, refused-same, then-refused, then-read, nothing-read, end-more, byte-behind, device-behind}
 use Rattle.record.proofs.Listed.{taken-line}

@@ -2,7 +2,7 @@ use Rattle.std.proofs.Common.{◌≡◌, ◌∙◌, ◌∷◌, [], ap, sym, subs
 use Rattle.std.specs.Fmt.{decimal}
 use Rattle.base.specs.Spelling.{words}
 use Rattle.record.specs.Grammar.{entry_count, entries_due, end_line}
-use Rattle.record.specs.Reading.{IsBadCount, stream}
+use Rattle.record.specs.inner.Reading.{IsBadCount, stream}
 use Rattle.std.proofs.lemmas.Result.{IfErr-weaker, on_ok_weaker}
 use Rattle.record.proofs.Exits.{handed-on, of-both}
 use Rattle.record.proofs.Steps.{one-line, stop-refused, line-refused, refused-same, then-refused, then-read, entry_count-more, entries-count-fault}

@@ -1,6 +1,6 @@
 use Rattle.std.proofs.Common.{refl, ◌+◌, ◌∙◌, ap, subst, sym, List, ℕ}
 use Rattle.base.specs.Spelling.{words}
-use Rattle.record.specs.Reading.{IsBadOpening}
+use Rattle.record.specs.inner.Reading.{IsBadOpening}
 use Rattle.record.specs.declared.fault.ReadKind.TheVariants.{NoMemory}
 use Rattle.record.specs.Grammar.{opening_line, cell_count}
 use Rattle.record.proofs.Exits.{handed-on}

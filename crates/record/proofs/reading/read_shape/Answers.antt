@@ -1,6 +1,6 @@
 use Rattle.std.proofs.Common.{refl, ◌∙◌, ap, subst, sym, List, ℕ}
 use Rattle.base.specs.Spelling.{words}
-use Rattle.record.specs.Reading.{IsBadShape}
+use Rattle.record.specs.inner.Reading.{IsBadShape}
 use Rattle.record.specs.Grammar.{shape_line, opening_line}
 use Rattle.record.proofs.Exits.{handed-on}
 use Rattle.record.proofs.Steps.{one-line, stop-refused, line-refused, refused-same, shape-more, shape-fault}

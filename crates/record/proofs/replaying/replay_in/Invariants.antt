@@ -1,5 +1,5 @@
 use Rattle.std.proofs.Common.{take}
-use Rattle.record.specs.SoFar.{IsSoFar}
+use Rattle.record.specs.inner.SoFar.{IsSoFar}
 use Rattle.record.proofs.replaying.replay_in.Given as goal
 
 abbrev pub invariant-loop-number : goal.invariant-loop-number

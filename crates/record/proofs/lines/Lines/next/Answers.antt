@@ -2,7 +2,7 @@ use Rattle.std.proofs.Common.{◌∷◌, [], ap, sym, subst, arith, rules}
 use Rattle.std.specs.Io.KnownBytes.{Consumes}
 use Rattle.record.specs.declared.fault.ReadKind.{ReadKind}
 use Rattle.record.specs.declared.fault.ReadFault.{ReadFault}
-use Rattle.record.specs.Reading.{Stops, stream}
+use Rattle.record.specs.inner.Reading.{Stops, stream}
 use Rattle.record.proofs.Streams.{stop-long, stop-memory}
 use Rattle.record.proofs.lines.Lines.next.Goals as goal
 

@@ -1,7 +1,7 @@
 use Rattle.std.proofs.Common.{◌≡◌, ◌≤◌, length}
 use Rattle.std.specs.Io.KnownBytes.{Consumes}
 use Rattle.record.specs.Refused.{HasNoEnd}
-use Rattle.record.specs.Reading.{stream}
+use Rattle.record.specs.inner.Reading.{stream}
 use Rattle.record.proofs.lines.Lines.next.Given as goal
 
 abbrev pub invariant-loop-count : goal.invariant-loop-count

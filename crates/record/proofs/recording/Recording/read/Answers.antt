@@ -1,7 +1,7 @@
 use Rattle.std.proofs.Common.{subst, sym}
 use Rattle.std.specs.Io.KnownBytes.{Consumes}
 use Rattle.record.specs.Grammar.{header, shape_line, opening_line, cell_count, entry_count, end_line, nothing}
-use Rattle.record.specs.Reading.{stream}
+use Rattle.record.specs.inner.Reading.{stream}
 use Rattle.record.proofs.Exits.{handed-on, handed-with}
 use Rattle.record.proofs.Steps.{then-read, then-refused, from-start, start-refused}
 use Rattle.record.specs.Kept.{Kept}

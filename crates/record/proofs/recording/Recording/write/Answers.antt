@@ -3,7 +3,7 @@ use Rattle.std.proofs.lemmas.Bool.{cases_eq}
 use Rattle.std.proofs.lemmas.List.{take_all}
 use Rattle.record.specs.Recordable.{AreWhole}
 use Rattle.record.specs.Text.{changed_cells}
-use Rattle.record.specs.Pieces.{IsOut, PieceFits, pieces, places_before}
+use Rattle.record.specs.inner.Pieces.{IsOut, PieceFits, pieces, places_before}
 use Rattle.record.proofs.Exits.{handed-on}
 use Rattle.record.proofs.Outs.{cut-at, out-more}
 use Rattle.record.proofs.Whole.{flat, cut-text, out-text, pieces-count}

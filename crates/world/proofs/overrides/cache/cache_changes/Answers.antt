@@ -3,7 +3,7 @@ use Rattle.std.proofs.Common.{rules, arith, ◌≡◌, ◌+◌, ◌++◌, ◌∷
 use Rattle.std.specs.List.{list_any}
 use Rattle.serde_json.specs.Data.{item}
 use Rattle.serde_json.specs.View.{view, items_view}
-use Rattle.world.specs.Seen.{seen_cell}
+use Rattle.world.specs.inner.Seen.{seen_cell}
 use Rattle.world.specs.Written.{written_cell}
 use Rattle.world.specs.Overrides.{changes_after, cache_change, is_same_cache_cell}
 use Rattle.world.proofs.Overriding.{changes-more, changes-twice, items-next}
