@@ -34,7 +34,12 @@ pub seen-after : (input : LineInput) (line : Line) (next : CacheState) (home : H
     → seen (line_after input next line) home w c ≡ record (seen line home w c) { state = next; early = early_of (taken_in input line).acks; acks = late_of (taken_in input line).acks }
 seen-after input line next home w c =
     let s : Stays (moved_on input next line) (line_after input next line) = stays-settled input (line_completes input next line) (moved_on input next line) in
-    same_view _ _ s.state (ap early_of s.acks) (ap late_of s.acks) refl refl refl refl refl refl refl refl refl refl refl refl refl
+    same_view _ _ (record {
+      state = s.state;
+      early = ap early_of s.acks;
+      acks = ap late_of s.acks;
+      gets = refl; getm = refl; puts = refl; putm = refl; fwd_gets = refl; fwd_getm = refl; invs = refl; dir_data = refl; owner_data = refl; promised = refl; link = refl; shares = refl; owns = refl;
+    })
 
 pub bounded-at : (n : ℕ) (b : BlockState) (c : ℕ) (line : Line) → Sound n b → Some line ≡ slice_get b.lines c → Bounded n (seen line b.home b.traffic c)
 bounded-at n b c line h there = subst (λ v. Bounded n v) (view-at b c line there) (h.bounds c)

@@ -2,6 +2,7 @@
 use Rattle.std.proofs.Common.{◌≡◌, ◌≢◌, ℕ, ◌+◌, ◌-◌, ◌<◌, true, false, ◌⊎◌, arith, subst, sym, inl, inr}
 use Rattle.std.proofs.lemmas.Bool.Decides.{eqb_tells}
 use Rattle.directory_table.specs.declared.state.DirectoryState.TheVariants as home
+use Rattle.machine.proofs.Truths.{Never}
 use Rattle.machine.proofs.Views.{local, holds, Block, Counted, Good, HasFwdGetS, HasInv}
 use Rattle.machine.proofs.LocalSteps.{invite, give, give_shared, name_s, name_m, pass_s, pass_m, ack_s, ack_m, get_s, get_m, invite_at, invite_holds, give_at, owed, give_shared_at, give_shared_holds, name_s_at, name_s_holds, name_m_at, name_m_holds, pass_s_at, pass_s_holds, pass_m_at, pass_m_holds, ack_s_at, ack_s_holds, ack_m_at, ack_m_holds, ack_m_owner, owner_holds, get_s_at, get_s_holds, get_m_at, open_gets}
 
@@ -66,7 +67,7 @@ pub getm_at_i : (b b' : Block) (r : ℕ) → Good b → Counted b → b.home ≡
     → ((d : ℕ) → d ≢ r → b'.view d ≡ b.view d)
     → Good b'
 getm_at_i b b' r g n hs p hh dh fg vr vo =
-    let no : HasInv (b.view r).link → 0 < 0 = λ i. grind (arith, owed) in
+    let no : HasInv (b.view r).link → Never = λ i. grind (arith, owed) in
     record {
       each = λ d. grind (arith, give_at);
       one = λ d e p q. grind arith;
@@ -86,9 +87,9 @@ pub getm_at_s : (b b' : Block) (r n : ℕ) → Good b → Counted b → b.home �
     → ((c : ℕ) → c ≢ r → (b.view c).shares ≡ false → b'.view c ≡ b.view c)
     → Good b'
 getm_at_s b b' r n g k hs m hm dh fg vr vs vo =
-    let no : HasInv (b.view r).link → 0 < 0 = λ i. grind (arith, owed) in
+    let no : HasInv (b.view r).link → Never = λ i. grind (arith, owed) in
     let fw : (c : ℕ) → (b.view c).fwd_gets ≡ 0 = λ c. grind arith in
-    let nf : (c : ℕ) → HasFwdGetS (b.view c).link → 0 < 0 = λ c p. grind arith in
+    let nf : (c : ℕ) → HasFwdGetS (b.view c).link → Never = λ c p. grind arith in
     record {
       each = λ c. grind (arith, give_at, invite_at);
       one = λ c d p q. grind (arith, invite_holds);
@@ -128,7 +129,7 @@ pub getm_at_m : (b b' : Block) (r o : ℕ) → Good b → b.home ≡ home.M → 
     → ((d : ℕ) → d ≢ r → d ≢ o → b'.view d ≡ b.view d)
     → Good b'
 getm_at_m b b' r o g hs p ow ne hh dh fg vr vo vd =
-    let ns : (c : ℕ) → (b.view c).shares ≡ true → 0 < 0 = λ c q. grind arith in
+    let ns : (c : ℕ) → (b.view c).shares ≡ true → Never = λ c q. grind arith in
     let held_r : holds (b'.view r) → holds (b.view r) = λ q. name_m_holds (b.view r).state (b.view r) p (g.each r) (subst (λ v. holds v) vr q) in
     let held_o : holds (b'.view o) → holds (b.view o) = λ q. pass_m_holds (b.view o).state (b.view o) ow (g.each o) (subst (λ v. holds v) vo q) in
     let held : (d : ℕ) → holds (b'.view d) → holds (b.view d) = λ d. by_two (λ e. holds (b'.view e) → holds (b.view e)) r o d held_r held_o (λ n m. subst (λ v. holds v → holds (b.view d)) (sym (vd d n m)) (λ h. h)) in
@@ -192,7 +193,7 @@ pub putm_of_owner : (b b' : Block) (r : ℕ) → Good b → 0 < (b.view r).putm 
 putm_of_owner b b' r g p ow hh dh fg vr vo oo =
     let held : (d : ℕ) → holds (b'.view d) → holds (b.view d) = λ d q. grind (arith, ack_m_holds) in
     let this : holds (b.view r) = owner_holds (b.view r).state (b.view r) p ow (g.each r) in
-    let gone : (d : ℕ) → holds (b'.view d) → 0 < 0 = λ d q. grind (arith, ack_m_owner) in
+    let gone : (d : ℕ) → holds (b'.view d) → Never = λ d q. grind (arith, ack_m_owner) in
     record {
       each = λ d. grind (arith, ack_m_at);
       one = λ d e p q. g.one d e (held d p) (held e q);
@@ -211,7 +212,7 @@ pub data_at_home : (b b' : Block) → Good b → 0 < b.data_home → b.home ≡ 
     → Good b'
 data_at_home b b' g p hs hh dh fg vo =
     let total : b.all_fwd_gets + b.data_home ≡ 1 = g.blocked hs in
-    let gone : (d : ℕ) → holds (b'.view d) → 0 < 0 = λ d q. g.home_holds (inr (inr p)) d (subst (λ v. holds v) (vo d) q) in
+    let gone : (d : ℕ) → holds (b'.view d) → Never = λ d q. g.home_holds (inr (inr p)) d (subst (λ v. holds v) (vo d) q) in
     record {
       each = λ d. grind arith;
       one = λ d e x y. absurd (omega (arith, gone d x));
@@ -227,13 +228,13 @@ data_at_home b b' g p hs hh dh fg vo =
 pub fwd_getm_served : (b b' : Block) (c r : ℕ) → Good b → Counted b → c ≢ r → 0 < (b.view r).fwd_getm
     → holds (b.view c) → (b.view c).invs ≡ 0
     → Same b b'
-    → local (b'.view c) → (holds (b'.view c) → 0 < 0) → (b'.view c).shares ≡ (b.view c).shares → (b'.view c).owns ≡ (b.view c).owns
+    → local (b'.view c) → (holds (b'.view c) → Never) → (b'.view c).shares ≡ (b.view c).shares → (b'.view c).owns ≡ (b.view c).owns
     → (b.view c).shares ≡ false
     → b'.view r ≡ get_m (b.view r)
     → ((d : ℕ) → d ≢ r → d ≢ c → b'.view d ≡ b.view d)
     → Good b'
 fwd_getm_served b b' c r g k ne p hc ni s lc nh sh ow sf vr vo =
-    let free : HasInv (b.view r).link → 0 < 0 = λ i. grind (arith, owed) in
+    let free : HasInv (b.view r).link → Never = λ i. grind (arith, owed) in
     let held : (d : ℕ) → holds (b'.view d) → d ≡ r = λ d q. grind arith in
     record {
       each = λ d. grind (arith, get_m_at);
@@ -250,13 +251,13 @@ fwd_getm_served b b' c r g k ne p hc ni s lc nh sh ow sf vr vo =
 pub fwd_gets_served : (b b' : Block) (c r : ℕ) → Good b → Counted b → c ≢ r → 0 < (b.view r).fwd_gets
     → holds (b.view c)
     → b'.home ≡ b.home → b'.data_home ≡ b.data_home + 1 → b'.all_fwd_gets ≡ b.all_fwd_gets - 1
-    → local (b'.view c) → (holds (b'.view c) → 0 < 0) → (b'.view c).shares ≡ (b.view c).shares → (b'.view c).owns ≡ (b.view c).owns
+    → local (b'.view c) → (holds (b'.view c) → Never) → (b'.view c).shares ≡ (b.view c).shares → (b'.view c).owns ≡ (b.view c).owns
     → b'.view r ≡ get_s (b.view r)
     → ((d : ℕ) → d ≢ r → d ≢ c → b'.view d ≡ b.view d)
     → Good b'
 fwd_gets_served b b' c r g k ne p hc hh dh fg lc nh sh ow vr vo =
     let some : 0 < b.all_fwd_gets = grind arith in
-    let held : (d : ℕ) → holds (b'.view d) → 0 < 0 = λ d q. grind (arith, get_s_holds) in
+    let held : (d : ℕ) → holds (b'.view d) → Never = λ d q. grind (arith, get_s_holds) in
     record {
       each = λ d. grind (arith, get_s_at);
       one = λ d e p q. grind arith;

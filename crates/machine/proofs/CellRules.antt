@@ -10,6 +10,7 @@ use Rattle.cache_table.specs.declared.entry.CacheEntry.TheVariants.{Blank, Stall
 use Rattle.cache_table.specs.declared.actions.CacheAction.{CacheAction}
 use Rattle.cache_table.specs.declared.actions.CacheAction.TheVariants as action
 use Rattle.cache_table.specs.Baseline.{baseline_entry}
+use Rattle.machine.proofs.Truths.{Never}
 use Rattle.machine.proofs.Views.{View, Local, Holds}
 
 -- a cache in this state, seen so, comes to the next, and holds the block only if it did
@@ -48,7 +49,7 @@ PutAckRule s v rest (Act next actions) = (actions ≡ []) × Comes s v next (rec
 pub record Gives (s : CacheState) (v : View) (next : CacheState) (w : View) : Type 0 where
   pub fits : Local next w
   pub held : Holds s v
-  pub given : Holds next w → 0 < 0
+  pub given : Holds next w → Never
   pub settled : v.invs ≡ 0
   pub shares : v.owns ≡ false
 

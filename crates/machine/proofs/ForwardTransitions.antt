@@ -22,6 +22,7 @@ use Rattle.cache_table.specs.Baseline.{baseline_entry}
 use Rattle.control.specs.declared.line.Line.{Line}
 use Rattle.control.specs.declared.line.LineInput.TheVariants as line_input
 use Rattle.control.specs.Events.{forward_event}
+use Rattle.machine.proofs.Truths.{Never}
 use Rattle.machine.specs.Block.{BlockState}
 use Rattle.machine.specs.declared.decision.Origin.TheVariants as origin
 use Rattle.machine.specs.Transition.{carried_out, by_line_entry}
@@ -130,7 +131,7 @@ put-ack-acted n b cache r line next latest h there at comes =
     (record { promised = bound.promised; acks = bound.acks })
 
 -- a cache that a forward names doesn't hold the block
-named-waits : (s : CacheState) (v : View) → 0 < v.fwd_gets + v.fwd_getm → Local s v → Holds s v → 0 < 0
+named-waits : (s : CacheState) (v : View) → 0 < v.fwd_gets + v.fwd_getm → Local s v → Holds s v → Never
 named-waits I v p h q = grind (arith)
 named-waits IsD v p h q = grind (arith)
 named-waits ImAd v p h q = grind (arith)

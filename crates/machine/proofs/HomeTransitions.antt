@@ -16,6 +16,7 @@ use Rattle.control.specs.declared.home.Home.{Home}
 use Rattle.control.specs.declared.home.HomeInput.TheVariants as home_input
 use Rattle.control.specs.Sharing.{is_sole, others_from}
 use Rattle.control.specs.Events.{event_at_home, owns}
+use Rattle.machine.proofs.Truths.{Never}
 use Rattle.machine.specs.Block.{BlockState}
 use Rattle.machine.specs.declared.decision.Origin.TheVariants as origin
 use Rattle.machine.specs.Transition.{carried_out, by_home_entry}
@@ -125,7 +126,7 @@ home-data-added Dir value acks c v = nothing-added v
 home-data-added (Cache by) value acks c v = nothing-added v
 
 -- Data comes to the home only in S^D
-stray : (n : ℕ) (b : BlockState) (i : ℕ) (by : Place) (value acks : ℕ) → Sound n b → Some (Data by Dir value acks) ≡ slice_get b.traffic.responses i → (b.home.state ≡ home.SD → 0 < 0) → ⊥
+stray : (n : ℕ) (b : BlockState) (i : ℕ) (by : Place) (value acks : ℕ) → Sound n b → Some (Data by Dir value acks) ≡ slice_get b.traffic.responses i → (b.home.state ≡ home.SD → Never) → ⊥
 stray n b i by value acks h at not_sd =
     let none : sum_by home_data b.traffic.responses ≡ 0 = (h.good.unblocked not_sd).1 in
     omega (arith, sum_by-remove home_data b.traffic.responses i (Data by Dir value acks) at, none)

@@ -127,10 +127,18 @@ pub invs-seen : (line : Line) (home : Home) (r : CacheId) (flags : List Bool) (w
 invs-seen line home r flags w d h =
     let rs : (invs_from r 0 flags w).requests ≡ w.requests = invs-requests r 0 flags w in
     let xs : (invs_from r 0 flags w).responses ≡ w.responses = invs-responses r 0 flags w in
-    same_view _ _ refl refl refl
-    (ap (λ l. sum_by (from d is_gets) l) rs) (ap (λ l. sum_by (from d is_getm) l) rs) (ap (λ l. sum_by (from d is_puts) l) rs) (ap (λ l. sum_by (from d is_putm) l) rs)
-    (invs-none (names d is_fwd_gets) r 0 flags w (only-nothing (r.0 == d)) (omega arith)) (invs-none (names d is_fwd_getm) r 0 flags w (only-nothing (r.0 == d)) (omega arith))
-    (omega (arith, count-invs (r.0 == d) d r flags w refl h, ap (λ l. sum_by (inv_ack d) l) xs))
-    (ap (λ l. sum_by (dir_data d) l) xs) (ap (λ l. sum_by (owner_data d) l) xs) (ap (λ l. sum_by (ack_number d) l) xs)
-    (ap (λ l. map (λ f. f.kind) l) (invs-link r 0 flags w d d (omega arith) (omega arith)) ∙ map-kinds (shares flags d && not (d == r.0)) r (link w d))
-    refl refl
+    same_view _ _ (record {
+      state = refl; early = refl; acks = refl;
+      gets = ap (λ l. sum_by (from d is_gets) l) rs;
+      getm = ap (λ l. sum_by (from d is_getm) l) rs;
+      puts = ap (λ l. sum_by (from d is_puts) l) rs;
+      putm = ap (λ l. sum_by (from d is_putm) l) rs;
+      fwd_gets = invs-none (names d is_fwd_gets) r 0 flags w (only-nothing (r.0 == d)) (omega arith);
+      fwd_getm = invs-none (names d is_fwd_getm) r 0 flags w (only-nothing (r.0 == d)) (omega arith);
+      invs = omega (arith, count-invs (r.0 == d) d r flags w refl h, ap (λ l. sum_by (inv_ack d) l) xs);
+      dir_data = ap (λ l. sum_by (dir_data d) l) xs;
+      owner_data = ap (λ l. sum_by (owner_data d) l) xs;
+      promised = ap (λ l. sum_by (ack_number d) l) xs;
+      link = ap (λ l. map (λ f. f.kind) l) (invs-link r 0 flags w d d (omega arith) (omega arith)) ∙ map-kinds (shares flags d && not (d == r.0)) r (link w d);
+      shares = refl; owns = refl;
+    })

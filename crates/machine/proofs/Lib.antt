@@ -1,3 +1,4 @@
+pub mod Truths
 pub mod Senders
 pub mod Whole
 pub mod Fitting

@@ -3,6 +3,7 @@ use Rattle.std.proofs.Common.{◌≡◌, ℕ, ◌+◌, ◌-◌, ◌<◌, true, f
 use Rattle.network.specs.declared.message.ForwardKind.TheVariants.{FwdGetS, FwdGetM, Inv, PutAck}
 use Rattle.cache_table.specs.declared.state.CacheState.{CacheState}
 use Rattle.cache_table.specs.declared.state.CacheState.TheVariants.{I, IsD, ImAd, ImA, S, SmAd, SmA, M, MiA, SiA, IiA}
+use Rattle.machine.proofs.Truths.{Never}
 use Rattle.machine.proofs.Views.{View, Local, Holds, HasFwdGetS, HasInv}
 
 -- a sharer is sent an Inv
@@ -50,7 +51,7 @@ abbrev pub get_m : View → View
 get_m v = record v { fwd_getm = v.fwd_getm - 1; owner_data = v.owner_data + 1 }
 
 -- a sharer is sent an Inv
-pub invite_at : (s : CacheState) (v : View) → v.shares ≡ true → v.fwd_gets ≡ 0 → (HasFwdGetS v.link → 0 < 0) → Local s v → Local s (invite v)
+pub invite_at : (s : CacheState) (v : View) → v.shares ≡ true → v.fwd_gets ≡ 0 → (HasFwdGetS v.link → Never) → Local s v → Local s (invite v)
 invite_at I v p f g h = grind (arith)
 invite_at IsD v p f g h = grind (arith)
 invite_at ImAd v p f g h = grind (arith)
@@ -63,7 +64,7 @@ invite_at MiA v p f g h = grind (arith)
 invite_at SiA v p f g h = grind (arith)
 invite_at IiA v p f g h = grind (arith)
 
-pub invite_holds : (s : CacheState) (v : View) → v.shares ≡ true → v.fwd_gets ≡ 0 → (HasFwdGetS v.link → 0 < 0) → Local s v → Holds s (invite v) → Holds s v
+pub invite_holds : (s : CacheState) (v : View) → v.shares ≡ true → v.fwd_gets ≡ 0 → (HasFwdGetS v.link → Never) → Local s v → Holds s (invite v) → Holds s v
 invite_holds I v p f g h x = grind (arith)
 invite_holds IsD v p f g h x = grind (arith)
 invite_holds ImAd v p f g h x = grind (arith)
@@ -76,7 +77,7 @@ invite_holds MiA v p f g h x = grind (arith)
 invite_holds SiA v p f g h x = grind (arith)
 invite_holds IiA v p f g h x = grind (arith)
 
-pub give_at : (s : CacheState) (v : View) (n : ℕ) → 0 < v.getm → (HasInv v.link → 0 < 0) → Local s v → Local s (give n v)
+pub give_at : (s : CacheState) (v : View) (n : ℕ) → 0 < v.getm → (HasInv v.link → Never) → Local s v → Local s (give n v)
 give_at I v n p i h = grind (arith)
 give_at IsD v n p i h = grind (arith)
 give_at ImAd v n p i h = grind (arith)
@@ -285,7 +286,7 @@ ack_m_holds MiA v p h x = grind (arith)
 ack_m_holds SiA v p h x = grind (arith)
 ack_m_holds IiA v p h x = grind (arith)
 
-pub ack_m_owner : (s : CacheState) (v : View) → 0 < v.putm → v.owns ≡ true → Local s v → Holds s (ack_m v) → 0 < 0
+pub ack_m_owner : (s : CacheState) (v : View) → 0 < v.putm → v.owns ≡ true → Local s v → Holds s (ack_m v) → Never
 ack_m_owner I v p o h x = grind (arith)
 ack_m_owner IsD v p o h x = grind (arith)
 ack_m_owner ImAd v p o h x = grind (arith)
@@ -324,7 +325,7 @@ get_s_at MiA v p h = grind (arith)
 get_s_at SiA v p h = grind (arith)
 get_s_at IiA v p h = grind (arith)
 
-pub get_s_holds : (s : CacheState) (v : View) → 0 < v.fwd_gets → Local s v → Holds s (get_s v) → 0 < 0
+pub get_s_holds : (s : CacheState) (v : View) → 0 < v.fwd_gets → Local s v → Holds s (get_s v) → Never
 get_s_holds I v p h x = grind (arith)
 get_s_holds IsD v p h x = grind (arith)
 get_s_holds ImAd v p h x = grind (arith)
@@ -337,7 +338,7 @@ get_s_holds MiA v p h x = grind (arith)
 get_s_holds SiA v p h x = grind (arith)
 get_s_holds IiA v p h x = grind (arith)
 
-pub get_m_at : (s : CacheState) (v : View) → 0 < v.fwd_getm → (HasInv v.link → 0 < 0) → Local s v → Local s (get_m v)
+pub get_m_at : (s : CacheState) (v : View) → 0 < v.fwd_getm → (HasInv v.link → Never) → Local s v → Local s (get_m v)
 get_m_at I v p i h = grind (arith)
 get_m_at IsD v p i h = grind (arith)
 get_m_at ImAd v p i h = grind (arith)
@@ -350,7 +351,7 @@ get_m_at MiA v p i h = grind (arith)
 get_m_at SiA v p i h = grind (arith)
 get_m_at IiA v p i h = grind (arith)
 
-pub open_shares : (s : CacheState) (v : View) → 0 < v.getm → Local s v → (v.owns ≡ false) × (v.fwd_gets ≡ 0) × (HasFwdGetS v.link → 0 < 0)
+pub open_shares : (s : CacheState) (v : View) → 0 < v.getm → Local s v → (v.owns ≡ false) × (v.fwd_gets ≡ 0) × (HasFwdGetS v.link → Never)
 open_shares I v p h = grind (arith)
 open_shares IsD v p h = grind (arith)
 open_shares ImAd v p h = grind (arith)

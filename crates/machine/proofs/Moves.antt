@@ -42,6 +42,7 @@ use Rattle.control.specs.declared.line.Completion.TheVariants as done
 use Rattle.control.specs.declared.home.HomeInput.TheVariants as home_input
 use Rattle.control.specs.Sharing.{is_sole}
 use Rattle.control.specs.Events.{event_at_line, forward_event, is_count, more_acks, event_at_home, owns}
+use Rattle.machine.proofs.Truths.{Never}
 use Rattle.machine.specs.Block.{BlockState}
 use Rattle.machine.specs.Transition.{Transition, outcome_of, carried_out, by_line_entry, by_home_entry, at_line, at_ask, at_request, at_forward, at_response, is_idle, transition}
 use Rattle.machine.specs.declared.decision.Origin.{Origin}
@@ -310,7 +311,7 @@ few-fwd_gets PutAck = omega arith
 ones-above : (ls : List (List Forward)) → total (of_kind is_fwd_gets) ls ≤ total (λ f. 1) ls
 ones-above ls = total-below (of_kind is_fwd_gets) (λ f. 1) (λ f. few-fwd_gets f.kind) ls
 
-requests-left : (n : ℕ) (b : BlockState) (block : BlockId) (rs : List Request) → rs ≡ b.traffic.requests → Sound n b → b.traffic.responses ≡ [] → ((c : ℕ) → link b.traffic c ≡ []) → (IsQuiet b.traffic → ⊥) → (b.home.state ≡ home.SD → 0 < 0) → Found b block
+requests-left : (n : ℕ) (b : BlockState) (block : BlockId) (rs : List Request) → rs ≡ b.traffic.requests → Sound n b → b.traffic.responses ≡ [] → ((c : ℕ) → link b.traffic c ≡ []) → (IsQuiet b.traffic → ⊥) → (b.home.state ≡ home.SD → Never) → Found b block
 requests-left n b block [] e h quiet empty not_quiet not_sd = absurd (not_quiet (record { requests = sym e; links = empty; responses = quiet }))
 requests-left n b block (r ∷ rs) e h quiet empty not_quiet not_sd = found-request b block r (ap (λ l. slice_get l 0) e) (λ sd. absurd (omega (arith, not_sd sd)))
 

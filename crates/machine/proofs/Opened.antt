@@ -6,6 +6,7 @@ use Rattle.network.specs.declared.message.Forward.{Forward}
 use Rattle.network.specs.Traffic.{link, quiet}
 use Rattle.control.specs.declared.line.Line.{Line}
 use Rattle.control.specs.LineEffect.{opened_line}
+use Rattle.machine.proofs.Truths.{Never}
 use Rattle.machine.specs.Block.{opened_block}
 use Rattle.machine.proofs.Views.{View, local, holds}
 use Rattle.machine.proofs.Counts.{total}
@@ -35,8 +36,16 @@ idle-line (suc n) (suc c) = idle-line n c
 opened-view : (n value c : ℕ) → view_of (opened_block n value) c ≡ idle_view
 opened-view n value c =
     ap (λ (l : Line). seen l (opened_block n value).home (quiet n) c) (idle-line n c)
-    ∙ same_view _ _ refl refl refl refl refl refl refl (no-messages (names c is_fwd_gets) n) (no-messages (names c is_fwd_getm) n) (omega (arith, no-messages (names c is_inv) n)) refl refl refl
-    (ap (λ l. map (λ f. f.kind) l) (linkless n c)) (shares-cleared n c) refl
+    ∙ same_view _ _ (record {
+      state = refl; early = refl; acks = refl; gets = refl; getm = refl; puts = refl; putm = refl;
+      fwd_gets = no-messages (names c is_fwd_gets) n;
+      fwd_getm = no-messages (names c is_fwd_getm) n;
+      invs = omega (arith, no-messages (names c is_inv) n);
+      dir_data = refl; owner_data = refl; promised = refl;
+      link = ap (λ l. map (λ f. f.kind) l) (linkless n c);
+      shares = shares-cleared n c;
+      owns = refl;
+    })
 
 idle-local : local idle_view
 idle-local = grind (arith)
@@ -45,7 +54,7 @@ idle-local = grind (arith)
 pub opened-sound : (n value : ℕ) → n ≤ 4294967296 → Sound n (opened_block n value)
 opened-sound n value few =
     let view : (c : ℕ) → view_of (opened_block n value) c ≡ idle_view = opened-view n value in
-    let none : (c : ℕ) → holds (view_of (opened_block n value) c) → 0 < 0 = λ c q. subst (λ v. holds v) (view c) q in
+    let none : (c : ℕ) → holds (view_of (opened_block n value) c) → Never = λ c q. subst (λ v. holds v) (view c) q in
     let unshared : (c : ℕ) → (view_of (opened_block n value) c).shares ≡ false = λ c. ap (λ (v : View). v.shares) (view c) in
     record {
       few = few;

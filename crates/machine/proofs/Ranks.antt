@@ -38,6 +38,7 @@ use Rattle.control.specs.declared.home.HomeInput.TheVariants as home_input
 use Rattle.control.specs.Sharing.{shares, is_sole, others_from}
 use Rattle.control.specs.LineEffect.{line_messages, line_message, taken_in, requestor_of}
 use Rattle.control.specs.Events.{event_at_line, event_at_home, owns}
+use Rattle.machine.proofs.Truths.{Never}
 use Rattle.machine.proofs.Invitations.{invs_from, invs-link, invited}
 use Rattle.machine.specs.Block.{BlockState}
 use Rattle.machine.specs.Transition.{Transition, carried_out, by_line_entry, by_home_entry, at_line, at_ask, at_request, at_forward, at_response, is_idle, transition, without}
@@ -127,13 +128,13 @@ if-ranked : (t : Bool) (x y : Transition) → Ranked x.block → Ranked y.block 
 if-ranked true x y p q = p
 if-ranked false x y p q = q
 
-not-fwd_getm : (k : ForwardKind) (t : Bool) → (k ≡ FwdGetM → 0 < 0) → only t (is_fwd_getm k) ≡ 0
+not-fwd_getm : (k : ForwardKind) (t : Bool) → (k ≡ FwdGetM → Never) → only t (is_fwd_getm k) ≡ 0
 not-fwd_getm FwdGetS t h = only-nothing t
 not-fwd_getm FwdGetM t h = absurd (omega (arith, h refl))
 not-fwd_getm Inv t h = only-nothing t
 not-fwd_getm PutAck t h = only-nothing t
 
-none-owed : (l : List Forward) (d : ℕ) → (HasFwdGetM (map (λ f. f.kind) l) → 0 < 0) → sum_by (names d is_fwd_getm) l ≡ 0
+none-owed : (l : List Forward) (d : ℕ) → (HasFwdGetM (map (λ f. f.kind) l) → Never) → sum_by (names d is_fwd_getm) l ≡ 0
 none-owed [] d h = refl
 none-owed (f ∷ l) d h = omega (arith, sum_by-cons (names d is_fwd_getm) f l, none-owed l d (λ p. h (inr p)), not-fwd_getm f.kind (f.requestor.0 == d) (λ e. h (inl e)))
 
@@ -150,7 +151,7 @@ edge b i r o n h ranked below ne at b' e =
     let m : Forward = record { kind = FwdGetM; requestor = r } in
     let w' : Traffic = forward_sent o.0 m w1 in
     let asks : 0 < (view_of b r.0).getm = omega (arith, ap (λ (v : View). v.getm) (request-own b i (req request.GetM r) at)) in
-    let first : ((view_of b r.0).fwd_getm ≡ 0) × (HasFwdGetM (view_of b r.0).link → 0 < 0) = getm_first (view_of b r.0).state (view_of b r.0) asks (h.good.each r.0) in
+    let first : ((view_of b r.0).fwd_getm ≡ 0) × (HasFwdGetM (view_of b r.0).link → Never) = getm_first (view_of b r.0).state (view_of b r.0) asks (h.good.each r.0) in
     let into : (a : ℕ) → owed_to b.traffic a r.0 ≡ 0 = λ a. omega (arith, link-total (names r.0 is_fwd_getm) b.traffic a, first.0) in
     let out : (d : ℕ) → owed_to b.traffic r.0 d ≡ 0 = λ d. none-owed (link b.traffic r.0) d first.1 in
     let rank' : ℕ → ℕ = λ x. if x == r.0 then rk o.0 + 1 else rk x in

@@ -9,6 +9,7 @@ use Rattle.cache_table.specs.declared.event.CacheEvent.TheVariants as event
 use Rattle.cache_table.specs.declared.entry.CacheEntry.{CacheEntry}
 use Rattle.cache_table.specs.declared.entry.CacheEntry.TheVariants.{Stall}
 use Rattle.cache_table.specs.Baseline.{baseline_entry}
+use Rattle.machine.proofs.Truths.{Never}
 use Rattle.machine.proofs.Views.{View, Local}
 use Rattle.machine.proofs.ValueRules.{Waits}
 
@@ -144,7 +145,7 @@ fwd_getm_serves IiA v rest l u h = grind (arith)
 
 -- an Inv stands at the head of its link
 abbrev pub InvFirst : List ForwardKind → Type 0
-InvFirst [] = 0 < 0
+InvFirst [] = Never
 InvFirst (k ∷ ks) = k ≡ Inv
 
 first : (l : List ForwardKind) → InvFirst l → (rest : List ForwardKind) × (l ≡ Inv ∷ rest)
@@ -153,7 +154,7 @@ first (k ∷ ks) h = (ks, ap (λ x. x ∷ ks) h)
 
 -- an Inv stands on a link
 abbrev pub HasInvIn : List ForwardKind → Type 0
-HasInvIn [] = 0 < 0
+HasInvIn [] = Never
 HasInvIn (k ∷ ks) = (k ≡ Inv) ⊎ HasInvIn ks
 
 pub inv_first : (s : CacheState) (v : View) → HasInvIn v.link → Local s v → (rest : List ForwardKind) × (v.link ≡ Inv ∷ rest)
@@ -240,10 +241,10 @@ response_waits v h = grind (arith)
 
 -- where a GetM waits, nothing names its cache and no Fwd-GetM is on its link
 abbrev pub HasFwdGetM : List ForwardKind → Type 0
-HasFwdGetM [] = 0 < 0
+HasFwdGetM [] = Never
 HasFwdGetM (k ∷ ks) = (k ≡ FwdGetM) ⊎ HasFwdGetM ks
 
-pub getm_first : (s : CacheState) (v : View) → 0 < v.getm → Local s v → (v.fwd_getm ≡ 0) × (HasFwdGetM v.link → 0 < 0)
+pub getm_first : (s : CacheState) (v : View) → 0 < v.getm → Local s v → (v.fwd_getm ≡ 0) × (HasFwdGetM v.link → Never)
 getm_first I v p h = grind (arith)
 getm_first IsD v p h = grind (arith)
 getm_first ImAd v p h = grind (arith)

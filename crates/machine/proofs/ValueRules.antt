@@ -16,17 +16,18 @@ use Rattle.control.specs.declared.line.LineInput.{LineInput}
 use Rattle.control.specs.declared.line.Completion.{Completion}
 use Rattle.control.specs.declared.line.Completion.TheVariants as done
 use Rattle.control.specs.LineEffect.{settled, pending_completed, after_settling, after_message}
+use Rattle.machine.proofs.Truths.{Always, Never}
 use Rattle.machine.specs.Transition.{latest_after}
 use Rattle.machine.proofs.Views.{View, Local, Holds, HasInv, HasFwdGetS, NoRequest, NoPut, Apart}
 
 -- the line's value is the latest, where a cache in this state is seen so
 abbrev pub HasValue : CacheState → View → Type 0
-HasValue S v = 0 < 1
-HasValue SmAd v = 0 < 1
-HasValue SmA v = 0 < 1
-HasValue M v = 0 < 1
+HasValue S v = Always
+HasValue SmAd v = Always
+HasValue SmA v = Always
+HasValue M v = Always
 HasValue MiA v = Holds MiA v
-HasValue other v = 0 < 0
+HasValue other v = Never
 
 -- what is pending at a line in this state
 abbrev pub Waits : CacheState → Option Ask → Type 0
@@ -244,7 +245,7 @@ put_rule IiA event.LastInvAck v h = grind (arith)
 
 -- where a cache has the latest value, it holds the block, or the home knows of it, or an Inv is on its way
 abbrev pub Reads : CacheState → View → Type 0
-Reads s v = Holds s v ⊎ HasInv v.link ⊎ ((v.shares ≡ true) × (v.fwd_gets ≡ 0) × (HasFwdGetS v.link → 0 < 0))
+Reads s v = Holds s v ⊎ HasInv v.link ⊎ ((v.shares ≡ true) × (v.fwd_gets ≡ 0) × (HasFwdGetS v.link → Never))
 
 pub value_reads : (s : CacheState) (v : View) → HasValue s v → Local s v → Reads s v
 value_reads I v p h = grind (arith)

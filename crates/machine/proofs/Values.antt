@@ -12,6 +12,7 @@ use Rattle.network.specs.declared.message.Response.TheVariants.{Data, InvAck}
 use Rattle.cache_table.specs.declared.state.CacheState.{CacheState}
 use Rattle.cache_table.specs.declared.state.CacheState.TheVariants.{M, MiA}
 use Rattle.directory_table.specs.declared.state.DirectoryState.TheVariants as home
+use Rattle.machine.proofs.Truths.{Never}
 use Rattle.machine.specs.Block.{BlockState}
 use Rattle.machine.proofs.Views.{View, Good, Local, Holds}
 use Rattle.machine.proofs.Counts.{only}
@@ -133,7 +134,7 @@ fresh n b c h e is_latest waits =
           (λ d. omega (arith, quiet d)) (λ d. omega (arith, quiet d));
       memory = λ p. absurd (omega (
         arith,
-        elim p as (λ _. 0 < 0) [
+        elim p as (λ _. Never) [
           | inl i ↦ g.home_holds (inl i) c w.0
           | inr s ↦ g.home_holds (inr (inl s)) c w.0
         ],

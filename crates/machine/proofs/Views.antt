@@ -6,6 +6,7 @@ use Rattle.cache_table.specs.declared.state.CacheState.{CacheState}
 use Rattle.cache_table.specs.declared.state.CacheState.TheVariants.{I, IsD, ImAd, ImA, S, SmAd, SmA, M, MiA, SiA, IiA}
 use Rattle.directory_table.specs.declared.state.DirectoryState.{DirectoryState}
 use Rattle.directory_table.specs.declared.state.DirectoryState.TheVariants as home
+use Rattle.machine.proofs.Truths.{Always, Never}
 
 -- what concerns one cache
 pub record View : Type 0 where
@@ -94,7 +95,7 @@ Local IsD v =
 Local ImAd v = WaitsForM v (Apart v × (v.link ≡ [])) (IsOwner v) (IsOwner v)
 Local ImA v = NoRequest v × NoPut v × (v.early ≡ 0) × (v.promised ≡ 0) × (v.acks ≡ v.invs) × (0 < v.invs) × IsOwner v
 Local S v = NoRequest v × NoPut v × NoAcks v × IsShared v
-Local SmAd v = WaitsForM v (IsShared v) (IsLateOwner v) (0 < 0)
+Local SmAd v = WaitsForM v (IsShared v) (IsLateOwner v) Never
 Local SmA v = NoRequest v × NoPut v × (v.early ≡ 0) × (v.promised ≡ 0) × (v.acks ≡ v.invs) × (0 < v.invs) × IsOwner v
 Local M v = NoRequest v × NoPut v × NoAcks v × IsOwner v
 Local MiA v =
@@ -112,26 +113,26 @@ Local IiA v =
 
 -- it has the block to itself, is being sent it so, or is gathering acks for it
 abbrev pub Holds : CacheState → View → Type 0
-Holds I v = 0 < 0
-Holds IsD v = 0 < 0
+Holds I v = Never
+Holds IsD v = Never
 Holds ImAd v = 0 < v.dir_data + v.owner_data
-Holds ImA v = 0 < 1
-Holds S v = 0 < 0
+Holds ImA v = Always
+Holds S v = Never
 Holds SmAd v = 0 < v.dir_data + v.owner_data
-Holds SmA v = 0 < 1
-Holds M v = 0 < 1
-Holds MiA v = (v.link ≡ PutAck ∷ []) → 0 < 0
-Holds SiA v = 0 < 0
-Holds IiA v = 0 < 0
+Holds SmA v = Always
+Holds M v = Always
+Holds MiA v = (v.link ≡ PutAck ∷ []) → Never
+Holds SiA v = Never
+Holds IiA v = Never
 
 -- a Fwd-GetS is on its link
 abbrev pub HasFwdGetS : List ForwardKind → Type 0
-HasFwdGetS [] = 0 < 0
+HasFwdGetS [] = Never
 HasFwdGetS (k ∷ ks) = (k ≡ FwdGetS) ⊎ HasFwdGetS ks
 
 -- an Inv is on its link
 abbrev pub HasInv : List ForwardKind → Type 0
-HasInv [] = 0 < 0
+HasInv [] = Never
 HasInv (k ∷ ks) = (k ≡ Inv) ⊎ HasInv ks
 
 -- a block: its home's state, what is on its way to the home, and what concerns each cache
@@ -159,9 +160,9 @@ pub record Counted (b : Block) : Type 0 where
 pub record Good (b : Block) : Type 0 where
   pub each : (c : ℕ) → local (b.view c)
   pub one : (c d : ℕ) → holds (b.view c) → holds (b.view d) → c ≡ d
-  pub home_holds : (b.home ≡ home.I) ⊎ (b.home ≡ home.S) ⊎ (0 < b.data_home) → (c : ℕ) → holds (b.view c) → 0 < 0
+  pub home_holds : (b.home ≡ home.I) ⊎ (b.home ≡ home.S) ⊎ (0 < b.data_home) → (c : ℕ) → holds (b.view c) → Never
   pub sharers : (c : ℕ) → (b.view c).shares ≡ true → (b.home ≡ home.S) ⊎ (b.home ≡ home.SD)
   pub owner : (c : ℕ) → (b.view c).owns ≡ true → b.home ≡ home.M
   pub blocked : b.home ≡ home.SD → b.all_fwd_gets + b.data_home ≡ 1
-  pub unblocked : (b.home ≡ home.SD → 0 < 0) → (b.all_fwd_gets ≡ 0) × (b.data_home ≡ 0)
+  pub unblocked : (b.home ≡ home.SD → Never) → (b.all_fwd_gets ≡ 0) × (b.data_home ≡ 0)
   pub newest : (c : ℕ) → 0 < b.all_fwd_gets → (b.view c).shares ≡ true → ((b.view c).fwd_gets ≡ 1) ⊎ HasFwdGetS (b.view c).link
