@@ -1,5 +1,5 @@
 -- What the first fault of a text says of the texts that are read.
-use Rattle.std.proofs.Common.{◌≡◌, ◌≢◌, ◌∙◌, ◌⊎◌, inl, inr, ℕ, List, Option, Some, None, Result, Ok, Err, refl, sym, ap, arith}
+use Rattle.std.proofs.Common.{◌≡◌, ◌≢◌, ◌∙◌, ◌⊎◌, inl, inr, ℕ, List, Option, Some, None, Result, Ok, Err, IfOk, IfErr, refl, sym, ap, arith}
 use Rattle.serde_json.specs.Data.{Data}
 use Rattle.base.specs.Extent.{Extent}
 use Rattle.scenario.specs.Tree.{Tree}
@@ -95,3 +95,9 @@ refused-within shape bytes t TooLong w json r =
     absurd (omega (arith, same, w.short, r.3))
 refused-within shape bytes t OutOfShape w json r = absurd (no-fault shape bytes (shown t) r.0 OutOfShape json (none-within shape t w) r.1 r.2)
 refused-within shape bytes t NoMemory w json r = refl
+
+-- what meets the contract of reading, of the text of a tree within the limits
+pub answer-within : (shape : Extent) (bytes : List ℕ) (t : Tree) (answer : Result Tree ScenarioFault) → IsWithin shape t → IsJson bytes (shown t)
+    → IfOk answer (λ u. IsJson bytes (shown u)) → IfErr answer (IsRefusal shape bytes) → (answer ≡ Ok t) ⊎ (answer ≡ Err NoMemory)
+answer-within shape bytes t (Ok u) w json ok err = inl (ap Ok (tree-one bytes u t ok json))
+answer-within shape bytes t (Err fault) w json ok err = inr (ap Err (refused-within shape bytes t fault w json err))

@@ -1,6 +1,6 @@
 //! What ties offers, what is left and words together, and what the form of scenarios in JSON comes to.
 
-ghost use Rattle.std.specs.Prelude.{List, None, Some, [], length, slice_get, true, ℕ, ◌+◌, ◌<◌, ◌↔◌, ◌∷◌, ◌≡◌, ◌≢◌, ◌≤◌};
+ghost use Rattle.std.specs.Prelude.{Err, IfErr, IfOk, List, None, Ok, Result, Some, [], length, slice_get, true, ℕ, ◌+◌, ◌<◌, ◌↔◌, ◌∷◌, ◌≡◌, ◌≢◌, ◌≤◌, ◌⊎◌};
 ghost use Rattle.serde_json.specs.Data.{Data};
 ghost use Rattle.base.specs.Extent.{Extent};
 ghost use Rattle.base.specs.declared.step.CoreAsk.{CoreAsk};
@@ -48,10 +48,15 @@ pub fn a_text_is_of_one_tree()
 {}
 
 /// A text of a tree within the limits is refused only for want of memory. So what is read is exactly these trees.
+///
+/// What [`Scenario::read`](crate::Scenario::read) may answer of such a text is therefore this tree, or want of memory.
 pub fn trees_within_are_read()
     ensures value { (shape : Extent) (tree : Tree) → IsWithin shape tree → first_fault shape (shown tree) ≡ None }
     ensures text { (shape : Extent) (bytes : List ℕ) (tree : Tree) (fault : ScenarioFault) →
         IsWithin shape tree → IsJson bytes (shown tree) → IsRefusal shape bytes fault → fault ≡ NoMemory }
+    ensures answer { (shape : Extent) (bytes : List ℕ) (tree : Tree) (answer : Result Tree ScenarioFault) →
+        IsWithin shape tree → IsJson bytes (shown tree) → IfOk answer (λ other. IsJson bytes (shown other)) →
+        IfErr answer (IsRefusal shape bytes) → (answer ≡ Ok tree) ⊎ (answer ≡ Err NoMemory) }
 {}
 
 /// JSON without a first fault is the text of a tree.

@@ -2,6 +2,7 @@
 #![tactic(auto)]
 
 mod copying;
+mod fitting;
 mod forms;
 mod laws;
 mod looking;

@@ -6,9 +6,10 @@ ghost use Rattle.serde_json.specs.View.{view, items_view};
 ghost use Rattle.serde_json.specs.Written.{compact_text};
 ghost use Rattle.scenario.specs.Tree.{plain, plain_all};
 ghost use Rattle.scenario.specs.Form.{IsJson, shown, shown_all, shown_ask, shown_number, shown_times, shown_under, with_place};
-ghost use Rattle.scenario.specs.Limits.{depth};
+ghost use Rattle.scenario.specs.Limits.{Fits, Throughout, depth};
 ghost use Rattle.scenario.specs.Saving.{GoesOut, MarksSave, ReadsBack};
 
+use crate::fitting::read_numbers;
 use crate::tree::Scenario;
 use base::{Ask, CoreAsk, Sink, put_all};
 use serde_json::{Value, json};
@@ -33,11 +34,18 @@ impl<A: Allocator> Scenario<A> {
     /// Puts the scenario's text into a sink: JSON with the keys in rising order, without spaces and line ends.
     ///
     /// The text is made in the memory of `heap` first.
+    ///
+    /// [`Scenario::read`] of a shape answers this scenario again, unless memory is refused, exactly where it has at most
+    /// [`DEEPEST`](crate::DEEPEST) levels, its words have at most [`LONGEST`](crate::LONGEST) asks, no `any` is without
+    /// children, and each ask is in the shape: so it does for each scenario that it answered itself. The numbers always
+    /// fit, as their types say.
     pub fn write<S: Sink>(&self, heap: Global, sink: &mut S) -> Result<(), SaveFault>
         ensures text { GoesOut (S.taken sink.old) (S.taken sink.new) (compact_text (shown (plain self.now))) result }
         ensures mark { MarksSave (S.has_failed sink.old) result (S.has_failed sink.new) }
         ensures reads_back { ReadsBack (plain self.now) result }
+        ensures fits { Throughout Fits (plain self.now) }
     {
+        read_numbers(self);
         let Ok(text) = text_of(heap, self) else {
             return Err(SaveFault::NoMemory);
         };

@@ -1,0 +1,41 @@
+//! That the numbers of a scenario are in range of their types.
+
+ghost use Rattle.scenario.specs.Tree as tree;
+ghost use Rattle.scenario.specs.Tree.{plain, plain_all};
+ghost use Rattle.scenario.specs.Limits.{Fits, InEach, Throughout};
+
+use crate::tree::Scenario;
+use base::CoreAsk;
+use std::alloc::Allocator;
+
+/// Reads each number of the scenario. It is called for its contract: a number is known to be in range once it is read.
+#[cycle(fitting)]
+#[tactic(auto, using(crate::proofs::Children::children))]
+pub(crate) fn read_numbers<A: Allocator>(scenario: &Scenario<A>)
+    ensures { Throughout Fits (plain scenario.now) }
+{
+    match scenario {
+        Scenario::One(ask) => read_ask(*ask),
+        Scenario::Seq(children) | Scenario::Any(children) | Scenario::Both(children) => {
+            read_all_numbers(children.as_slice());
+        }
+        Scenario::Times(turns, child) => {
+            let _turns = *turns;
+            read_numbers(child);
+        }
+    }
+}
+
+#[cycle(fitting)]
+fn read_all_numbers<A: Allocator>(children: &[Scenario<A>])
+    ensures { InEach Fits (plain_all children.now) }
+{
+    for child in children {
+        read_numbers(child);
+    }
+}
+
+/// An ask's numbers are in range.
+fn read_ask(ask: CoreAsk)
+    ensures { Fits (tree.One ask) }
+{}
