@@ -39,20 +39,21 @@ abbrev mutual
   -- how deep a tree may become while offers are taken from it: as deep as it is, or one deeper (a law says so)
   pub reach : Tree → ℕ
   reach (One ask) = 1
-  reach (Seq ts) = reach_in_turn ts
-  reach (Any ts) = 1 + farthest ts
-  reach (Times n t) = 1 + std.max (reach t) (1 + depth t)
+  reach (Seq ts) = 1 + reach_in_turn ts
+  reach (Any ts) = 1 + deepest ts
+  reach (Times n t) = 2 + depth t
   reach (Both ts) = 1 + farthest ts
 
+  -- the farthest that one of the children reaches
   pub farthest : Trees → ℕ
   farthest Nil = 0
   farthest (Cons t ts) = std.max (reach t) (farthest ts)
 
-  -- the last child of a row stands for the row once it has begun
+  -- the same of the children of a row; the last one stands for the row once it has begun, so it has a level more
   pub reach_in_turn : Trees → ℕ
-  reach_in_turn Nil = 1
-  reach_in_turn (Cons t Nil) = std.max (1 + depth t) (reach t)
-  reach_in_turn (Cons t (Cons u us)) = std.max (1 + reach t) (std.max (1 + deepest (Cons u us)) (reach_in_turn (Cons u us)))
+  reach_in_turn Nil = 0
+  reach_in_turn (Cons t Nil) = depth t
+  reach_in_turn (Cons t (Cons u us)) = std.max (reach t) (reach_in_turn (Cons u us))
 
 abbrev mutual
   -- the tree is so, and each tree in it
