@@ -4,22 +4,22 @@ use Rattle.std.specs.Prelude.{⊤}
 use Rattle.serde_json.specs.Data.{Data, no_items, item}
 use Rattle.base.specs.Extent.{Extent}
 use Rattle.scenario.specs.Tree.{Tree}
-use Rattle.scenario.specs.Form.{IsJson, shown}
-use Rattle.scenario.specs.Limits.{IsWithin, longest}
-use Rattle.scenario.specs.Refusals.{Node, one, seq, any, times, both, node_of, fault_of, fault_at, is_in_shape, or_else, Visit, visited, first_some, first_fault, IsRefusal}
+use Rattle.scenario.specs.Says.{IsJson, IsTextOf}
+use Rattle.scenario.specs.Limits.{Fits, IsWithin, Throughout, longest}
+use Rattle.scenario.specs.Nodes.{Node, one, seq, any, times, both, node_of, or_else}
+use Rattle.scenario.specs.Refusals.{fault_of, fault_at, is_in_shape, Visit, visited, first_some, first_fault, IsRefusal}
 use Rattle.scenario.specs.Walk.{tree_at, Gives}
 use Rattle.scenario.specs.declared.reading.ScenarioFault.{ScenarioFault}
 use Rattle.scenario.specs.declared.reading.ScenarioFault.TheVariants.{NotJson, BadShape, EmptyAny, TooDeep, TooLong, OutOfShape, NoMemory}
-use Rattle.scenario.proofs.Rising.{Rises, rises-read}
 use Rattle.scenario.proofs.Visits.{HasFault, walk-fault}
-use Rattle.scenario.proofs.Built.{IsBuilt, tree-built, within-sound}
+use Rattle.scenario.proofs.Built.{IsBuilt, tree-built}
 
 pub fault-of : (shape : Extent) (d : Data) (r : Result Tree ScenarioFault) → tree_at shape 48 d ≡ r → HasFault r (first_fault shape d)
 unfolding first_fault
 fault-of shape d r is = subst (λ r. HasFault r (first_fault shape d)) is (walk-fault shape 48 d)
 
-pub built-of : (shape : Extent) (d : Data) (t : Tree) → Rises d → tree_at shape 48 d ≡ Ok t → IsBuilt shape 48 d (Ok t)
-built-of shape d t up is = subst (IsBuilt shape 48 d) is (tree-built shape 48 d up)
+pub built-of : (shape : Extent) (d : Data) (t : Tree) → tree_at shape 48 d ≡ Ok t → IsBuilt shape 48 d (Ok t)
+built-of shape d t is = subst (IsBuilt shape 48 d) is (tree-built shape 48 d)
 
 -- a fault that one node may have
 abbrev IsOfNode : Option ScenarioFault → Type 0
@@ -68,19 +68,22 @@ refused seen shape bytes d TooLong json gives = absurd (subst IsOfNode (fault-of
 refused seen shape bytes d OutOfShape json gives = (d, json, fault-of shape d (Err OutOfShape) gives)
 refused seen shape bytes d NoMemory json gives = tt
 
--- the bytes say the tree
-pub says : (shape : Extent) (bytes : List ℕ) (d : Data) (t : Tree) → IsJson bytes d → tree_at shape 48 d ≡ Ok t → IsJson bytes (shown t)
-says shape bytes d t json is =
-    subst (IsJson bytes) (built-of shape d t (rises-read bytes d json.1) is).0 json
+-- the bytes are the tree's text
+pub says : (shape : Extent) (bytes : List ℕ) (d : Data) (t : Tree) → IsJson bytes d → tree_at shape 48 d ≡ Ok t → IsTextOf bytes t
+says shape bytes d t json is = (d, json, (built-of shape d t is).0)
 
 -- a tree whose words are too long has no other fault
-pub too_long : (shape : Extent) (bytes : List ℕ) (d : Data) (t : Tree) → IsJson bytes d → tree_at shape 48 d ≡ Ok t → 1000000 < longest t → IsRefusal shape bytes TooLong
-too_long shape bytes d t json is long =
-    let shown_is = (built-of shape d t (rises-read bytes d json.1) is).0 in
-    (t, says shape bytes d t json is, subst (λ e. first_fault shape e ≡ None) shown_is (fault-of shape d (Ok t) is), long)
+pub too_long : (shape : Extent) (bytes : List ℕ) (d : Data) (t : Tree) → IsJson bytes d → tree_at shape 48 d ≡ Ok t
+    → 1000000 < longest t → IsRefusal shape bytes TooLong
+too_long shape bytes d t json is long = (d, t, json, (built-of shape d t is).0, fault-of shape d (Ok t) is, long)
 
 -- and else the tree is within the limits
-pub within : (shape : Extent) (bytes : List ℕ) (d : Data) (t : Tree) → IsJson bytes d → tree_at shape 48 d ≡ Ok t → longest t ≤ 1000000 → IsWithin shape t
-within shape bytes d t json is few =
-    let built = built-of shape d t (rises-read bytes d json.1) is in
-    within-sound shape t built.1 few built.2
+pub within : (shape : Extent) (d : Data) (t : Tree) → tree_at shape 48 d ≡ Ok t → longest t ≤ 1000000 → Throughout Fits t → IsWithin shape t
+within shape d t is few fits =
+    let built = built-of shape d t is in record {
+      shallow = built.1;
+      short = few;
+      choices = built.2;
+      asks = built.3;
+      numbers = fits;
+    }

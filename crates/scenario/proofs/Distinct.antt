@@ -1,93 +1,64 @@
--- A value is that of one tree at most.
-use Rattle.std.proofs.Common.{◌≡◌, ◌∙◌, ℕ, List, true, false, true≢false, Some, is_some, codes, refl, sym, ap}
-use Rattle.serde_json.specs.Data.{Data}
-use Rattle.serde_json.specs.Find.{get}
-use Rattle.base.specs.declared.step.Ask.{Ask}
-use Rattle.base.specs.declared.step.Ask.TheVariants.{Load, Store, Replace}
-use Rattle.base.specs.declared.step.CoreAsk.{CoreAsk}
+-- A value says one tree at most, and so does a text.
+use Rattle.std.proofs.Common.{◌≡◌, ◌≤◌, ◌+◌, ◌∙◌, ℕ, zero, suc, List, Option, Some, None, option_map, option_and_then, refl, sym, subst, arith}
+use Rattle.serde_json.specs.Data.{Data, Items, no_items, item}
 use Rattle.scenario.specs.Tree.{Tree, Trees, One, Seq, Any, Times, Both, Nil, Cons}
-use Rattle.scenario.proofs.Inverses.{numbered}
-use Rattle.scenario.specs.Form.{IsJson, shown, shown_all, shown_ask, shown_asked}
+use Rattle.scenario.specs.Limits.{depth, deepest}
+use Rattle.scenario.specs.Nodes.{Node, one, seq, any, times, both, node_of}
+use Rattle.scenario.specs.Says.{IsJson, IsTextOf, Says, SayEach}
 
-asked-one : (a b : Ask) → shown_asked a ≡ shown_asked b → a ≡ b
-asked-one Load Load is = refl
-asked-one Load (Store w) is = absurd (cc)
-asked-one Load Replace is = absurd (cc)
-asked-one (Store v) Load is = absurd (cc)
-asked-one (Store v) (Store w) is = let e : v ≡ w = cc in ap Store e
-asked-one (Store v) Replace is = absurd (cc)
-asked-one Replace Load is = absurd (cc)
-asked-one Replace (Store w) is = absurd (cc)
-asked-one Replace Replace is = refl
+-- the tree of a node, and those of some values, where that of each value is known
+abbrev trees_of_each : (Data → Option Tree) → Items → Option Trees
+trees_of_each tree no_items = Some Nil
+trees_of_each tree (item d ds) = option_and_then (λ t. option_map (Cons t) (trees_of_each tree ds)) (tree d)
 
-rebuilt : (c d k l : ℕ) (x y : Ask) → c ≡ d → k ≡ l → x ≡ y → numbered c k x ≡ numbered d l y
-rebuilt c d k l x y core block same = rw (core, block, same) refl
+abbrev tree_of_node : (Data → Option Tree) → Node → Option Tree
+tree_of_node tree (one ask) = Some (One ask)
+tree_of_node tree (seq ds) = option_map Seq (trees_of_each tree ds)
+tree_of_node tree (any ds) = option_map Any (trees_of_each tree ds)
+tree_of_node tree (times n d) = option_map (Times n) (tree d)
+tree_of_node tree (both ds) = option_map Both (trees_of_each tree ds)
 
-ask-one : (a b : CoreAsk) → shown_ask a ≡ shown_ask b → a ≡ b
-ask-one a b is =
-    let block : a.block.0 ≡ b.block.0 = cc in
-    let core : a.core.0 ≡ b.core.0 = cc in
-    let asked : shown_asked a.ask ≡ shown_asked b.ask = cc in
-    let same = asked-one a.ask b.ask asked in
-    rebuilt a.core.0 b.core.0 a.block.0 b.block.0 a.ask b.ask core block same
+-- the tree that a value says, if it has so many levels at most
+abbrev tree_within : ℕ → Data → Option Tree
+tree_within zero d = None
+tree_within (suc levels) d = option_and_then (tree_of_node (tree_within levels)) (node_of d)
 
--- a key stands in one of two values
-apart : {X : Type 0} (key : List ℕ) (d e : Data) → d ≡ e → is_some (get key d) ≡ true → is_some (get key e) ≡ false → X
-apart key d e is here missing = absurd (true≢false (sym here ∙ ap (λ x. is_some (get key x)) is ∙ missing))
+each-said : (levels : ℕ) → ((d : Data) (t : Tree) → depth t ≤ levels → Says d t → tree_within levels d ≡ Some t)
+    → (ds : Items) (ts : Trees) → deepest ts ≤ levels → SayEach ds ts → trees_of_each (tree_within levels) ds ≡ Some ts
+each-said levels said no_items Nil low say = refl
+each-said levels said no_items (Cons t ts) low say = absurd say
+each-said levels said (item d ds) Nil low say = absurd say
+each-said levels said (item d ds) (Cons t ts) low say =
+    rw (said d t (omega (arith, low)) say.0, each-said levels said ds ts (omega (arith, low)) say.1) refl
 
-mutual
-  pub shown-one : (t u : Tree) → shown t ≡ shown u → t ≡ u
-  shown-one (One a) (One b) is = ap One (ask-one a b is)
-  shown-one (One a) (Seq us) is = absurd (cc)
-  shown-one (One a) (Any us) is = absurd (cc)
-  shown-one (One a) (Times m u) is = absurd (cc)
-  shown-one (One a) (Both us) is = absurd (cc)
-  shown-one (Seq ts) (One b) is = absurd (cc)
-  shown-one (Seq ts) (Seq us) is =
-      let children : shown_all ts ≡ shown_all us = cc in
-      ap Seq (shown_all-one ts us children)
-  shown-one (Seq ts) (Any us) is = apart (codes "seq") (shown (Seq ts)) (shown (Any us)) is refl refl
-  shown-one (Seq ts) (Times m u) is = absurd (cc)
-  shown-one (Seq ts) (Both us) is = apart (codes "seq") (shown (Seq ts)) (shown (Both us)) is refl refl
-  shown-one (Any ts) (One b) is = absurd (cc)
-  shown-one (Any ts) (Seq us) is = apart (codes "any") (shown (Any ts)) (shown (Seq us)) is refl refl
-  shown-one (Any ts) (Any us) is =
-      let children : shown_all ts ≡ shown_all us = cc in
-      ap Any (shown_all-one ts us children)
-  shown-one (Any ts) (Times m u) is = absurd (cc)
-  shown-one (Any ts) (Both us) is = apart (codes "any") (shown (Any ts)) (shown (Both us)) is refl refl
-  shown-one (Times n t) (One b) is = absurd (cc)
-  shown-one (Times n t) (Seq us) is = absurd (cc)
-  shown-one (Times n t) (Any us) is = absurd (cc)
-  shown-one (Times n t) (Times m u) is =
-      let count : n ≡ m = cc in
-      let child : shown t ≡ shown u = cc in
-      ap (λ k. Times k t) count ∙ ap (Times m) (shown-one t u child)
-  shown-one (Times n t) (Both us) is = absurd (cc)
-  shown-one (Both ts) (One b) is = absurd (cc)
-  shown-one (Both ts) (Seq us) is = apart (codes "both") (shown (Both ts)) (shown (Seq us)) is refl refl
-  shown-one (Both ts) (Any us) is = apart (codes "both") (shown (Both ts)) (shown (Any us)) is refl refl
-  shown-one (Both ts) (Times m u) is = absurd (cc)
-  shown-one (Both ts) (Both us) is =
-      let children : shown_all ts ≡ shown_all us = cc in
-      ap Both (shown_all-one ts us children)
+pub some-level : (t : Tree) → depth t ≤ 0 → ⊥
+some-level (One ask) low = omega (arith, low)
+some-level (Seq ts) low = omega (arith, low)
+some-level (Any ts) low = omega (arith, low)
+some-level (Times n t) low = omega (arith, low)
+some-level (Both ts) low = omega (arith, low)
 
-  shown_all-one : (ts us : Trees) → shown_all ts ≡ shown_all us → ts ≡ us
-  shown_all-one Nil Nil is = refl
-  shown_all-one Nil (Cons u us) is = absurd (cc)
-  shown_all-one (Cons t ts) Nil is = absurd (cc)
-  shown_all-one (Cons t ts) (Cons u us) is =
-      let first : shown t ≡ shown u = cc in
-      let rest : shown_all ts ≡ shown_all us = cc in
-      ap (λ x. Cons x ts) (shown-one t u first) ∙ ap (Cons u) (shown_all-one ts us rest)
+said-within : (levels : ℕ) (d : Data) (t : Tree) → depth t ≤ levels → Says d t → tree_within levels d ≡ Some t
+said-within zero d t low say = absurd (some-level t low)
+said-within (suc levels) d (One ask) low say = rw say refl
+said-within (suc levels) d (Seq ts) low say = rw (say.1, each-said levels (said-within levels) say.0 ts (omega (arith, low)) say.2) refl
+said-within (suc levels) d (Any ts) low say = rw (say.1, each-said levels (said-within levels) say.0 ts (omega (arith, low)) say.2) refl
+said-within (suc levels) d (Times n t) low say = rw (say.1, said-within levels say.0 t (omega (arith, low)) say.2) refl
+said-within (suc levels) d (Both ts) low say = rw (say.1, each-said levels (said-within levels) say.0 ts (omega (arith, low)) say.2) refl
 
-some-one : (d e : Data) → Some d ≡ Some e → d ≡ e
-some-one d e is = cc
+some-one : {X : Type 0} (x y : X) → Some x ≡ Some y → x ≡ y
+some-one x y is = cc
+
+-- a value says one tree at most
+pub says-one : (d : Data) (t u : Tree) → Says d t → Says d u → t ≡ u
+says-one d t u a b =
+    let levels = depth t + depth u in
+    some-one t u (sym (said-within levels d t (omega arith) a) ∙ said-within levels d u (omega arith) b)
 
 -- bytes say one value at most
 pub json-one : (bytes : List ℕ) (d e : Data) → IsJson bytes d → IsJson bytes e → d ≡ e
 json-one bytes d e a b = some-one d e (sym a.1 ∙ b.1)
 
 -- and so one tree
-pub tree-one : (bytes : List ℕ) (t u : Tree) → IsJson bytes (shown t) → IsJson bytes (shown u) → t ≡ u
-tree-one bytes t u a b = shown-one t u (json-one bytes (shown t) (shown u) a b)
+pub text-one : (bytes : List ℕ) (t u : Tree) → IsTextOf bytes t → IsTextOf bytes u → t ≡ u
+text-one bytes t u a b = says-one a.0 t u a.2 (subst (λ d. Says d u) (json-one bytes b.0 a.0 b.1 a.1) b.2)

@@ -7,14 +7,13 @@ pub mod Distinct
 pub mod Failing
 pub mod Flat
 pub mod Fronts
-pub mod Inverses
 pub mod Lengths
 pub mod Places
 pub mod Reached
 pub mod Refusing
-pub mod Rising
 pub mod Shown
 pub mod Texts
 pub mod Values
 pub mod Visits
 pub mod Walking
+pub mod Written

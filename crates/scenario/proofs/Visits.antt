@@ -4,7 +4,8 @@ use Rattle.serde_json.specs.Data.{Data, Items, no_items, item}
 use Rattle.base.specs.declared.step.CoreAsk.{CoreAsk}
 use Rattle.base.specs.Extent.{Extent}
 use Rattle.scenario.specs.Tree.{Tree, One, Times}
-use Rattle.scenario.specs.Refusals.{Node, one, seq, any, times, both, node_of, node_children, fault_of, fault_at, is_in_shape, Visit, visited, visited_in, first_some, or_else}
+use Rattle.scenario.specs.Nodes.{Node, one, seq, any, times, both, node_of, or_else}
+use Rattle.scenario.specs.Refusals.{node_children, fault_of, fault_at, is_in_shape, Visit, visited, visited_in, first_some}
 use Rattle.scenario.specs.Walk.{tree_at, tree_of, trees_behind, over}
 use Rattle.scenario.specs.declared.reading.ScenarioFault.{ScenarioFault}
 use Rattle.scenario.specs.declared.reading.ScenarioFault.TheVariants.{BadShape, OutOfShape}
@@ -25,7 +26,7 @@ or_else-none : {X : Type 0} (a : Option X) → or_else a None ≡ a
 or_else-none None = refl
 or_else-none (Some x) = refl
 
-first_some-append : (f : Tells) (xs ys : List Visit) → first_some f (xs ++ ys) ≡ or_else (first_some f xs) (first_some f ys)
+pub first_some-append : (f : Tells) (xs ys : List Visit) → first_some f (xs ++ ys) ≡ or_else (first_some f xs) (first_some f ys)
 first_some-append f [] ys = refl
 first_some-append f (x ∷ xs) ys =
     ap (or_else (f x)) (first_some-append f xs ys) ∙ sym (or_else-assoc (f x) (first_some f xs) (first_some f ys))

@@ -1,17 +1,12 @@
--- A tree as a JSON value, and what it is for bytes to be JSON.
-use Rattle.std.specs.Prelude.{◌≡◌, ℕ, List, Some, codes}
-use Rattle.std.specs.Str.{IsUtf8}
+-- The JSON value that a tree is written as.
+use Rattle.std.specs.Prelude.{ℕ, List, codes}
 use Rattle.serde_json.specs.Data.{Data, number, string, array, object, unsigned, Items, no_items, item, Members, no_members, member}
-use Rattle.serde_json.specs.Read.{read}
 use Rattle.base.specs.declared.step.Ask.{Ask}
 use Rattle.base.specs.declared.step.Ask.TheVariants.{Load, Store, Replace}
 use Rattle.base.specs.declared.step.CoreAsk.{CoreAsk}
 use Rattle.scenario.specs.Tree.{Tree, Trees, One, Seq, Any, Times, Both, Nil, Cons}
 
--- these bytes are JSON, and this is what they say
-abbrev pub IsJson : List ℕ → Data → Type 0
-IsJson bytes d = IsUtf8 bytes × (read bytes ≡ Some d)
-
+-- a whole number
 abbrev pub shown_number : ℕ → Data
 shown_number n = number (unsigned n)
 

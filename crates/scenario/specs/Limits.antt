@@ -49,7 +49,7 @@ abbrev mutual
   farthest Nil = 0
   farthest (Cons t ts) = std.max (reach t) (farthest ts)
 
-  -- the same of the children of a row; the last one stands for the row once it has begun, so it has a level more
+  -- the same of the children of a row, of which the last counts as it is: it stands for the row once that has begun
   pub reach_in_turn : Trees → ℕ
   reach_in_turn Nil = 0
   reach_in_turn (Cons t Nil) = depth t

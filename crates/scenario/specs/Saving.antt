@@ -3,7 +3,8 @@ use Rattle.std.specs.Prelude.{◌≡◌, ◌≤◌, ◌<◌, ℕ, List, Bool, tr
 use Rattle.std.specs.Io.KnownBytes.{Appends}
 use Rattle.serde_json.specs.Written.{compact_text}
 use Rattle.scenario.specs.Tree.{Tree}
-use Rattle.scenario.specs.Form.{IsJson, shown}
+use Rattle.scenario.specs.Form.{shown}
+use Rattle.scenario.specs.Says.{IsTextOf}
 use Rattle.scenario.specs.Limits.{depth}
 use Rattle.scenario.specs.declared.writing.SaveFault.{SaveFault}
 use Rattle.scenario.specs.declared.writing.SaveFault.TheVariants.{NoMemory, Device}
@@ -20,7 +21,7 @@ GoesOut before after text (Ok value) = Appends before after text
 GoesOut before after text (Err NoMemory) = after ≡ before
 GoesOut before after text (Err (Device written)) = Appends before after (take written text) × (written < length text)
 
--- the text of a tree of 48 levels at most is JSON, and says the tree
+-- the text of a tree of 48 levels at most is JSON that says the tree
 abbrev pub ReadsBack : {T : Type 0} → Tree → Result T SaveFault → Type 0
 ReadsBack tree (Err NoMemory) = ⊤
-ReadsBack tree answer = depth tree ≤ 48 → IsJson (compact_text (shown tree)) (shown tree)
+ReadsBack tree answer = depth tree ≤ 48 → IsTextOf (compact_text (shown tree)) tree

@@ -4,7 +4,8 @@ use Rattle.serde_json.specs.Data.{Data, Items, no_items, item}
 use Rattle.serde_json.specs.View.{view, items_view}
 use Rattle.base.specs.Extent.{Extent}
 use Rattle.scenario.specs.Tree.{Tree, One, Seq, Any, Times, Both, trees_of}
-use Rattle.scenario.specs.Refusals.{Node, one, seq, any, times, both, node_of, is_in_shape}
+use Rattle.scenario.specs.Nodes.{Node, one, seq, any, times, both, node_of}
+use Rattle.scenario.specs.Refusals.{is_in_shape}
 use Rattle.scenario.specs.declared.reading.ScenarioFault.{ScenarioFault}
 use Rattle.scenario.specs.declared.reading.ScenarioFault.TheVariants.{BadShape, EmptyAny, TooDeep, OutOfShape, NoMemory}
 use Rattle.scenario.specs.declared.forms.Form.{Form}

@@ -5,9 +5,9 @@ ghost use Rattle.serde_json.specs.Data.{Data};
 ghost use Rattle.base.specs.Extent.{Extent};
 ghost use Rattle.base.specs.declared.step.CoreAsk.{CoreAsk};
 ghost use Rattle.scenario.specs.Alike.{Alike};
-ghost use Rattle.scenario.specs.Form.{IsJson, shown};
 ghost use Rattle.scenario.specs.Limits.{IsWithin, depth, reach};
 ghost use Rattle.scenario.specs.Refusals.{IsRefusal, first_fault};
+ghost use Rattle.scenario.specs.Says.{IsTextOf, Says};
 ghost use Rattle.scenario.specs.Taking.{ends, left, offers};
 ghost use Rattle.scenario.specs.Tree.{Tree};
 ghost use Rattle.scenario.specs.Words.{IsWord};
@@ -41,28 +41,28 @@ pub fn trees_stay_shallow()
     ensures shallow { (t : Tree) → reach t ≤ 1 + depth t }
 {}
 
-/// A text is the text of one tree at most, whatever the shape.
+/// A value says one tree at most, and a text is the text of one tree at most, whatever the shape.
 pub fn a_text_is_of_one_tree()
-    ensures value { (one other : Tree) → shown one ≡ shown other → one ≡ other }
-    ensures text { (bytes : List ℕ) (one other : Tree) → IsJson bytes (shown one) → IsJson bytes (shown other) → one ≡ other }
+    ensures value { (value : Data) (one other : Tree) → Says value one → Says value other → one ≡ other }
+    ensures text { (bytes : List ℕ) (one other : Tree) → IsTextOf bytes one → IsTextOf bytes other → one ≡ other }
 {}
 
 /// A text of a tree within the limits is refused only for want of memory. So what is read is exactly these trees.
 ///
 /// What [`Scenario::read`](crate::Scenario::read) may answer of such a text is therefore this tree, or want of memory.
 pub fn trees_within_are_read()
-    ensures value { (shape : Extent) (tree : Tree) → IsWithin shape tree → first_fault shape (shown tree) ≡ None }
+    ensures value { (shape : Extent) (value : Data) (tree : Tree) →
+        IsWithin shape tree → Says value tree → first_fault shape value ≡ None }
     ensures text { (shape : Extent) (bytes : List ℕ) (tree : Tree) (fault : ScenarioFault) →
-        IsWithin shape tree → IsJson bytes (shown tree) → IsRefusal shape bytes fault → fault ≡ NoMemory }
+        IsWithin shape tree → IsTextOf bytes tree → IsRefusal shape bytes fault → fault ≡ NoMemory }
     ensures answer { (shape : Extent) (bytes : List ℕ) (tree : Tree) (answer : Result Tree ScenarioFault) →
-        IsWithin shape tree → IsJson bytes (shown tree) → IfOk answer (λ other. IsJson bytes (shown other)) →
-        IfErr answer (IsRefusal shape bytes) → (answer ≡ Ok tree) ⊎ (answer ≡ Err NoMemory) }
+        IsWithin shape tree → IsTextOf bytes tree → IfOk answer (IsTextOf bytes) → IfErr answer (IsRefusal shape bytes) →
+        (answer ≡ Ok tree) ⊎ (answer ≡ Err NoMemory) }
 {}
 
-/// JSON without a first fault is the text of a tree.
+/// JSON without a first fault says a tree.
 pub fn json_without_fault_is_a_tree()
-    ensures { (shape : Extent) (bytes : List ℕ) (value : Data) →
-        IsJson bytes value → first_fault shape value ≡ None → (tree : Tree) × (value ≡ shown tree) }
+    ensures { (shape : Extent) (value : Data) → first_fault shape value ≡ None → (tree : Tree) × Says value tree }
 {}
 
 /// A text has one refusal at most, beside the want of memory.

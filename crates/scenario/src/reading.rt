@@ -3,11 +3,12 @@
 ghost use Rattle.std.specs.Prelude.{◌≡◌, ◌≤◌, [], map, IfOk, IfErr};
 ghost use Rattle.serde_json.specs.View.{view, items_view};
 ghost use Rattle.scenario.specs.Tree.{plain};
-ghost use Rattle.scenario.specs.Form.{IsJson, shown};
 ghost use Rattle.scenario.specs.Limits.{IsWithin};
 ghost use Rattle.scenario.specs.Refusals.{IsRefusal, is_in_shape};
+ghost use Rattle.scenario.specs.Says.{IsTextOf};
 ghost use Rattle.scenario.specs.Walk.{Gives, tree_at, trees_behind};
 
+use crate::fitting::read_numbers;
 use crate::forms::{Form, form_of};
 use crate::making::{children_in, times_in};
 use crate::measuring::longest_word;
@@ -83,7 +84,7 @@ impl<A: Allocator + Clone> Scenario<A> {
         bytes: &[u8],
         shape: Shape,
     ) -> Result<Scenario<A>, ScenarioFault>
-        ensures tree { IfOk result (λ s. IsJson bytes.now (shown (plain s))) }
+        ensures tree { IfOk result (λ s. IsTextOf bytes.now (plain s)) }
         ensures within { IfOk result (λ s. IsWithin shape (plain s)) }
         ensures fault { IfErr result (λ f. IsRefusal shape bytes.now f) }
     {
@@ -96,6 +97,7 @@ impl<A: Allocator + Clone> Scenario<A> {
         if longest_word(&scenario) > u64::from(LONGEST) {
             return Err(ScenarioFault::TooLong);
         }
+        read_numbers(&scenario);
         Ok(scenario)
     }
 }

@@ -5,8 +5,9 @@ ghost use Rattle.serde_json.specs.Data.{array, string, member, no_members};
 ghost use Rattle.serde_json.specs.View.{view, items_view};
 ghost use Rattle.serde_json.specs.Written.{compact_text};
 ghost use Rattle.scenario.specs.Tree.{plain, plain_all};
-ghost use Rattle.scenario.specs.Form.{IsJson, shown, shown_all, shown_ask, shown_number, shown_times, shown_under, with_place};
+ghost use Rattle.scenario.specs.Form.{shown, shown_all, shown_ask, shown_number, shown_times, shown_under, with_place};
 ghost use Rattle.scenario.specs.Limits.{Fits, Throughout, depth};
+ghost use Rattle.scenario.specs.Says.{IsJson};
 ghost use Rattle.scenario.specs.Saving.{GoesOut, MarksSave, ReadsBack};
 
 use crate::fitting::read_numbers;

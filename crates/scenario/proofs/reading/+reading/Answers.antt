@@ -2,7 +2,7 @@ use Rattle.std.proofs.Common.{arith, map, rules, ◌≡◌, ◌<◌, Some, Ok, l
 use Rattle.std.proofs.lemmas.Grind.{common_steps}
 use Rattle.serde_json.specs.View.{view, items_view}
 use Rattle.scenario.specs.Tree.{plain}
-use Rattle.scenario.specs.Refusals.{node_of, any}
+use Rattle.scenario.specs.Nodes.{node_of, any}
 use Rattle.scenario.proofs.Children.{plain-Any}
 use Rattle.scenario.proofs.Walking.{walking, choice_level}
 use Rattle.scenario.proofs.reading.+reading.Goals as goal

@@ -28,4 +28,4 @@ pub returns-clause-within : goal.returns-clause-within
 returns-clause-within g c =
     let t = plain c.in_ok-scenario.scenario in
     let few : longest t ≤ 1000000 = omega (arith, c.longest_word.ensures, c.if-longest_word-from.false, c.from.ensures) in
-    within c.args.shape c.args.bytes.now (view c.in-Ok.value) t c.in-Ok.ensures.ok c.in_ok-scenario.ensures few
+    within c.args.shape (view c.in-Ok.value) t c.in_ok-scenario.ensures few c.read_numbers.ensures
