@@ -6,7 +6,7 @@ use Rattle.scenario.specs.Taking.{ends, offers, left}
 use Rattle.scenario.specs.Alike.{Alike, Seen, followed, seen}
 use Rattle.scenario.specs.Words.{IsWord}
 use Rattle.scenario.proofs.Places.{is_below}
-use Rattle.scenario.proofs.Reached.{among, ask-in, ask-out, nothing-in, nothing-out}
+use Rattle.scenario.proofs.Reached.{offer_below, ask-in, ask-out, nothing-in, nothing-out}
 
 same_seen : (a b : Seen) → Some a ≡ Some b → a ≡ b
 same_seen a b e = cc e
@@ -17,7 +17,7 @@ alike-offers s t alike = ap (λ (a : Seen). a.offers) (same_seen (seen s) (seen 
 pub alike-ends : (s t : Tree) → Alike s t → ends s ≡ ends t
 alike-ends s t alike = ap (λ (a : Seen). a.ends) (same_seen (seen s) (seen t) (alike []))
 
-abbrev follow_if : Bool → Tree → List ℕ → Option Tree
+abbrev pub follow_if : Bool → Tree → List ℕ → Option Tree
 follow_if b t path = if b then followed t path else None
 
 pub alike-left : (s t : Tree) (i : ℕ) → Alike s t → i < length (offers s) → Alike (left s i) (left t i)
@@ -30,5 +30,5 @@ pub alike-words : (word : List CoreAsk) (s t : Tree) → Alike s t → IsWord s 
 alike-words [] s t alike w = nothing-in t (sym (alike-ends s t alike) ∙ nothing-out s w)
 alike-words (ask ∷ word) s t alike w =
     let there = ask-out s ask word w in
-    let h = among (offers s) there.0 ask there.1 in
+    let h = offer_below (offers s) there.0 ask there.1 in
     ask-in t there.0 ask word (ap (λ os. slice_get os there.0) (sym (alike-offers s t alike)) ∙ there.1) (alike-words word (left s there.0) (left t there.0) (alike-left s t there.0 alike h) there.2)

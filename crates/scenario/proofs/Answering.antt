@@ -1,4 +1,4 @@
--- What the walk over a value that was read says of the answer.
+-- What the walk over a value that was read text-of of the answer.
 use Rattle.std.proofs.Common.{◌≡◌, ◌≤◌, ◌<◌, ℕ, zero, suc, Bool, true, false, if◌then◌else◌, List, [], ◌∷◌, Option, Some, None, Result, Ok, Err, subst}
 use Rattle.std.specs.Prelude.{⊤}
 use Rattle.serde_json.specs.Data.{Data, no_items, item}
@@ -45,9 +45,9 @@ node-form shape (Some (any (item d ds))) = tt
 node-form shape (Some (times n d)) = tt
 node-form shape (Some (both ds)) = tt
 
-node-at : (shape : Extent) (left : ℕ) (d : Data) → IsOfNode (fault_at shape left d)
+node-at : (shape : Extent) (levels : ℕ) (d : Data) → IsOfNode (fault_at shape levels d)
 node-at shape zero d = tt
-node-at shape (suc left) d = node-form shape (node_of d)
+node-at shape (suc levels) d = node-form shape (node_of d)
 
 node-first : (shape : Extent) (visits : List Visit) → IsOfNode (first_some (λ visit. fault_at shape visit.0 visit.1) visits)
 node-first shape [] = tt
@@ -58,19 +58,19 @@ unfolding first_fault
 node-fault shape d = node-first shape (visited 48 d)
 
 -- a fault that the walk came to
-pub refused : {X : Type 0} (seen : X → Tree) (shape : Extent) (bytes : List ℕ) (d : Data) (fault : ScenarioFault) → IsJson bytes d → Gives seen (Err fault) (tree_at shape 48 d)
+pub refused : {X : Type 0} (meaning : X → Tree) (shape : Extent) (bytes : List ℕ) (d : Data) (fault : ScenarioFault) → IsJson bytes d → Gives meaning (Err fault) (tree_at shape 48 d)
     → IsRefusal shape bytes fault
-refused seen shape bytes d NotJson json gives = absurd (subst IsOfNode (fault-of shape d (Err NotJson) gives) (node-fault shape d))
-refused seen shape bytes d BadShape json gives = (d, json, fault-of shape d (Err BadShape) gives)
-refused seen shape bytes d EmptyAny json gives = (d, json, fault-of shape d (Err EmptyAny) gives)
-refused seen shape bytes d TooDeep json gives = (d, json, fault-of shape d (Err TooDeep) gives)
-refused seen shape bytes d TooLong json gives = absurd (subst IsOfNode (fault-of shape d (Err TooLong) gives) (node-fault shape d))
-refused seen shape bytes d OutOfShape json gives = (d, json, fault-of shape d (Err OutOfShape) gives)
-refused seen shape bytes d NoMemory json gives = tt
+refused meaning shape bytes d NotJson json gives = absurd (subst IsOfNode (fault-of shape d (Err NotJson) gives) (node-fault shape d))
+refused meaning shape bytes d BadShape json gives = (d, json, fault-of shape d (Err BadShape) gives)
+refused meaning shape bytes d EmptyAny json gives = (d, json, fault-of shape d (Err EmptyAny) gives)
+refused meaning shape bytes d TooDeep json gives = (d, json, fault-of shape d (Err TooDeep) gives)
+refused meaning shape bytes d TooLong json gives = absurd (subst IsOfNode (fault-of shape d (Err TooLong) gives) (node-fault shape d))
+refused meaning shape bytes d OutOfShape json gives = (d, json, fault-of shape d (Err OutOfShape) gives)
+refused meaning shape bytes d NoMemory json gives = tt
 
 -- the bytes are the tree's text
-pub says : (shape : Extent) (bytes : List ℕ) (d : Data) (t : Tree) → IsJson bytes d → tree_at shape 48 d ≡ Ok t → IsTextOf bytes t
-says shape bytes d t json is = (d, json, (built-of shape d t is).0)
+pub text-of : (shape : Extent) (bytes : List ℕ) (d : Data) (t : Tree) → IsJson bytes d → tree_at shape 48 d ≡ Ok t → IsTextOf bytes t
+text-of shape bytes d t json is = (d, json, (built-of shape d t is).0)
 
 -- a tree whose words are too long has no other fault
 pub too_long : (shape : Extent) (bytes : List ℕ) (d : Data) (t : Tree) → IsJson bytes d → tree_at shape 48 d ≡ Ok t

@@ -1,5 +1,6 @@
 -- The tree that is built of a value is the one that the value says.
 use Rattle.std.proofs.Common.{◌≡◌, ◌≤◌, ◌<◌, ◌++◌, ◌∙◌, ◌&&◌, ℕ, zero, suc, List, [], ◌∷◌, Bool, true, false, nat_lt, if◌then◌else◌, Option, Some, None, Result, Ok, Err, append_assoc, refl, sym, ap, subst, arith}
+use Rattle.std.proofs.lemmas.List.{append-nil}
 use Rattle.std.specs.Prelude.{⊤}
 use Rattle.serde_json.specs.Data.{Data, Items, no_items, item}
 use Rattle.base.specs.declared.step.CoreAsk.{CoreAsk}
@@ -25,10 +26,6 @@ abbrev AreBuilt : Extent → ℕ → List Tree → Items → Result (List Tree) 
 AreBuilt shape levels before ds (Ok ts) = (behind : List Tree) × (ts ≡ before ++ behind) × AreSaid shape levels ds behind
 AreBuilt shape levels before ds (Err fault) = ⊤
 
-append-none : (ts : List Tree) → ts ++ [] ≡ ts
-append-none [] = refl
-append-none (t ∷ ts) = ap (λ us. t ∷ us) (append-none ts)
-
 one-more : (shape : Extent) (levels : ℕ) (before : List Tree) (t : Tree) (d : Data) (ds : Items) (r : Result (List Tree) ScenarioFault)
     → IsBuilt shape levels d (Ok t) → AreBuilt shape levels (before ++ t ∷ []) ds r → AreBuilt shape levels before (item d ds) r
 one-more shape levels before t d ds (Err fault) a b = tt
@@ -47,7 +44,7 @@ Builds shape levels tree = (d : Data) → IsBuilt shape levels d (tree d)
 
 behind-built : (shape : Extent) (levels : ℕ) (tree : Data → Result Tree ScenarioFault) → Builds shape levels tree
     → (before : List Tree) (ds : Items) → AreBuilt shape levels before ds (trees_behind tree before ds)
-behind-built shape levels tree each before no_items = ([], sym (append-none before), (tt, omega arith, tt, tt))
+behind-built shape levels tree each before no_items = ([], sym (append-nil before), (tt, omega arith, tt, tt))
 behind-built shape levels tree each before (item d ds) =
     next-built shape levels before d ds (tree d) (λ t. trees_behind tree (before ++ t ∷ []) ds) (each d) (λ t. behind-built shape levels tree each (before ++ t ∷ []) ds)
 

@@ -9,7 +9,7 @@ use Rattle.scenario.specs.Tree.{plain, plain_row, plain_all}
 
 row_items : (A : Type 0) {n : _} (k : Row_of-Scenario A n) → plain_row k ≡ plain_all (items-the_row-Scenario A n k)
 row_items A end_of-Scenario = refl
-row_items A (more_of-Scenario s rest) = ap (λ ts. tree.Cons (plain s) ts) (row_items A rest)
+row_items A (more_of-Scenario s more) = ap (λ ts. tree.Cons (plain s) ts) (row_items A more)
 
 pub plain-Seq : {A : Type 0} (v : Vec (Scenario A) A) → plain (Seq v) ≡ tree.Seq (plain_all v.items)
 plain-Seq {A} v = ap tree.Seq (row_items A (hidden-the_row-Scenario-0 A v) ∙ ap plain_all (items_hidden-the_row-Scenario-0 A v))

@@ -6,7 +6,8 @@ use Rattle.scenario.specs.Tree.{Tree, Trees, One, Seq, Any, Times, Both, Nil, Co
 use Rattle.scenario.specs.Taking.{ends, all_end, some_ends, offers, offers_in_turn, offers_of_all, left, left_in_turn, left_of_one, left_of_all}
 use Rattle.scenario.specs.Alike.{Alike, Takes, followed, seen}
 use Rattle.scenario.specs.Rests.{rest, rest_in_turn, rest_of_one, rest_of_all, row_of, Leaves}
-use Rattle.scenario.proofs.Places.{is_below}
+use Rattle.scenario.proofs.Alikes.{follow_if}
+use Rattle.scenario.proofs.Places.{is_below, by_test}
 
 -- the tree without rows of one child
 abbrev mutual
@@ -21,10 +22,10 @@ abbrev mutual
   flats Nil = Nil
   flats (Cons t ts) = Cons (flat t) (flats ts)
 
-nothing_behind : {X : Type 0} (b : Bool) (xs : List X) → xs ++ cond b [] [] ≡ xs
-nothing_behind true [] = refl
-nothing_behind false [] = refl
-nothing_behind b (x ∷ xs) = ap (λ ys. x ∷ ys) (nothing_behind b xs)
+append-neither : {X : Type 0} (b : Bool) (xs : List X) → xs ++ cond b [] [] ≡ xs
+append-neither true [] = refl
+append-neither false [] = refl
+append-neither b (x ∷ xs) = ap (λ ys. x ∷ ys) (append-neither b xs)
 
 and_true : (b : Bool) → (b && true) ≡ b
 and_true true = refl
@@ -32,7 +33,7 @@ and_true false = refl
 
 offers-row : (ts : Trees) → offers (row_of ts) ≡ offers_in_turn ts
 offers-row Nil = refl
-offers-row (Cons t Nil) = sym (nothing_behind (ends t) (offers t))
+offers-row (Cons t Nil) = sym (append-neither (ends t) (offers t))
 offers-row (Cons t (Cons u us)) = refl
 
 ends-row : (ts : Trees) → ends (row_of ts) ≡ all_end ts
@@ -89,14 +90,6 @@ mutual
   flats-flats Nil = refl
   flats-flats (Cons t ts) = rw (flat-flat t, flats-flats ts) refl
 
--- a test of whether an offer is the first child's, and what follows in each case
-by_test : (P : Bool → Type 0) (i n : ℕ) → (i < n → P true) → P false → P (nat_lt i n)
-by_test P i n here behind = by_case (nat_lt i n) refl
-  where
-    by_case : (b : Bool) → nat_lt i n ≡ b → P b
-    by_case true e = here (grind (arith, nat_tests))
-    by_case false e = behind
-
 -- the rest is the same
 mutual
   flat-rest : (t : Tree) (i : ℕ) → flat (rest t i) ≡ flat (left t i)
@@ -114,7 +107,7 @@ mutual
       i
       (length (offers t))
       (λ h. flat-row (Cons (rest t i) ts) ∙ ap (λ u. row_of (Cons u (flats ts))) (flat-rest t i))
-      (flat-rest_in_turn ts (i - length (offers t)))
+      (λ h. flat-rest_in_turn ts (i - length (offers t)))
 
   flat-rest_of_one : (ts : Trees) (i : ℕ) → flat (rest_of_one ts i) ≡ flat (left_of_one ts i)
   flat-rest_of_one Nil i = refl
@@ -124,7 +117,7 @@ mutual
       i
       (length (offers t))
       (λ h. flat-rest t i)
-      (flat-rest_of_one ts (i - length (offers t)))
+      (λ h. flat-rest_of_one ts (i - length (offers t)))
 
   flats-rest_of_all : (ts : Trees) (i : ℕ) → flats (rest_of_all ts i) ≡ flats (left_of_all ts i)
   flats-rest_of_all Nil i = refl
@@ -134,7 +127,7 @@ mutual
       i
       (length (offers t))
       (λ h. ap (λ u. Cons u (flats ts)) (flat-rest t i))
-      (ap (Cons (flat t)) (flats-rest_of_all ts (i - length (offers t))))
+      (λ h. ap (Cons (flat t)) (flats-rest_of_all ts (i - length (offers t))))
 
 -- the same test, where the first child's offers are told otherwise
 abbrev in_turn_by : ℕ → Tree → Trees → ℕ → Trees
@@ -176,7 +169,7 @@ mutual
       i
       (length (offers t))
       (λ h. rw (flat-left t i h, flats-flats ts) refl)
-      (flats-in_turn ts (i - length (offers t))))
+      (λ h. flats-in_turn ts (i - length (offers t))))
 
   flat-of_one : (ts : Trees) (i : ℕ) → flat (left_of_one ts i) ≡ flat (left_of_one (flats ts) i)
   flat-of_one Nil i = refl
@@ -189,7 +182,7 @@ mutual
       i
       (length (offers t))
       (λ h. flat-left t i h)
-      (flat-of_one ts (i - length (offers t))))
+      (λ h. flat-of_one ts (i - length (offers t))))
 
   flats-of_all : (ts : Trees) (i : ℕ) → flats (left_of_all ts i) ≡ flats (left_of_all (flats ts) i)
   flats-of_all Nil i = refl
@@ -202,10 +195,7 @@ mutual
       i
       (length (offers t))
       (λ h. rw (flat-left t i h, flats-flats ts) refl)
-      (rw (flat-flat t, flats-of_all ts (i - length (offers t))) refl))
-
-abbrev follow_if : Bool → Tree → List ℕ → Option Tree
-follow_if b t path = if b then followed t path else None
+      (λ h. rw (flat-flat t, flats-of_all ts (i - length (offers t))) refl))
 
 -- trees that are the same without such rows are alike
 alike-flat : (s t : Tree) → flat s ≡ flat t → Alike s t
@@ -223,7 +213,7 @@ alike-flat s t e (i ∷ path) =
     i
     (length (offers s))
     (λ h. alike-flat (left s i) (left t i) (flat-left s i h ∙ (ap (λ u. flat (left u i)) e ∙ sym (flat-left t i (subst (λ os. i < length os) same_offers h)))) path)
-    refl)
+    (λ h. refl))
 
 -- what the code leaves is alike to what is left
 pub leaves_takes : (old : Tree) (i : ℕ) (r : Option CoreAsk) (new : Tree) → Leaves old i r new → Takes old i r new

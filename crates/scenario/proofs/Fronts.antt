@@ -9,10 +9,10 @@ pub front-append : {X : Type 0} (xs ys : List X) → take (length xs) (xs ++ ys)
 front-append [] ys = refl
 front-append (x ∷ xs) ys = ap (λ zs. x ∷ zs) (front-append xs ys)
 
-same-head : {X : Type 0} (x y : X) (xs ys : List X) → x ∷ xs ≡ y ∷ ys → x ≡ y
+pub same-head : {X : Type 0} (x y : X) (xs ys : List X) → x ∷ xs ≡ y ∷ ys → x ≡ y
 same-head x y xs ys e = cc e
 
-same-tail : {X : Type 0} (x y : X) (xs ys : List X) → x ∷ xs ≡ y ∷ ys → xs ≡ ys
+pub same-tail : {X : Type 0} (x y : X) (xs ys : List X) → x ∷ xs ≡ y ∷ ys → xs ≡ ys
 same-tail x y xs ys e = cc e
 
 -- the front of a front

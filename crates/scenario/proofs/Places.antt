@@ -37,6 +37,14 @@ is_below i n h = grind (arith, nat_tests)
 pub isnt_below : (i n : ℕ) → n ≤ i → nat_lt i n ≡ false
 isnt_below i n h = grind (arith, nat_tests)
 
+-- a test of whether an offer is among the first n, and what follows in each case
+pub by_test : (P : Bool → Type 0) (i n : ℕ) → (i < n → P true) → (n ≤ i → P false) → P (nat_lt i n)
+by_test P i n here behind = by_case (nat_lt i n) refl
+  where
+    by_case : (b : Bool) → nat_lt i n ≡ b → P b
+    by_case true e = here (grind (arith, nat_tests))
+    by_case false e = behind (grind (arith, nat_tests))
+
 drop_next : {X : Type 0} (xs : List X) (i : ℕ) (x : X) → slice_get xs i ≡ Some x → drop i xs ≡ x ∷ drop (suc i) xs
 drop_next [] i x e = absurd (cc e)
 drop_next (y ∷ xs) zero x e = let e' : y ≡ x = cc e in ap (λ z. z ∷ xs) e'
@@ -63,30 +71,30 @@ behind_child t ts i h end = (
   ap (λ b. cond b (row_of (Cons (rest t i) ts)) (rest_in_turn ts (i - length (offers t)))) (isnt_below i (length (offers t)) h),
 )
 
-pub found_in_turn : {A : Type 0} (ss : List (Scenario A)) (at i rest' : ℕ) (s : Scenario A) → slice_get ss i ≡ Some s → past (length (offers (plain s))) rest' ≡ None
-    → slice_get (offers_in_turn (plain_all ss)) at ≡ slice_get (offers_in_turn (plain_all (drop i ss))) rest'
-    → rest_in_turn (plain_all ss) at ≡ rest_in_turn (plain_all (drop i ss)) rest'
-    → IsPlaceInTurn ss at i rest'
-found_in_turn ss at i rest' s e none p q =
+pub found_in_turn : {A : Type 0} (ss : List (Scenario A)) (at i further : ℕ) (s : Scenario A) → slice_get ss i ≡ Some s → past (length (offers (plain s))) further ≡ None
+    → slice_get (offers_in_turn (plain_all ss)) at ≡ slice_get (offers_in_turn (plain_all (drop i ss))) further
+    → rest_in_turn (plain_all ss) at ≡ rest_in_turn (plain_all (drop i ss)) further
+    → IsPlaceInTurn ss at i further
+found_in_turn ss at i further s e none p q =
     let here = ap plain_all (drop_here ss i s e) in
-    let low = past_none (length (offers (plain s))) rest' none in
-    let c = in_child (plain s) (plain_all (drop (i + 1) ss)) rest' low in
+    let low = past_none (length (offers (plain s))) further none in
+    let c = in_child (plain s) (plain_all (drop (i + 1) ss)) further low in
     rw e (
       low,
-      p ∙ (ap (λ ts. slice_get (offers_in_turn ts) rest') here ∙ c.0),
-      q ∙ (ap (λ ts. rest_in_turn ts rest') here ∙ c.1),
+      p ∙ (ap (λ ts. slice_get (offers_in_turn ts) further) here ∙ c.0),
+      q ∙ (ap (λ ts. rest_in_turn ts further) here ∙ c.1),
     )
 
-pub passed_in_turn : {A : Type 0} (ss : List (Scenario A)) (at i rest' r : ℕ) (s : Scenario A) → slice_get ss i ≡ Some s → past (length (offers (plain s))) rest' ≡ Some r → ends (plain s) ≡ true
-    → slice_get (offers_in_turn (plain_all ss)) at ≡ slice_get (offers_in_turn (plain_all (drop i ss))) rest'
-    → rest_in_turn (plain_all ss) at ≡ rest_in_turn (plain_all (drop i ss)) rest'
+pub passed_in_turn : {A : Type 0} (ss : List (Scenario A)) (at i further r : ℕ) (s : Scenario A) → slice_get ss i ≡ Some s → past (length (offers (plain s))) further ≡ Some r → ends (plain s) ≡ true
+    → slice_get (offers_in_turn (plain_all ss)) at ≡ slice_get (offers_in_turn (plain_all (drop i ss))) further
+    → rest_in_turn (plain_all ss) at ≡ rest_in_turn (plain_all (drop i ss)) further
     → (slice_get (offers_in_turn (plain_all ss)) at ≡ slice_get (offers_in_turn (plain_all (drop (i + 1) ss))) r) × (rest_in_turn (plain_all ss) at ≡ rest_in_turn (plain_all (drop (i + 1) ss)) r)
-passed_in_turn ss at i rest' r s e some end p q =
+passed_in_turn ss at i further r s e some end p q =
     let here = ap plain_all (drop_here ss i s e) in
-    let high = past_some (length (offers (plain s))) rest' r some in
-    let c = behind_child (plain s) (plain_all (drop (i + 1) ss)) rest' high.0 end in (
-      rw high.1 (p ∙ (ap (λ ts. slice_get (offers_in_turn ts) rest') here ∙ c.0)),
-      rw high.1 (q ∙ (ap (λ ts. rest_in_turn ts rest') here ∙ c.1)),
+    let high = past_some (length (offers (plain s))) further r some in
+    let c = behind_child (plain s) (plain_all (drop (i + 1) ss)) further high.0 end in (
+      rw high.1 (p ∙ (ap (λ ts. slice_get (offers_in_turn ts) further) here ∙ c.0)),
+      rw high.1 (q ∙ (ap (λ ts. rest_in_turn ts further) here ∙ c.1)),
     )
 
 -- ---- children at once
@@ -143,36 +151,36 @@ map_more : {A : Type 0} (front : List (Scenario A)) (s : Scenario A) (ts : Trees
 map_more [] s ts = refl
 map_more (x ∷ front) s ts = ap (Cons (plain x)) (map_more front s ts)
 
--- as far as the children before i: what offer `at` of all is, is what offer rest' of the children from i on is
+-- as far as the children before i: what offer `at` of all is, is what offer further of the children from i on is
 abbrev pub AtAmong : {A : Type 0} → List (Scenario A) → ℕ → ℕ → ℕ → Type 0
-AtAmong ss at i rest' = (slice_get (offers_of_all (plain_all ss)) at ≡ slice_get (offers_of_all (plain_all (drop i ss))) rest')
-    × (rest_of_one (plain_all ss) at ≡ rest_of_one (plain_all (drop i ss)) rest')
-    × (rest_of_all (plain_all ss) at ≡ before (map plain (take i ss)) (rest_of_all (plain_all (drop i ss)) rest'))
+AtAmong ss at i further = (slice_get (offers_of_all (plain_all ss)) at ≡ slice_get (offers_of_all (plain_all (drop i ss))) further)
+    × (rest_of_one (plain_all ss) at ≡ rest_of_one (plain_all (drop i ss)) further)
+    × (rest_of_all (plain_all ss) at ≡ before (map plain (take i ss)) (rest_of_all (plain_all (drop i ss)) further))
 
-pub found_among : {A : Type 0} (ss : List (Scenario A)) (at i rest' : ℕ) (s : Scenario A) → slice_get ss i ≡ Some s → past (length (offers (plain s))) rest' ≡ None → AtAmong ss at i rest' → IsPlaceAmong ss at i rest'
-found_among ss at i rest' s e none h =
+pub found_among : {A : Type 0} (ss : List (Scenario A)) (at i further : ℕ) (s : Scenario A) → slice_get ss i ≡ Some s → past (length (offers (plain s))) further ≡ None → AtAmong ss at i further → IsPlaceAmong ss at i further
+found_among ss at i further s e none h =
     let here = ap plain_all (drop_here ss i s e) in
-    let low = past_none (length (offers (plain s))) rest' none in
-    let c = in_some_child (plain s) (plain_all (drop (i + 1) ss)) rest' low in
-    let whole : before (map plain (take i ss)) (Cons (rest (plain s) rest') (plain_all (drop (i + 1) ss))) ≡ trees_of (slice_set (map plain ss) i (rest (plain s) rest')) = rw add-one (
-    map_split (take i ss) s (drop (suc i) ss) (rest (plain s) rest') ∙ (ap (λ xs. trees_of (slice_set (map plain xs) (length (take i ss)) (rest (plain s) rest'))) (split_here ss i s e) ∙ ap (λ n. trees_of (slice_set (map plain ss) n (rest (plain s) rest'))) (short_front ss i s e))) in
+    let low = past_none (length (offers (plain s))) further none in
+    let c = in_some_child (plain s) (plain_all (drop (i + 1) ss)) further low in
+    let whole : before (map plain (take i ss)) (Cons (rest (plain s) further) (plain_all (drop (i + 1) ss))) ≡ trees_of (slice_set (map plain ss) i (rest (plain s) further)) = rw add-one (
+    map_split (take i ss) s (drop (suc i) ss) (rest (plain s) further) ∙ (ap (λ xs. trees_of (slice_set (map plain xs) (length (take i ss)) (rest (plain s) further))) (split_here ss i s e) ∙ ap (λ n. trees_of (slice_set (map plain ss) n (rest (plain s) further))) (short_front ss i s e))) in
     rw e (
       low,
-      h.0 ∙ (ap (λ ts. slice_get (offers_of_all ts) rest') here ∙ c.0),
-      h.1 ∙ (ap (λ ts. rest_of_one ts rest') here ∙ c.1),
-      h.2 ∙ (ap (λ ts. before (map plain (take i ss)) (rest_of_all ts rest')) here ∙ (ap (before (map plain (take i ss))) c.2 ∙ whole)),
+      h.0 ∙ (ap (λ ts. slice_get (offers_of_all ts) further) here ∙ c.0),
+      h.1 ∙ (ap (λ ts. rest_of_one ts further) here ∙ c.1),
+      h.2 ∙ (ap (λ ts. before (map plain (take i ss)) (rest_of_all ts further)) here ∙ (ap (before (map plain (take i ss))) c.2 ∙ whole)),
     )
 
-pub passed_among : {A : Type 0} (ss : List (Scenario A)) (at i rest' r : ℕ) (s : Scenario A) → slice_get ss i ≡ Some s → past (length (offers (plain s))) rest' ≡ Some r → AtAmong ss at i rest' → AtAmong ss at (i + 1) r
-passed_among ss at i rest' r s e some h =
+pub passed_among : {A : Type 0} (ss : List (Scenario A)) (at i further r : ℕ) (s : Scenario A) → slice_get ss i ≡ Some s → past (length (offers (plain s))) further ≡ Some r → AtAmong ss at i further → AtAmong ss at (i + 1) r
+passed_among ss at i further r s e some h =
     let here = ap plain_all (drop_here ss i s e) in
-    let high = past_some (length (offers (plain s))) rest' r some in
-    let c = behind_some_child (plain s) (plain_all (drop (i + 1) ss)) rest' high.0 in
+    let high = past_some (length (offers (plain s))) further r some in
+    let c = behind_some_child (plain s) (plain_all (drop (i + 1) ss)) further high.0 in
     let longer : take (i + 1) ss ≡ take i ss ++ s ∷ [] = rw add-one (take_next ss i s e) in
     rw high.1 (
-      h.0 ∙ (ap (λ ts. slice_get (offers_of_all ts) rest') here ∙ c.0),
-      h.1 ∙ (ap (λ ts. rest_of_one ts rest') here ∙ c.1),
-      h.2 ∙ (ap (λ ts. before (map plain (take i ss)) (rest_of_all ts rest')) here ∙ (ap (before (map plain (take i ss))) c.2 ∙ (sym (map_more (take i ss) s (rest_of_all (plain_all (drop (i + 1) ss)) (rest' - length (offers (plain s))))) ∙ ap (λ xs. before (map plain xs) (rest_of_all (plain_all (drop (i + 1) ss)) (rest' - length (offers (plain s))))) (sym longer)))),
+      h.0 ∙ (ap (λ ts. slice_get (offers_of_all ts) further) here ∙ c.0),
+      h.1 ∙ (ap (λ ts. rest_of_one ts further) here ∙ c.1),
+      h.2 ∙ (ap (λ ts. before (map plain (take i ss)) (rest_of_all ts further)) here ∙ (ap (before (map plain (take i ss))) c.2 ∙ (sym (map_more (take i ss) s (rest_of_all (plain_all (drop (i + 1) ss)) (further - length (offers (plain s))))) ∙ ap (λ xs. before (map plain xs) (rest_of_all (plain_all (drop (i + 1) ss)) (further - length (offers (plain s))))) (sym longer)))),
     )
 
 -- ---- what stands after a child's offer is taken
@@ -242,12 +250,12 @@ pub still : (n m i k : ℕ) → past n i ≡ past m k → k < m → i < n
 still n m i k e h = past_none n i (e ∙ below_past m k h)
 
 -- where an offer is behind a child of a row, that child may end
-pub goes_on : {A : Type 0} (ss : List (Scenario A)) (i rest' r : ℕ) (s : Scenario A) → slice_get ss i ≡ Some s → past (length (offers (plain s))) rest' ≡ Some r
-    → rest' < length (offers_in_turn (plain_all (drop i ss))) → ends (plain s) ≡ true
-goes_on ss i rest' r s e some h =
-    let high = past_some (length (offers (plain s))) rest' r some in
+pub ends_before : {A : Type 0} (ss : List (Scenario A)) (i further r : ℕ) (s : Scenario A) → slice_get ss i ≡ Some s → past (length (offers (plain s))) further ≡ Some r
+    → further < length (offers_in_turn (plain_all (drop i ss))) → ends (plain s) ≡ true
+ends_before ss i further r s e some h =
+    let high = past_some (length (offers (plain s))) further r some in
     let here = ap (λ ts. length (offers_in_turn ts)) (ap plain_all (drop_here ss i s e)) in
-    by_end (plain s) (plain_all (drop (i + 1) ss)) rest' high.0 (omega (arith, h, here))
+    by_end (plain s) (plain_all (drop (i + 1) ss)) further high.0 (omega (arith, h, here))
   where
     by_case : (b : Bool) (os more : List CoreAsk) (k : ℕ) → length os ≤ k → k < length (os ++ cond b more []) → b ≡ true
     by_case true os more k low high = refl

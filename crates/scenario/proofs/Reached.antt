@@ -1,11 +1,13 @@
 -- Offers and what is left reach exactly the words.
 use Rattle.std.proofs.Common.{◌≡◌, ◌⊎◌, inl, inr, ℕ, zero, suc, ◌<◌, ◌≤◌, ◌+◌, ◌-◌, ◌==◌, Bool, true, false, ◌&&◌, ◌||◌, cond, nat_lt, List, [], ◌∷◌, ◌++◌, length, Some, slice_get, refl, sym, ap, ◌∙◌, subst, arith}
 use Rattle.std.proofs.lemmas.Bool.Decides.{nat_tests}
+use Rattle.std.proofs.lemmas.List.{append-nil}
 use Rattle.base.specs.declared.step.CoreAsk.{CoreAsk}
 use Rattle.scenario.specs.Tree.{Tree, Trees, One, Seq, Any, Times, Both, Nil, Cons}
 use Rattle.scenario.specs.Taking.{ends, all_end, some_ends, offers, offers_in_turn, offers_of_all, left, left_in_turn, left_of_one, left_of_all}
 use Rattle.scenario.specs.Words.{IsWord, IsJoined, IsWordOfOne, IsInterleaved, Interleaves, Repeats}
-use Rattle.scenario.proofs.Places.{get_front, get_behind, is_below, isnt_below}
+use Rattle.scenario.proofs.Fronts.{same-head, same-tail}
+use Rattle.scenario.proofs.Places.{get_front, get_behind, is_below, isnt_below, by_test}
 
 both-first : (a b : Bool) → (a && b) ≡ true → a ≡ true
 both-first true b e = refl
@@ -97,11 +99,11 @@ mutual
 
 -- ---- an offer, and a word of what is left
 
--- an offer that is there is among so many
-pub among : (os : List CoreAsk) (i : ℕ) (ask : CoreAsk) → slice_get os i ≡ Some ask → i < length os
-among [] i ask e = absurd (cc e)
-among (o ∷ os) zero ask e = omega arith
-among (o ∷ os) (suc i) ask e = let h = among os i ask e in omega (arith, h)
+-- an offer that is there is offer_below so many
+pub offer_below : (os : List CoreAsk) (i : ℕ) (ask : CoreAsk) → slice_get os i ≡ Some ask → i < length os
+offer_below [] i ask e = absurd (cc e)
+offer_below (o ∷ os) zero ask e = omega arith
+offer_below (o ∷ os) (suc i) ask e = let h = offer_below os i ask e in omega (arith, h)
 
 only_offer : (o ask : CoreAsk) (i : ℕ) → slice_get (o ∷ []) i ≡ Some ask → o ≡ ask
 only_offer o ask zero e = cc e
@@ -121,60 +123,49 @@ turn-first : (n : ℕ) (Is : List CoreAsk → Type 0) (u v : List CoreAsk) → (
 turn-first zero Is u v e here behind = absurd (cc e)
 turn-first (suc n) Is u v e here behind = let m : suc n - 1 ≡ n = omega arith in (u, v, refl, here, subst (λ k. Repeats k Is v) m behind)
 
-by_test : (P : Bool → Type 0) (i n : ℕ) → (i < n → P true) → (n ≤ i → P false) → P (nat_lt i n)
-by_test P i n here behind = by_case (nat_lt i n) refl
-  where
-    by_case : (b : Bool) → nat_lt i n ≡ b → P b
-    by_case true e = here (grind (arith, nat_tests))
-    by_case false e = behind (grind (arith, nat_tests))
-
-nothing_more : (u : List CoreAsk) → u ++ [] ≡ u
-nothing_more [] = refl
-nothing_more (a ∷ u) = ap (λ w. a ∷ w) (nothing_more u)
-
 mutual
   pub ask-in : (t : Tree) (i : ℕ) (ask : CoreAsk) (w : List CoreAsk) → slice_get (offers t) i ≡ Some ask → IsWord (left t i) w → IsWord t (ask ∷ w)
-  ask-in (One o) i ask w e rest = rw (only_offer o ask i e, rest) refl
-  ask-in (Seq ts) i ask w e rest = ask-joined ts i ask w e rest
-  ask-in (Any ts) i ask w e rest = ask-of_one ts i ask w e rest
-  ask-in (Times n t) i ask w e rest =
+  ask-in (One o) i ask w e word = rw (only_offer o ask i e, word) refl
+  ask-in (Seq ts) i ask w e word = ask-joined ts i ask w e word
+  ask-in (Any ts) i ask w e word = ask-of_one ts i ask w e word
+  ask-in (Times n t) i ask w e word =
       let turn = some_turn (n == 0) (offers t) i ask e in
-      let first = ask-in t i ask rest.0 turn.1 rest.3 in
-      let others : Repeats (n - 1) (IsWord t) rest.1 = subst (Repeats (n - 1) (IsWord t)) (sym (rest.4.2 ∙ (ap (λ z. rest.4.0 ++ z) rest.4.4 ∙ nothing_more rest.4.0))) rest.4.3 in
-      subst (λ z. Repeats n (IsWord t) (ask ∷ z)) (sym rest.2) (turn-first n (IsWord t) (ask ∷ rest.0) rest.1 turn.0 first others)
-  ask-in (Both ts) i ask w e rest = ask-interleaved ts i ask w e rest
+      let first = ask-in t i ask word.0 turn.1 word.3 in
+      let others : Repeats (n - 1) (IsWord t) word.1 = subst (Repeats (n - 1) (IsWord t)) (sym (word.4.2 ∙ (ap (λ z. word.4.0 ++ z) word.4.4 ∙ append-nil word.4.0))) word.4.3 in
+      subst (λ z. Repeats n (IsWord t) (ask ∷ z)) (sym word.2) (turn-first n (IsWord t) (ask ∷ word.0) word.1 turn.0 first others)
+  ask-in (Both ts) i ask w e word = ask-interleaved ts i ask w e word
 
   ask-joined : (ts : Trees) (i : ℕ) (ask : CoreAsk) (w : List CoreAsk) → slice_get (offers_in_turn ts) i ≡ Some ask → IsJoined (left_in_turn ts i) w → IsJoined ts (ask ∷ w)
-  ask-joined Nil i ask w e = λ rest. absurd (cc e)
+  ask-joined Nil i ask w e = λ word. absurd (cc e)
   ask-joined (Cons t ts) i ask w e =
       by_test
       (λ b. IsJoined (cond b (Cons (left t i) ts) (left_in_turn ts (i - length (offers t)))) w → IsJoined (Cons t ts) (ask ∷ w))
       i
       (length (offers t))
-      (λ h rest. (ask ∷ rest.0, rest.1, ap (λ z. ask ∷ z) rest.2, ask-in t i ask rest.0 (sym (get_front (offers t) _ i h) ∙ e) rest.3, rest.4))
-      (λ h rest.
+      (λ h word. (ask ∷ word.0, word.1, ap (λ z. ask ∷ z) word.2, ask-in t i ask word.0 (sym (get_front (offers t) _ i h) ∙ e) word.3, word.4))
+      (λ h word.
       let other = passed (ends t) (offers_in_turn ts) (i - length (offers t)) ask (sym (get_behind (offers t) _ i h) ∙ e) in
-      ([], ask ∷ w, refl, nothing-in t other.0, ask-joined ts (i - length (offers t)) ask w other.1 rest))
+      ([], ask ∷ w, refl, nothing-in t other.0, ask-joined ts (i - length (offers t)) ask w other.1 word))
 
   ask-of_one : (ts : Trees) (i : ℕ) (ask : CoreAsk) (w : List CoreAsk) → slice_get (offers_of_all ts) i ≡ Some ask → IsWord (left_of_one ts i) w → IsWordOfOne ts (ask ∷ w)
-  ask-of_one Nil i ask w e = λ rest. absurd (cc e)
+  ask-of_one Nil i ask w e = λ word. absurd (cc e)
   ask-of_one (Cons t ts) i ask w e =
       by_test
       (λ b. IsWord (cond b (left t i) (left_of_one ts (i - length (offers t)))) w → IsWordOfOne (Cons t ts) (ask ∷ w))
       i
       (length (offers t))
-      (λ h rest. inl (ask-in t i ask w (sym (get_front (offers t) _ i h) ∙ e) rest))
-      (λ h rest. inr (ask-of_one ts (i - length (offers t)) ask w (sym (get_behind (offers t) _ i h) ∙ e) rest))
+      (λ h word. inl (ask-in t i ask w (sym (get_front (offers t) _ i h) ∙ e) word))
+      (λ h word. inr (ask-of_one ts (i - length (offers t)) ask w (sym (get_behind (offers t) _ i h) ∙ e) word))
 
   ask-interleaved : (ts : Trees) (i : ℕ) (ask : CoreAsk) (w : List CoreAsk) → slice_get (offers_of_all ts) i ≡ Some ask → IsInterleaved (left_of_all ts i) w → IsInterleaved ts (ask ∷ w)
-  ask-interleaved Nil i ask w e = λ rest. absurd (cc e)
+  ask-interleaved Nil i ask w e = λ word. absurd (cc e)
   ask-interleaved (Cons t ts) i ask w e =
       by_test
       (λ b. IsInterleaved (cond b (Cons (left t i) ts) (Cons t (left_of_all ts (i - length (offers t))))) w → IsInterleaved (Cons t ts) (ask ∷ w))
       i
       (length (offers t))
-      (λ h rest. (ask ∷ rest.0, rest.1, ask-in t i ask rest.0 (sym (get_front (offers t) _ i h) ∙ e) rest.2, rest.3, inl (rest.0, refl, rest.4)))
-      (λ h rest. (rest.0, ask ∷ rest.1, rest.2, ask-interleaved ts (i - length (offers t)) ask rest.1 (sym (get_behind (offers t) _ i h) ∙ e) rest.3, inr (rest.1, refl, rest.4)))
+      (λ h word. (ask ∷ word.0, word.1, ask-in t i ask word.0 (sym (get_front (offers t) _ i h) ∙ e) word.2, word.3, inl (word.0, refl, word.4)))
+      (λ h word. (word.0, ask ∷ word.1, word.2, ask-interleaved ts (i - length (offers t)) ask word.1 (sym (get_behind (offers t) _ i h) ∙ e) word.3, inr (word.1, refl, word.4)))
 
 -- ---- and back: a word that isn't empty begins with an offer
 
@@ -193,12 +184,6 @@ ContinuedOfAll ts ask w = (i : ℕ) × (slice_get (offers_of_all ts) i ≡ Some 
 -- a turn that begins with an ask, before the others
 abbrev ContinuedTurn : ℕ → Tree → CoreAsk → List CoreAsk → Type 0
 ContinuedTurn n t ask w = ((n == 0) ≡ false) × (i : ℕ) × (slice_get (offers t) i ≡ Some ask) × (u v : List CoreAsk) × (w ≡ u ++ v) × IsWord (left t i) u × Repeats (n - 1) (IsWord t) v
-
-same_head : (a b : CoreAsk) (u v : List CoreAsk) → a ∷ u ≡ b ∷ v → a ≡ b
-same_head a b u v e = cc e
-
-same_tail : (a b : CoreAsk) (u v : List CoreAsk) → a ∷ u ≡ b ∷ v → u ≡ v
-same_tail a b u v e = cc e
 
 -- the first offers, and the others behind them
 in_front : (t : Tree) (ts : Trees) (i : ℕ) → i < length (offers t) → left_in_turn (Cons t ts) i ≡ Cons (left t i) ts
@@ -231,7 +216,7 @@ get_far xs ys i = get_behind xs ys (length xs + i) (omega arith) ∙ ap (slice_g
 -- what the first child's word leaves to the others
 in_turn-front : (t : Tree) (ts : Trees) (ask : CoreAsk) (w u v : List CoreAsk) → w ≡ u ++ v → Continued t ask u → IsJoined ts v → ContinuedInTurn (Cons t ts) ask w
 in_turn-front t ts ask w u v e here behind =
-    let h = among (offers t) here.0 ask here.1 in (
+    let h = offer_below (offers t) here.0 ask here.1 in (
       here.0,
       get_front (offers t) _ here.0 h ∙ here.1,
       subst (λ us. IsJoined us w) (sym (in_front t ts here.0 h)) (u, v, e, here.2, behind),
@@ -260,7 +245,7 @@ of_turn : (n : ℕ) (t : Tree) (ask : CoreAsk) (w : List CoreAsk) → ContinuedT
 of_turn n t ask w turn = (
   turn.1,
   ap (λ b. slice_get (cond b [] (offers t)) turn.1) turn.0 ∙ turn.2,
-  (turn.3, turn.4, turn.5, turn.6, (turn.4, [], sym (nothing_more turn.4), turn.7, refl)),
+  (turn.3, turn.4, turn.5, turn.6, (turn.4, [], sym (append-nil turn.4), turn.7, refl)),
 )
 
 -- each word of a tree that isn't empty goes on from an offer
@@ -272,7 +257,7 @@ turn-split : (n : ℕ) (t : Tree) → GoesOn t → ((ask : CoreAsk) (w : List Co
     → (ask : CoreAsk) (w u v : List CoreAsk) → ask ∷ w ≡ u ++ v → IsWord t u → Repeats n (IsWord t) v → ContinuedTurn (suc n) t ask w
 turn-split n t goes_on later ask w [] v e here behind = turn-behind n t ask w here (later ask w (subst (Repeats n (IsWord t)) (sym e) behind))
 turn-split n t goes_on later ask w (a ∷ u) v e here behind =
-    turn-front n t ask w u v (same_tail ask a w (u ++ v) e) (goes_on ask u (subst (λ b. IsWord t (b ∷ u)) (sym (same_head ask a w (u ++ v) e)) here)) behind
+    turn-front n t ask w u v (same-tail ask a w (u ++ v) e) (goes_on ask u (subst (λ b. IsWord t (b ∷ u)) (sym (same-head ask a w (u ++ v) e)) here)) behind
 
 turn-out : (n : ℕ) (t : Tree) → GoesOn t → (ask : CoreAsk) (w : List CoreAsk) → Repeats n (IsWord t) (ask ∷ w) → ContinuedTurn n t ask w
 turn-out zero t goes_on ask w e = absurd (cc e)
@@ -283,14 +268,14 @@ joined-split : (t : Tree) (ts : Trees) → GoesOn t → ((ask : CoreAsk) (w : Li
     → (ask : CoreAsk) (w u v : List CoreAsk) → ask ∷ w ≡ u ++ v → IsWord t u → IsJoined ts v → ContinuedInTurn (Cons t ts) ask w
 joined-split t ts goes_on later ask w [] v e here behind = in_turn-behind t ts ask w (nothing-out t here) (later ask w (subst (IsJoined ts) (sym e) behind))
 joined-split t ts goes_on later ask w (a ∷ u) v e here behind =
-    in_turn-front t ts ask w u v (same_tail ask a w (u ++ v) e) (goes_on ask u (subst (λ b. IsWord t (b ∷ u)) (sym (same_head ask a w (u ++ v) e)) here)) behind
+    in_turn-front t ts ask w u v (same-tail ask a w (u ++ v) e) (goes_on ask u (subst (λ b. IsWord t (b ∷ u)) (sym (same-head ask a w (u ++ v) e)) here)) behind
 
 -- the child that the word's first ask is of
 interleaved-split : (t : Tree) (ts : Trees) → GoesOn t → ((ask : CoreAsk) (w : List CoreAsk) → IsInterleaved ts (ask ∷ w) → ContinuedOfAll ts ask w)
     → (ask : CoreAsk) (w u v : List CoreAsk) → IsWord t u → IsInterleaved ts v → Interleaves u v (ask ∷ w) → ContinuedOfAll (Cons t ts) ask w
 interleaved-split t ts goes_on later ask w u v here others (inl front) =
     let there = goes_on ask front.0 (subst (IsWord t) front.1 here) in
-    let h = among (offers t) there.0 ask there.1 in
+    let h = offer_below (offers t) there.0 ask there.1 in
     (there.0, get_front (offers t) _ there.0 h ∙ there.1, subst (λ us. IsInterleaved us w) (sym (all_in_front t ts there.0 h)) (front.0, v, there.2, others, front.2))
 interleaved-split t ts goes_on later ask w u v here others (inr back) =
     let there = later ask back.0 (subst (IsInterleaved ts) back.1 others) in
@@ -298,7 +283,7 @@ interleaved-split t ts goes_on later ask w u v here others (inr back) =
 
 mutual
   pub ask-out : (t : Tree) (ask : CoreAsk) (w : List CoreAsk) → IsWord t (ask ∷ w) → Continued t ask w
-  ask-out (One o) ask w e = (zero, ap Some (sym (same_head ask o w [] e)), same_tail ask o w [] e)
+  ask-out (One o) ask w e = (zero, ap Some (sym (same-head ask o w [] e)), same-tail ask o w [] e)
   ask-out (Seq ts) ask w e = joined-out ts ask w e
   ask-out (Any ts) ask w e = of_one-out ts ask w e
   ask-out (Times n t) ask w e = of_turn n t ask w (turn-out n t (ask-out t) ask w e)
@@ -312,7 +297,7 @@ mutual
   of_one-out Nil ask w e = absurd e
   of_one-out (Cons t ts) ask w (inl e) =
       let here = ask-out t ask w e in
-      let h = among (offers t) here.0 ask here.1 in
+      let h = offer_below (offers t) here.0 ask here.1 in
       (here.0, get_front (offers t) _ here.0 h ∙ here.1, subst (λ u. IsWord u w) (sym (one_in_front t ts here.0 h)) here.2)
   of_one-out (Cons t ts) ask w (inr e) =
       let there = of_one-out ts ask w e in

@@ -10,12 +10,9 @@ use Rattle.scenario.specs.Refusals.{Visit, visited, visited_in, first_some, faul
 use Rattle.scenario.specs.Walk.{tree_at}
 use Rattle.scenario.specs.declared.reading.ScenarioFault.{ScenarioFault}
 use Rattle.scenario.specs.declared.reading.ScenarioFault.TheVariants.{NotJson, BadShape, EmptyAny, TooDeep, TooLong, OutOfShape, NoMemory}
-use Rattle.scenario.proofs.Visits.{HasFault, first_some-append}
+use Rattle.scenario.proofs.Visits.{HasFault, Tells, first_some-append}
 use Rattle.scenario.proofs.Answering.{fault-of, built-of}
 use Rattle.scenario.proofs.Distinct.{json-one, text-one, some-level}
-
-abbrev Tells : Type 0
-Tells = Visit → Option ScenarioFault
 
 -- the fault of a node that may be missing, and else the first one of what is under it
 abbrev found_at : Extent → Tells → (Data → List Visit) → Option Node → Option ScenarioFault
@@ -77,35 +74,35 @@ pub tree-of-none : (shape : Extent) (d : Data) → first_fault shape d ≡ None 
 tree-of-none shape d none = built-some shape d (tree_at shape 48 d) refl (fault-of shape d (tree_at shape 48 d) refl) none
 
 -- what a refusal says of the first fault
-said : ScenarioFault → Option ScenarioFault
-said TooLong = None
-said NotJson = Some NotJson
-said BadShape = Some BadShape
-said EmptyAny = Some EmptyAny
-said TooDeep = Some TooDeep
-said OutOfShape = Some OutOfShape
-said NoMemory = Some NoMemory
+first_of : ScenarioFault → Option ScenarioFault
+first_of TooLong = None
+first_of NotJson = Some NotJson
+first_of BadShape = Some BadShape
+first_of EmptyAny = Some EmptyAny
+first_of TooDeep = Some TooDeep
+first_of OutOfShape = Some OutOfShape
+first_of NoMemory = Some NoMemory
 
-meant : Option ScenarioFault → ScenarioFault
-meant None = TooLong
-meant (Some fault) = fault
+refusal_of : Option ScenarioFault → ScenarioFault
+refusal_of None = TooLong
+refusal_of (Some fault) = fault
 
-meant-said : (fault : ScenarioFault) → meant (said fault) ≡ fault
-unfolding said meant
-meant-said TooLong = refl
-meant-said NotJson = refl
-meant-said BadShape = refl
-meant-said EmptyAny = refl
-meant-said TooDeep = refl
-meant-said OutOfShape = refl
-meant-said NoMemory = refl
+refusal-first : (fault : ScenarioFault) → refusal_of (first_of fault) ≡ fault
+unfolding first_of refusal_of
+refusal-first TooLong = refl
+refusal-first NotJson = refl
+refusal-first BadShape = refl
+refusal-first EmptyAny = refl
+refusal-first TooDeep = refl
+refusal-first OutOfShape = refl
+refusal-first NoMemory = refl
 
-abbrev IsSaid : Extent → List ℕ → ScenarioFault → Type 0
-IsSaid shape bytes fault = (d : Data) × IsJson bytes d × (first_fault shape d ≡ said fault)
+abbrev HasFirst : Extent → List ℕ → ScenarioFault → Type 0
+HasFirst shape bytes fault = (d : Data) × IsJson bytes d × (first_fault shape d ≡ first_of fault)
 
 -- a refusal is for no JSON, or for the first fault of what the bytes say
-refusal : (shape : Extent) (bytes : List ℕ) (fault : ScenarioFault) → IsRefusal shape bytes fault → fault ≢ NoMemory → ((fault ≡ NotJson) × ((d : Data) → ¬ IsJson bytes d)) ⊎ IsSaid shape bytes fault
-unfolding said
+refusal : (shape : Extent) (bytes : List ℕ) (fault : ScenarioFault) → IsRefusal shape bytes fault → fault ≢ NoMemory → ((fault ≡ NotJson) × ((d : Data) → ¬ IsJson bytes d)) ⊎ HasFirst shape bytes fault
+unfolding first_of
 refusal shape bytes NotJson r some = inl (refl, r)
 refusal shape bytes BadShape r some = inr r
 refusal shape bytes EmptyAny r some = inr r
@@ -115,7 +112,7 @@ refusal shape bytes OutOfShape r some = inr r
 refusal shape bytes NoMemory r some = absurd (some refl)
 
 abbrev IsCause : Extent → List ℕ → ScenarioFault → Type 0
-IsCause shape bytes fault = ((fault ≡ NotJson) × ((d : Data) → ¬ IsJson bytes d)) ⊎ IsSaid shape bytes fault
+IsCause shape bytes fault = ((fault ≡ NotJson) × ((d : Data) → ¬ IsJson bytes d)) ⊎ HasFirst shape bytes fault
 
 same-cause : (shape : Extent) (bytes : List ℕ) (one other : ScenarioFault) → IsCause shape bytes one → IsCause shape bytes other → one ≡ other
 same-cause shape bytes one other (inl a) (inl b) = a.0 ∙ sym b.0
@@ -123,7 +120,7 @@ same-cause shape bytes one other (inl a) (inr b) = absurd (a.1 b.0 b.1)
 same-cause shape bytes one other (inr a) (inl b) = absurd (b.1 a.0 a.1)
 same-cause shape bytes one other (inr a) (inr b) =
     let first : first_fault shape a.0 ≡ first_fault shape b.0 = ap (first_fault shape) (json-one bytes a.0 b.0 a.1 b.1) in
-    sym (meant-said one) ∙ ap meant (sym a.2 ∙ first ∙ b.2) ∙ meant-said other
+    sym (refusal-first one) ∙ ap refusal_of (sym a.2 ∙ first ∙ b.2) ∙ refusal-first other
 
 pub refusal-one : (shape : Extent) (bytes : List ℕ) (one other : ScenarioFault) → IsRefusal shape bytes one → IsRefusal shape bytes other → one ≢ NoMemory → other ≢ NoMemory → one ≡ other
 refusal-one shape bytes one other a b x y = same-cause shape bytes one other (refusal shape bytes one a x) (refusal shape bytes other b y)

@@ -6,7 +6,7 @@ use Rattle.serde_json.specs.View.{view, items_view, items_of}
 use Rattle.serde_json.specs.declared.value.Value.{Value}
 use Rattle.scenario.specs.declared.tree.Scenario.{Scenario}
 use Rattle.scenario.specs.Tree.{plain, plain_all}
-use Rattle.scenario.specs.Form.{shown, shown_all}
+use Rattle.scenario.specs.Shown.{shown, shown_all}
 
 shown_items : {A : Type 0} (children : List (Scenario A)) → shown_all (plain_all children) ≡ items_of (map (λ s. shown (plain s)) children)
 shown_items [] = refl

@@ -6,7 +6,7 @@ use Rattle.serde_json.specs.Written.{has_float, items_have_float, members_have_f
 use Rattle.base.specs.declared.step.Ask.{Ask}
 use Rattle.base.specs.declared.step.Ask.TheVariants.{Load, Store, Replace}
 use Rattle.scenario.specs.Tree.{Tree, Trees, One, Seq, Any, Times, Both, Nil, Cons}
-use Rattle.scenario.specs.Form.{shown, shown_all, shown_asked}
+use Rattle.scenario.specs.Shown.{shown, shown_all, shown_asked}
 use Rattle.scenario.specs.Limits.{depth, deepest}
 
 asked_whole : (ask : Ask) → members_have_float (shown_asked ask) ≡ false

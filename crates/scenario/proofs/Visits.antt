@@ -15,7 +15,8 @@ abbrev pub HasFault : {X : Type 0} → Result X ScenarioFault → Option Scenari
 HasFault (Ok x) found = found ≡ None
 HasFault (Err fault) found = found ≡ Some fault
 
-abbrev Tells : Type 0
+-- what is told of each visit
+abbrev pub Tells : Type 0
 Tells = Visit → Option ScenarioFault
 
 or_else-assoc : {X : Type 0} (a b c : Option X) → or_else (or_else a b) c ≡ or_else a (or_else b c)
@@ -31,14 +32,14 @@ first_some-append f [] ys = refl
 first_some-append f (x ∷ xs) ys =
     ap (or_else (f x)) (first_some-append f xs ys) ∙ sym (or_else-assoc (f x) (first_some f xs) (first_some f ys))
 
-then_next : {X Y : Type 0} (r : Result X ScenarioFault) (found rest : Option ScenarioFault) (next : X → Result Y ScenarioFault) → HasFault r found → ((x : X) → HasFault (next x) rest)
-    → HasFault (elim r [ Ok x ↦ next x | Err fault ↦ Err fault ]) (or_else found rest)
-then_next (Ok x) found rest next a b = subst (λ o. HasFault (next x) (or_else o rest)) (sym a) (b x)
-then_next (Err fault) found rest next a b = ap (λ o. or_else o rest) a
+then_next : {X Y : Type 0} (r : Result X ScenarioFault) (found later : Option ScenarioFault) (next : X → Result Y ScenarioFault) → HasFault r found → ((x : X) → HasFault (next x) later)
+    → HasFault (elim r [ Ok x ↦ next x | Err fault ↦ Err fault ]) (or_else found later)
+then_next (Ok x) found later next a b = subst (λ o. HasFault (next x) (or_else o later)) (sym a) (b x)
+then_next (Err fault) found later next a b = ap (λ o. or_else o later) a
 
-over-fault : {X : Type 0} (whole : X → Tree) (r : Result X ScenarioFault) (found : Option ScenarioFault) → HasFault r found → HasFault (over whole r) found
-over-fault whole (Ok x) found a = a
-over-fault whole (Err fault) found a = a
+over-fault : {X : Type 0} (make : X → Tree) (r : Result X ScenarioFault) (found : Option ScenarioFault) → HasFault r found → HasFault (over make r) found
+over-fault make (Ok x) found a = a
+over-fault make (Err fault) found a = a
 
 behind-fault : (f : Tells) (tree : Data → Result Tree ScenarioFault) (visits : Data → List Visit) → ((d : Data) → HasFault (tree d) (first_some f (visits d)))
     → (before : List Tree) (ds : Items) → HasFault (trees_behind tree before ds) (first_some f (visited_in visits ds))
@@ -65,7 +66,7 @@ level-fault shape f tree visits each (Some (times n d)) =
 level-fault shape f tree visits each (Some (both ds)) = over-fault _ (trees_behind tree [] ds) _ (behind-fault f tree visits each [] ds)
 
 -- the walk ends at the first fault of what is visited
-pub walk-fault : (shape : Extent) (left : ℕ) (d : Data) → HasFault (tree_at shape left d) (first_some (λ visit. fault_at shape visit.0 visit.1) (visited left d))
+pub walk-fault : (shape : Extent) (levels : ℕ) (d : Data) → HasFault (tree_at shape levels d) (first_some (λ visit. fault_at shape visit.0 visit.1) (visited levels d))
 walk-fault shape zero d = refl
-walk-fault shape (suc left) d =
-    level-fault shape (λ visit. fault_at shape visit.0 visit.1) (tree_at shape left) (visited left) (walk-fault shape left) (node_of d)
+walk-fault shape (suc levels) d =
+    level-fault shape (λ visit. fault_at shape visit.0 visit.1) (tree_at shape levels) (visited levels) (walk-fault shape levels) (node_of d)

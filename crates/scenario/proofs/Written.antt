@@ -6,7 +6,7 @@ use Rattle.base.specs.declared.step.Ask.{Ask}
 use Rattle.base.specs.declared.step.Ask.TheVariants.{Load, Store, Replace}
 use Rattle.base.specs.declared.step.CoreAsk.{CoreAsk}
 use Rattle.scenario.specs.Tree.{Tree, Trees, One, Seq, Any, Times, Both, Nil, Cons}
-use Rattle.scenario.specs.Form.{shown, shown_all, shown_ask, shown_times}
+use Rattle.scenario.specs.Shown.{shown, shown_all, shown_ask, shown_times}
 use Rattle.scenario.specs.Limits.{Fits, InEach, Throughout}
 use Rattle.scenario.specs.Nodes.{one, times, node_of}
 use Rattle.scenario.specs.Says.{IsJson, IsTextOf, Says, SayEach}

@@ -1,11 +1,11 @@
 pub mod Alike
-pub mod Form
 pub mod Limits
 pub mod Nodes
 pub mod Refusals
 pub mod Rests
 pub mod Saving
 pub mod Says
+pub mod Shown
 pub mod Taking
 pub mod Tree
 pub mod Walk

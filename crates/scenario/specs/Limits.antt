@@ -36,24 +36,24 @@ abbrev mutual
   greatest (Cons t ts) = std.max (longest t) (greatest ts)
 
 abbrev mutual
-  -- how deep a tree may become while offers are taken from it: as deep as it is, or one deeper (a law says so)
-  pub reach : Tree → ℕ
-  reach (One ask) = 1
-  reach (Seq ts) = 1 + reach_in_turn ts
-  reach (Any ts) = 1 + deepest ts
-  reach (Times n t) = 2 + depth t
-  reach (Both ts) = 1 + farthest ts
+  -- how deep a tree may become while offers are taken from it: as deep as it is, or one deeper, as a law says
+  pub peak_depth : Tree → ℕ
+  peak_depth (One ask) = 1
+  peak_depth (Seq ts) = 1 + peak_in_turn ts
+  peak_depth (Any ts) = 1 + deepest ts
+  peak_depth (Times n t) = 2 + depth t
+  peak_depth (Both ts) = 1 + peak_of_all ts
 
-  -- the farthest that one of the children reaches
-  pub farthest : Trees → ℕ
-  farthest Nil = 0
-  farthest (Cons t ts) = std.max (reach t) (farthest ts)
+  -- the greatest of the children's
+  pub peak_of_all : Trees → ℕ
+  peak_of_all Nil = 0
+  peak_of_all (Cons t ts) = std.max (peak_depth t) (peak_of_all ts)
 
-  -- the same of the children of a row, of which the last counts as it is: it stands for the row once that has begun
-  pub reach_in_turn : Trees → ℕ
-  reach_in_turn Nil = 0
-  reach_in_turn (Cons t Nil) = depth t
-  reach_in_turn (Cons t (Cons u us)) = std.max (reach t) (reach_in_turn (Cons u us))
+  -- the same in a row, whose last child counts as deep as it is: once the row has begun, it stands for the row
+  pub peak_in_turn : Trees → ℕ
+  peak_in_turn Nil = 0
+  peak_in_turn (Cons t Nil) = depth t
+  peak_in_turn (Cons t (Cons u us)) = std.max (peak_depth t) (peak_in_turn (Cons u us))
 
 abbrev mutual
   -- the tree is so, and each tree in it

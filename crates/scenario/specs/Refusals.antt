@@ -41,7 +41,7 @@ fault_of shape (both ds) = None
 -- the fault of one value, where so many levels are left for it and what is under it
 abbrev pub fault_at : Extent → ℕ → Data → Option ScenarioFault
 fault_at shape zero d = Some TooDeep
-fault_at shape (suc left) d = elim (node_of d) [
+fault_at shape (suc levels) d = elim (node_of d) [
   | None ↦ Some BadShape
   | Some node ↦ fault_of shape node
 ]
@@ -58,7 +58,7 @@ visited_in visits (item d ds) = visits d ++ visited_in visits ds
 -- the values, each before its children and these in order; where no level is left, what is under a value isn't looked at
 abbrev pub visited : ℕ → Data → List Visit
 visited zero d = (zero, d) ∷ []
-visited (suc left) d = (suc left, d) ∷ visited_in (visited left) (children d)
+visited (suc levels) d = (suc levels, d) ∷ visited_in (visited levels) (children d)
 
 -- the first thing that is there
 abbrev pub first_some : {X Y : Type 0} → (X → Option Y) → List X → Option Y

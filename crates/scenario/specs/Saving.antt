@@ -3,7 +3,7 @@ use Rattle.std.specs.Prelude.{◌≡◌, ◌≤◌, ◌<◌, ℕ, List, Bool, tr
 use Rattle.std.specs.Io.KnownBytes.{Appends}
 use Rattle.serde_json.specs.Written.{compact_text}
 use Rattle.scenario.specs.Tree.{Tree}
-use Rattle.scenario.specs.Form.{shown}
+use Rattle.scenario.specs.Shown.{shown}
 use Rattle.scenario.specs.Says.{IsTextOf}
 use Rattle.scenario.specs.Limits.{depth}
 use Rattle.scenario.specs.declared.writing.SaveFault.{SaveFault}

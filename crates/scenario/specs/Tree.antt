@@ -33,7 +33,7 @@ abbrev mutual
 
   pub plain_row : {A : Type 0} {n : _} → scenario.Row_of-Scenario A n → Trees
   plain_row scenario.end_of-Scenario = Nil
-  plain_row (scenario.more_of-Scenario s rest) = Cons (plain s) (plain_row rest)
+  plain_row (scenario.more_of-Scenario s more) = Cons (plain s) (plain_row more)
 
 -- the trees that several scenarios are
 abbrev pub plain_all : {A : Type 0} → List (Scenario A) → Trees

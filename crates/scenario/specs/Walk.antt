@@ -11,13 +11,13 @@ use Rattle.scenario.specs.declared.reading.ScenarioFault.TheVariants.{BadShape, 
 use Rattle.scenario.specs.declared.forms.Form.{Form}
 use Rattle.scenario.specs.declared.forms.Form.TheVariants as form
 
--- a form, without where it lies
-abbrev pub seen : Form → Node
-seen (form.One ask) = one ask
-seen (form.Seq values) = seq (items_view values.now)
-seen (form.Any values) = any (items_view values.now)
-seen (form.Times n value) = times n (view value.now)
-seen (form.Both values) = both (items_view values.now)
+-- the node that a form is, without where it lies
+abbrev pub form_node : Form → Node
+form_node (form.One ask) = one ask
+form_node (form.Seq values) = seq (items_view values.now)
+form_node (form.Any values) = any (items_view values.now)
+form_node (form.Times n value) = times n (view value.now)
+form_node (form.Both values) = both (items_view values.now)
 
 -- behind the trees so far, those of the items, in order
 abbrev pub trees_behind : (Data → Result Tree ScenarioFault) → List Tree → Items → Result (List Tree) ScenarioFault
@@ -29,8 +29,8 @@ trees_behind tree before (item d ds) = elim (tree d) [
 
 -- a tree of these children
 abbrev pub over : {X : Type 0} → (X → Tree) → Result X ScenarioFault → Result Tree ScenarioFault
-over whole (Ok x) = Ok (whole x)
-over whole (Err fault) = Err fault
+over make (Ok x) = Ok (make x)
+over make (Err fault) = Err fault
 
 abbrev pub tree_of : Extent → (Data → Result Tree ScenarioFault) → Option Node → Result Tree ScenarioFault
 tree_of shape tree None = Err BadShape
@@ -43,10 +43,10 @@ tree_of shape tree (Some (both ds)) = over (λ ts. Both (trees_of ts)) (trees_be
 
 abbrev pub tree_at : Extent → ℕ → Data → Result Tree ScenarioFault
 tree_at shape zero d = Err TooDeep
-tree_at shape (suc left) d = tree_of shape (tree_at shape left) (node_of d)
+tree_at shape (suc levels) d = tree_of shape (tree_at shape levels) (node_of d)
 
--- a result is this one, seen so, where memory doesn't run out
+-- a result has this meaning, where memory doesn't run out
 abbrev pub Gives : {X Y : Type 0} → (X → Y) → Result X ScenarioFault → Result Y ScenarioFault → Type 0
-Gives seen (Ok x) expected = expected ≡ Ok (seen x)
-Gives seen (Err NoMemory) expected = Unit {0}
-Gives seen (Err fault) expected = expected ≡ Err fault
+Gives meaning (Ok x) expected = expected ≡ Ok (meaning x)
+Gives meaning (Err NoMemory) expected = Unit {0}
+Gives meaning (Err fault) expected = expected ≡ Err fault

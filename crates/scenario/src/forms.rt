@@ -3,7 +3,7 @@
 ghost use Rattle.std.specs.Prelude.{◌≡◌, codes, option_map};
 ghost use Rattle.serde_json.specs.View.{view, items_view};
 ghost use Rattle.scenario.specs.Nodes.{ask_of, asked, has_keys, list_of, node_of, number_at, turns_of};
-ghost use Rattle.scenario.specs.Walk.{seen};
+ghost use Rattle.scenario.specs.Walk.{form_node};
 
 use base::{Ask, BlockId, CacheId, CoreAsk};
 use serde_json::Value;
@@ -20,7 +20,7 @@ pub enum Form<'a> {
 
 /// The form of the value, if it has exactly the keys of one, and these have what belongs there.
 pub fn form_of(value: &Value) -> Option<Form<'_>>
-    ensures { option_map seen result ≡ node_of (view value.now) }
+    ensures { option_map form_node result ≡ node_of (view value.now) }
 {
     if let Some(ask) = ask_of(value) {
         return Some(Form::One(ask));
@@ -59,7 +59,7 @@ fn asked(word: &str, value: &Value) -> Option<Ask>
 }
 
 fn turns_of(value: &Value) -> Option<Form<'_>>
-    ensures { option_map seen result ≡ turns_of (view value.now) }
+    ensures { option_map form_node result ≡ turns_of (view value.now) }
 {
     if !has_keys(value, 2) {
         return None;

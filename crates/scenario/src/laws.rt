@@ -5,7 +5,7 @@ ghost use Rattle.serde_json.specs.Data.{Data};
 ghost use Rattle.base.specs.Extent.{Extent};
 ghost use Rattle.base.specs.declared.step.CoreAsk.{CoreAsk};
 ghost use Rattle.scenario.specs.Alike.{Alike};
-ghost use Rattle.scenario.specs.Limits.{IsWithin, depth, reach};
+ghost use Rattle.scenario.specs.Limits.{IsWithin, depth, peak_depth};
 ghost use Rattle.scenario.specs.Refusals.{IsRefusal, first_fault};
 ghost use Rattle.scenario.specs.Says.{IsTextOf, Says};
 ghost use Rattle.scenario.specs.Taking.{ends, left, offers};
@@ -34,11 +34,11 @@ pub fn alike_trees_have_the_same_words()
     ensures { (s t : Tree) (word : List CoreAsk) → Alike s t → IsWord s word → IsWord t word }
 {}
 
-/// Taking offers makes a tree one deeper at most: it reaches no farther than one deeper than it is, and
-/// [`Scenario::take`](crate::Scenario::take) leaves nothing that reaches farther.
+/// Taking offers makes a tree one deeper at most: its peak is its depth or one more, and
+/// [`Scenario::take`](crate::Scenario::take) leaves nothing of a higher peak.
 pub fn trees_stay_shallow()
-    ensures deep { (t : Tree) → depth t ≤ reach t }
-    ensures shallow { (t : Tree) → reach t ≤ 1 + depth t }
+    ensures deep { (t : Tree) → depth t ≤ peak_depth t }
+    ensures shallow { (t : Tree) → peak_depth t ≤ 1 + depth t }
 {}
 
 /// A value says one tree at most, and a text is the text of one tree at most, whatever the shape.

@@ -109,24 +109,24 @@ fn scenario_at<A: Allocator + Clone>(
     alloc: &A,
     value: &Value,
     shape: Shape,
-    left: u32,
+    levels: u32,
 ) -> Result<Scenario<A>, ScenarioFault>
-    ensures { Gives plain result (tree_at shape left (view value.now)) }
+    ensures { Gives plain result (tree_at shape levels (view value.now)) }
 {
-    if left == 0 {
+    if levels == 0 {
         return Err(ScenarioFault::TooDeep);
     }
-    let left = left - 1;
+    let levels = levels - 1;
     match form_of(value) {
         None => Err(ScenarioFault::BadShape),
         Some(Form::One(ask)) if is_in_shape(ask, shape) => Ok(Scenario::One(ask)),
         Some(Form::One(_)) => Err(ScenarioFault::OutOfShape),
         Some(Form::Any([])) => Err(ScenarioFault::EmptyAny),
-        Some(Form::Seq(values)) => Ok(Scenario::Seq(scenarios_at(alloc, values, shape, left)?)),
-        Some(Form::Any(values)) => Ok(Scenario::Any(scenarios_at(alloc, values, shape, left)?)),
-        Some(Form::Both(values)) => Ok(Scenario::Both(scenarios_at(alloc, values, shape, left)?)),
+        Some(Form::Seq(values)) => Ok(Scenario::Seq(scenarios_at(alloc, values, shape, levels)?)),
+        Some(Form::Any(values)) => Ok(Scenario::Any(scenarios_at(alloc, values, shape, levels)?)),
+        Some(Form::Both(values)) => Ok(Scenario::Both(scenarios_at(alloc, values, shape, levels)?)),
         Some(Form::Times(turns, value)) => {
-            let child = scenario_at(alloc, value, shape, left)?;
+            let child = scenario_at(alloc, value, shape, levels)?;
             Ok(times_in(alloc, turns, child)?)
         }
     }
@@ -138,13 +138,13 @@ fn scenarios_at<A: Allocator + Clone>(
     alloc: &A,
     values: &[Value],
     shape: Shape,
-    left: u32,
+    levels: u32,
 ) -> Result<Vec<Scenario<A>, A>, ScenarioFault>
-    ensures { Gives (λ v. map plain v.items) result (trees_behind (tree_at shape left) [] (items_view values.now)) }
+    ensures { Gives (λ v. map plain v.items) result (trees_behind (tree_at shape levels) [] (items_view values.now)) }
 {
     let mut children = children_in(alloc, 0)?;
     for value in values {
-        children.push(scenario_at(alloc, value, shape, left)?)?;
+        children.push(scenario_at(alloc, value, shape, levels)?)?;
     }
     Ok(children)
 }

@@ -5,7 +5,7 @@ ghost use Rattle.scenario.specs.Tree as tree;
 ghost use Rattle.scenario.specs.Tree.{plain, plain_all};
 ghost use Rattle.scenario.specs.Taking.{offers, offers_in_turn, offers_of_all};
 ghost use Rattle.scenario.specs.Alike.{Takes};
-ghost use Rattle.scenario.specs.Limits.{reach};
+ghost use Rattle.scenario.specs.Limits.{peak_depth};
 ghost use Rattle.scenario.specs.Rests.{IsPlaceAmong, IsPlaceInTurn, Leaves, LeavesInTurn, past, row_of};
 
 use crate::copying::copy_one;
@@ -33,7 +33,7 @@ impl<A: Allocator + Clone> Scenario<A> {
     pub fn take(&mut self, alloc: A, at: usize) -> Result<Option<CoreAsk>, NoMemory>
         ensures ok { IfOk result (λ taken. Takes (plain self.old) at taken (plain self.new)) }
         ensures err { OnErr result (plain self.new ≡ plain self.old) }
-        ensures shallow { reach (plain self.new) ≤ reach (plain self.old) }
+        ensures shallow { peak_depth (plain self.new) ≤ peak_depth (plain self.old) }
     {
         if skip(self, at).is_some() {
             return Ok(None);
@@ -200,11 +200,11 @@ fn place_in_turn<A: Allocator>(children: &[Scenario<A>], at: usize) -> Offer
     ensures within { result.child < length children.now }
     ensures place { IsPlaceInTurn children.now at result.child result.at }
 {
-    let mut rest = at;
+    let mut further = at;
     for (i, child) in children.iter().enumerate() {
-        match skip(child, rest) {
-            None => return Offer { child: i, at: rest },
-            Some(behind) => rest = behind,
+        match skip(child, further) {
+            None => return Offer { child: i, at: further },
+            Some(behind) => further = behind,
         }
     }
     unreachable!()
@@ -217,11 +217,11 @@ fn place_among<A: Allocator>(children: &[Scenario<A>], at: usize) -> Offer
     ensures within { result.child < length children.now }
     ensures place { IsPlaceAmong children.now at result.child result.at }
 {
-    let mut rest = at;
+    let mut further = at;
     for (i, child) in children.iter().enumerate() {
-        match skip(child, rest) {
-            None => return Offer { child: i, at: rest },
-            Some(behind) => rest = behind,
+        match skip(child, further) {
+            None => return Offer { child: i, at: further },
+            Some(behind) => further = behind,
         }
     }
     unreachable!()
@@ -250,23 +250,23 @@ fn skip<A: Allocator>(tree: &Scenario<A>, at: usize) -> Option<usize>
 fn skip_in_turn<A: Allocator>(children: &[Scenario<A>], at: usize) -> Option<usize>
     ensures { result ≡ past (length (offers_in_turn (plain_all children.now))) at }
 {
-    let mut rest = at;
+    let mut further = at;
     for child in children {
-        rest = skip(child, rest)?;
+        further = skip(child, further)?;
         if !tree_may_end(child) {
-            return Some(rest);
+            return Some(further);
         }
     }
-    Some(rest)
+    Some(further)
 }
 
 #[cycle(skipping)]
 fn skip_all<A: Allocator>(children: &[Scenario<A>], at: usize) -> Option<usize>
     ensures { result ≡ past (length (offers_of_all (plain_all children.now))) at }
 {
-    let mut rest = at;
+    let mut further = at;
     for child in children {
-        rest = skip(child, rest)?;
+        further = skip(child, further)?;
     }
-    Some(rest)
+    Some(further)
 }

@@ -5,7 +5,7 @@ ghost use Rattle.serde_json.specs.Data.{array, string, member, no_members};
 ghost use Rattle.serde_json.specs.View.{view, items_view};
 ghost use Rattle.serde_json.specs.Written.{compact_text};
 ghost use Rattle.scenario.specs.Tree.{plain, plain_all};
-ghost use Rattle.scenario.specs.Form.{shown, shown_all, shown_ask, shown_number, shown_times, shown_under, with_place};
+ghost use Rattle.scenario.specs.Shown.{shown, shown_all, shown_ask, shown_number, shown_times, shown_under, with_core_and_block};
 ghost use Rattle.scenario.specs.Limits.{Fits, Throughout, depth};
 ghost use Rattle.scenario.specs.Says.{IsJson};
 ghost use Rattle.scenario.specs.Saving.{GoesOut, MarksSave, ReadsBack};
@@ -122,16 +122,16 @@ fn ask_value(heap: Global, ask: CoreAsk) -> Result<Value, AllocError>
     }
 }
 
-/// An ask of which the word says all, beside its place.
+/// An ask of which the word says all, beside its core and its block.
 fn word_value(heap: Global, ask: CoreAsk, word: &str) -> Result<Value, AllocError>
-    ensures { IfOk result (λ v. view v ≡ with_place ask (member (codes "op") (string word.now) no_members)) }
+    ensures { IfOk result (λ v. view v ≡ with_core_and_block ask (member (codes "op") (string word.now) no_members)) }
 {
     json!(in heap; {"block": ask.block.0, "core": ask.core.0, "op": word})
 }
 
 fn store_value(heap: Global, ask: CoreAsk, value: u64) -> Result<Value, AllocError>
     ensures { IfOk result (λ v. view v ≡
-        with_place ask (member (codes "op") (string (codes "store")) (member (codes "value") (shown_number value) no_members))) }
+        with_core_and_block ask (member (codes "op") (string (codes "store")) (member (codes "value") (shown_number value) no_members))) }
 {
     json!(in heap; {"block": ask.block.0, "core": ask.core.0, "op": "store", "value": value})
 }

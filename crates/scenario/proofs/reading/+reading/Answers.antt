@@ -12,13 +12,13 @@ pub scenario_at-returns-in_ok-scenarios_at-in-Some-Any : goal.scenario_at-return
 scenario_at-returns-in_ok-scenarios_at-in-Some-Any g t c =
     let form : node_of (view c.args.value.now) ≡ Some (any (items_view c.in-Some-Any.values.now)) = search rules in
     let some : 0 < length c.in-Some-Any.values.now = search rules in
-    let level : 0 < c.args.left = search rules in
+    let level : 0 < c.args.levels = search rules in
     let children = c.in_ok-scenarios_at-in-Some-Any.field-0 in
-    choice_level c.args.shape c.args.left (view c.args.value.now) c.in-Some-Any.values.now (map plain children.items) level form some c.in_ok-scenarios_at-in-Some-Any.ensures
+    choice_level c.args.shape c.args.levels (view c.args.value.now) c.in-Some-Any.values.now (map plain children.items) level form some c.in_ok-scenarios_at-in-Some-Any.ensures
     ∙ ap Ok (sym (plain-Any children))
 
-pub scenario_at-overflow_sub-left : goal.scenario_at-overflow_sub-left
-scenario_at-overflow_sub-left g t c = grind (arith, common_steps)
+pub scenario_at-overflow_sub-levels : goal.scenario_at-overflow_sub-levels
+scenario_at-overflow_sub-levels g t c = grind (arith, common_steps)
 
 pub scenario_at-returns-in-None : goal.scenario_at-returns-in-None
 scenario_at-returns-in-None g t c = grind (arith, walking)
@@ -56,8 +56,8 @@ scenario_at-returns-in_ok-scenarios_at-in-Some-Seq g t c = grind (arith, walking
 pub scenario_at-returns-in_ok-times_in-in-Some-Times : goal.scenario_at-returns-in_ok-times_in-in-Some-Times
 scenario_at-returns-in_ok-times_in-in-Some-Times g t c = grind (arith, walking)
 
-pub scenario_at-returns-then-left-eq0 : goal.scenario_at-returns-then-left-eq0
-scenario_at-returns-then-left-eq0 g t c = grind (arith, walking)
+pub scenario_at-returns-then-levels-eq0 : goal.scenario_at-returns-then-levels-eq0
+scenario_at-returns-then-levels-eq0 g t c = grind (arith, walking)
 
 pub scenarios_at-loop-value-init : goal.scenarios_at-loop-value-init
 scenarios_at-loop-value-init g t c = grind (arith, common_steps)

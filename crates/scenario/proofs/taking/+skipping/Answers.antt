@@ -19,8 +19,8 @@ skip-returns-else-turns-eq0 g t c = grind (arith, children)
 pub skip-returns-in-Any : goal.skip-returns-in-Any
 skip-returns-in-Any g t c = grind (arith, children)
 
-pub skip_all-returns-in_err-rest : goal.skip_all-returns-in_err-rest
-skip_all-returns-in_err-rest g t c = grind (arith, common_steps)
+pub skip_all-returns-in_err-further : goal.skip_all-returns-in_err-further
+skip_all-returns-in_err-further g t c = grind (arith, common_steps)
 
 pub skip_all-loop-child-preserved : goal.skip_all-loop-child-preserved
 skip_all-loop-child-preserved g t c = grind (arith, common_steps)
@@ -28,8 +28,8 @@ skip_all-loop-child-preserved g t c = grind (arith, common_steps)
 pub skip_all-returns : goal.skip_all-returns
 skip_all-returns g t c = grind (arith, common_steps)
 
-pub skip_in_turn-returns-in_err-rest : goal.skip_in_turn-returns-in_err-rest
-skip_in_turn-returns-in_err-rest g t c = grind (arith, common_steps)
+pub skip_in_turn-returns-in_err-further : goal.skip_in_turn-returns-in_err-further
+skip_in_turn-returns-in_err-further g t c = grind (arith, common_steps)
 
 pub skip_in_turn-returns-then-not-tree_may_end : goal.skip_in_turn-returns-then-not-tree_may_end
 skip_in_turn-returns-then-not-tree_may_end g t c = grind (arith, common_steps)

@@ -1,7 +1,7 @@
 use Rattle.std.proofs.Common.{◌≡◌, map, take}
 use Rattle.serde_json.specs.View.{view}
 use Rattle.scenario.specs.Tree.{plain}
-use Rattle.scenario.specs.Form.{shown}
+use Rattle.scenario.specs.Shown.{shown}
 use Rattle.scenario.proofs.writing.+showing.Given as goal
 
 -- the values so far are those of the children so far

@@ -3,7 +3,7 @@ use Rattle.std.proofs.lemmas.Result.{err_from_is_err_and}
 use Rattle.serde_json.specs.View.{view}
 use Rattle.scenario.specs.Tree.{plain}
 use Rattle.scenario.specs.Limits.{longest}
-use Rattle.scenario.proofs.Answering.{refused, says, too_long, within}
+use Rattle.scenario.proofs.Answering.{refused, text-of, too_long, within}
 use Rattle.scenario.proofs.tree.Scenario.read.Goals as goal
 
 -- the walk came to a fault
@@ -22,7 +22,7 @@ returns-then-longest_word-from-clause-fault g c =
 
 pub returns-clause-tree : goal.returns-clause-tree
 returns-clause-tree g c =
-    says c.args.shape c.args.bytes.now (view c.in-Ok.value) (plain c.in_ok-scenario.scenario) c.in-Ok.ensures.ok c.in_ok-scenario.ensures
+    text-of c.args.shape c.args.bytes.now (view c.in-Ok.value) (plain c.in_ok-scenario.scenario) c.in-Ok.ensures.ok c.in_ok-scenario.ensures
 
 pub returns-clause-within : goal.returns-clause-within
 returns-clause-within g c =

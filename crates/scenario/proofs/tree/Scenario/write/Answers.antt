@@ -1,6 +1,6 @@
 use Rattle.std.proofs.Common.{subst}
 use Rattle.scenario.specs.Tree.{plain}
-use Rattle.scenario.specs.Form.{shown}
+use Rattle.scenario.specs.Shown.{shown}
 use Rattle.scenario.specs.Says.{IsJson}
 use Rattle.scenario.proofs.Written.{shown-text}
 use Rattle.scenario.proofs.tree.Scenario.write.Goals as goal

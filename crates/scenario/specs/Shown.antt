@@ -16,13 +16,13 @@ shown_asked Load = member (codes "op") (string (codes "load")) no_members
 shown_asked (Store value) = member (codes "op") (string (codes "store")) (member (codes "value") (shown_number value) no_members)
 shown_asked Replace = member (codes "op") (string (codes "replace")) no_members
 
--- an object of where an ask is put, and of what is asked, with its keys in rising order
-abbrev pub with_place : CoreAsk → Members → Data
-with_place ask asked = object (member (codes "block") (shown_number ask.block.0) (member (codes "core") (shown_number ask.core.0) asked))
+-- an object of an ask's core and block, and of what is asked, with its keys in rising order
+abbrev pub with_core_and_block : CoreAsk → Members → Data
+with_core_and_block ask asked = object (member (codes "block") (shown_number ask.block.0) (member (codes "core") (shown_number ask.core.0) asked))
 
 -- an ask
 abbrev pub shown_ask : CoreAsk → Data
-shown_ask ask = with_place ask (shown_asked ask.ask)
+shown_ask ask = with_core_and_block ask (shown_asked ask.ask)
 
 -- an object of one key
 abbrev pub shown_under : List ℕ → Data → Data
