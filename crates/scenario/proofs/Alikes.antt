@@ -31,4 +31,5 @@ alike-words [] s t alike w = nothing-in t (sym (alike-ends s t alike) ∙ nothin
 alike-words (ask ∷ word) s t alike w =
     let there = ask-out s ask word w in
     let h = offer_below (offers s) there.0 ask there.1 in
-    ask-in t there.0 ask word (ap (λ os. slice_get os there.0) (sym (alike-offers s t alike)) ∙ there.1) (alike-words word (left s there.0) (left t there.0) (alike-left s t there.0 alike h) there.2)
+    ask-in t there.0 ask word (ap (λ os. slice_get os there.0) (sym (alike-offers s t alike)) ∙ there.1)
+    (alike-words word (left s there.0) (left t there.0) (alike-left s t there.0 alike h) there.2)

@@ -58,7 +58,8 @@ unfolding first_fault
 node-fault shape d = node-first shape (visited 48 d)
 
 -- a fault that the walk came to
-pub refused : {X : Type 0} (meaning : X → Tree) (shape : Extent) (bytes : List ℕ) (d : Data) (fault : ScenarioFault) → IsJson bytes d → Gives meaning (Err fault) (tree_at shape 48 d)
+pub refused : {X : Type 0} (meaning : X → Tree) (shape : Extent) (bytes : List ℕ) (d : Data) (fault : ScenarioFault) → IsJson bytes d
+    → Gives meaning (Err fault) (tree_at shape 48 d)
     → IsRefusal shape bytes fault
 refused meaning shape bytes d NotJson json gives = absurd (subst IsOfNode (fault-of shape d (Err NotJson) gives) (node-fault shape d))
 refused meaning shape bytes d BadShape json gives = (d, json, fault-of shape d (Err BadShape) gives)

@@ -1,5 +1,6 @@
 -- The tree that is built of a value is the one that the value says.
-use Rattle.std.proofs.Common.{◌≡◌, ◌≤◌, ◌<◌, ◌++◌, ◌∙◌, ◌&&◌, ℕ, zero, suc, List, [], ◌∷◌, Bool, true, false, nat_lt, if◌then◌else◌, Option, Some, None, Result, Ok, Err, append_assoc, refl, sym, ap, subst, arith}
+use Rattle.std.proofs.Common.{◌≡◌, ◌≤◌, ◌<◌, ◌++◌, ◌∙◌, ◌&&◌, ℕ, zero, suc, List, [], ◌∷◌, Bool, true, false}
+use Rattle.std.proofs.Common.{nat_lt, if◌then◌else◌, Option, Some, None, Result, Ok, Err, append_assoc, refl, sym, subst, arith}
 use Rattle.std.proofs.lemmas.List.{append-nil}
 use Rattle.std.specs.Prelude.{⊤}
 use Rattle.serde_json.specs.Data.{Data, Items, no_items, item}
@@ -20,7 +21,8 @@ IsBuilt shape levels d (Ok t) = Says d t × (depth t ≤ levels) × Throughout H
 IsBuilt shape levels d (Err fault) = ⊤
 
 abbrev AreSaid : Extent → ℕ → Items → List Tree → Type 0
-AreSaid shape levels ds ts = SayEach ds (trees_of ts) × (deepest (trees_of ts) ≤ levels) × InEach HasChoice (trees_of ts) × InEach (IsInShape shape) (trees_of ts)
+AreSaid shape levels ds ts = SayEach ds (trees_of ts) × (deepest (trees_of ts) ≤ levels) × InEach HasChoice (trees_of ts)
+    × InEach (IsInShape shape) (trees_of ts)
 
 abbrev AreBuilt : Extent → ℕ → List Tree → Items → Result (List Tree) ScenarioFault → Type 0
 AreBuilt shape levels before ds (Ok ts) = (behind : List Tree) × (ts ≡ before ++ behind) × AreSaid shape levels ds behind
@@ -32,7 +34,8 @@ one-more shape levels before t d ds (Err fault) a b = tt
 one-more shape levels before t d ds (Ok ts) a b =
     (t ∷ b.0, b.1 ∙ append_assoc before (t ∷ []) b.0, ((a.0, b.2.0), omega (arith, a.1, b.2.1), (a.2, b.2.2), (a.3, b.2.3)))
 
-next-built : (shape : Extent) (levels : ℕ) (before : List Tree) (d : Data) (ds : Items) (r : Result Tree ScenarioFault) (next : Tree → Result (List Tree) ScenarioFault)
+next-built : (shape : Extent) (levels : ℕ) (before : List Tree) (d : Data) (ds : Items) (r : Result Tree ScenarioFault)
+    (next : Tree → Result (List Tree) ScenarioFault)
     → IsBuilt shape levels d r → ((t : Tree) → AreBuilt shape levels (before ++ t ∷ []) ds (next t))
     → AreBuilt shape levels before (item d ds) (elim r [ Ok t ↦ next t | Err fault ↦ Err fault ])
 next-built shape levels before d ds (Ok t) next a b = one-more shape levels before t d ds (next t) a (b t)
@@ -46,7 +49,8 @@ behind-built : (shape : Extent) (levels : ℕ) (tree : Data → Result Tree Scen
     → (before : List Tree) (ds : Items) → AreBuilt shape levels before ds (trees_behind tree before ds)
 behind-built shape levels tree each before no_items = ([], sym (append-nil before), (tt, omega arith, tt, tt))
 behind-built shape levels tree each before (item d ds) =
-    next-built shape levels before d ds (tree d) (λ t. trees_behind tree (before ++ t ∷ []) ds) (each d) (λ t. behind-built shape levels tree each (before ++ t ∷ []) ds)
+    next-built shape levels before d ds (tree d) (λ t. trees_behind tree (before ++ t ∷ []) ds) (each d)
+    (λ t. behind-built shape levels tree each (before ++ t ∷ []) ds)
 
 from-none : (shape : Extent) (levels : ℕ) (ds : Items) (ts : List Tree) → AreBuilt shape levels [] ds (Ok ts) → AreSaid shape levels ds ts
 from-none shape levels ds ts b = subst (AreSaid shape levels ds) (sym b.1) b.2

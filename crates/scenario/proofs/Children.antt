@@ -1,7 +1,8 @@
 -- The children of a scenario, as a list.
 use Rattle.std.proofs.Common.{◌≡◌, refl, ap, ◌∙◌}
 use Rattle.std.specs.declared.vec.Vec.{Vec}
-use Rattle.scenario.specs.declared.tree.Scenario.{Scenario, Row_of-Scenario, end_of-Scenario, more_of-Scenario, items-the_row-Scenario, items_hidden-the_row-Scenario-0}
+use Rattle.scenario.specs.declared.tree.Scenario.{Scenario, Row_of-Scenario, end_of-Scenario}
+use Rattle.scenario.specs.declared.tree.Scenario.{more_of-Scenario, items-the_row-Scenario, items_hidden-the_row-Scenario-0}
 use Rattle.scenario.specs.declared.tree.Scenario.TheBlock.{hidden-the_row-Scenario-0}
 use Rattle.scenario.specs.declared.tree.Scenario.TheVariants.{Seq, Any, Both}
 use Rattle.scenario.specs.Tree as tree

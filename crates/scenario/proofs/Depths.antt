@@ -1,5 +1,5 @@
 -- Taking offers makes no tree deeper than one more than it was.
-use Rattle.std.proofs.Common.{ℕ, ◌≤◌, ◌+◌, ◌-◌, Bool, true, false, cond, nat_lt, length, Option, Some, None, arith}
+use Rattle.std.proofs.Common.{ℕ, ◌≤◌, ◌+◌, ◌-◌, cond, length, Option, Some, None, arith}
 use Rattle.scenario.specs.Tree.{Tree, Trees, One, Seq, Any, Times, Both, Nil, Cons}
 use Rattle.scenario.specs.Taking.{offers}
 use Rattle.scenario.specs.Limits.{depth, deepest, peak_depth, peak_of_all, peak_in_turn}

@@ -1,6 +1,6 @@
 -- What the code leaves of a tree is alike to what is left of it: both are the same tree once a row of one child is its child.
-use Rattle.std.proofs.Common.{◌≡◌, ℕ, ◌<◌, ◌-◌, ◌==◌, Bool, true, false, ◌&&◌, if◌then◌else◌, cond, nat_lt, List, [], ◌∷◌, ◌++◌, length, Option, Some, None, option_map, refl, sym, ap, ◌∙◌, subst, arith}
-use Rattle.std.proofs.lemmas.Bool.Decides.{nat_tests}
+use Rattle.std.proofs.Common.{◌≡◌, ℕ, ◌<◌, ◌-◌, ◌==◌, Bool, true, false, ◌&&◌, if◌then◌else◌, cond, nat_lt, List, []}
+use Rattle.std.proofs.Common.{◌∷◌, ◌++◌, length, Option, Some, None, option_map, refl, sym, ap, ◌∙◌, subst, arith}
 use Rattle.base.specs.declared.step.CoreAsk.{CoreAsk}
 use Rattle.scenario.specs.Tree.{Tree, Trees, One, Seq, Any, Times, Both, Nil, Cons}
 use Rattle.scenario.specs.Taking.{ends, all_end, some_ends, offers, offers_in_turn, offers_of_all, left, left_in_turn, left_of_one, left_of_all}
@@ -103,7 +103,8 @@ mutual
   flat-rest_in_turn Nil i = refl
   flat-rest_in_turn (Cons t ts) i =
       by_test
-      (λ b. flat (cond b (row_of (Cons (rest t i) ts)) (rest_in_turn ts (i - length (offers t)))) ≡ row_of (flats (cond b (Cons (left t i) ts) (left_in_turn ts (i - length (offers t))))))
+      (λ b. flat (cond b (row_of (Cons (rest t i) ts)) (rest_in_turn ts (i - length (offers t))))
+      ≡ row_of (flats (cond b (Cons (left t i) ts) (left_in_turn ts (i - length (offers t))))))
       i
       (length (offers t))
       (λ h. flat-row (Cons (rest t i) ts) ∙ ap (λ u. row_of (Cons u (flats ts))) (flat-rest t i))
@@ -123,7 +124,8 @@ mutual
   flats-rest_of_all Nil i = refl
   flats-rest_of_all (Cons t ts) i =
       by_test
-      (λ b. flats (cond b (Cons (rest t i) ts) (Cons t (rest_of_all ts (i - length (offers t))))) ≡ flats (cond b (Cons (left t i) ts) (Cons t (left_of_all ts (i - length (offers t))))))
+      (λ b. flats (cond b (Cons (rest t i) ts) (Cons t (rest_of_all ts (i - length (offers t)))))
+      ≡ flats (cond b (Cons (left t i) ts) (Cons t (left_of_all ts (i - length (offers t))))))
       i
       (length (offers t))
       (λ h. ap (λ u. Cons u (flats ts)) (flat-rest t i))
@@ -165,7 +167,8 @@ mutual
       (λ n. flats (left_in_turn (Cons t ts) i) ≡ flats (in_turn_by n (flat t) (flats ts) i))
       (ap length (sym (offers-flat t)))
       (by_test
-      (λ b. flats (cond b (Cons (left t i) ts) (left_in_turn ts (i - length (offers t)))) ≡ flats (cond b (Cons (left (flat t) i) (flats ts)) (left_in_turn (flats ts) (i - length (offers t)))))
+      (λ b. flats (cond b (Cons (left t i) ts) (left_in_turn ts (i - length (offers t))))
+      ≡ flats (cond b (Cons (left (flat t) i) (flats ts)) (left_in_turn (flats ts) (i - length (offers t)))))
       i
       (length (offers t))
       (λ h. rw (flat-left t i h, flats-flats ts) refl)
@@ -178,7 +181,8 @@ mutual
       (λ n. flat (left_of_one (Cons t ts) i) ≡ flat (of_one_by n (flat t) (flats ts) i))
       (ap length (sym (offers-flat t)))
       (by_test
-      (λ b. flat (cond b (left t i) (left_of_one ts (i - length (offers t)))) ≡ flat (cond b (left (flat t) i) (left_of_one (flats ts) (i - length (offers t)))))
+      (λ b. flat (cond b (left t i) (left_of_one ts (i - length (offers t))))
+      ≡ flat (cond b (left (flat t) i) (left_of_one (flats ts) (i - length (offers t)))))
       i
       (length (offers t))
       (λ h. flat-left t i h)
@@ -191,7 +195,8 @@ mutual
       (λ n. flats (left_of_all (Cons t ts) i) ≡ flats (of_all_by n (flat t) (flats ts) i))
       (ap length (sym (offers-flat t)))
       (by_test
-      (λ b. flats (cond b (Cons (left t i) ts) (Cons t (left_of_all ts (i - length (offers t))))) ≡ flats (cond b (Cons (left (flat t) i) (flats ts)) (Cons (flat t) (left_of_all (flats ts) (i - length (offers t))))))
+      (λ b. flats (cond b (Cons (left t i) ts) (Cons t (left_of_all ts (i - length (offers t)))))
+      ≡ flats (cond b (Cons (left (flat t) i) (flats ts)) (Cons (flat t) (left_of_all (flats ts) (i - length (offers t))))))
       i
       (length (offers t))
       (λ h. rw (flat-left t i h, flats-flats ts) refl)
@@ -212,7 +217,8 @@ alike-flat s t e (i ∷ path) =
     (λ b. option_map seen (follow_if b (left s i) path) ≡ option_map seen (follow_if b (left t i) path))
     i
     (length (offers s))
-    (λ h. alike-flat (left s i) (left t i) (flat-left s i h ∙ (ap (λ u. flat (left u i)) e ∙ sym (flat-left t i (subst (λ os. i < length os) same_offers h)))) path)
+    (λ h. alike-flat (left s i) (left t i)
+    (flat-left s i h ∙ (ap (λ u. flat (left u i)) e ∙ sym (flat-left t i (subst (λ os. i < length os) same_offers h)))) path)
     (λ h. refl))
 
 -- what the code leaves is alike to what is left

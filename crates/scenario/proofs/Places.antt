@@ -1,5 +1,6 @@
 -- Where an offer of several children is.
-use Rattle.std.proofs.Common.{◌≡◌, ℕ, zero, suc, ◌+◌, ◌-◌, ◌<◌, ◌≤◌, List, [], ◌∷◌, ◌++◌, Option, Some, None, Bool, true, false, cond, nat_lt, length, drop, take, map, slice_get, slice_set, IfSome, refl, sym, ap, ◌∙◌, subst, arith, add-one, length-append}
+use Rattle.std.proofs.Common.{◌≡◌, ℕ, zero, suc, ◌+◌, ◌-◌, ◌<◌, ◌≤◌, List, [], ◌∷◌, ◌++◌, Option, Some, None, Bool, true, false}
+use Rattle.std.proofs.Common.{cond, nat_lt, length, drop, take, map, slice_get, slice_set, IfSome, refl, sym, ap, ◌∙◌, subst, arith, add-one, length-append}
 use Rattle.std.proofs.lemmas.Bool.Decides.{nat_tests}
 use Rattle.base.specs.declared.step.CoreAsk.{CoreAsk}
 use Rattle.scenario.specs.declared.tree.Scenario.{Scenario}
@@ -19,7 +20,9 @@ past_some n i r e = by_case (nat_lt i n) refl
   where
     by_case : (t : Bool) → nat_lt i n ≡ t → (n ≤ i) × (r ≡ i - n)
     by_case true q = let e' : cond true None (Some (i - n)) ≡ Some r = subst (λ t. cond t None (Some (i - n)) ≡ Some r) q e in absurd (cc e')
-    by_case false q = let e' : cond false None (Some (i - n)) ≡ Some r = subst (λ t. cond t None (Some (i - n)) ≡ Some r) q e in (grind (arith, nat_tests), cc e')
+    by_case false q =
+        let e' : cond false None (Some (i - n)) ≡ Some r = subst (λ t. cond t None (Some (i - n)) ≡ Some r) q e in
+        (grind (arith, nat_tests), cc e')
 
 pub get_front : {X : Type 0} (xs ys : List X) (i : ℕ) → i < length xs → slice_get (xs ++ ys) i ≡ slice_get xs i
 get_front [] ys i h = absurd (omega arith)
@@ -61,17 +64,22 @@ set_here (z ∷ xs) (suc i) x y e = set_here xs i x y e
 -- ---- children in turn
 
 -- the child from which an offer is
-in_child : (t : Tree) (ts : Trees) (i : ℕ) → i < length (offers t) → (slice_get (offers_in_turn (Cons t ts)) i ≡ slice_get (offers t) i) × (rest_in_turn (Cons t ts) i ≡ row_of (Cons (rest t i) ts))
-in_child t ts i h = (get_front (offers t) _ i h, ap (λ b. cond b (row_of (Cons (rest t i) ts)) (rest_in_turn ts (i - length (offers t)))) (is_below i (length (offers t)) h))
+in_child : (t : Tree) (ts : Trees) (i : ℕ) → i < length (offers t)
+    → (slice_get (offers_in_turn (Cons t ts)) i ≡ slice_get (offers t) i) × (rest_in_turn (Cons t ts) i ≡ row_of (Cons (rest t i) ts))
+in_child t ts i h =
+    (get_front (offers t) _ i h, ap (λ b. cond b (row_of (Cons (rest t i) ts)) (rest_in_turn ts (i - length (offers t)))) (is_below i (length (offers t)) h))
 
 -- and where it is in none of the first child's
-behind_child : (t : Tree) (ts : Trees) (i : ℕ) → length (offers t) ≤ i → ends t ≡ true → (slice_get (offers_in_turn (Cons t ts)) i ≡ slice_get (offers_in_turn ts) (i - length (offers t))) × (rest_in_turn (Cons t ts) i ≡ rest_in_turn ts (i - length (offers t)))
+behind_child : (t : Tree) (ts : Trees) (i : ℕ) → length (offers t) ≤ i → ends t ≡ true
+    → (slice_get (offers_in_turn (Cons t ts)) i ≡ slice_get (offers_in_turn ts) (i - length (offers t)))
+    × (rest_in_turn (Cons t ts) i ≡ rest_in_turn ts (i - length (offers t)))
 behind_child t ts i h end = (
   get_behind (offers t) _ i h ∙ ap (λ b. slice_get (cond b (offers_in_turn ts) []) (i - length (offers t))) end,
   ap (λ b. cond b (row_of (Cons (rest t i) ts)) (rest_in_turn ts (i - length (offers t)))) (isnt_below i (length (offers t)) h),
 )
 
-pub found_in_turn : {A : Type 0} (ss : List (Scenario A)) (at i further : ℕ) (s : Scenario A) → slice_get ss i ≡ Some s → past (length (offers (plain s))) further ≡ None
+pub found_in_turn : {A : Type 0} (ss : List (Scenario A)) (at i further : ℕ) (s : Scenario A) → slice_get ss i ≡ Some s
+    → past (length (offers (plain s))) further ≡ None
     → slice_get (offers_in_turn (plain_all ss)) at ≡ slice_get (offers_in_turn (plain_all (drop i ss))) further
     → rest_in_turn (plain_all ss) at ≡ rest_in_turn (plain_all (drop i ss)) further
     → IsPlaceInTurn ss at i further
@@ -85,10 +93,12 @@ found_in_turn ss at i further s e none p q =
       q ∙ (ap (λ ts. rest_in_turn ts further) here ∙ c.1),
     )
 
-pub passed_in_turn : {A : Type 0} (ss : List (Scenario A)) (at i further r : ℕ) (s : Scenario A) → slice_get ss i ≡ Some s → past (length (offers (plain s))) further ≡ Some r → ends (plain s) ≡ true
+pub passed_in_turn : {A : Type 0} (ss : List (Scenario A)) (at i further r : ℕ) (s : Scenario A) → slice_get ss i ≡ Some s
+    → past (length (offers (plain s))) further ≡ Some r → ends (plain s) ≡ true
     → slice_get (offers_in_turn (plain_all ss)) at ≡ slice_get (offers_in_turn (plain_all (drop i ss))) further
     → rest_in_turn (plain_all ss) at ≡ rest_in_turn (plain_all (drop i ss)) further
-    → (slice_get (offers_in_turn (plain_all ss)) at ≡ slice_get (offers_in_turn (plain_all (drop (i + 1) ss))) r) × (rest_in_turn (plain_all ss) at ≡ rest_in_turn (plain_all (drop (i + 1) ss)) r)
+    → (slice_get (offers_in_turn (plain_all ss)) at ≡ slice_get (offers_in_turn (plain_all (drop (i + 1) ss))) r)
+    × (rest_in_turn (plain_all ss) at ≡ rest_in_turn (plain_all (drop (i + 1) ss)) r)
 passed_in_turn ss at i further r s e some end p q =
     let here = ap plain_all (drop_here ss i s e) in
     let high = past_some (length (offers (plain s))) further r some in
@@ -99,7 +109,9 @@ passed_in_turn ss at i further r s e some end p q =
 
 -- ---- children at once
 
-in_some_child : (t : Tree) (ts : Trees) (i : ℕ) → i < length (offers t) → (slice_get (offers_of_all (Cons t ts)) i ≡ slice_get (offers t) i) × (rest_of_one (Cons t ts) i ≡ rest t i) × (rest_of_all (Cons t ts) i ≡ Cons (rest t i) ts)
+in_some_child : (t : Tree) (ts : Trees) (i : ℕ) → i < length (offers t)
+    → (slice_get (offers_of_all (Cons t ts)) i ≡ slice_get (offers t) i) × (rest_of_one (Cons t ts) i ≡ rest t i)
+    × (rest_of_all (Cons t ts) i ≡ Cons (rest t i) ts)
 in_some_child t ts i h =
     let e = is_below i (length (offers t)) h in (
       get_front (offers t) _ i h,
@@ -107,7 +119,9 @@ in_some_child t ts i h =
       ap (λ b. cond b (Cons (rest t i) ts) (Cons t (rest_of_all ts (i - length (offers t))))) e,
     )
 
-behind_some_child : (t : Tree) (ts : Trees) (i : ℕ) → length (offers t) ≤ i → (slice_get (offers_of_all (Cons t ts)) i ≡ slice_get (offers_of_all ts) (i - length (offers t))) × (rest_of_one (Cons t ts) i ≡ rest_of_one ts (i - length (offers t))) × (rest_of_all (Cons t ts) i ≡ Cons t (rest_of_all ts (i - length (offers t))))
+behind_some_child : (t : Tree) (ts : Trees) (i : ℕ) → length (offers t) ≤ i
+    → (slice_get (offers_of_all (Cons t ts)) i ≡ slice_get (offers_of_all ts) (i - length (offers t)))
+    × (rest_of_one (Cons t ts) i ≡ rest_of_one ts (i - length (offers t))) × (rest_of_all (Cons t ts) i ≡ Cons t (rest_of_all ts (i - length (offers t))))
 behind_some_child t ts i h =
     let e = isnt_below i (length (offers t)) h in (
       get_behind (offers t) _ i h,
@@ -120,7 +134,8 @@ abbrev pub before : List Tree → Trees → Trees
 before [] ts = ts
 before (t ∷ front) ts = Cons t (before front ts)
 
-before-set : (front : List Tree) (t u : Tree) (behind : List Tree) → before front (Cons u (trees_of behind)) ≡ trees_of (slice_set (front ++ t ∷ behind) (length front) u)
+before-set : (front : List Tree) (t u : Tree) (behind : List Tree)
+    → before front (Cons u (trees_of behind)) ≡ trees_of (slice_set (front ++ t ∷ behind) (length front) u)
 before-set [] t u behind = refl
 before-set (x ∷ front) t u behind = ap (Cons x) (before-set front t u behind)
 
@@ -143,11 +158,13 @@ short_front [] i x e = absurd (cc e)
 short_front (y ∷ xs) zero x e = refl
 short_front (y ∷ xs) (suc i) x e = ap suc (short_front xs i x e)
 
-map_split : {A : Type 0} (front : List (Scenario A)) (s : Scenario A) (behind : List (Scenario A)) (u : Tree) → before (map plain front) (Cons u (plain_all behind)) ≡ trees_of (slice_set (map plain (front ++ s ∷ behind)) (length front) u)
+map_split : {A : Type 0} (front : List (Scenario A)) (s : Scenario A) (behind : List (Scenario A)) (u : Tree)
+    → before (map plain front) (Cons u (plain_all behind)) ≡ trees_of (slice_set (map plain (front ++ s ∷ behind)) (length front) u)
 map_split [] s behind u = refl
 map_split (x ∷ front) s behind u = ap (Cons (plain x)) (map_split front s behind u)
 
-map_more : {A : Type 0} (front : List (Scenario A)) (s : Scenario A) (ts : Trees) → before (map plain (front ++ s ∷ [])) ts ≡ before (map plain front) (Cons (plain s) ts)
+map_more : {A : Type 0} (front : List (Scenario A)) (s : Scenario A) (ts : Trees)
+    → before (map plain (front ++ s ∷ [])) ts ≡ before (map plain front) (Cons (plain s) ts)
 map_more [] s ts = refl
 map_more (x ∷ front) s ts = ap (Cons (plain x)) (map_more front s ts)
 
@@ -157,13 +174,17 @@ AtAmong ss at i further = (slice_get (offers_of_all (plain_all ss)) at ≡ slice
     × (rest_of_one (plain_all ss) at ≡ rest_of_one (plain_all (drop i ss)) further)
     × (rest_of_all (plain_all ss) at ≡ before (map plain (take i ss)) (rest_of_all (plain_all (drop i ss)) further))
 
-pub found_among : {A : Type 0} (ss : List (Scenario A)) (at i further : ℕ) (s : Scenario A) → slice_get ss i ≡ Some s → past (length (offers (plain s))) further ≡ None → AtAmong ss at i further → IsPlaceAmong ss at i further
+pub found_among : {A : Type 0} (ss : List (Scenario A)) (at i further : ℕ) (s : Scenario A) → slice_get ss i ≡ Some s
+    → past (length (offers (plain s))) further ≡ None → AtAmong ss at i further → IsPlaceAmong ss at i further
 found_among ss at i further s e none h =
     let here = ap plain_all (drop_here ss i s e) in
     let low = past_none (length (offers (plain s))) further none in
     let c = in_some_child (plain s) (plain_all (drop (i + 1) ss)) further low in
-    let whole : before (map plain (take i ss)) (Cons (rest (plain s) further) (plain_all (drop (i + 1) ss))) ≡ trees_of (slice_set (map plain ss) i (rest (plain s) further)) = rw add-one (
-    map_split (take i ss) s (drop (suc i) ss) (rest (plain s) further) ∙ (ap (λ xs. trees_of (slice_set (map plain xs) (length (take i ss)) (rest (plain s) further))) (split_here ss i s e) ∙ ap (λ n. trees_of (slice_set (map plain ss) n (rest (plain s) further))) (short_front ss i s e))) in
+    let whole : before (map plain (take i ss)) (Cons (rest (plain s) further) (plain_all (drop (i + 1) ss)))
+    ≡ trees_of (slice_set (map plain ss) i (rest (plain s) further)) =
+    rw add-one (map_split (take i ss) s (drop (suc i) ss) (rest (plain s) further)
+    ∙ (ap (λ xs. trees_of (slice_set (map plain xs) (length (take i ss)) (rest (plain s) further))) (split_here ss i s e)
+    ∙ ap (λ n. trees_of (slice_set (map plain ss) n (rest (plain s) further))) (short_front ss i s e))) in
     rw e (
       low,
       h.0 ∙ (ap (λ ts. slice_get (offers_of_all ts) further) here ∙ c.0),
@@ -171,7 +192,8 @@ found_among ss at i further s e none h =
       h.2 ∙ (ap (λ ts. before (map plain (take i ss)) (rest_of_all ts further)) here ∙ (ap (before (map plain (take i ss))) c.2 ∙ whole)),
     )
 
-pub passed_among : {A : Type 0} (ss : List (Scenario A)) (at i further r : ℕ) (s : Scenario A) → slice_get ss i ≡ Some s → past (length (offers (plain s))) further ≡ Some r → AtAmong ss at i further → AtAmong ss at (i + 1) r
+pub passed_among : {A : Type 0} (ss : List (Scenario A)) (at i further r : ℕ) (s : Scenario A) → slice_get ss i ≡ Some s
+    → past (length (offers (plain s))) further ≡ Some r → AtAmong ss at i further → AtAmong ss at (i + 1) r
 passed_among ss at i further r s e some h =
     let here = ap plain_all (drop_here ss i s e) in
     let high = past_some (length (offers (plain s))) further r some in
@@ -180,13 +202,17 @@ passed_among ss at i further r s e some h =
     rw high.1 (
       h.0 ∙ (ap (λ ts. slice_get (offers_of_all ts) further) here ∙ c.0),
       h.1 ∙ (ap (λ ts. rest_of_one ts further) here ∙ c.1),
-      h.2 ∙ (ap (λ ts. before (map plain (take i ss)) (rest_of_all ts further)) here ∙ (ap (before (map plain (take i ss))) c.2 ∙ (sym (map_more (take i ss) s (rest_of_all (plain_all (drop (i + 1) ss)) (further - length (offers (plain s))))) ∙ ap (λ xs. before (map plain xs) (rest_of_all (plain_all (drop (i + 1) ss)) (further - length (offers (plain s))))) (sym longer)))),
+      h.2 ∙ (ap (λ ts. before (map plain (take i ss)) (rest_of_all ts further)) here
+          ∙ (ap (before (map plain (take i ss))) c.2
+          ∙ (sym (map_more (take i ss) s (rest_of_all (plain_all (drop (i + 1) ss)) (further - length (offers (plain s)))))
+          ∙ ap (λ xs. before (map plain xs) (rest_of_all (plain_all (drop (i + 1) ss)) (further - length (offers (plain s))))) (sym longer)))),
     )
 
 -- ---- what stands after a child's offer is taken
 
 -- a child that stands for the same tree
-pub same_child : {A : Type 0} (ss : List (Scenario A)) (j : ℕ) (s t : Scenario A) → slice_get ss j ≡ Some s → plain t ≡ plain s → plain_all (slice_set ss j t) ≡ plain_all ss
+pub same_child : {A : Type 0} (ss : List (Scenario A)) (j : ℕ) (s t : Scenario A) → slice_get ss j ≡ Some s → plain t ≡ plain s
+    → plain_all (slice_set ss j t) ≡ plain_all ss
 same_child [] j s t e p = absurd (cc e)
 same_child (u ∷ ss) zero s t e p = let e' : u ≡ s = cc e in ap (λ x. Cons x (plain_all ss)) (p ∙ ap plain (sym e'))
 same_child (u ∷ ss) (suc j) s t e p = ap (Cons (plain u)) (same_child ss j s t e p)
@@ -212,13 +238,16 @@ HereAmong ss i j k s = (k < length (offers (plain s)))
     × (rest_of_one (plain_all ss) i ≡ rest (plain s) k)
     × (rest_of_all (plain_all ss) i ≡ trees_of (slice_set (map plain ss) j (rest (plain s) k)))
 
-pub within_turn : {A : Type 0} (ss : List (Scenario A)) (at j k : ℕ) (s : Scenario A) → slice_get ss j ≡ Some s → IsPlaceInTurn ss at j k → k < length (offers (plain s))
+pub within_turn : {A : Type 0} (ss : List (Scenario A)) (at j k : ℕ) (s : Scenario A) → slice_get ss j ≡ Some s → IsPlaceInTurn ss at j k
+    → k < length (offers (plain s))
 within_turn ss at j k s e place = let here = subst (λ (o : Option _). IfSome o (λ u. HereInTurn ss at j k u)) e place in here.0
 
-pub within_child : {A : Type 0} (ss : List (Scenario A)) (at j k : ℕ) (s : Scenario A) → slice_get ss j ≡ Some s → IsPlaceAmong ss at j k → k < length (offers (plain s))
+pub within_child : {A : Type 0} (ss : List (Scenario A)) (at j k : ℕ) (s : Scenario A) → slice_get ss j ≡ Some s → IsPlaceAmong ss at j k
+    → k < length (offers (plain s))
 within_child ss at j k s e place = let here = subst (λ (o : Option _). IfSome o (λ u. HereAmong ss at j k u)) e place in here.0
 
-pub leaves_in_turn : {A : Type 0} (ss new : List (Scenario A)) (at j k : ℕ) (s t : Scenario A) (ask : CoreAsk) → slice_get ss j ≡ Some s → IsPlaceInTurn ss at j k
+pub leaves_in_turn : {A : Type 0} (ss new : List (Scenario A)) (at j k : ℕ) (s t : Scenario A) (ask : CoreAsk) → slice_get ss j ≡ Some s
+    → IsPlaceInTurn ss at j k
     → Leaves (plain s) k (Some ask) (plain t) → new ≡ drop j (slice_set ss j t) → LeavesInTurn (plain_all ss) at ask (plain_all new)
 leaves_in_turn ss new at j k s t ask e place takes n =
     let here = subst (λ (o : Option _). IfSome o (λ u. HereInTurn ss at j k u)) e place in
@@ -235,7 +264,8 @@ leaves_among ss at j k s t ask e place takes =
       ap Both (ap trees_of (sym (map_set ss j t) ∙ ap (slice_set (map plain ss) j) takes.1) ∙ sym here.3),
     )
 
-pub leaves_of_any : {A : Type 0} (ss : List (Scenario A)) (at j k : ℕ) (s t : Scenario A) (ask : CoreAsk) → slice_get ss j ≡ Some s → IsPlaceAmong ss at j k → Leaves (plain s) k (Some ask) (plain t)
+pub leaves_of_any : {A : Type 0} (ss : List (Scenario A)) (at j k : ℕ) (s t : Scenario A) (ask : CoreAsk) → slice_get ss j ≡ Some s → IsPlaceAmong ss at j k
+    → Leaves (plain s) k (Some ask) (plain t)
     → Leaves (Any (plain_all ss)) at (Some ask) (plain t)
 leaves_of_any ss at j k s t ask e place takes =
     let here = subst (λ (o : Option _). IfSome o (λ u. HereAmong ss at j k u)) e place in (here.1 ∙ takes.0, takes.1 ∙ sym here.2)
@@ -250,7 +280,8 @@ pub still : (n m i k : ℕ) → past n i ≡ past m k → k < m → i < n
 still n m i k e h = past_none n i (e ∙ below_past m k h)
 
 -- where an offer is behind a child of a row, that child may end
-pub ends_before : {A : Type 0} (ss : List (Scenario A)) (i further r : ℕ) (s : Scenario A) → slice_get ss i ≡ Some s → past (length (offers (plain s))) further ≡ Some r
+pub ends_before : {A : Type 0} (ss : List (Scenario A)) (i further r : ℕ) (s : Scenario A) → slice_get ss i ≡ Some s
+    → past (length (offers (plain s))) further ≡ Some r
     → further < length (offers_in_turn (plain_all (drop i ss))) → ends (plain s) ≡ true
 ends_before ss i further r s e some h =
     let high = past_some (length (offers (plain s))) further r some in

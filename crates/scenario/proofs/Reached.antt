@@ -1,5 +1,6 @@
 -- Offers and what is left reach exactly the words.
-use Rattle.std.proofs.Common.{◌≡◌, ◌⊎◌, inl, inr, ℕ, zero, suc, ◌<◌, ◌≤◌, ◌+◌, ◌-◌, ◌==◌, Bool, true, false, ◌&&◌, ◌||◌, cond, nat_lt, List, [], ◌∷◌, ◌++◌, length, Some, slice_get, refl, sym, ap, ◌∙◌, subst, arith}
+use Rattle.std.proofs.Common.{◌≡◌, ◌⊎◌, inl, inr, ℕ, zero, suc, ◌<◌, ◌+◌, ◌-◌, ◌==◌, Bool, true, false, ◌&&◌}
+use Rattle.std.proofs.Common.{◌||◌, cond, List, [], ◌∷◌, ◌++◌, length, Some, slice_get, refl, sym, ap, ◌∙◌, subst, arith}
 use Rattle.std.proofs.lemmas.Bool.Decides.{nat_tests}
 use Rattle.std.proofs.lemmas.List.{append-nil}
 use Rattle.base.specs.declared.step.CoreAsk.{CoreAsk}
@@ -72,7 +73,8 @@ mutual
 
   nothing-interleaved : (ts : Trees) → all_end ts ≡ true → IsInterleaved ts []
   nothing-interleaved Nil e = refl
-  nothing-interleaved (Cons t ts) e = ([], [], nothing-in t (both-first (ends t) (all_end ts) e), nothing-interleaved ts (both-second (ends t) (all_end ts) e), (refl, refl))
+  nothing-interleaved (Cons t ts) e =
+      ([], [], nothing-in t (both-first (ends t) (all_end ts) e), nothing-interleaved ts (both-second (ends t) (all_end ts) e), (refl, refl))
 
 -- and only there
 mutual
@@ -86,7 +88,9 @@ mutual
 
   joined-ends : (ts : Trees) → IsJoined ts [] → all_end ts ≡ true
   joined-ends Nil w = refl
-  joined-ends (Cons t ts) w = both-true (ends t) (all_end ts) (nothing-out t (subst (IsWord t) (nothing-front w.0 w.1 w.2) w.3)) (joined-ends ts (subst (IsJoined ts) (nothing-behind w.0 w.1 w.2) w.4))
+  joined-ends (Cons t ts) w =
+      both-true (ends t) (all_end ts) (nothing-out t (subst (IsWord t) (nothing-front w.0 w.1 w.2) w.3))
+      (joined-ends ts (subst (IsJoined ts) (nothing-behind w.0 w.1 w.2) w.4))
 
   of_one-ends : (ts : Trees) → IsWordOfOne ts [] → some_ends ts ≡ true
   of_one-ends Nil w = absurd w
@@ -95,7 +99,8 @@ mutual
 
   interleaved-ends : (ts : Trees) → IsInterleaved ts [] → all_end ts ≡ true
   interleaved-ends Nil w = refl
-  interleaved-ends (Cons t ts) w = both-true (ends t) (all_end ts) (nothing-out t (subst (IsWord t) w.4.0 w.2)) (interleaved-ends ts (subst (IsInterleaved ts) w.4.1 w.3))
+  interleaved-ends (Cons t ts) w =
+      both-true (ends t) (all_end ts) (nothing-out t (subst (IsWord t) w.4.0 w.2)) (interleaved-ends ts (subst (IsInterleaved ts) w.4.1 w.3))
 
 -- ---- an offer, and a word of what is left
 
@@ -131,11 +136,13 @@ mutual
   ask-in (Times n t) i ask w e word =
       let turn = some_turn (n == 0) (offers t) i ask e in
       let first = ask-in t i ask word.0 turn.1 word.3 in
-      let others : Repeats (n - 1) (IsWord t) word.1 = subst (Repeats (n - 1) (IsWord t)) (sym (word.4.2 ∙ (ap (λ z. word.4.0 ++ z) word.4.4 ∙ append-nil word.4.0))) word.4.3 in
+      let others : Repeats (n - 1) (IsWord t) word.1 =
+      subst (Repeats (n - 1) (IsWord t)) (sym (word.4.2 ∙ (ap (λ z. word.4.0 ++ z) word.4.4 ∙ append-nil word.4.0))) word.4.3 in
       subst (λ z. Repeats n (IsWord t) (ask ∷ z)) (sym word.2) (turn-first n (IsWord t) (ask ∷ word.0) word.1 turn.0 first others)
   ask-in (Both ts) i ask w e word = ask-interleaved ts i ask w e word
 
-  ask-joined : (ts : Trees) (i : ℕ) (ask : CoreAsk) (w : List CoreAsk) → slice_get (offers_in_turn ts) i ≡ Some ask → IsJoined (left_in_turn ts i) w → IsJoined ts (ask ∷ w)
+  ask-joined : (ts : Trees) (i : ℕ) (ask : CoreAsk) (w : List CoreAsk) → slice_get (offers_in_turn ts) i ≡ Some ask → IsJoined (left_in_turn ts i) w
+      → IsJoined ts (ask ∷ w)
   ask-joined Nil i ask w e = λ word. absurd (cc e)
   ask-joined (Cons t ts) i ask w e =
       by_test
@@ -147,7 +154,8 @@ mutual
       let other = passed (ends t) (offers_in_turn ts) (i - length (offers t)) ask (sym (get_behind (offers t) _ i h) ∙ e) in
       ([], ask ∷ w, refl, nothing-in t other.0, ask-joined ts (i - length (offers t)) ask w other.1 word))
 
-  ask-of_one : (ts : Trees) (i : ℕ) (ask : CoreAsk) (w : List CoreAsk) → slice_get (offers_of_all ts) i ≡ Some ask → IsWord (left_of_one ts i) w → IsWordOfOne ts (ask ∷ w)
+  ask-of_one : (ts : Trees) (i : ℕ) (ask : CoreAsk) (w : List CoreAsk) → slice_get (offers_of_all ts) i ≡ Some ask → IsWord (left_of_one ts i) w
+      → IsWordOfOne ts (ask ∷ w)
   ask-of_one Nil i ask w e = λ word. absurd (cc e)
   ask-of_one (Cons t ts) i ask w e =
       by_test
@@ -157,7 +165,8 @@ mutual
       (λ h word. inl (ask-in t i ask w (sym (get_front (offers t) _ i h) ∙ e) word))
       (λ h word. inr (ask-of_one ts (i - length (offers t)) ask w (sym (get_behind (offers t) _ i h) ∙ e) word))
 
-  ask-interleaved : (ts : Trees) (i : ℕ) (ask : CoreAsk) (w : List CoreAsk) → slice_get (offers_of_all ts) i ≡ Some ask → IsInterleaved (left_of_all ts i) w → IsInterleaved ts (ask ∷ w)
+  ask-interleaved : (ts : Trees) (i : ℕ) (ask : CoreAsk) (w : List CoreAsk) → slice_get (offers_of_all ts) i ≡ Some ask → IsInterleaved (left_of_all ts i) w
+      → IsInterleaved ts (ask ∷ w)
   ask-interleaved Nil i ask w e = λ word. absurd (cc e)
   ask-interleaved (Cons t ts) i ask w e =
       by_test
@@ -165,7 +174,13 @@ mutual
       i
       (length (offers t))
       (λ h word. (ask ∷ word.0, word.1, ask-in t i ask word.0 (sym (get_front (offers t) _ i h) ∙ e) word.2, word.3, inl (word.0, refl, word.4)))
-      (λ h word. (word.0, ask ∷ word.1, word.2, ask-interleaved ts (i - length (offers t)) ask word.1 (sym (get_behind (offers t) _ i h) ∙ e) word.3, inr (word.1, refl, word.4)))
+      (λ h word. (
+        word.0,
+        ask ∷ word.1,
+        word.2,
+        ask-interleaved ts (i - length (offers t)) ask word.1 (sym (get_behind (offers t) _ i h) ∙ e) word.3,
+        inr (word.1, refl, word.4),
+      ))
 
 -- ---- and back: a word that isn't empty begins with an offer
 
@@ -183,7 +198,8 @@ ContinuedOfAll ts ask w = (i : ℕ) × (slice_get (offers_of_all ts) i ≡ Some 
 
 -- a turn that begins with an ask, before the others
 abbrev ContinuedTurn : ℕ → Tree → CoreAsk → List CoreAsk → Type 0
-ContinuedTurn n t ask w = ((n == 0) ≡ false) × (i : ℕ) × (slice_get (offers t) i ≡ Some ask) × (u v : List CoreAsk) × (w ≡ u ++ v) × IsWord (left t i) u × Repeats (n - 1) (IsWord t) v
+ContinuedTurn n t ask w = ((n == 0) ≡ false) × (i : ℕ) × (slice_get (offers t) i ≡ Some ask) × (u v : List CoreAsk) × (w ≡ u ++ v) × IsWord (left t i) u
+    × Repeats (n - 1) (IsWord t) v
 
 -- the first offers, and the others behind them
 in_front : (t : Tree) (ts : Trees) (i : ℕ) → i < length (offers t) → left_in_turn (Cons t ts) i ≡ Cons (left t i) ts
@@ -208,13 +224,15 @@ all_in_front t ts i h = ap (λ b. cond b (Cons (left t i) ts) (Cons t (left_of_a
 all_behind : (t : Tree) (ts : Trees) (i : ℕ) → left_of_all (Cons t ts) (length (offers t) + i) ≡ Cons t (left_of_all ts i)
 all_behind t ts i =
     let n = length (offers t) in
-    ap (λ b. cond b (Cons (left t (n + i)) ts) (Cons t (left_of_all ts ((n + i) - n)))) (isnt_below (n + i) n (omega arith)) ∙ ap (λ k. Cons t (left_of_all ts k)) (omega arith)
+    ap (λ b. cond b (Cons (left t (n + i)) ts) (Cons t (left_of_all ts ((n + i) - n)))) (isnt_below (n + i) n (omega arith))
+    ∙ ap (λ k. Cons t (left_of_all ts k)) (omega arith)
 
 get_far : (xs ys : List CoreAsk) (i : ℕ) → slice_get (xs ++ ys) (length xs + i) ≡ slice_get ys i
 get_far xs ys i = get_behind xs ys (length xs + i) (omega arith) ∙ ap (slice_get ys) (omega arith)
 
 -- what the first child's word leaves to the others
-in_turn-front : (t : Tree) (ts : Trees) (ask : CoreAsk) (w u v : List CoreAsk) → w ≡ u ++ v → Continued t ask u → IsJoined ts v → ContinuedInTurn (Cons t ts) ask w
+in_turn-front : (t : Tree) (ts : Trees) (ask : CoreAsk) (w u v : List CoreAsk) → w ≡ u ++ v → Continued t ask u → IsJoined ts v
+    → ContinuedInTurn (Cons t ts) ask w
 in_turn-front t ts ask w u v e here behind =
     let h = offer_below (offers t) here.0 ask here.1 in (
       here.0,
@@ -238,8 +256,16 @@ turn-behind : (n : ℕ) (t : Tree) (ask : CoreAsk) (w : List CoreAsk) → IsWord
 turn-behind zero t ask w nothing there = absurd (cc there.0)
 turn-behind (suc n) t ask w nothing there =
     let m : suc n - 1 ≡ n = omega arith in
-    let k : suc (suc n) - 1 ≡ suc n = omega arith in
-    (grind (arith, nat_tests), there.1, there.2, there.3, there.4, there.5, there.6, subst (λ k. Repeats k (IsWord t) there.4) (sym k) ([], there.4, refl, nothing, subst (λ k. Repeats k (IsWord t) there.4) m there.7))
+    let k : suc (suc n) - 1 ≡ suc n = omega arith in (
+      grind (arith, nat_tests),
+      there.1,
+      there.2,
+      there.3,
+      there.4,
+      there.5,
+      there.6,
+      subst (λ k. Repeats k (IsWord t) there.4) (sym k) ([], there.4, refl, nothing, subst (λ k. Repeats k (IsWord t) there.4) m there.7),
+    )
 
 of_turn : (n : ℕ) (t : Tree) (ask : CoreAsk) (w : List CoreAsk) → ContinuedTurn n t ask w → Continued (Times n t) ask w
 of_turn n t ask w turn = (
@@ -275,11 +301,17 @@ interleaved-split : (t : Tree) (ts : Trees) → GoesOn t → ((ask : CoreAsk) (w
     → (ask : CoreAsk) (w u v : List CoreAsk) → IsWord t u → IsInterleaved ts v → Interleaves u v (ask ∷ w) → ContinuedOfAll (Cons t ts) ask w
 interleaved-split t ts goes_on later ask w u v here others (inl front) =
     let there = goes_on ask front.0 (subst (IsWord t) front.1 here) in
-    let h = offer_below (offers t) there.0 ask there.1 in
-    (there.0, get_front (offers t) _ there.0 h ∙ there.1, subst (λ us. IsInterleaved us w) (sym (all_in_front t ts there.0 h)) (front.0, v, there.2, others, front.2))
+    let h = offer_below (offers t) there.0 ask there.1 in (
+      there.0,
+      get_front (offers t) _ there.0 h ∙ there.1,
+      subst (λ us. IsInterleaved us w) (sym (all_in_front t ts there.0 h)) (front.0, v, there.2, others, front.2),
+    )
 interleaved-split t ts goes_on later ask w u v here others (inr back) =
-    let there = later ask back.0 (subst (IsInterleaved ts) back.1 others) in
-    (length (offers t) + there.0, get_far (offers t) _ there.0 ∙ there.1, subst (λ us. IsInterleaved us w) (sym (all_behind t ts there.0)) (u, back.0, here, there.2, back.2))
+    let there = later ask back.0 (subst (IsInterleaved ts) back.1 others) in (
+      length (offers t) + there.0,
+      get_far (offers t) _ there.0 ∙ there.1,
+      subst (λ us. IsInterleaved us w) (sym (all_behind t ts there.0)) (u, back.0, here, there.2, back.2),
+    )
 
 mutual
   pub ask-out : (t : Tree) (ask : CoreAsk) (w : List CoreAsk) → IsWord t (ask ∷ w) → Continued t ask w

@@ -1,5 +1,6 @@
 -- What the first fault of a text says of the texts that are read.
-use Rattle.std.proofs.Common.{◌≡◌, ◌≢◌, ◌≤◌, ◌<◌, ◌∙◌, ◌⊎◌, ◌&&◌, inl, inr, ℕ, zero, suc, List, true, nat_lt, Option, Some, None, Result, Ok, Err, IfOk, IfErr, refl, sym, ap, arith}
+use Rattle.std.proofs.Common.{◌≡◌, ◌≢◌, ◌≤◌, ◌<◌, ◌∙◌, ◌⊎◌, ◌&&◌, inl, inr, ℕ, zero, suc, List, true}
+use Rattle.std.proofs.Common.{nat_lt, Option, Some, None, Result, Ok, Err, IfOk, IfErr, refl, sym, ap, arith}
 use Rattle.serde_json.specs.Data.{Data, Items, no_items, item}
 use Rattle.base.specs.Extent.{Extent}
 use Rattle.scenario.specs.Tree.{Tree, Trees, One, Seq, Any, Times, Both, Nil, Cons}
@@ -51,7 +52,8 @@ none-at shape (suc levels) d (Seq ts) low choices asks say =
 none-at shape (suc levels) d (Any Nil) low choices asks say = absurd choices.0
 none-at shape (suc levels) d (Any (Cons t ts)) low choices asks say =
     ap (found_at shape (λ visit. fault_at shape visit.0 visit.1) (visited levels)) say.1
-    ∙ none-choice shape _ levels say.0 t ts say.2 (none-each shape _ levels (none-at shape levels) say.0 (Cons t ts) (omega (arith, low)) choices.1 asks.1 say.2)
+    ∙ none-choice shape _ levels say.0 t ts say.2
+    (none-each shape _ levels (none-at shape levels) say.0 (Cons t ts) (omega (arith, low)) choices.1 asks.1 say.2)
 none-at shape (suc levels) d (Times n t) low choices asks say =
     ap (found_at shape (λ visit. fault_at shape visit.0 visit.1) (visited levels)) say.1
     ∙ none-each shape _ levels (none-at shape levels) (item say.0 no_items) (Cons t Nil) (omega (arith, low)) (choices.1, tt) (asks.1, tt) (say.2, tt)
@@ -101,7 +103,8 @@ abbrev HasFirst : Extent → List ℕ → ScenarioFault → Type 0
 HasFirst shape bytes fault = (d : Data) × IsJson bytes d × (first_fault shape d ≡ first_of fault)
 
 -- a refusal is for no JSON, or for the first fault of what the bytes say
-refusal : (shape : Extent) (bytes : List ℕ) (fault : ScenarioFault) → IsRefusal shape bytes fault → fault ≢ NoMemory → ((fault ≡ NotJson) × ((d : Data) → ¬ IsJson bytes d)) ⊎ HasFirst shape bytes fault
+refusal : (shape : Extent) (bytes : List ℕ) (fault : ScenarioFault) → IsRefusal shape bytes fault → fault ≢ NoMemory
+    → ((fault ≡ NotJson) × ((d : Data) → ¬ IsJson bytes d)) ⊎ HasFirst shape bytes fault
 unfolding first_of
 refusal shape bytes NotJson r some = inl (refl, r)
 refusal shape bytes BadShape r some = inr r
@@ -122,7 +125,8 @@ same-cause shape bytes one other (inr a) (inr b) =
     let first : first_fault shape a.0 ≡ first_fault shape b.0 = ap (first_fault shape) (json-one bytes a.0 b.0 a.1 b.1) in
     sym (refusal-first one) ∙ ap refusal_of (sym a.2 ∙ first ∙ b.2) ∙ refusal-first other
 
-pub refusal-one : (shape : Extent) (bytes : List ℕ) (one other : ScenarioFault) → IsRefusal shape bytes one → IsRefusal shape bytes other → one ≢ NoMemory → other ≢ NoMemory → one ≡ other
+pub refusal-one : (shape : Extent) (bytes : List ℕ) (one other : ScenarioFault) → IsRefusal shape bytes one → IsRefusal shape bytes other → one ≢ NoMemory
+    → other ≢ NoMemory → one ≡ other
 refusal-one shape bytes one other a b x y = same-cause shape bytes one other (refusal shape bytes one a x) (refusal shape bytes other b y)
 
 -- the text of a tree within the limits has no fault that a value may have

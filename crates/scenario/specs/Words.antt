@@ -6,7 +6,8 @@ use Rattle.scenario.specs.Tree.{Tree, Trees, One, Seq, Any, Times, Both, Nil, Co
 -- a list is an interleaving of two others: each keeps its order
 abbrev pub Interleaves : List CoreAsk → List CoreAsk → List CoreAsk → Type 0
 Interleaves u v [] = (u ≡ []) × (v ≡ [])
-Interleaves u v (ask ∷ w) = ((more : List CoreAsk) × (u ≡ ask ∷ more) × Interleaves more v w) ⊎ ((more : List CoreAsk) × (v ≡ ask ∷ more) × Interleaves u more w)
+Interleaves u v (ask ∷ w) = ((more : List CoreAsk) × (u ≡ ask ∷ more) × Interleaves more v w)
+    ⊎ ((more : List CoreAsk) × (v ≡ ask ∷ more) × Interleaves u more w)
 
 -- a list is so many lists of a kind, one behind the other
 abbrev pub Repeats : ℕ → (List CoreAsk → Type 0) → List CoreAsk → Type 0

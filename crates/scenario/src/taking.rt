@@ -203,7 +203,10 @@ fn place_in_turn<A: Allocator>(children: &[Scenario<A>], at: usize) -> Offer
     let mut further = at;
     for (i, child) in children.iter().enumerate() {
         match skip(child, further) {
-            None => return Offer { child: i, at: further },
+            None => return Offer {
+                child: i,
+                at: further,
+            },
             Some(behind) => further = behind,
         }
     }
@@ -220,7 +223,10 @@ fn place_among<A: Allocator>(children: &[Scenario<A>], at: usize) -> Offer
     let mut further = at;
     for (i, child) in children.iter().enumerate() {
         match skip(child, further) {
-            None => return Offer { child: i, at: further },
+            None => return Offer {
+                child: i,
+                at: further,
+            },
             Some(behind) => further = behind,
         }
     }

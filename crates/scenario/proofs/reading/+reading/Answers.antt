@@ -14,7 +14,8 @@ scenario_at-returns-in_ok-scenarios_at-in-Some-Any g t c =
     let some : 0 < length c.in-Some-Any.values.now = search rules in
     let level : 0 < c.args.levels = search rules in
     let children = c.in_ok-scenarios_at-in-Some-Any.field-0 in
-    choice_level c.args.shape c.args.levels (view c.args.value.now) c.in-Some-Any.values.now (map plain children.items) level form some c.in_ok-scenarios_at-in-Some-Any.ensures
+    choice_level c.args.shape c.args.levels (view c.args.value.now) c.in-Some-Any.values.now (map plain children.items)
+    level form some c.in_ok-scenarios_at-in-Some-Any.ensures
     ∙ ap Ok (sym (plain-Any children))
 
 pub scenario_at-overflow_sub-levels : goal.scenario_at-overflow_sub-levels

@@ -12,7 +12,8 @@ returns-in-None-clause-place g c =
 pub loop-i-preserved : goal.loop-i-preserved
 loop-i-preserved g c =
     let at = slice_get-get_or c.args.children.now c.loop-i.i c.index-children-i.result c.loop-i-test.true ∙ ap Some (sym c.index-children-i.is) in
-    let more = passed_among c.args.children.now c.args.at c.loop-i.i c.loop-i.further c.in-Some.behind c.index-children-i.result at (sym c.skip.ensures ∙ c.in-Some.is) c.loop-i.invariant.1 in
+    let more = passed_among c.args.children.now c.args.at c.loop-i.i c.loop-i.further c.in-Some.behind c.index-children-i.result at
+    (sym c.skip.ensures ∙ c.in-Some.is) c.loop-i.invariant.1 in
     (grind (arith, common_steps), more)
 
 pub loop-i-init : goal.loop-i-init

@@ -11,7 +11,8 @@ pub returns-in_err-scenario-clause-fault : goal.returns-in_err-scenario-clause-f
 returns-in_err-scenario-clause-fault g c =
     let e = c.in_err-scenario.ensures in
     let same = err_from_is_err_and c.from_residual.result c.from_residual.ensures.1 in
-    rw (same.1, same.2) (refused (plain {A = g.row.A.Denot}) c.args.shape c.args.bytes.now (view c.in-Ok.value) c.in_err-scenario.field-0.0 c.in-Ok.ensures.ok e)
+    rw (same.1, same.2) (refused (plain {A = g.row.A.Denot}) c.args.shape c.args.bytes.now
+    (view c.in-Ok.value) c.in_err-scenario.field-0.0 c.in-Ok.ensures.ok e)
 
 -- only its words are too long
 pub returns-then-longest_word-from-clause-fault : goal.returns-then-longest_word-from-clause-fault
