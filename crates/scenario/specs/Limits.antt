@@ -44,7 +44,7 @@ abbrev mutual
   peak_depth (Times n t) = 2 + depth t
   peak_depth (Both ts) = 1 + peak_of_all ts
 
-  -- the greatest of the children's
+  -- the highest of the children's
   pub peak_of_all : Trees → ℕ
   peak_of_all Nil = 0
   peak_of_all (Cons t ts) = std.max (peak_depth t) (peak_of_all ts)

@@ -32,6 +32,7 @@ abbrev pub over : {X : Type 0} → (X → Tree) → Result X ScenarioFault → R
 over make (Ok x) = Ok (make x)
 over make (Err fault) = Err fault
 
+-- the tree of a node, where there is one, and where what is built of each child's value is known
 abbrev pub tree_of : Extent → (Data → Result Tree ScenarioFault) → Option Node → Result Tree ScenarioFault
 tree_of shape tree None = Err BadShape
 tree_of shape tree (Some (one ask)) = if is_in_shape shape ask then Ok (One ask) else Err OutOfShape
@@ -41,6 +42,7 @@ tree_of shape tree (Some (any (item d ds))) = over (λ ts. Any (trees_of ts)) (t
 tree_of shape tree (Some (times n d)) = over (Times n) (tree d)
 tree_of shape tree (Some (both ds)) = over (λ ts. Both (trees_of ts)) (trees_behind tree [] ds)
 
+-- what is built of a value, where so many levels are left for it
 abbrev pub tree_at : Extent → ℕ → Data → Result Tree ScenarioFault
 tree_at shape zero d = Err TooDeep
 tree_at shape (suc levels) d = tree_of shape (tree_at shape levels) (node_of d)

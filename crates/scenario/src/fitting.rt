@@ -26,6 +26,7 @@ pub(crate) fn read_numbers<A: Allocator>(scenario: &Scenario<A>)
     }
 }
 
+/// Reads each number of the children.
 #[cycle(fitting)]
 fn read_all_numbers<A: Allocator>(children: &[Scenario<A>])
     ensures { InEach Fits (plain_all children.now) }
@@ -35,7 +36,7 @@ fn read_all_numbers<A: Allocator>(children: &[Scenario<A>])
     }
 }
 
-/// An ask's numbers are in range.
+/// An ask's numbers are in range, as it is passed by value.
 fn read_ask(ask: CoreAsk)
     ensures { Fits (tree.One ask) }
 {}
