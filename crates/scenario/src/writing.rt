@@ -36,10 +36,9 @@ impl<A: Allocator> Scenario<A> {
     ///
     /// The text is made in the memory of `heap` first.
     ///
-    /// [`Scenario::read`] of a shape answers this scenario again, unless memory is refused, exactly where it has at most
-    /// [`DEEPEST`](crate::DEEPEST) levels, its words have at most [`LONGEST`](crate::LONGEST) asks, no `any` is without
-    /// children, and each ask is in the shape: so it does for each scenario that it answered itself. The numbers always
-    /// fit, as their types say.
+    /// Of this text [`Scenario::read`] of a shape answers the scenario again, or want of memory, exactly where the scenario
+    /// has at most [`DEEPEST`](crate::DEEPEST) levels, its words have at most [`LONGEST`](crate::LONGEST) asks, no `any` is
+    /// without children, and each ask is in the shape. The numbers always fit, as their types say.
     pub fn write<S: Sink>(&self, heap: Global, sink: &mut S) -> Result<(), SaveFault>
         ensures text { GoesOut (S.taken sink.old) (S.taken sink.new) (compact_text (shown (plain self.now))) result }
         ensures mark { MarksSave (S.has_failed sink.old) result (S.has_failed sink.new) }
