@@ -27,7 +27,7 @@ times-node : (n : ℕ) (d : Data) → n < 2 ^ 32 → node_of (shown_times n d) �
 times-node n d few = rw (is-less n (2 ^ 32) few) refl
 
 mutual
-  shown-says : (t : Tree) → Throughout Fits t → Says (shown t) t
+  pub shown-says : (t : Tree) → Throughout Fits t → Says (shown t) t
   shown-says (One ask) fits = ask-node ask.core.0 ask.block.0 ask.ask fits.0 fits.1 fits.2
   shown-says (Seq ts) fits = (shown_all ts, refl, shown-say-each ts fits.1)
   shown-says (Any ts) fits = (shown_all ts, refl, shown-say-each ts fits.1)

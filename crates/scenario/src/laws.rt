@@ -5,9 +5,10 @@ ghost use Rattle.serde_json.specs.Data.{Data};
 ghost use Rattle.base.specs.Extent.{Extent};
 ghost use Rattle.base.specs.declared.step.CoreAsk.{CoreAsk};
 ghost use Rattle.scenario.specs.Alike.{Alike};
-ghost use Rattle.scenario.specs.Limits.{IsWithin, depth, peak_depth};
+ghost use Rattle.scenario.specs.Limits.{Fits, IsWithin, Throughout, depth, peak_depth};
 ghost use Rattle.scenario.specs.Refusals.{IsRefusal, first_fault};
 ghost use Rattle.scenario.specs.Says.{IsTextOf, Says};
+ghost use Rattle.scenario.specs.Shown.{shown};
 ghost use Rattle.scenario.specs.Taking.{ends, left, offers};
 ghost use Rattle.scenario.specs.Tree.{Tree};
 ghost use Rattle.scenario.specs.Words.{IsWord};
@@ -41,10 +42,12 @@ pub fn trees_stay_shallow()
     ensures shallow { (t : Tree) → peak_depth t ≤ 1 + depth t }
 {}
 
-/// A value says one tree at most, and a text is the text of one tree at most, whatever the shape.
+/// A value says one tree at most, and a text is the text of one tree at most, whatever the shape. The value that a tree is
+/// written as says this tree.
 pub fn a_text_is_of_one_tree()
     ensures value { (value : Data) (one other : Tree) → Says value one → Says value other → one ≡ other }
     ensures text { (bytes : List ℕ) (one other : Tree) → IsTextOf bytes one → IsTextOf bytes other → one ≡ other }
+    ensures written { (tree : Tree) → Throughout Fits tree → Says (shown tree) tree }
 {}
 
 /// A text of a tree within the limits is refused only for want of memory. So what is read is exactly these trees.

@@ -36,9 +36,10 @@ impl<A: Allocator> Scenario<A> {
     ///
     /// The text is made in the memory of `heap` first.
     ///
-    /// Of this text [`Scenario::read`] of a shape answers the scenario again, or want of memory, exactly where the scenario
-    /// has at most [`DEEPEST`](crate::DEEPEST) levels, its words have at most [`LONGEST`](crate::LONGEST) asks, no `any` is
-    /// without children, and each ask is in the shape. The numbers always fit, as their types say.
+    /// Unless memory is refused, [`Scenario::read`] of a shape answers of this text the scenario again exactly where it has
+    /// at most [`DEEPEST`](crate::DEEPEST) levels, its words have at most [`LONGEST`](crate::LONGEST) asks, no `any` is
+    /// without children, and each ask is in the shape: a law says so, [`trees_within_are_read`](crate::trees_within_are_read).
+    /// The numbers always fit, as their types say.
     pub fn write<S: Sink>(&self, heap: Global, sink: &mut S) -> Result<(), SaveFault>
         ensures text { GoesOut (S.taken sink.old) (S.taken sink.new) (compact_text (shown (plain self.now))) result }
         ensures mark { MarksSave (S.has_failed sink.old) result (S.has_failed sink.new) }
