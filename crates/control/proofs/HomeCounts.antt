@@ -13,7 +13,7 @@ use Rattle.control.specs.declared.home.Home.{Home}
 use Rattle.control.specs.Events.{owns}
 use Rattle.control.specs.Sharing.{shares}
 use Rattle.control.specs.HomeEffect.{home_message, home_messages, home_changed, with_owner, owner_message, link_message, invalidation, invalidations, IsAmong, IsBelow}
-use Rattle.control.specs.Counting.{replies_of, replies_by, is_sent_to, owner_left, sharer_left, forwards_by, HasRoomToReply, ListsLinks}
+use Rattle.control.specs.inner.Counting.{replies_of, replies_by, is_sent_to, owner_left, sharer_left, forwards_by, HasRoomToReply, ListsLinks}
 use Rattle.control.proofs.HomeSends.{among-changed}
 
 abbrev cache : ℕ → CacheId

@@ -5,7 +5,7 @@ use Rattle.network.proofs.Sending.{requests_in-append, responses_in-append, forw
 use Rattle.cache_table.specs.declared.actions.CacheAction.{CacheAction}
 use Rattle.cache_table.specs.declared.actions.CacheAction.TheVariants as action
 use Rattle.control.specs.LineEffect.{line_message, line_messages}
-use Rattle.control.specs.Counting.{requests_of, responses_of, requests_by, responses_by}
+use Rattle.control.specs.inner.Counting.{requests_of, responses_of, requests_by, responses_by}
 
 -- the messages of the actions from a place on begin with those of the action there
 pub messages-front : (cache : CacheId) (value : ℕ) (to : Option CacheId) (actions : List CacheAction) (i : ℕ) (d : CacheAction) → i < length actions → line_messages cache value to (drop i actions) ≡ line_message cache value to (get_or actions i d) ++ line_messages cache value to (drop (i + 1) actions)

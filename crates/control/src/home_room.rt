@@ -2,7 +2,7 @@ ghost use Rattle.std.specs.Prelude.{◌≡◌, ◌≤◌, ◌++◌, ℕ, [], rep
 ghost use Rattle.network.specs.Room.{HasRoomFor, AllBelow, forwards_in, requests_in, responses_in, times};
 ghost use Rattle.control.specs.HomeEffect.{sender_of, home_sends, IsBelow, IsAmong};
 ghost use Rattle.control.specs.Sharing.{shares};
-ghost use Rattle.control.specs.Counting.{replies_by, forwards_by, is_sent_to, owner_left, sharer_left, HasRoomToReply, ListsLinks};
+ghost use Rattle.control.specs.inner.Counting.{replies_by, forwards_by, is_sent_to, owner_left, sharer_left, HasRoomToReply, ListsLinks};
 ghost use Rattle.control.specs.Events.{owns};
 
 use crate::home::{Home, HomeInput};

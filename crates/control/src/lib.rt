@@ -3,22 +3,22 @@
 //! Everything here holds for every table: a cell's next state and actions are handed in.
 #![tactic(auto)]
 
-mod at_home;
-mod at_line;
 mod completing;
 mod events;
 mod home;
+mod home_acts;
 mod home_room;
 mod line;
+mod line_acts;
 mod needs;
 mod sharers;
 
-pub use at_home::{home_act, home_perform};
-pub use at_line::{line_act, line_perform, line_reserve};
 pub use completing::{line_completion, may_read, may_write};
 pub use events::{home_event, line_ask_event, line_event};
 pub use home::{Home, HomeInput};
+pub use home_acts::{home_act, home_perform};
 pub use home_room::{home_needs, home_reserve};
 pub use line::{Completion, Line, LineInput};
+pub use line_acts::{line_act, line_perform, line_reserve};
 pub use needs::{Needs, line_needs};
 pub use sharers::Sharers;

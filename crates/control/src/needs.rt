@@ -3,7 +3,7 @@ ghost use Rattle.base.specs.declared.ids.CacheId.{CacheId};
 ghost use Rattle.network.specs.Room.{requests_in, responses_in};
 ghost use Rattle.control.specs.declared.line.Line.{Line};
 ghost use Rattle.control.specs.LineEffect.{requestor_of, line_sends};
-ghost use Rattle.control.specs.Counting.{requests_by, responses_by};
+ghost use Rattle.control.specs.inner.Counting.{requests_by, responses_by};
 
 use crate::line::LineInput;
 use base::CacheId;

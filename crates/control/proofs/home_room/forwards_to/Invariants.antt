@@ -1,6 +1,6 @@
 use Rattle.std.proofs.Common.{◌≡◌, ◌≤◌, ◌+◌, drop}
 use Rattle.control.specs.Sharing.{shares}
-use Rattle.control.specs.Counting.{forwards_by}
+use Rattle.control.specs.inner.Counting.{forwards_by}
 use Rattle.control.proofs.home_room.forwards_to.Given as goal
 
 abbrev pub invariant-loop-action : goal.invariant-loop-action

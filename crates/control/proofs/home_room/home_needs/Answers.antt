@@ -1,7 +1,7 @@
 use Rattle.std.proofs.Common.{◌∙◌, ap, sym, length, Some}
 use Rattle.network.specs.Room.{requests_in, responses_in, forwards_in}
 use Rattle.control.specs.HomeEffect.{value_in}
-use Rattle.control.specs.Counting.{replies_by}
+use Rattle.control.specs.inner.Counting.{replies_by}
 use Rattle.control.proofs.HomeCounts.{nothing-sent, requests-by, responses-by, listed-all}
 use Rattle.control.proofs.home_room.home_needs.Goals as goal
 

@@ -1,6 +1,6 @@
 use Rattle.std.proofs.Common.{◌≡◌, ◌++◌, ℕ, replicate, arith, length}
 use Rattle.control.specs.Sharing.{shares}
-use Rattle.control.specs.Counting.{forwards_by}
+use Rattle.control.specs.inner.Counting.{forwards_by}
 use Rattle.control.proofs.HomeCounts.{listed-each, listed-rest, AllBelow-append, AllBelow-replicate}
 use Rattle.control.proofs.home_room.list_links.Goals as goal
 

@@ -1,7 +1,7 @@
 use Rattle.std.proofs.Common.{◌≡◌, ◌≤◌, ◌<◌, ℕ, length}
 use Rattle.network.specs.Room.{AllBelow, times}
 use Rattle.control.specs.Sharing.{shares}
-use Rattle.control.specs.Counting.{forwards_by}
+use Rattle.control.specs.inner.Counting.{forwards_by}
 use Rattle.control.proofs.home_room.list_links.Given as goal
 
 abbrev pub invariant-loop-number : goal.invariant-loop-number

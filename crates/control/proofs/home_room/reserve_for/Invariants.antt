@@ -1,7 +1,7 @@
 use Rattle.std.proofs.Common.{◌≡◌, ◌≤◌, ◌<◌, ℕ, [], slice_index}
 use Rattle.network.specs.Room.{UsesRoomFor}
 use Rattle.control.specs.Sharing.{shares}
-use Rattle.control.specs.Counting.{replies_by, forwards_by}
+use Rattle.control.specs.inner.Counting.{replies_by, forwards_by}
 use Rattle.control.proofs.home_room.reserve_for.Given as goal
 
 abbrev pub invariant-loop-number : goal.invariant-loop-number

@@ -1,5 +1,5 @@
 use Rattle.std.proofs.Common.{◌≡◌, ◌≤◌, ◌+◌, drop}
-use Rattle.control.specs.Counting.{requests_by, responses_by}
+use Rattle.control.specs.inner.Counting.{requests_by, responses_by}
 use Rattle.control.proofs.needs.count.Given as goal
 
 abbrev pub invariant-loop-action : goal.invariant-loop-action

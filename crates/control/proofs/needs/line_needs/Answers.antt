@@ -1,7 +1,7 @@
 use Rattle.std.proofs.Common.{◌∙◌, ap, sym, Option}
 use Rattle.base.specs.declared.ids.CacheId.{CacheId}
 use Rattle.control.specs.LineEffect.{taken_in, requestor_of}
-use Rattle.control.specs.Counting.{requests_by, responses_by}
+use Rattle.control.specs.inner.Counting.{requests_by, responses_by}
 use Rattle.control.proofs.LineSends.{requests-by, responses-by}
 use Rattle.control.proofs.needs.line_needs.Goals as goal
 

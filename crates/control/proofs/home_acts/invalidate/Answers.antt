@@ -5,7 +5,7 @@ use Rattle.network.specs.Room.{HasRoomFor, UsesRoomFor}
 use Rattle.network.proofs.Sending.{all_sent-append, room-front, room-left, links-all_sent, used-append}
 use Rattle.control.specs.HomeEffect.{invalidation, invalidations}
 use Rattle.control.proofs.HomeSends.{invalidations-front}
-use Rattle.control.proofs.at_home.invalidate.Goals as goal
+use Rattle.control.proofs.home_acts.invalidate.Goals as goal
 
 pub loop-i-preserved : goal.loop-i-preserved
 loop-i-preserved c =

@@ -3,7 +3,7 @@ use Rattle.network.specs.Traffic.{Traffic}
 use Rattle.network.proofs.Sending.{links-all_sent}
 use Rattle.control.specs.HomeEffect.{home_messages, IsAmong, IsBelow}
 use Rattle.control.proofs.HomeSends.{among-moved}
-use Rattle.control.proofs.at_home.home_perform.Goals as goal
+use Rattle.control.proofs.home_acts.home_perform.Goals as goal
 
 pub returns-clause-among : goal.returns-clause-among
 returns-clause-among c =

@@ -2,7 +2,7 @@ use Rattle.std.proofs.Common.{◌≡◌, drop, length}
 use Rattle.network.specs.Traffic.{all_sent}
 use Rattle.network.specs.Room.{HasRoomFor}
 use Rattle.control.specs.HomeEffect.{home_messages, home_moved, IsAmong}
-use Rattle.control.proofs.at_home.perform_all.Given as goal
+use Rattle.control.proofs.home_acts.perform_all.Given as goal
 
 abbrev pub invariant-loop-action : goal.invariant-loop-action
 invariant-loop-action l = record {

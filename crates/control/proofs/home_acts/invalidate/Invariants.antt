@@ -2,7 +2,7 @@ use Rattle.std.proofs.Common.{◌≡◌, drop, length}
 use Rattle.network.specs.Traffic.{all_sent}
 use Rattle.network.specs.Room.{Room, HasRoomFor, UsesRoomFor}
 use Rattle.control.specs.HomeEffect.{invalidations}
-use Rattle.control.proofs.at_home.invalidate.Given as goal
+use Rattle.control.proofs.home_acts.invalidate.Given as goal
 
 abbrev pub invariant-loop-i : goal.invariant-loop-i
 invariant-loop-i l = record {

@@ -1,7 +1,7 @@
 use Rattle.std.proofs.Common.{arith}
 use Rattle.control.specs.LineEffect.{taken_in, requestor_of}
 use Rattle.control.proofs.LineSends.{forwards-by}
-use Rattle.control.proofs.at_line.line_reserve.Goals as goal
+use Rattle.control.proofs.line_acts.line_reserve.Goals as goal
 
 pub returns-clause-ok : goal.returns-clause-ok
 returns-clause-ok c cache line = record {

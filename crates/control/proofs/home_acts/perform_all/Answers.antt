@@ -8,7 +8,7 @@ use Rattle.directory_table.specs.declared.actions.DirectoryAction.TheVariants.{D
 use Rattle.control.specs.declared.home.Home.{Home}
 use Rattle.control.specs.HomeEffect.{home_message, home_messages, home_moved, home_changed, IsAmong}
 use Rattle.control.proofs.HomeSends.{moved-front, messages-front, among-changed}
-use Rattle.control.proofs.at_home.perform_all.Goals as goal
+use Rattle.control.proofs.home_acts.perform_all.Goals as goal
 
 pub perform-requires-clause-room : goal.perform-requires-clause-room
 perform-requires-clause-room c =
