@@ -1,22 +1,25 @@
-use Rattle.std.proofs.Common.{◌≡◌, ◌≢◌, ◌≤◌, ℕ, ◌+◌, ◌<◌, List, [], ◌∷◌, ◌++◌, length, get_or, set, refl, sym, ◌∙◌, ap, zero, suc, arith, Option, Some, None, Bool, true, false, ◌==◌, ◌&&◌, ◌||◌, not, inl, inr, replicate, if◌then◌else◌}
-use Rattle.std.proofs.lemmas.List.{get_or-set_same, get_or-set_other, get_or_past}
-use Rattle.std.proofs.lemmas.Bool.{cases_eq, cases_lt, ne_eqb}
+use Rattle.std.proofs.Common.{◌≡◌, ◌≢◌, ◌≤◌, ℕ, ◌+◌, ◌<◌, List, [], ◌∷◌, length, get_or, set, refl, sym, ◌∙◌, ap, zero, suc, arith, Option}
+use Rattle.std.proofs.Common.{Some, None, Bool, true, false, ltb, lt-ltb, le-ltb, ◌==◌, ◌&&◌, ◌||◌, not, inl, inr, if◌then◌else◌}
+use Rattle.std.proofs.lemmas.List.{length-set, get_or-set_same, get_or-set_other, get_or_past}
+use Rattle.std.proofs.Math.Bool.{and-false}
+use Rattle.std.proofs.lemmas.Bool.{cases_lt, ne_eqb}
 use Rattle.std.proofs.lemmas.Bool.Decides.{eqb_tells}
 use Rattle.base.specs.declared.ids.CacheId.{CacheId}
 use Rattle.network.specs.declared.message.ForwardKind.{ForwardKind}
 use Rattle.network.specs.declared.message.ForwardKind.TheVariants as forward
-use Rattle.network.specs.Room.{Room, HasRoomFor, one_if, times, AllBelow, requests_in, responses_in, forwards_in}
+use Rattle.network.specs.Room.{Room, HasRoomFor, one_if, requests_in, responses_in, forwards_in}
 use Rattle.network.proofs.Sending.{requests_in-append, responses_in-append, forwards_in-append}
 use Rattle.directory_table.specs.declared.actions.DirectoryAction.{DirectoryAction}
 use Rattle.directory_table.specs.declared.actions.DirectoryAction.TheVariants as action
 use Rattle.control.specs.declared.home.Home.{Home}
 use Rattle.control.specs.Events.{owns}
 use Rattle.control.specs.Sharing.{shares}
-use Rattle.control.specs.HomeEffect.{home_message, home_messages, home_changed, with_owner, owner_message, link_message, invalidation, invalidations, IsAmong, IsBelow}
-use Rattle.control.specs.inner.Counting.{replies_of, replies_by, is_sent_to, owner_left, sharer_left, forwards_by, HasRoomToReply, ListsLinks}
-use Rattle.control.proofs.HomeSends.{among-changed}
+use Rattle.control.specs.HomeEffect.{home_message, home_messages, home_changed, with_owner, owner_message, link_message, invalidation, IsBelow}
+use Rattle.control.specs.HomeEffect.{invalidations, NamesBelow}
+use Rattle.control.specs.inner.Counting.{replies_of, replies_by, is_sent_to, owner_left, sharer_left, forwards_by, forwards_to, HasRoomToReply}
+use Rattle.control.proofs.HomeSends.{keeps-changed, no-flag}
 
-abbrev cache : ℕ → CacheId
+abbrev pub cache : ℕ → CacheId
 cache k = record { 0 = k }
 
 -- one invalidation goes on the link of its cache alone
@@ -35,7 +38,7 @@ if-one : (t : Bool) (n : ℕ) → n ≡ 1 → (if t then n else 0) ≡ one_if t
 if-one true n e = e
 if-one false n e = refl
 
-eqb-self : (k : ℕ) → (k == k) ≡ true
+pub eqb-self : (k : ℕ) → (k == k) ≡ true
 eqb-self k = elim (eqb_tells k k) [ inl h ↦ h.0 | inr h ↦ absurd (h.1 refl) ]
 
 -- the invalidations from a number on go to no cache below it
@@ -44,29 +47,49 @@ invalidations-below k to [] i h = refl
 invalidations-below k to (f ∷ flags) i h =
     let other : one_if (i == k) ≡ 0 = ap one_if (ne_eqb i k (λ e. absurd (omega (arith, e)))) in
     let here : forwards_in k (invalidation to (cache i) f) ≡ 0 = invalidation-at k to (cache i) f ∙ if-zero (f && not (i == to.0)) (one_if (i == k)) other in
-    omega (arith, forwards_in-append k (invalidation to (cache i) f) (invalidations to (i + 1) flags), here, invalidations-below k to flags (i + 1) (omega arith))
+    omega (
+      arith,
+      forwards_in-append k (invalidation to (cache i) f) (invalidations to (i + 1) flags),
+      here,
+      invalidations-below k to flags (i + 1) (omega arith),
+    )
 
 -- one goes to each sharer but the requestor
-invalidations-at : (j : ℕ) (to : CacheId) (flags : List Bool) (i k : ℕ) → k ≡ i + j → forwards_in k (invalidations to i flags) ≡ one_if (get_or flags j false && not (k == to.0))
+invalidations-at : (j : ℕ) (to : CacheId) (flags : List Bool) (i k : ℕ) → k ≡ i + j
+    → forwards_in k (invalidations to i flags) ≡ one_if (get_or flags j false && not (k == to.0))
 invalidations-at zero to [] i k e = refl
 invalidations-at (suc j) to [] i k e = refl
 invalidations-at zero to (f ∷ flags) i k e =
     let same : k ≡ i = omega arith in
     let one : one_if (i == k) ≡ 1 = rw same (ap one_if (eqb-self i)) in
-    let here : forwards_in k (invalidation to (cache i) f) ≡ one_if (f && not (i == to.0)) = invalidation-at k to (cache i) f ∙ if-one (f && not (i == to.0)) (one_if (i == k)) one in
+    let here : forwards_in k (invalidation to (cache i) f) ≡ one_if (f && not (i == to.0)) =
+    invalidation-at k to (cache i) f ∙ if-one (f && not (i == to.0)) (one_if (i == k)) one in
     let goal : one_if (f && not (k == to.0)) ≡ one_if (f && not (i == to.0)) = ap (λ (n : ℕ). one_if (f && not (n == to.0))) same in
-    omega (arith, goal, forwards_in-append k (invalidation to (cache i) f) (invalidations to (i + 1) flags), here, invalidations-below k to flags (i + 1) (omega arith))
+    omega (
+      arith,
+      goal,
+      forwards_in-append k (invalidation to (cache i) f) (invalidations to (i + 1) flags),
+      here,
+      invalidations-below k to flags (i + 1) (omega arith),
+    )
 invalidations-at (suc j) to (f ∷ flags) i k e =
     let other : one_if (i == k) ≡ 0 = ap one_if (ne_eqb i k (λ same. absurd (omega (arith, same)))) in
     let here : forwards_in k (invalidation to (cache i) f) ≡ 0 = invalidation-at k to (cache i) f ∙ if-zero (f && not (i == to.0)) (one_if (i == k)) other in
-    omega (arith, forwards_in-append k (invalidation to (cache i) f) (invalidations to (i + 1) flags), here, invalidations-at j to flags (i + 1) k (omega arith))
+    omega (
+      arith,
+      forwards_in-append k (invalidation to (cache i) f) (invalidations to (i + 1) flags),
+      here,
+      invalidations-at j to flags (i + 1) k (omega arith),
+    )
 
 -- what one action sends on the link of a cache
-owner_message-at : (k : ℕ) (owner : Option CacheId) (kind : ForwardKind) (to : CacheId) → forwards_in k (owner_message owner kind to) ≡ one_if (owns owner (cache k))
+owner_message-at : (k : ℕ) (owner : Option CacheId) (kind : ForwardKind) (to : CacheId)
+    → forwards_in k (owner_message owner kind to) ≡ one_if (owns owner (cache k))
 owner_message-at k None kind to = refl
 owner_message-at k (Some o) kind to = omega arith
 
-message-at : (k : ℕ) (from : CacheId) (a : DirectoryAction) (home : Home) → forwards_in k (home_message (Some from) a home) ≡ one_if (is_sent_to (cache k) from home.owner (shares home.sharers k) a)
+message-at : (k : ℕ) (from : CacheId) (a : DirectoryAction) (home : Home)
+    → forwards_in k (home_message (Some from) a home) ≡ one_if (is_sent_to (cache k) from home.owner (shares home.sharers k) a)
 message-at k from action.DataReq home = refl
 message-at k from action.DataAcks home = refl
 message-at k from action.InvSharers home = invalidations-at k from home.sharers 0 k (omega arith)
@@ -86,7 +109,8 @@ owner-left-with None home = refl
 owner-left-with (Some o) home = refl
 
 -- the owner after one action
-owner-left : (from : CacheId) (value : Option ℕ) (a : DirectoryAction) (home : Home) → (home_changed (Some from) value a home).owner ≡ owner_left from a home.owner
+owner-left : (from : CacheId) (value : Option ℕ) (a : DirectoryAction) (home : Home)
+    → (home_changed (Some from) value a home).owner ≡ owner_left from a home.owner
 owner-left from value action.DataReq home = refl
 owner-left from value action.DataAcks home = refl
 owner-left from value action.InvSharers home = refl
@@ -102,119 +126,153 @@ owner-left from value action.SetOwner home = refl
 owner-left from None action.CopyData home = refl
 owner-left from (Some v) action.CopyData home = refl
 
+-- a flag is up only where there is one
+flagged : (n k : ℕ) (flags : List Bool) (up : Bool) → length flags ≡ n → (k < n → get_or flags k false ≡ up) → get_or flags k false ≡ (ltb k n && up)
+flagged n k flags up long here = elim (cases_lt k n) [
+  | inl lt ↦ rw (lt-ltb k n lt) (here lt)
+  | inr le ↦ rw (le-ltb k n le) (get_or_past flags k false (omega (arith, long, le)))
+]
+
 -- a flag that is set, or taken back
-flag-set : (flags : List Bool) (c k : ℕ) → c < length flags → get_or (set flags c true) k false ≡ ((c == k) || get_or flags k false)
-flag-set flags c k h = elim (eqb_tells c k) [
-  | inl s ↦ rw (s.0, ← s.1) (get_or-set_same flags c true false h)
+flag-set : (flags : List Bool) (c k : ℕ) → get_or (set flags c true) k false ≡ (ltb k (length flags) && ((c == k) || get_or flags k false))
+flag-set flags c k = flagged (length flags) k (set flags c true) ((c == k) || get_or flags k false) (length-set flags c true) (λ lt. elim (eqb_tells c k) [
+  | inl s ↦ rw (s.0, ← s.1) (get_or-set_same flags c true false (omega (arith, lt, s.1)))
   | inr d ↦ rw d.0 (get_or-set_other flags c k true false (λ e. d.1 (sym e)))
-]
+])
 
-flag-unset : (flags : List Bool) (c k : ℕ) → c < length flags → get_or (set flags c false) k false ≡ (not (c == k) && get_or flags k false)
-flag-unset flags c k h = elim (eqb_tells c k) [
-  | inl s ↦ rw (s.0, ← s.1) (get_or-set_same flags c false false h)
-  | inr d ↦ rw d.0 (get_or-set_other flags c k false false (λ e. d.1 (sym e)))
-]
+flag-unset : (flags : List Bool) (c k : ℕ) → get_or (set flags c false) k false ≡ (ltb k (length flags) && (not (c == k) && get_or flags k false))
+flag-unset flags c k =
+    flagged (length flags) k (set flags c false) (not (c == k) && get_or flags k false) (length-set flags c false) (λ lt. elim (eqb_tells c k) [
+      | inl s ↦ rw (s.0, ← s.1) (get_or-set_same flags c false false (omega (arith, lt, s.1)))
+      | inr d ↦ rw d.0 (get_or-set_other flags c k false false (λ e. d.1 (sym e)))
+    ])
 
-no-flag : (n k : ℕ) → get_or (replicate n false) k false ≡ false
-no-flag zero zero = refl
-no-flag zero (suc k) = refl
-no-flag (suc n) zero = refl
-no-flag (suc n) (suc k) = no-flag n k
+flag-kept : (flags : List Bool) (k : ℕ) → get_or flags k false ≡ (ltb k (length flags) && get_or flags k false)
+flag-kept flags k = flagged (length flags) k flags (get_or flags k false) refl (λ lt. refl)
 
-sharer-left-with : (n k : ℕ) (owner : Option CacheId) (home : Home) → length home.sharers ≡ n → IsBelow owner n → shares (with_owner owner home).sharers k ≡ (owns owner (cache k) || shares home.sharers k)
-sharer-left-with n k None home e l = refl
-sharer-left-with n k (Some o) home e l = flag-set home.sharers o.0 k (omega (arith, l))
+sharer-left-with : (k : ℕ) (owner : Option CacheId) (home : Home)
+    → shares (with_owner owner home).sharers k ≡ (ltb k (length home.sharers) && (owns owner (cache k) || shares home.sharers k))
+sharer-left-with k None home = flag-kept home.sharers k
+sharer-left-with k (Some o) home = flag-set home.sharers o.0 k
 
 -- whether a cache is a sharer after one action
-sharer-left : (n k : ℕ) (from : CacheId) (value : Option ℕ) (a : DirectoryAction) (home : Home) → IsAmong n home → from.0 < n → shares (home_changed (Some from) value a home).sharers k ≡ sharer_left (cache k) from home.owner a (shares home.sharers k)
-sharer-left n k from value action.DataReq home h l = refl
-sharer-left n k from value action.DataAcks home h l = refl
-sharer-left n k from value action.InvSharers home h l = refl
-sharer-left n k from value action.FwdGetS home h l = refl
-sharer-left n k from value action.FwdGetM home h l = refl
-sharer-left n k from value action.PutAck home h l = refl
-sharer-left n k from value action.AddReq home h l = flag-set home.sharers from.0 k (omega (arith, h.sharers, l))
-sharer-left n k from value action.AddOwner home h l = sharer-left-with n k home.owner home h.sharers h.owner
-sharer-left n k from value action.RemoveReq home h l = flag-unset home.sharers from.0 k (omega (arith, h.sharers, l))
-sharer-left n k from value action.ClearSharers home h l = no-flag (length home.sharers) k
-sharer-left n k from value action.ClearOwner home h l = refl
-sharer-left n k from value action.SetOwner home h l = refl
-sharer-left n k from None action.CopyData home h l = refl
-sharer-left n k from (Some v) action.CopyData home h l = refl
+sharer-left : (k : ℕ) (from : CacheId) (value : Option ℕ) (a : DirectoryAction) (home : Home)
+    → shares (home_changed (Some from) value a home).sharers k
+    ≡ (ltb k (length home.sharers) && sharer_left (cache k) from home.owner a (shares home.sharers k))
+sharer-left k from value action.DataReq home = flag-kept home.sharers k
+sharer-left k from value action.DataAcks home = flag-kept home.sharers k
+sharer-left k from value action.InvSharers home = flag-kept home.sharers k
+sharer-left k from value action.FwdGetS home = flag-kept home.sharers k
+sharer-left k from value action.FwdGetM home = flag-kept home.sharers k
+sharer-left k from value action.PutAck home = flag-kept home.sharers k
+sharer-left k from value action.AddReq home = flag-set home.sharers from.0 k
+sharer-left k from value action.AddOwner home = sharer-left-with k home.owner home
+sharer-left k from value action.RemoveReq home = flag-unset home.sharers from.0 k
+sharer-left k from value action.ClearSharers home = no-flag (length home.sharers) k ∙ sym (and-false (ltb k (length home.sharers)))
+sharer-left k from value action.ClearOwner home = flag-kept home.sharers k
+sharer-left k from value action.SetOwner home = flag-kept home.sharers k
+sharer-left k from None action.CopyData home = flag-kept home.sharers k
+sharer-left k from (Some v) action.CopyData home = flag-kept home.sharers k
 
 -- what the actions of a home put on the link of a cache
-pub forwards-by : (n k : ℕ) (from : CacheId) (value : Option ℕ) (actions : List DirectoryAction) (home : Home) → IsAmong n home → from.0 < n → forwards_in k (home_messages (Some from) value actions home) ≡ forwards_by (cache k) from home.owner (shares home.sharers k) actions
-forwards-by n k from value [] home h l = refl
-forwards-by n k from value (a ∷ actions) home h l =
-    let home' : Home = home_changed (Some from) value a home in
-    let rest : forwards_in k (home_messages (Some from) value actions home') ≡ forwards_by (cache k) from home'.owner (shares home'.sharers k) actions = forwards-by n k from value actions home' (among-changed n (Some from) value a home h l) l in
-    let same : forwards_by (cache k) from home'.owner (shares home'.sharers k) actions ≡ forwards_by (cache k) from (owner_left from a home.owner) (sharer_left (cache k) from home.owner a (shares home.sharers k)) actions =
-    ap (λ (o : Option CacheId). forwards_by (cache k) from o (shares home'.sharers k) actions) (owner-left from value a home)
-    ∙ ap (λ (s : Bool). forwards_by (cache k) from (owner_left from a home.owner) s actions) (sharer-left n k from value a home h l) in
-    omega (arith, forwards_in-append k (home_message (Some from) a home) (home_messages (Some from) value actions home'), message-at k from a home, rest, same)
+pub forwards-to : (k : ℕ) (from : CacheId) (value : Option ℕ) (actions : List DirectoryAction) (home : Home)
+    → forwards_in k (home_messages (Some from) value actions home) ≡ forwards_to (cache k) from actions home
+forwards-to k from value [] home = refl
+forwards-to k from value (a ∷ actions) home =
+    let new : Home = home_changed (Some from) value a home in
+    let flag : Bool = ltb k (length home.sharers) in
+    let same : forwards_to (cache k) from actions new
+    ≡ forwards_by flag (cache k) from (owner_left from a home.owner) (flag && sharer_left (cache k) from home.owner a (shares home.sharers k)) actions =
+    ap (λ (n : ℕ). forwards_by (ltb k n) (cache k) from new.owner (shares new.sharers k) actions) (keeps-changed (Some from) value a home).flags
+    ∙ ap (λ (o : Option CacheId). forwards_by flag (cache k) from o (shares new.sharers k) actions) (owner-left from value a home)
+    ∙ ap (λ (s : Bool). forwards_by flag (cache k) from (owner_left from a home.owner) s actions) (sharer-left k from value a home) in
+    omega (
+      arith,
+      forwards_in-append k (home_message (Some from) a home) (home_messages (Some from) value actions new),
+      message-at k from a home,
+      forwards-to k from value actions new,
+      same,
+    )
 
--- a cache that isn't there owns nothing and is sent nothing
+-- a cache that is neither the owner nor the sender owns nothing after an action, is no sharer where it was none, and is sent nothing
+unowned : (k : ℕ) (from : CacheId) (owner : Option CacheId) (a : DirectoryAction) → owns owner (cache k) ≡ false → k ≢ from.0
+    → owns (owner_left from a owner) (cache k) ≡ false
+unowned k from owner action.DataReq o ne = o
+unowned k from owner action.DataAcks o ne = o
+unowned k from owner action.InvSharers o ne = o
+unowned k from owner action.FwdGetS o ne = o
+unowned k from owner action.FwdGetM o ne = o
+unowned k from owner action.PutAck o ne = o
+unowned k from owner action.AddReq o ne = o
+unowned k from owner action.AddOwner o ne = o
+unowned k from owner action.RemoveReq o ne = o
+unowned k from owner action.ClearSharers o ne = o
+unowned k from owner action.ClearOwner o ne = refl
+unowned k from owner action.SetOwner o ne = ne_eqb from.0 k (λ e. ne (sym e))
+unowned k from owner action.CopyData o ne = o
+
+unshared : (k : ℕ) (from : CacheId) (owner : Option CacheId) (a : DirectoryAction) → owns owner (cache k) ≡ false → k ≢ from.0
+    → sharer_left (cache k) from owner a false ≡ false
+unshared k from owner action.DataReq o ne = refl
+unshared k from owner action.DataAcks o ne = refl
+unshared k from owner action.InvSharers o ne = refl
+unshared k from owner action.FwdGetS o ne = refl
+unshared k from owner action.FwdGetM o ne = refl
+unshared k from owner action.PutAck o ne = refl
+unshared k from owner action.AddReq o ne = ap (λ (b : Bool). b || false) (ne_eqb from.0 k (λ e. ne (sym e)))
+unshared k from owner action.AddOwner o ne = ap (λ (b : Bool). b || false) o
+unshared k from owner action.RemoveReq o ne = and-false (not (from.0 == k))
+unshared k from owner action.ClearSharers o ne = refl
+unshared k from owner action.ClearOwner o ne = refl
+unshared k from owner action.SetOwner o ne = refl
+unshared k from owner action.CopyData o ne = refl
+
+unsent : (k : ℕ) (from : CacheId) (owner : Option CacheId) (a : DirectoryAction) → owns owner (cache k) ≡ false → k ≢ from.0
+    → one_if (is_sent_to (cache k) from owner false a) ≡ 0
+unsent k from owner action.DataReq o ne = refl
+unsent k from owner action.DataAcks o ne = refl
+unsent k from owner action.InvSharers o ne = refl
+unsent k from owner action.FwdGetS o ne = ap one_if o
+unsent k from owner action.FwdGetM o ne = ap one_if o
+unsent k from owner action.PutAck o ne = ap one_if (ne_eqb from.0 k (λ e. ne (sym e)))
+unsent k from owner action.AddReq o ne = refl
+unsent k from owner action.AddOwner o ne = refl
+unsent k from owner action.RemoveReq o ne = refl
+unsent k from owner action.ClearSharers o ne = refl
+unsent k from owner action.ClearOwner o ne = refl
+unsent k from owner action.SetOwner o ne = refl
+unsent k from owner action.CopyData o ne = refl
+
+unnamed-by : (flag : Bool) (k : ℕ) (from : CacheId) (owner : Option CacheId) (actions : List DirectoryAction) → owns owner (cache k) ≡ false → k ≢ from.0
+    → forwards_by flag (cache k) from owner false actions ≡ 0
+unnamed-by flag k from owner [] o ne = refl
+unnamed-by flag k from owner (a ∷ actions) o ne =
+    let still : (flag && sharer_left (cache k) from owner a false) ≡ false = ap (λ (s : Bool). flag && s) (unshared k from owner a o ne) ∙ and-false flag in
+    let same : forwards_by flag (cache k) from (owner_left from a owner) (flag && sharer_left (cache k) from owner a false) actions
+    ≡ forwards_by flag (cache k) from (owner_left from a owner) false actions =
+    ap (λ (s : Bool). forwards_by flag (cache k) from (owner_left from a owner) s actions) still in
+    omega (arith, unsent k from owner a o ne, same, unnamed-by flag k from (owner_left from a owner) actions (unowned k from owner a o ne) ne)
+
+-- a cache that is neither owner nor sharer nor sender is sent nothing
+pub unnamed : (k : ℕ) (from : CacheId) (actions : List DirectoryAction) (home : Home) → owns home.owner (cache k) ≡ false → k ≢ from.0
+    → shares home.sharers k ≡ false → forwards_to (cache k) from actions home ≡ 0
+unnamed k from actions home o ne s =
+    ap (λ (up : Bool). forwards_by (ltb k (length home.sharers)) (cache k) from home.owner up actions) s
+    ∙ unnamed-by (ltb k (length home.sharers)) k from home.owner actions o ne
+
 not-owner : (n k : ℕ) (owner : Option CacheId) → n ≤ k → IsBelow owner n → owns owner (cache k) ≡ false
 not-owner n k None le l = refl
 not-owner n k (Some o) le l = ne_eqb o.0 k (λ e. absurd (omega (arith, e, l)))
 
-owner-left-below : (n : ℕ) (from : CacheId) (a : DirectoryAction) (owner : Option CacheId) → from.0 < n → IsBelow owner n → IsBelow (owner_left from a owner) n
-owner-left-below n from action.DataReq owner f l = l
-owner-left-below n from action.DataAcks owner f l = l
-owner-left-below n from action.InvSharers owner f l = l
-owner-left-below n from action.FwdGetS owner f l = l
-owner-left-below n from action.FwdGetM owner f l = l
-owner-left-below n from action.PutAck owner f l = l
-owner-left-below n from action.AddReq owner f l = l
-owner-left-below n from action.AddOwner owner f l = l
-owner-left-below n from action.RemoveReq owner f l = l
-owner-left-below n from action.ClearSharers owner f l = l
-owner-left-below n from action.ClearOwner owner f l = tt
-owner-left-below n from action.SetOwner owner f l = f
-owner-left-below n from action.CopyData owner f l = l
-
-never-sharer : (n k : ℕ) (from : CacheId) (owner : Option CacheId) (a : DirectoryAction) → n ≤ k → from.0 < n → IsBelow owner n → sharer_left (cache k) from owner a false ≡ false
-never-sharer n k from owner action.DataReq le f l = refl
-never-sharer n k from owner action.DataAcks le f l = refl
-never-sharer n k from owner action.InvSharers le f l = refl
-never-sharer n k from owner action.FwdGetS le f l = refl
-never-sharer n k from owner action.FwdGetM le f l = refl
-never-sharer n k from owner action.PutAck le f l = refl
-never-sharer n k from owner action.AddReq le f l = ap (λ (t : Bool). t || false) (ne_eqb from.0 k (λ e. absurd (omega (arith, e))))
-never-sharer n k from owner action.AddOwner le f l = ap (λ (t : Bool). t || false) (not-owner n k owner le l)
-never-sharer n k from owner action.RemoveReq le f l = ap (λ (t : Bool). not t && false) (ne_eqb from.0 k (λ e. absurd (omega (arith, e))))
-never-sharer n k from owner action.ClearSharers le f l = refl
-never-sharer n k from owner action.ClearOwner le f l = refl
-never-sharer n k from owner action.SetOwner le f l = refl
-never-sharer n k from owner action.CopyData le f l = refl
-
-never-sent : (n k : ℕ) (from : CacheId) (owner : Option CacheId) (a : DirectoryAction) → n ≤ k → from.0 < n → IsBelow owner n → one_if (is_sent_to (cache k) from owner false a) ≡ 0
-never-sent n k from owner action.DataReq le f l = refl
-never-sent n k from owner action.DataAcks le f l = refl
-never-sent n k from owner action.InvSharers le f l = refl
-never-sent n k from owner action.FwdGetS le f l = ap one_if (not-owner n k owner le l)
-never-sent n k from owner action.FwdGetM le f l = ap one_if (not-owner n k owner le l)
-never-sent n k from owner action.PutAck le f l = ap one_if (ne_eqb from.0 k (λ e. absurd (omega (arith, e))))
-never-sent n k from owner action.AddReq le f l = refl
-never-sent n k from owner action.AddOwner le f l = refl
-never-sent n k from owner action.RemoveReq le f l = refl
-never-sent n k from owner action.ClearSharers le f l = refl
-never-sent n k from owner action.ClearOwner le f l = refl
-never-sent n k from owner action.SetOwner le f l = refl
-never-sent n k from owner action.CopyData le f l = refl
-
-forwards-past : (n k : ℕ) (from : CacheId) (owner : Option CacheId) (actions : List DirectoryAction) → n ≤ k → from.0 < n → IsBelow owner n → forwards_by (cache k) from owner false actions ≡ 0
-forwards-past n k from owner [] le f l = refl
-forwards-past n k from owner (a ∷ actions) le f l =
-    let same : forwards_by (cache k) from (owner_left from a owner) (sharer_left (cache k) from owner a false) actions ≡ forwards_by (cache k) from (owner_left from a owner) false actions =
-    ap (λ (s : Bool). forwards_by (cache k) from (owner_left from a owner) s actions) (never-sharer n k from owner a le f l) in
-    omega (arith, never-sent n k from owner a le f l, same, forwards-past n k from (owner_left from a owner) actions le f (owner-left-below n from a owner f l))
-
--- nothing goes on a link that isn't there
-pub no-forwards : (n k : ℕ) (from : CacheId) (value : Option ℕ) (actions : List DirectoryAction) (home : Home) → n ≤ k → IsAmong n home → from.0 < n → forwards_in k (home_messages (Some from) value actions home) ≡ 0
-no-forwards n k from value actions home le h l =
-    let none : shares home.sharers k ≡ false = get_or_past home.sharers k false (omega (arith, h.sharers)) in
-    forwards-by n k from value actions home h l ∙ ap (λ (s : Bool). forwards_by (cache k) from home.owner s actions) none ∙ forwards-past n k from home.owner actions le l h.owner
+-- nothing goes to a cache past those that are named
+pub no-forwards : (n k : ℕ) (from : CacheId) (actions : List DirectoryAction) (home : Home) → n ≤ k → NamesBelow n home → from.0 < n
+    → forwards_to (cache k) from actions home ≡ 0
+no-forwards n k from actions home le h l =
+    let up : (b : Bool) → shares home.sharers k ≡ b → b ≡ false = λ b. elim b as (λ b. shares home.sharers k ≡ b → b ≡ false) [
+      | true ↦ λ e. absurd (omega (arith, h.sharers k e, le))
+      | false ↦ λ e. refl
+    ] in
+    unnamed k from actions home (not-owner n k home.owner le h.owner) (λ e. absurd (omega (arith, e, l, le))) (up (shares home.sharers k) refl)
 
 -- a home sends no requests
 invalidation-requests : (to c : CacheId) (flag : Bool) → requests_in (invalidation to c flag) ≡ 0
@@ -226,7 +284,13 @@ invalidation-requests to c flag = by-test (flag && not (c.0 == to.0))
 
 invalidations-requests : (to : CacheId) (flags : List Bool) (i : ℕ) → requests_in (invalidations to i flags) ≡ 0
 invalidations-requests to [] i = refl
-invalidations-requests to (f ∷ flags) i = omega (arith, requests_in-append (invalidation to (cache i) f) (invalidations to (i + 1) flags), invalidation-requests to (cache i) f, invalidations-requests to flags (i + 1))
+invalidations-requests to (f ∷ flags) i =
+    omega (
+      arith,
+      requests_in-append (invalidation to (cache i) f) (invalidations to (i + 1) flags),
+      invalidation-requests to (cache i) f,
+      invalidations-requests to flags (i + 1),
+    )
 
 owner-requests : (owner : Option CacheId) (kind : ForwardKind) (to : CacheId) → requests_in (owner_message owner kind to) ≡ 0
 owner-requests None kind to = refl
@@ -247,9 +311,16 @@ message-requests from action.ClearOwner home = refl
 message-requests from action.SetOwner home = refl
 message-requests from action.CopyData home = refl
 
-pub requests-by : (from : CacheId) (value : Option ℕ) (actions : List DirectoryAction) (home : Home) → requests_in (home_messages (Some from) value actions home) ≡ 0
+pub requests-by : (from : CacheId) (value : Option ℕ) (actions : List DirectoryAction) (home : Home)
+    → requests_in (home_messages (Some from) value actions home) ≡ 0
 requests-by from value [] home = refl
-requests-by from value (a ∷ actions) home = omega (arith, requests_in-append (home_message (Some from) a home) (home_messages (Some from) value actions (home_changed (Some from) value a home)), message-requests from a home, requests-by from value actions (home_changed (Some from) value a home))
+requests-by from value (a ∷ actions) home =
+    omega (
+      arith,
+      requests_in-append (home_message (Some from) a home) (home_messages (Some from) value actions (home_changed (Some from) value a home)),
+      message-requests from a home,
+      requests-by from value actions (home_changed (Some from) value a home),
+    )
 
 -- the responses are its replies
 invalidation-responses : (to c : CacheId) (flag : Bool) → responses_in (invalidation to c flag) ≡ 0
@@ -261,7 +332,13 @@ invalidation-responses to c flag = by-test (flag && not (c.0 == to.0))
 
 invalidations-responses : (to : CacheId) (flags : List Bool) (i : ℕ) → responses_in (invalidations to i flags) ≡ 0
 invalidations-responses to [] i = refl
-invalidations-responses to (f ∷ flags) i = omega (arith, responses_in-append (invalidation to (cache i) f) (invalidations to (i + 1) flags), invalidation-responses to (cache i) f, invalidations-responses to flags (i + 1))
+invalidations-responses to (f ∷ flags) i =
+    omega (
+      arith,
+      responses_in-append (invalidation to (cache i) f) (invalidations to (i + 1) flags),
+      invalidation-responses to (cache i) f,
+      invalidations-responses to flags (i + 1),
+    )
 
 owner-responses : (owner : Option CacheId) (kind : ForwardKind) (to : CacheId) → responses_in (owner_message owner kind to) ≡ 0
 owner-responses None kind to = refl
@@ -282,9 +359,16 @@ message-responses from action.ClearOwner home = refl
 message-responses from action.SetOwner home = refl
 message-responses from action.CopyData home = refl
 
-pub responses-by : (from : CacheId) (value : Option ℕ) (actions : List DirectoryAction) (home : Home) → responses_in (home_messages (Some from) value actions home) ≡ replies_by actions
+pub responses-by : (from : CacheId) (value : Option ℕ) (actions : List DirectoryAction) (home : Home)
+    → responses_in (home_messages (Some from) value actions home) ≡ replies_by actions
 responses-by from value [] home = refl
-responses-by from value (a ∷ actions) home = omega (arith, responses_in-append (home_message (Some from) a home) (home_messages (Some from) value actions (home_changed (Some from) value a home)), message-responses from a home, responses-by from value actions (home_changed (Some from) value a home))
+responses-by from value (a ∷ actions) home =
+    omega (
+      arith,
+      responses_in-append (home_message (Some from) a home) (home_messages (Some from) value actions (home_changed (Some from) value a home)),
+      message-responses from a home,
+      responses-by from value actions (home_changed (Some from) value a home),
+    )
 
 -- without a sender nothing is sent
 pub nothing-sent : (value : Option ℕ) (actions : List DirectoryAction) (home : Home) → home_messages None value actions home ≡ []
@@ -292,70 +376,21 @@ nothing-sent value [] home = refl
 nothing-sent value (a ∷ actions) home = nothing-sent value actions (home_changed None value a home)
 
 -- room for the replies and on each link is room for what is sent
-pub room-to-send : (n : ℕ) (from : CacheId) (value : Option ℕ) (actions : List DirectoryAction) (home : Home) (room : Room) → IsAmong n home → from.0 < n → HasRoomToReply from actions home room → HasRoomFor (home_messages (Some from) value actions home) room
-room-to-send n from value actions home room h l has = record {
+pub room-to-send : (from : CacheId) (value : Option ℕ) (actions : List DirectoryAction) (home : Home) (room : Room) → NamesBelow (length home.sharers) home
+    → from.0 < length home.sharers → HasRoomToReply from actions home room → HasRoomFor (home_messages (Some from) value actions home) room
+room-to-send from value actions home room h l has = record {
   requests = omega (arith, requests-by from value actions home);
-  links = λ k. elim (cases_lt k n) [
-    | inl lt ↦ omega (arith, forwards-by n k from value actions home h l, has.links k (omega (arith, lt, h.sharers)))
-    | inr le ↦ omega (arith, no-forwards n k from value actions home le h l)
+  links = λ k. elim (cases_lt k (length home.sharers)) [
+    | inl lt ↦ omega (arith, forwards-to k from value actions home, has.links k lt)
+    | inr le ↦ omega (arith, forwards-to k from value actions home, no-forwards (length home.sharers) k from actions home le h l)
   ];
   responses = omega (arith, responses-by from value actions home, has.responses);
 }
 
 -- and the other way round
-pub room-to-reply : (n : ℕ) (from : CacheId) (value : Option ℕ) (actions : List DirectoryAction) (home : Home) (room : Room) → IsAmong n home → from.0 < n → HasRoomFor (home_messages (Some from) value actions home) room → HasRoomToReply from actions home room
-room-to-reply n from value actions home room h l has = record {
+pub room-to-reply : (from : CacheId) (value : Option ℕ) (actions : List DirectoryAction) (home : Home) (room : Room)
+    → HasRoomFor (home_messages (Some from) value actions home) room → HasRoomToReply from actions home room
+room-to-reply from value actions home room has = record {
   responses = omega (arith, responses-by from value actions home, has.responses);
-  links = λ k lt. omega (arith, forwards-by n k from value actions home h l, has.links k);
+  links = λ k lt. omega (arith, forwards-to k from value actions home, has.links k);
 }
-
--- a list of these caches lists no other
-pub none-listed : (n k : ℕ) (cs : List CacheId) → AllBelow n cs → n ≤ k → times k cs ≡ 0
-none-listed n k [] h le = refl
-none-listed n k (c ∷ cs) h le =
-    let other : one_if (c.0 == k) ≡ 0 = ap one_if (ne_eqb c.0 k (λ e. absurd (omega (arith, e, h.0)))) in
-    omega (arith, other, none-listed n k cs h.1 le)
-
-pub times-append : (k : ℕ) (xs ys : List CacheId) → times k (xs ++ ys) ≡ times k xs + times k ys
-times-append k [] ys = omega arith
-times-append k (x ∷ xs) ys = omega (arith, times-append k xs ys)
-
-pub times-replicate_same : (n : ℕ) (c : CacheId) → times c.0 (replicate n c) ≡ n
-times-replicate_same zero c = refl
-times-replicate_same (suc n) c = omega (arith, ap one_if (eqb-self c.0), times-replicate_same n c)
-
-pub times-replicate_other : (k n : ℕ) (c : CacheId) → k ≢ c.0 → times k (replicate n c) ≡ 0
-times-replicate_other k zero c ne = refl
-times-replicate_other k (suc n) c ne = omega (arith, ap one_if (ne_eqb c.0 k (λ e. ne (sym e))), times-replicate_other k n c ne)
-
-pub AllBelow-append : (n : ℕ) (xs ys : List CacheId) → AllBelow n xs → AllBelow n ys → AllBelow n (xs ++ ys)
-AllBelow-append n [] ys h g = g
-AllBelow-append n (x ∷ xs) ys h g = (h.0, AllBelow-append n xs ys h.1 g)
-
-pub AllBelow-replicate : (n m : ℕ) (c : CacheId) → c.0 < n → AllBelow n (replicate m c)
-AllBelow-replicate n zero c l = tt
-AllBelow-replicate n (suc m) c l = (l, AllBelow-replicate n m c l)
-
--- one more cache is listed so often
-pub listed-each : (f : ℕ → ℕ) (i count : ℕ) (old : List CacheId) → ((k : ℕ) → k < i → f k ≡ times k old) → ((k : ℕ) → i ≤ k → times k old ≡ 0) → count ≡ f i → (k : ℕ) → k < i + 1 → f k ≡ times k (old ++ replicate count (cache i))
-listed-each f i count old each rest here k lt =
-    elim (cases_eq k i) [
-      | inl e ↦
-          let same : f k ≡ f i = ap f e in
-          let listed : times k (replicate count (cache i)) ≡ count = ap (λ (n : ℕ). times n (replicate count (cache i))) e ∙ times-replicate_same count (cache i) in
-          omega (arith, same, here, listed, times-append k old (replicate count (cache i)), rest k (omega (arith, e)))
-      | inr ne ↦ omega (arith, each k (omega (arith, ne)), times-append k old (replicate count (cache i)), times-replicate_other k count (cache i) ne)
-    ]
-
-pub listed-rest : (i count : ℕ) (old : List CacheId) → ((k : ℕ) → i ≤ k → times k old ≡ 0) → (k : ℕ) → i + 1 ≤ k → times k (old ++ replicate count (cache i)) ≡ 0
-listed-rest i count old rest k le =
-    let ne : k ≢ i = λ e. absurd (omega (arith, e, le)) in
-    omega (arith, rest k (omega arith), times-append k old (replicate count (cache i)), times-replicate_other k count (cache i) ne)
-
--- the list holds the link of each message
-pub listed-all : (n : ℕ) (from : CacheId) (value : Option ℕ) (actions : List DirectoryAction) (home : Home) (listed : List CacheId) → IsAmong n home → from.0 < n → ListsLinks from actions home listed → AllBelow n listed → (k : ℕ) → forwards_in k (home_messages (Some from) value actions home) ≡ times k listed
-listed-all n from value actions home listed h l lists below k =
-    elim (cases_lt k n) [
-      | inl lt ↦ forwards-by n k from value actions home h l ∙ lists.each k (omega (arith, lt, h.sharers))
-      | inr le ↦ no-forwards n k from value actions home le h l ∙ sym (none-listed n k listed below le)
-    ]

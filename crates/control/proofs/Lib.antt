@@ -1,3 +1,4 @@
 pub mod LineSends
 pub mod HomeSends
 pub mod HomeCounts
+pub mod HomeLinks

@@ -8,7 +8,8 @@ use Rattle.control.specs.LineEffect.{line_message, line_messages}
 use Rattle.control.specs.inner.Counting.{requests_of, responses_of, requests_by, responses_by}
 
 -- the messages of the actions from a place on begin with those of the action there
-pub messages-front : (cache : CacheId) (value : ℕ) (to : Option CacheId) (actions : List CacheAction) (i : ℕ) (d : CacheAction) → i < length actions → line_messages cache value to (drop i actions) ≡ line_message cache value to (get_or actions i d) ++ line_messages cache value to (drop (i + 1) actions)
+pub messages-front : (cache : CacheId) (value : ℕ) (to : Option CacheId) (actions : List CacheAction) (i : ℕ) (d : CacheAction) → i < length actions
+    → line_messages cache value to (drop i actions) ≡ line_message cache value to (get_or actions i d) ++ line_messages cache value to (drop (i + 1) actions)
 messages-front cache value to [] i d h = absurd (omega arith)
 messages-front cache value to (a ∷ actions) zero d h = refl
 messages-front cache value to (a ∷ actions) (suc i) d h =
@@ -54,20 +55,42 @@ forwards-of k cache value (Some c) action.DataReq = refl
 forwards-of k cache value to action.DataDir = refl
 
 -- how many requests, responses and forwards the actions of a line send
-pub requests-by : (cache : CacheId) (value : ℕ) (to : Option CacheId) (actions : List CacheAction) → requests_in (line_messages cache value to actions) ≡ requests_by actions
+pub requests-by : (cache : CacheId) (value : ℕ) (to : Option CacheId) (actions : List CacheAction)
+    → requests_in (line_messages cache value to actions) ≡ requests_by actions
 requests-by cache value to [] = refl
-requests-by cache value to (a ∷ actions) = omega (arith, requests_in-append (line_message cache value to a) (line_messages cache value to actions), requests-of cache value to a, requests-by cache value to actions)
+requests-by cache value to (a ∷ actions) =
+    omega (
+      arith,
+      requests_in-append (line_message cache value to a) (line_messages cache value to actions),
+      requests-of cache value to a,
+      requests-by cache value to actions,
+    )
 
-pub responses-by : (cache : CacheId) (value : ℕ) (to : Option CacheId) (actions : List CacheAction) → responses_in (line_messages cache value to actions) ≡ responses_by to actions
+pub responses-by : (cache : CacheId) (value : ℕ) (to : Option CacheId) (actions : List CacheAction)
+    → responses_in (line_messages cache value to actions) ≡ responses_by to actions
 responses-by cache value to [] = refl
-responses-by cache value to (a ∷ actions) = omega (arith, responses_in-append (line_message cache value to a) (line_messages cache value to actions), responses-of cache value to a, responses-by cache value to actions)
+responses-by cache value to (a ∷ actions) =
+    omega (
+      arith,
+      responses_in-append (line_message cache value to a) (line_messages cache value to actions),
+      responses-of cache value to a,
+      responses-by cache value to actions,
+    )
 
-pub forwards-by : (k : ℕ) (cache : CacheId) (value : ℕ) (to : Option CacheId) (actions : List CacheAction) → forwards_in k (line_messages cache value to actions) ≡ 0
+pub forwards-by : (k : ℕ) (cache : CacheId) (value : ℕ) (to : Option CacheId) (actions : List CacheAction)
+    → forwards_in k (line_messages cache value to actions) ≡ 0
 forwards-by k cache value to [] = refl
-forwards-by k cache value to (a ∷ actions) = omega (arith, forwards_in-append k (line_message cache value to a) (line_messages cache value to actions), forwards-of k cache value to a, forwards-by k cache value to actions)
+forwards-by k cache value to (a ∷ actions) =
+    omega (
+      arith,
+      forwards_in-append k (line_message cache value to a) (line_messages cache value to actions),
+      forwards-of k cache value to a,
+      forwards-by k cache value to actions,
+    )
 
 -- room for as many requests and responses is room for what the actions of a line send
-pub room-by : (cache : CacheId) (value : ℕ) (to : Option CacheId) (actions : List CacheAction) (room : Room) → requests_by actions ≤ room.requests → responses_by to actions ≤ room.responses → HasRoomFor (line_messages cache value to actions) room
+pub room-by : (cache : CacheId) (value : ℕ) (to : Option CacheId) (actions : List CacheAction) (room : Room) → requests_by actions ≤ room.requests
+    → responses_by to actions ≤ room.responses → HasRoomFor (line_messages cache value to actions) room
 room-by cache value to actions room requests responses = record {
   requests = omega (arith, requests-by cache value to actions, requests);
   links = λ k. omega (arith, forwards-by k cache value to actions);

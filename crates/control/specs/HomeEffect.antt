@@ -1,4 +1,5 @@
-use Rattle.std.specs.Prelude.{◌≡◌, ◌<◌, ℕ, ◌+◌, List, [], ◌∷◌, ◌++◌, Option, Some, None, Bool, true, false, not, ◌&&◌, if◌then◌else◌, ◌==◌, length, replicate, slice_set}
+use Rattle.std.specs.Prelude.{◌≡◌, ◌<◌, ℕ, ◌+◌, List, [], ◌∷◌, ◌++◌, Option, Some, None, Bool, true, false, not, ◌&&◌, if◌then◌else◌, ◌==◌}
+use Rattle.std.specs.Prelude.{length, replicate, slice_set}
 use Rattle.base.specs.declared.ids.CacheId.{CacheId}
 use Rattle.base.specs.declared.ids.Place.TheVariants.{Dir, Cache}
 use Rattle.network.specs.declared.message.RequestKind.{RequestKind}
@@ -15,7 +16,7 @@ use Rattle.directory_table.specs.declared.state.DirectoryState.TheVariants as st
 use Rattle.control.specs.declared.home.Home.{Home}
 use Rattle.control.specs.declared.home.HomeInput.{HomeInput}
 use Rattle.control.specs.declared.home.HomeInput.TheVariants as home_input
-use Rattle.control.specs.Sharing.{others_from}
+use Rattle.control.specs.Sharing.{shares, others_from}
 
 -- a home that nothing has happened to
 abbrev pub opened_home : ℕ → ℕ → Home
@@ -113,6 +114,11 @@ home_sends input actions home = home_messages (sender_of input) (brought_by inpu
 abbrev pub IsBelow : Option CacheId → ℕ → Type 0
 IsBelow None caches = Unit {0}
 IsBelow (Some cache) caches = cache.0 < caches
+
+-- the owner and each sharer are among so many caches
+pub record NamesBelow (caches : ℕ) (home : Home) : Type 0 where
+  pub owner : IsBelow home.owner caches
+  pub sharers : (k : ℕ) → shares home.sharers k ≡ true → k < caches
 
 -- a home among so many caches: a flag for each, and the owner is one of them
 pub record IsAmong (caches : ℕ) (home : Home) : Type 0 where

@@ -1,7 +1,9 @@
-ghost use Rattle.std.specs.Prelude.{◌≡◌, ◌<◌, ◌^◌, IsOk, OnOk, OnErr, Some, length};
+ghost use Rattle.std.specs.Prelude.{◌≡◌, ◌<◌, ◌^◌, ℕ, IsOk, OnOk, OnErr, Some, true, length};
 ghost use Rattle.network.specs.Traffic.{all_sent};
 ghost use Rattle.network.specs.Room.{HasRoomFor, UsesRoomFor};
-ghost use Rattle.control.specs.HomeEffect.{sender_of, brought_by, data_message, link_message, invalidation, invalidations, owner_message, home_message, home_changed, home_messages, home_moved, home_after, home_sends, IsBelow, IsAmong};
+ghost use Rattle.control.specs.HomeEffect.{sender_of, brought_by, data_message, link_message, invalidation, invalidations, owner_message};
+ghost use Rattle.control.specs.HomeEffect.{home_message, home_changed, home_messages, home_moved, home_after, home_sends, IsBelow, NamesBelow};
+ghost use Rattle.control.specs.Sharing.{shares};
 
 use crate::home::{Home, HomeInput};
 use crate::home_room::home_reserve;
@@ -50,7 +52,7 @@ fn on_link(to: CacheId, kind: ForwardKind, requestor: CacheId) -> Message
 /// Sends an invalidation to each sharer but the requestor.
 fn invalidate(flags: &[bool], requestor: CacheId, wires: &mut Wires)
     requires few { length flags.now < 2 ^ 32 }
-    requires links { length wires.old.traffic.links ≡ length flags.now }
+    requires links { (k : ℕ) → shares flags.now k ≡ true → k < length wires.old.traffic.links }
     requires room { HasRoomFor (invalidations requestor 0 flags.now) wires.old.room }
     ensures traffic { wires.new.traffic ≡ all_sent (invalidations requestor 0 flags.now) wires.old.traffic }
     ensures room { UsesRoomFor (invalidations requestor 0 flags.now) wires.old.room wires.new.room }
@@ -62,7 +64,7 @@ fn invalidate(flags: &[bool], requestor: CacheId, wires: &mut Wires)
 
 /// Sends an invalidation to a cache, if it is a sharer and not the requestor.
 fn invalidate_one(cache: CacheId, sharer: bool, requestor: CacheId, wires: &mut Wires)
-    requires link { cache.0 < length wires.old.traffic.links }
+    requires link { sharer ≡ true → cache.0 < length wires.old.traffic.links }
     requires room { HasRoomFor (invalidation requestor cache sharer) wires.old.room }
     ensures traffic { wires.new.traffic ≡ all_sent (invalidation requestor cache sharer) wires.old.traffic }
     ensures room { UsesRoomFor (invalidation requestor cache sharer) wires.old.room wires.new.room }
@@ -86,7 +88,7 @@ fn to_owner(owner: Option<CacheId>, kind: ForwardKind, requestor: CacheId, wires
 
 /// Sends what one action of a home sends on a request.
 fn send(home: &Home, action: DirectoryAction, to: CacheId, wires: &mut Wires)
-    requires among { IsAmong (length wires.old.traffic.links) home.now }
+    requires links { NamesBelow (length wires.old.traffic.links) home.now }
     requires sender { to.0 < length wires.old.traffic.links }
     requires room { HasRoomFor (home_message (Some to) action home.now) wires.old.room }
     ensures traffic { wires.new.traffic ≡ all_sent (home_message (Some to) action home.now) wires.old.traffic }
@@ -107,7 +109,7 @@ fn send(home: &Home, action: DirectoryAction, to: CacheId, wires: &mut Wires)
 
 /// Changes a home as one action does.
 fn change(home: &mut Home, action: DirectoryAction, from: Option<CacheId>, value: Option<u64>)
-    requires among { IsAmong (length home.old.sharers) home.old }
+    requires owner { IsBelow home.old.owner (length home.old.sharers) }
     requires sender { IsBelow from (length home.old.sharers) }
     ensures { home.new ≡ home_changed from value action home.old }
 {
@@ -151,10 +153,14 @@ fn perform_all(
     value: Option<u64>,
     wires: &mut Wires,
 )
-    requires among { IsAmong (length wires.old.traffic.links) home.old }
-    requires sender { IsBelow from (length wires.old.traffic.links) }
+    requires flags { NamesBelow (length home.old.sharers) home.old }
+    requires links { NamesBelow (length wires.old.traffic.links) home.old }
+    requires sender_flag { IsBelow from (length home.old.sharers) }
+    requires sender_link { IsBelow from (length wires.old.traffic.links) }
     requires room { HasRoomFor (home_messages from value actions.now home.old) wires.old.room }
     ensures home { home.new ≡ home_moved from value actions.now home.old }
+    ensures flags { length home.new.sharers ≡ length home.old.sharers }
+    ensures named { (caches : ℕ) → NamesBelow caches home.old → IsBelow from caches → NamesBelow caches home.new }
     ensures traffic { wires.new.traffic ≡ all_sent (home_messages from value actions.now home.old) wires.old.traffic }
 {
     for action in actions {
@@ -170,8 +176,10 @@ fn perform(
     value: Option<u64>,
     wires: &mut Wires,
 )
-    requires among { IsAmong (length wires.old.traffic.links) home.old }
-    requires sender { IsBelow from (length wires.old.traffic.links) }
+    requires flags { NamesBelow (length home.old.sharers) home.old }
+    requires links { NamesBelow (length wires.old.traffic.links) home.old }
+    requires sender_flag { IsBelow from (length home.old.sharers) }
+    requires sender_link { IsBelow from (length wires.old.traffic.links) }
     requires room { HasRoomFor (home_message from action home.old) wires.old.room }
     ensures home { home.new ≡ home_changed from value action home.old }
     ensures traffic { wires.new.traffic ≡ all_sent (home_message from action home.old) wires.old.traffic }
@@ -185,7 +193,7 @@ fn perform(
 
 /// Lets an input act at a home, where there is room for what it sends. It takes no memory.
 ///
-/// Each cache that the home or the input names is one of those that the home and its wires have.
+/// Each cache that the home or the input names has a flag at the home and a link.
 pub fn home_perform(
     home: &mut Home,
     input: HomeInput,
@@ -193,13 +201,17 @@ pub fn home_perform(
     actions: DirectoryActions,
     wires: &mut Wires,
 )
-    requires among { IsAmong (length wires.old.traffic.links) home.old }
-    requires sender { IsBelow (sender_of input) (length wires.old.traffic.links) }
+    requires flags { NamesBelow (length home.old.sharers) home.old }
+    requires links { NamesBelow (length wires.old.traffic.links) home.old }
+    requires sender_flag { IsBelow (sender_of input) (length home.old.sharers) }
+    requires sender_link { IsBelow (sender_of input) (length wires.old.traffic.links) }
     requires room { HasRoomFor (home_sends input actions home.old) wires.old.room }
     ensures home { home.new ≡ home_after input next actions home.old }
     ensures traffic { wires.new.traffic ≡ all_sent (home_sends input actions home.old) wires.old.traffic }
-    ensures among { IsAmong (length wires.new.traffic.links) home.new }
-    ensures links { length wires.new.traffic.links ≡ length wires.old.traffic.links }
+    ensures flags { NamesBelow (length home.new.sharers) home.new }
+    ensures links { NamesBelow (length wires.new.traffic.links) home.new }
+    ensures flag_count { length home.new.sharers ≡ length home.old.sharers }
+    ensures link_count { length wires.new.traffic.links ≡ length wires.old.traffic.links }
 {
     perform_all(
         home,
@@ -213,7 +225,7 @@ pub fn home_perform(
 
 /// Lets an input act at a home, by the next state and the actions of its cell.
 ///
-/// Each cache that the home or the input names is one of those that the home and its wires have.
+/// Each cache that the home or the input names has a flag at the home and a link.
 /// Where memory is refused nothing has changed.
 pub fn home_act(
     home: &mut Home,
@@ -222,15 +234,19 @@ pub fn home_act(
     actions: DirectoryActions,
     wires: &mut Wires,
 ) -> Result<(), NoMemory>
-    requires among { IsAmong (length wires.old.traffic.links) home.old }
-    requires sender { IsBelow (sender_of input) (length wires.old.traffic.links) }
+    requires flags { NamesBelow (length home.old.sharers) home.old }
+    requires links { NamesBelow (length wires.old.traffic.links) home.old }
+    requires sender_flag { IsBelow (sender_of input) (length home.old.sharers) }
+    requires sender_link { IsBelow (sender_of input) (length wires.old.traffic.links) }
     ensures home { OnOk result (home.new ≡ home_after input next actions home.old) }
     ensures traffic { OnOk result (wires.new.traffic ≡ all_sent (home_sends input actions home.old) wires.old.traffic) }
     ensures succeeds { HasRoomFor (home_sends input actions home.old) wires.old.room → IsOk result }
     ensures home_kept { OnErr result (home.new ≡ home.old) }
     ensures traffic_kept { OnErr result (wires.new.traffic ≡ wires.old.traffic) }
-    ensures among { IsAmong (length wires.new.traffic.links) home.new }
-    ensures links { length wires.new.traffic.links ≡ length wires.old.traffic.links }
+    ensures flags { NamesBelow (length home.new.sharers) home.new }
+    ensures links { NamesBelow (length wires.new.traffic.links) home.new }
+    ensures flag_count { length home.new.sharers ≡ length home.old.sharers }
+    ensures link_count { length wires.new.traffic.links ≡ length wires.old.traffic.links }
 {
     home_reserve(home, input, actions, wires)?;
     home_perform(home, input, next, actions, wires);

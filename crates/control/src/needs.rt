@@ -1,6 +1,6 @@
-ghost use Rattle.std.specs.Prelude.{◌≡◌, ◌≤◌, length};
+ghost use Rattle.std.specs.Prelude.{◌≡◌, ◌≤◌, ℕ, length};
 ghost use Rattle.base.specs.declared.ids.CacheId.{CacheId};
-ghost use Rattle.network.specs.Room.{requests_in, responses_in};
+ghost use Rattle.network.specs.Room.{requests_in, forwards_in, responses_in};
 ghost use Rattle.control.specs.declared.line.Line.{Line};
 ghost use Rattle.control.specs.LineEffect.{requestor_of, line_sends};
 ghost use Rattle.control.specs.inner.Counting.{requests_by, responses_by};
@@ -32,11 +32,12 @@ pub(crate) fn requestor(input: LineInput) -> Option<CacheId>
     }
 }
 
-/// How many requests and responses the actions send where this input acts at a line.
+/// How many requests and responses the actions send where this input acts at a line. They send no forwards.
 ///
 /// So much is to be reserved before a `line_act`, whichever cache and line it is.
 pub fn line_needs(input: LineInput, actions: CacheActions) -> Needs
     ensures requests { (cache : CacheId) (line : Line) → requests_in (line_sends cache input actions line) ≡ result.requests }
+    ensures links { (cache : CacheId) (line : Line) (link : ℕ) → forwards_in link (line_sends cache input actions line) ≡ 0 }
     ensures responses { (cache : CacheId) (line : Line) → responses_in (line_sends cache input actions line) ≡ result.responses }
 {
     count(actions.as_slice(), requestor(input))

@@ -33,6 +33,13 @@ forwards_in cache (message.Request r ∷ ms) = forwards_in cache ms
 forwards_in cache (message.Forward to f ∷ ms) = one_if (to.0 == cache) + forwards_in cache ms
 forwards_in cache (message.Response r ∷ ms) = forwards_in cache ms
 
+-- how many of them go on links
+abbrev pub forward_count : List Message → ℕ
+forward_count [] = 0
+forward_count (message.Request r ∷ ms) = forward_count ms
+forward_count (message.Forward to f ∷ ms) = 1 + forward_count ms
+forward_count (message.Response r ∷ ms) = forward_count ms
+
 -- how many of them are responses
 abbrev pub responses_in : List Message → ℕ
 responses_in [] = 0

@@ -1,7 +1,8 @@
-ghost use Rattle.std.specs.Prelude.{◌≡◌};
+ghost use Rattle.std.specs.Prelude.{◌≡◌, length};
+ghost use Rattle.control.specs.HomeEffect.{sender_of, IsBelow, NamesBelow};
 
 use crate::asserting::same;
-use base::{Ask, CacheId, Place};
+use base::{Ask, CacheId, NoMemory, Place};
 use cache_table::{CacheAction, CacheActions, CacheEvent, CacheState};
 use control::{
     Completion, Home, HomeInput, Line, LineInput, Needs, home_act, home_event, home_needs,
@@ -28,6 +29,44 @@ fn request(kind: RequestKind, from: CacheId) -> HomeInput
     ensures { result ≡ HomeInput.Request (record { kind = kind; from = from }) }
 {
     HomeInput::Request(Request { kind, from })
+}
+
+/// Reserves what an act at a line needs, and acts. By the contracts of the calls the act can't fail.
+fn line_act_as_needed(
+    line: &mut Line,
+    input: LineInput,
+    next: CacheState,
+    actions: CacheActions,
+    wires: &mut Wires,
+) -> Result<Option<Completion>, NoMemory> {
+    let needs = line_needs(input, actions);
+    wires.reserve(needs.requests, &[], needs.responses)?;
+    match line_act(line, FIRST, input, next, actions, wires) {
+        Ok(done) => Ok(done),
+        Err(_) => unreachable!(),
+    }
+}
+
+/// The same at a home, with a list that is lent.
+fn home_act_as_needed(
+    home: &mut Home,
+    input: HomeInput,
+    next: DirectoryState,
+    actions: DirectoryActions,
+    wires: &mut Wires,
+    links: &mut Vec<CacheId>,
+) -> Result<(), NoMemory>
+    requires flags { NamesBelow (length home.old.sharers) home.old }
+    requires links { NamesBelow (length wires.old.traffic.links) home.old }
+    requires sender_flag { IsBelow (sender_of input) (length home.old.sharers) }
+    requires sender_link { IsBelow (sender_of input) (length wires.old.traffic.links) }
+{
+    let needs = home_needs(home, input, actions, links)?;
+    wires.reserve(needs.requests, links.as_slice(), needs.responses)?;
+    if let Err(_) = home_act(home, input, next, actions, wires) {
+        unreachable!();
+    }
+    Ok(())
 }
 
 #[test]
@@ -75,7 +114,7 @@ fn a_store_waits_for_its_data(rt: HostRuntime) -> Result<(), Fail> {
         },
     );
     line_reserve(ask, getm, &mut wires)?;
-    let sent = line_act(&mut line, FIRST, ask, CacheState::ImAd, getm, &mut wires)?;
+    let sent = line_act_as_needed(&mut line, ask, CacheState::ImAd, getm, &mut wires)?;
     same(&rt, &sent, &None);
     same(&rt, &line.pending, &Some(Ask::Store(7)));
     same(
@@ -184,7 +223,8 @@ fn a_sharer_is_invalidated(rt: HostRuntime) -> Result<(), Fail> {
 #[test]
 fn links_that_an_act_needs(rt: HostRuntime) -> Result<(), Fail> {
     let alloc = rt.alloc();
-    let home = Home::open(alloc, 2, 5)?;
+    let mut wires = Wires::open(alloc, 2)?;
+    let mut home = Home::open(alloc, 2, 5)?;
     let mut links = Vec::new(alloc);
     let put = request(RequestKind::PutS, SECOND);
     let twice = DirectoryActions::none()
@@ -201,5 +241,12 @@ fn links_that_an_act_needs(rt: HostRuntime) -> Result<(), Fail> {
         },
     );
     same(&rt, &links.as_slice(), &[SECOND, SECOND].as_slice());
+    let next = DirectoryState::I;
+    home_act_as_needed(&mut home, put, next, twice, &mut wires, &mut links)?;
+    let put_ack = Forward {
+        kind: ForwardKind::PutAck,
+        requestor: SECOND,
+    };
+    same(&rt, &wires.head(SECOND), &Some(put_ack));
     Ok(())
 }

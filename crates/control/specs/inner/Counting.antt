@@ -1,6 +1,7 @@
-use Rattle.std.specs.Prelude.{◌≡◌, ◌<◌, ◌≤◌, ℕ, ◌+◌, length, slice_index, List, [], ◌∷◌, Option, Some, None, Bool, false, not, ◌&&◌, ◌||◌, ◌==◌}
+use Rattle.std.specs.Prelude.{◌<◌, ◌≤◌, ℕ, zero, suc, ◌+◌, length, slice_index, List, [], ◌∷◌, ◌++◌, replicate, Option, Some, None, Bool, false}
+use Rattle.std.specs.Prelude.{not, ◌&&◌, ◌||◌, ◌==◌, nat_lt, if◌then◌else◌}
 use Rattle.base.specs.declared.ids.CacheId.{CacheId}
-use Rattle.network.specs.Room.{Room, one_if, times}
+use Rattle.network.specs.Room.{Room, one_if}
 use Rattle.cache_table.specs.declared.actions.CacheAction.{CacheAction}
 use Rattle.cache_table.specs.declared.actions.CacheAction.TheVariants as cache_action
 use Rattle.directory_table.specs.declared.actions.DirectoryAction.{DirectoryAction}
@@ -61,7 +62,7 @@ owner_left from action.ClearOwner owner = None
 owner_left from action.SetOwner owner = Some from
 owner_left from other owner = owner
 
--- whether a cache is a sharer after an action
+-- whether a cache that has a flag is a sharer after an action
 abbrev pub sharer_left : CacheId → CacheId → Option CacheId → DirectoryAction → Bool → Bool
 sharer_left cache from owner action.AddReq sharer = (from.0 == cache.0) || sharer
 sharer_left cache from owner action.RemoveReq sharer = not (from.0 == cache.0) && sharer
@@ -69,17 +70,51 @@ sharer_left cache from owner action.AddOwner sharer = owns owner cache || sharer
 sharer_left cache from owner action.ClearSharers sharer = false
 sharer_left cache from owner other sharer = sharer
 
--- how many messages the actions of a home put on the link to a cache
-abbrev pub forwards_by : CacheId → CacheId → Option CacheId → Bool → List DirectoryAction → ℕ
-forwards_by cache from owner sharer [] = 0
-forwards_by cache from owner sharer (a ∷ actions) =
-    one_if (is_sent_to cache from owner sharer a) + forwards_by cache from (owner_left from a owner) (sharer_left cache from owner a sharer) actions
+-- how many messages the actions of a home put on the link to a cache, which has a flag or not, and is a sharer or not
+abbrev pub forwards_by : Bool → CacheId → CacheId → Option CacheId → Bool → List DirectoryAction → ℕ
+forwards_by flagged cache from owner sharer [] = 0
+forwards_by flagged cache from owner sharer (a ∷ actions) =
+    one_if (is_sent_to cache from owner sharer a)
+    + forwards_by flagged cache from (owner_left from a owner) (flagged && sharer_left cache from owner a sharer) actions
+
+-- the same for a cache at a home
+abbrev pub forwards_to : CacheId → CacheId → List DirectoryAction → Home → ℕ
+forwards_to cache from actions home = forwards_by (nat_lt cache.0 (length home.sharers)) cache from home.owner (shares home.sharers cache.0) actions
 
 -- there is room for so many responses, and on the link to each cache for so many messages
 pub record HasRoomToReply (from : CacheId) (actions : List DirectoryAction) (home : Home) (room : Room) : Type 0 where
   pub responses : replies_by actions ≤ room.responses
-  pub links : (k : ℕ) → k < length home.sharers → forwards_by (record { 0 = k }) from home.owner (shares home.sharers k) actions ≤ slice_index room.links k
+  pub links : (k : ℕ) → k < length home.sharers → forwards_to (record { 0 = k }) from actions home ≤ slice_index room.links k
 
--- each cache is listed as often as the actions put a message on its link
-pub record ListsLinks (from : CacheId) (actions : List DirectoryAction) (home : Home) (listed : List CacheId) : Type 0 where
-  pub each : (k : ℕ) → k < length home.sharers → forwards_by (record { 0 = k }) from home.owner (shares home.sharers k) actions ≡ times k listed
+-- the link to a cache, as often as the actions put a message on it
+abbrev pub links_to : CacheId → CacheId → List DirectoryAction → Home → List CacheId
+links_to cache from actions home = replicate (forwards_to cache from actions home) cache
+
+-- the same, if there is such a cache
+abbrev pub links_to_any : Option CacheId → CacheId → List DirectoryAction → Home → List CacheId
+links_to_any None from actions home = []
+links_to_any (Some cache) from actions home = links_to cache from actions home
+
+-- the same for each cache below a number
+abbrev pub links_below : ℕ → CacheId → List DirectoryAction → Home → List CacheId
+links_below zero from actions home = []
+links_below (suc n) from actions home = links_below n from actions home ++ links_to (record { 0 = n }) from actions home
+
+-- a cache for which the home has no flag
+abbrev pub unflagged : CacheId → Home → Option CacheId
+unflagged cache home = if nat_lt cache.0 (length home.sharers) then None else Some cache
+
+-- an owner without a flag
+abbrev pub unflagged_owner : Option CacheId → Home → Option CacheId
+unflagged_owner None home = None
+unflagged_owner (Some owner) home = unflagged owner home
+
+-- a sender without a flag that isn't the owner
+abbrev pub unflagged_sender : CacheId → Home → Option CacheId
+unflagged_sender from home = if owns home.owner from then None else unflagged from home
+
+-- the link of each message that the actions of a home send
+abbrev pub links_of : CacheId → List DirectoryAction → Home → List CacheId
+links_of from actions home =
+    links_below (length home.sharers) from actions home
+    ++ (links_to_any (unflagged_owner home.owner home) from actions home ++ links_to_any (unflagged_sender from home) from actions home)

@@ -1,4 +1,4 @@
-use Rattle.std.proofs.Common.{arith, length, Some}
+use Rattle.std.proofs.Common.{arith, Some}
 use Rattle.control.specs.HomeEffect.{value_in}
 use Rattle.control.proofs.HomeCounts.{nothing-sent, room-to-send, room-to-reply}
 use Rattle.control.proofs.home_room.home_reserve.Goals as goal
@@ -11,12 +11,13 @@ returns-in-Data-clause-ok c =
 pub returns-in_default-clause-ok : goal.returns-in_default-clause-ok
 returns-in_default-clause-ok c =
     rw c.in-Request.is
-    (room-to-send (length c.args.wires.now.traffic.links) c.in-Request.request.from (value_in c.in-Request.request.kind) c.args.actions c.args.home.now c.reserve_for.new.wires.room c.requires.among (rw c.in-Request.is at c.requires.sender)
+    (room-to-send c.in-Request.request.from (value_in c.in-Request.request.kind) c.args.actions c.args.home.now c.reserve_for.new.wires.room
+    c.requires.flags (rw c.in-Request.is at c.requires.sender_flag)
     (rw c.as_slice.ensures.actions at c.in_default.ensures.ok))
 
 pub returns-in-Err-clause-succeeds : goal.returns-in-Err-clause-succeeds
 returns-in-Err-clause-succeeds c has =
     c.in-Err.ensures.succeeds
     (rw c.as_slice.ensures.actions
-    (room-to-reply (length c.args.wires.now.traffic.links) c.in-Request.request.from (value_in c.in-Request.request.kind) c.args.actions c.args.home.now c.args.wires.now.room c.requires.among (rw c.in-Request.is at c.requires.sender)
+    (room-to-reply c.in-Request.request.from (value_in c.in-Request.request.kind) c.args.actions c.args.home.now c.args.wires.now.room
     (rw c.in-Request.is at has)))

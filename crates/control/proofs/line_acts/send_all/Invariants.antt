@@ -6,6 +6,7 @@ use Rattle.control.proofs.line_acts.send_all.Given as goal
 
 abbrev pub invariant-loop-action : goal.invariant-loop-action
 invariant-loop-action l = record {
-  traffic : all_sent (line_messages l.cache l.value l.to (drop l.action-index l.actions)) l.wires.traffic ≡ all_sent (line_messages l.cache l.value l.to l.actions) l.fn.wires.traffic;
+  traffic : all_sent (line_messages l.cache l.value l.to (drop l.action-index l.actions)) l.wires.traffic
+      ≡ all_sent (line_messages l.cache l.value l.to l.actions) l.fn.wires.traffic;
   room : HasRoomFor (line_messages l.cache l.value l.to (drop l.action-index l.actions)) l.wires.room;
 }

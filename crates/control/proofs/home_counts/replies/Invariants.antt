@@ -1,6 +1,6 @@
 use Rattle.std.proofs.Common.{◌≡◌, ◌≤◌, ◌+◌, drop}
 use Rattle.control.specs.inner.Counting.{replies_by}
-use Rattle.control.proofs.home_room.replies.Given as goal
+use Rattle.control.proofs.home_counts.replies.Given as goal
 
 abbrev pub invariant-loop-action : goal.invariant-loop-action
 invariant-loop-action l = record {
