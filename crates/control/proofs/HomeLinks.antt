@@ -46,6 +46,16 @@ below-within i (suc n) from actions home lt =
       | inr ne ↦ omega (arith, long, below-within i n from actions home (omega (arith, ne)))
     ]
 
+-- the list has the links below the flags, then those of an owner and a sender without a flag
+pub length-links_of : (from : CacheId) (actions : List DirectoryAction) (home : Home)
+    → length (links_of from actions home)
+    ≡ length (links_below (length home.sharers) from actions home)
+    + (length (links_to_any (unflagged_owner home.owner home) from actions home) + length (links_to_any (unflagged_sender from home) from actions home))
+length-links_of from actions home =
+    let owner : List CacheId = links_to_any (unflagged_owner home.owner home) from actions home in
+    let sender : List CacheId = links_to_any (unflagged_sender from home) from actions home in
+    omega (arith, length-append (links_below (length home.sharers) from actions home) (owner ++ sender), length-append owner sender)
+
 -- how often a cache is listed among the links of another, and of those below a number
 times-to : (k : ℕ) (c from : CacheId) (actions : List DirectoryAction) (home : Home)
     → times k (links_to c from actions home) ≡ (if c.0 == k then forwards_to (cache k) from actions home else 0)

@@ -1,4 +1,4 @@
-ghost use Rattle.std.specs.Prelude.{◌≡◌, length};
+ghost use Rattle.std.specs.Prelude.{◌≡◌, OnOk, length};
 ghost use Rattle.control.specs.HomeEffect.{sender_of, IsBelow, NamesBelow};
 
 use crate::asserting::same;
@@ -10,6 +10,7 @@ use control::{
 };
 use directory_table::{DirectoryAction, DirectoryActions, DirectoryEvent, DirectoryState};
 use network::{Forward, ForwardKind, Request, RequestKind, Response, Wires};
+use std::alloc::Global;
 use std::test::Fail;
 
 const FIRST: CacheId = CacheId(0);
@@ -47,21 +48,26 @@ fn line_act_as_needed(
     }
 }
 
-/// The same at a home, with a list that is lent.
+/// The same at a home.
 fn home_act_as_needed(
+    alloc: Global,
     home: &mut Home,
     input: HomeInput,
     next: DirectoryState,
     actions: DirectoryActions,
     wires: &mut Wires,
-    links: &mut Vec<CacheId>,
 ) -> Result<(), NoMemory>
     requires flags { NamesBelow (length home.old.sharers) home.old }
     requires links { NamesBelow (length wires.old.traffic.links) home.old }
     requires sender_flag { IsBelow (sender_of input) (length home.old.sharers) }
     requires sender_link { IsBelow (sender_of input) (length wires.old.traffic.links) }
+    ensures flags { OnOk result (NamesBelow (length home.new.sharers) home.new) }
+    ensures links { OnOk result (NamesBelow (length wires.new.traffic.links) home.new) }
+    ensures flag_count { OnOk result (length home.new.sharers ≡ length home.old.sharers) }
+    ensures link_count { OnOk result (length wires.new.traffic.links ≡ length wires.old.traffic.links) }
 {
-    let needs = home_needs(home, input, actions, links)?;
+    let mut links = Vec::new(alloc);
+    let needs = home_needs(home, input, actions, &mut links)?;
     wires.reserve(needs.requests, links.as_slice(), needs.responses)?;
     if let Err(_) = home_act(home, input, next, actions, wires) {
         unreachable!();
@@ -193,7 +199,8 @@ fn a_sharer_is_invalidated(rt: HostRuntime) -> Result<(), Fail> {
     let shares = DirectoryActions::none()
         .with(DirectoryAction::DataReq)
         .with(DirectoryAction::AddReq);
-    home_act(&mut home, gets, DirectoryState::S, shares, &mut wires)?;
+    let next = DirectoryState::S;
+    home_act_as_needed(alloc, &mut home, gets, next, shares, &mut wires)?;
     assert!(rt; home.sharers.contains(FIRST));
     let getm = request(RequestKind::GetM, SECOND);
     let owns = DirectoryActions::none()
@@ -223,10 +230,10 @@ fn a_sharer_is_invalidated(rt: HostRuntime) -> Result<(), Fail> {
 #[test]
 fn links_that_an_act_needs(rt: HostRuntime) -> Result<(), Fail> {
     let alloc = rt.alloc();
-    let mut wires = Wires::open(alloc, 2)?;
-    let mut home = Home::open(alloc, 2, 5)?;
+    let home = Home::open(alloc, 2, 5)?;
     let mut links = Vec::new(alloc);
-    let put = request(RequestKind::PutS, SECOND);
+    let unflagged = CacheId(7);
+    let put = request(RequestKind::PutS, unflagged);
     let twice = DirectoryActions::none()
         .with(DirectoryAction::PutAck)
         .with(DirectoryAction::DataReq)
@@ -240,13 +247,6 @@ fn links_that_an_act_needs(rt: HostRuntime) -> Result<(), Fail> {
             responses: 1,
         },
     );
-    same(&rt, &links.as_slice(), &[SECOND, SECOND].as_slice());
-    let next = DirectoryState::I;
-    home_act_as_needed(&mut home, put, next, twice, &mut wires, &mut links)?;
-    let put_ack = Forward {
-        kind: ForwardKind::PutAck,
-        requestor: SECOND,
-    };
-    same(&rt, &wires.head(SECOND), &Some(put_ack));
+    same(&rt, &links.as_slice(), &[unflagged, unflagged].as_slice());
     Ok(())
 }
