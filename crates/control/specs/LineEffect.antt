@@ -17,8 +17,8 @@ use Rattle.cache_table.specs.declared.state.CacheState.TheVariants as state
 use Rattle.control.specs.declared.line.Line.{Line}
 use Rattle.control.specs.declared.line.LineInput.{LineInput}
 use Rattle.control.specs.declared.line.LineInput.TheVariants as line_input
-use Rattle.control.specs.declared.line.Completion.{Completion}
-use Rattle.control.specs.declared.line.Completion.TheVariants as done
+use Rattle.control.specs.declared.line.LineCompletion.{LineCompletion}
+use Rattle.control.specs.declared.line.LineCompletion.TheVariants as done
 use Rattle.control.specs.Events.{more_acks}
 
 -- a line that nothing has happened to
@@ -85,41 +85,41 @@ is_writer state.M = true
 is_writer other = false
 
 -- the completion of an ask at a line, where the line's state allows it
-abbrev pub completed : Ask → Line → Option Completion
+abbrev pub completed : Ask → Line → Option LineCompletion
 completed ask.Load line = if is_reader line.state then Some (done.Load line.value) else None
 completed (ask.Store value) line = if is_writer line.state then Some (done.Store value) else None
 completed ask.Replace line = None
 
 -- the completion of the ask that waits, if one does
-abbrev pub pending_completed : Option Ask → Line → Option Completion
+abbrev pub pending_completed : Option Ask → Line → Option LineCompletion
 pending_completed None line = None
 pending_completed (Some a) line = completed a line
 
 -- what completes by an input at the line in its new state: the ask itself, or on a message the one that waits
-abbrev pub settled : LineInput → Line → Option Completion
+abbrev pub settled : LineInput → Line → Option LineCompletion
 settled (line_input.Ask a) line = completed a line
 settled (line_input.Forward f) line = pending_completed line.pending line
 settled (line_input.Response r) line = pending_completed line.pending line
 
 -- a completed store writes its value
-abbrev pub written : Completion → Line → Line
+abbrev pub written : LineCompletion → Line → Line
 written (done.Load value) line = line
 written (done.Store value) line = record line { value = value }
 
 -- an ask that completes leaves what waits alone; a load or store that doesn't complete waits from now on
-abbrev pub after_ask : Ask → Option Completion → Line → Line
+abbrev pub after_ask : Ask → Option LineCompletion → Line → Line
 after_ask a (Some completion) line = written completion line
 after_ask ask.Load None line = record line { pending = Some ask.Load }
 after_ask (ask.Store value) None line = record line { pending = Some (ask.Store value) }
 after_ask ask.Replace None line = line
 
 -- after a completion on a message nothing waits
-abbrev pub after_message : Option Completion → Line → Line
+abbrev pub after_message : Option LineCompletion → Line → Line
 after_message None line = line
 after_message (Some completion) line = record (written completion line) { pending = None }
 
 -- the line in its new state, after what completes
-abbrev pub after_settling : LineInput → Option Completion → Line → Line
+abbrev pub after_settling : LineInput → Option LineCompletion → Line → Line
 after_settling (line_input.Ask a) completion line = after_ask a completion line
 after_settling (line_input.Forward f) completion line = after_message completion line
 after_settling (line_input.Response r) completion line = after_message completion line
@@ -129,7 +129,7 @@ abbrev pub moved_on : LineInput → CacheState → Line → Line
 moved_on input next line = record (taken_in input line) { state = next }
 
 -- what completes where an input acts at a line
-abbrev pub line_completes : LineInput → CacheState → Line → Option Completion
+abbrev pub line_completes : LineInput → CacheState → Line → Option LineCompletion
 line_completes input next line = settled input (moved_on input next line)
 
 -- what the line becomes where an input acts at it

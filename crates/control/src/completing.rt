@@ -1,7 +1,7 @@
 ghost use Rattle.std.specs.Prelude.{◌≡◌, true, Some, None};
 ghost use Rattle.control.specs.LineEffect.{is_reader, is_writer, completed, settled, after_settling, taken_in, moved_on, line_completes};
 
-use crate::line::{Completion, Line, LineInput};
+use crate::line::{Line, LineCompletion, LineInput};
 use base::{Ask, Place};
 use cache_table::CacheState;
 use network::Response;
@@ -26,18 +26,18 @@ pub fn may_write(state: CacheState) -> bool
     }
 }
 
-fn complete(line: &Line, ask: Ask) -> Option<Completion>
+fn complete(line: &Line, ask: Ask) -> Option<LineCompletion>
     ensures { result ≡ completed ask line.now }
 {
     match ask {
         Ask::Load => {
             if may_read(line.state) {
-                return Some(Completion::Load(line.value));
+                return Some(LineCompletion::Load(line.value));
             }
         }
         Ask::Store(value) => {
             if may_write(line.state) {
-                return Some(Completion::Store(value));
+                return Some(LineCompletion::Store(value));
             }
         }
         Ask::Replace => {}
@@ -92,7 +92,7 @@ pub(crate) fn move_on(line: Line, input: LineInput, next: CacheState) -> Line
 }
 
 /// What completes by an input at a line in its new state.
-pub(crate) fn settle(line: &Line, input: LineInput) -> Option<Completion>
+pub(crate) fn settle(line: &Line, input: LineInput) -> Option<LineCompletion>
     ensures { result ≡ settled input line.now }
 {
     match input {
@@ -105,10 +105,10 @@ pub(crate) fn settle(line: &Line, input: LineInput) -> Option<Completion>
 }
 
 /// The line after what completes.
-pub(crate) fn finish(line: &mut Line, input: LineInput, done: Option<Completion>)
+pub(crate) fn finish(line: &mut Line, input: LineInput, done: Option<LineCompletion>)
     ensures { line.new ≡ after_settling input done line.old }
 {
-    if let Some(Completion::Store(value)) = done {
+    if let Some(LineCompletion::Store(value)) = done {
         line.value = value;
     }
     match input {
@@ -127,7 +127,7 @@ pub(crate) fn finish(line: &mut Line, input: LineInput, done: Option<Completion>
 }
 
 /// What would complete where an input acts at a line whose cell has this next state.
-pub fn line_completion(line: &Line, input: LineInput, next: CacheState) -> Option<Completion>
+pub fn line_completion(line: &Line, input: LineInput, next: CacheState) -> Option<LineCompletion>
     ensures { result ≡ line_completes input next line.now }
 {
     settle(&move_on(*line, input, next), input)

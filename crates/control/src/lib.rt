@@ -21,7 +21,7 @@ pub use home::{Home, HomeInput};
 pub use home_acts::{home_act, home_perform};
 pub use home_links::home_needs;
 pub use home_room::home_reserve;
-pub use line::{Completion, Line, LineInput};
+pub use line::{Line, LineCompletion, LineInput};
 pub use line_acts::{line_act, line_perform, line_reserve};
 pub use needs::{Needs, line_needs};
 pub use sharers::Sharers;

@@ -26,7 +26,7 @@ pub enum LineInput {
 
 /// A load or a store that is done, with the value that it returned or wrote.
 #[derive(Clone, Copy, Debug, PartialEq, Eq)]
-pub enum Completion {
+pub enum LineCompletion {
     Load(u64),
     Store(u64),
 }

@@ -6,7 +6,7 @@ ghost use Rattle.network.specs.Room.{HasRoomFor, UsesRoomFor};
 ghost use Rattle.control.specs.LineEffect.{line_message, line_messages, line_sends, line_after, line_completes};
 
 use crate::completing::{finish, move_on, settle};
-use crate::line::{Completion, Line, LineInput};
+use crate::line::{Line, LineCompletion, LineInput};
 use crate::needs::{line_needs, requestor};
 use base::{CacheId, NoMemory, Place};
 use cache_table::{CacheAction, CacheActions, CacheState};
@@ -93,7 +93,7 @@ pub fn line_perform(
     next: CacheState,
     actions: CacheActions,
     wires: &mut Wires,
-) -> Option<Completion>
+) -> Option<LineCompletion>
     requires { HasRoomFor (line_sends cache input actions line.old) wires.old.room }
     ensures done { result ≡ line_completes input next line.old }
     ensures line { line.new ≡ line_after input next line.old }
@@ -122,7 +122,7 @@ pub fn line_act(
     next: CacheState,
     actions: CacheActions,
     wires: &mut Wires,
-) -> Result<Option<Completion>, NoMemory>
+) -> Result<Option<LineCompletion>, NoMemory>
     ensures done { IfOk result (λ done. done ≡ line_completes input next line.old) }
     ensures line { OnOk result (line.new ≡ line_after input next line.old) }
     ensures traffic { OnOk result (wires.new.traffic ≡ all_sent (line_sends cache input actions line.old) wires.old.traffic) }

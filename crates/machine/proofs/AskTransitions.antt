@@ -38,7 +38,19 @@ seen-after input line next home w c =
       state = s.state;
       early = ap early_of s.acks;
       acks = ap late_of s.acks;
-      gets = refl; getm = refl; puts = refl; putm = refl; fwd_gets = refl; fwd_getm = refl; invs = refl; dir_data = refl; owner_data = refl; promised = refl; link = refl; shares = refl; owns = refl;
+      gets = refl;
+      getm = refl;
+      puts = refl;
+      putm = refl;
+      fwd_gets = refl;
+      fwd_getm = refl;
+      invs = refl;
+      dir_data = refl;
+      owner_data = refl;
+      promised = refl;
+      link = refl;
+      shares = refl;
+      owns = refl;
     })
 
 pub bounded-at : (n : ℕ) (b : BlockState) (c : ℕ) (line : Line) → Sound n b → Some line ≡ slice_get b.lines c → Bounded n (seen line b.home b.traffic c)

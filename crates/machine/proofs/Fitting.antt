@@ -26,7 +26,7 @@ use Rattle.machine.specs.declared.decision.Origin.{Origin}
 use Rattle.machine.specs.declared.decision.Origin.TheVariants as origin
 use Rattle.machine.specs.declared.decision.Decision.{Decision}
 use Rattle.machine.specs.Tables.{Tables}
-use Rattle.machine.specs.Block.{BlockState, IsWhole}
+use Rattle.machine.specs.Block.{BlockState, IsBlockAmong}
 use Rattle.machine.specs.Transition.{by_line_entry, by_home_entry, at_line, at_home, at_ask, at_request, at_forward, at_response, decision_of, is_idle, Fits, IsThere}
 use Rattle.machine.proofs.Senders.{AllFrom-get}
 
@@ -67,7 +67,7 @@ ask-fits : (cells : cache_table.Cells) (cache : CacheId) (ask : Ask) (found : Op
 ask-fits cells cache ask None b e = tt
 ask-fits cells cache ask (Some line) b e = if-fits (is_idle ask line.state) _ _ b tt (line-fits cells cache (line_input.Ask ask) origin.Core (Some line) b e tt)
 
-request-fits : (n : ℕ) (cells : directory_table.Cells) (index : ℕ) (r : Option Request) (b : BlockState) → r ≡ slice_get b.traffic.requests index → IsWhole n b → Fits (at_request cells index b.home r) b
+request-fits : (n : ℕ) (cells : directory_table.Cells) (index : ℕ) (r : Option Request) (b : BlockState) → r ≡ slice_get b.traffic.requests index → IsBlockAmong n b → Fits (at_request cells index b.home r) b
 request-fits n cells index None b e w = tt
 request-fits n cells index (Some r) b e w = home-fits cells (home_input.Request r) (origin.Request index) b (found r _ e) (rw w.lines (AllFrom-get n b.traffic.requests index r w.requests e))
 
@@ -82,7 +82,7 @@ response-fits tables index (Some (Data from (Cache to) value acks)) b e = line-f
 response-fits tables index (Some (InvAck from to)) b e = line-fits tables.cache to (line_input.Response (InvAck from to)) (origin.Response index) (slice_get b.lines to.0) b refl (found _ _ e)
 
 -- what a decision names is there
-pub decision-fits : (n : ℕ) (tables : Tables) (s : Step) (b : BlockState) → IsWhole n b → Fits (decision_of tables s b) b
+pub decision-fits : (n : ℕ) (tables : Tables) (s : Step) (b : BlockState) → IsBlockAmong n b → Fits (decision_of tables s b) b
 decision-fits n tables (step.Ask cache block ask) b w = ask-fits tables.cache cache ask (slice_get b.lines cache.0) b refl
 decision-fits n tables (step.Request block index) b w = request-fits n tables.directory index (slice_get b.traffic.requests index) b refl w
 decision-fits n tables (step.Forward block cache) b w = forward-fits tables.cache cache (slice_get (link b.traffic cache.0) 0) b refl

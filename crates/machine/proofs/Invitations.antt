@@ -128,7 +128,9 @@ invs-seen line home r flags w d h =
     let rs : (invs_from r 0 flags w).requests ≡ w.requests = invs-requests r 0 flags w in
     let xs : (invs_from r 0 flags w).responses ≡ w.responses = invs-responses r 0 flags w in
     same_view _ _ (record {
-      state = refl; early = refl; acks = refl;
+      state = refl;
+      early = refl;
+      acks = refl;
       gets = ap (λ l. sum_by (from d is_gets) l) rs;
       getm = ap (λ l. sum_by (from d is_getm) l) rs;
       puts = ap (λ l. sum_by (from d is_puts) l) rs;
@@ -140,5 +142,6 @@ invs-seen line home r flags w d h =
       owner_data = ap (λ l. sum_by (owner_data d) l) xs;
       promised = ap (λ l. sum_by (ack_number d) l) xs;
       link = ap (λ l. map (λ f. f.kind) l) (invs-link r 0 flags w d d (omega arith) (omega arith)) ∙ map-kinds (shares flags d && not (d == r.0)) r (link w d);
-      shares = refl; owns = refl;
+      shares = refl;
+      owns = refl;
     })

@@ -26,8 +26,8 @@ use Rattle.directory_table.specs.Table as directory_table
 use Rattle.control.specs.declared.line.Line.{Line}
 use Rattle.control.specs.declared.line.LineInput.{LineInput}
 use Rattle.control.specs.declared.line.LineInput.TheVariants as line_input
-use Rattle.control.specs.declared.line.Completion.{Completion}
-use Rattle.control.specs.declared.line.Completion.TheVariants as done
+use Rattle.control.specs.declared.line.LineCompletion.{LineCompletion}
+use Rattle.control.specs.declared.line.LineCompletion.TheVariants as done
 use Rattle.control.specs.declared.home.Home.{Home}
 use Rattle.control.specs.declared.home.HomeInput.{HomeInput}
 use Rattle.control.specs.declared.home.HomeInput.TheVariants as home_input
@@ -112,7 +112,7 @@ plain-left (origin.Request index) latest = refl
 plain-left (origin.Head cache) latest = refl
 plain-left (origin.Response index) latest = refl
 
-completion-left : (cache : CacheId) (from : Origin) (comes : Option Completion) (latest : ℕ) → latest_after comes latest ≡ left_by (outcome_of cache from comes) latest
+completion-left : (cache : CacheId) (from : Origin) (comes : Option LineCompletion) (latest : ℕ) → latest_after comes latest ≡ left_by (outcome_of cache from comes) latest
 completion-left cache from None latest = plain-left from latest
 completion-left cache from (Some (done.Load value)) latest = refl
 completion-left cache from (Some (done.Store value)) latest = refl

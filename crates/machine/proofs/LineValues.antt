@@ -23,8 +23,8 @@ use Rattle.cache_table.specs.Baseline.{baseline_entry}
 use Rattle.control.specs.declared.line.Line.{Line}
 use Rattle.control.specs.declared.line.LineInput.{LineInput}
 use Rattle.control.specs.declared.line.LineInput.TheVariants as line_input
-use Rattle.control.specs.declared.line.Completion.{Completion}
-use Rattle.control.specs.declared.line.Completion.TheVariants as done
+use Rattle.control.specs.declared.line.LineCompletion.{LineCompletion}
+use Rattle.control.specs.declared.line.LineCompletion.TheVariants as done
 use Rattle.control.specs.LineEffect.{line_messages, taken_in, requestor_of, moved_on, line_after, line_completes}
 use Rattle.control.specs.Events.{forward_event, event_at_line, is_count, more_acks}
 use Rattle.machine.specs.Block.{BlockState}
@@ -94,7 +94,7 @@ unstored b c line l next w v there e waits value wires =
     }
 
 -- a transition of a line keeps the latest value in its places
-line-valued : (n : ℕ) (b : BlockState) (c : ℕ) (line l : Line) (comp : Option Completion) (next : CacheState) (w : Traffic) → Sound n (line_block b c l w (latest_after comp b.latest)) → Valued b → Some line ≡ slice_get b.lines c → l.state ≡ next → Settles next b.latest l comp → WiresFit b c next w
+line-valued : (n : ℕ) (b : BlockState) (c : ℕ) (line l : Line) (comp : Option LineCompletion) (next : CacheState) (w : Traffic) → Sound n (line_block b c l w (latest_after comp b.latest)) → Valued b → Some line ≡ slice_get b.lines c → l.state ≡ next → Settles next b.latest l comp → WiresFit b c next w
     → Valued (line_block b c l w (latest_after comp b.latest))
 line-valued n b c line l None next w h v there e s wires = unstored b c line l next w v there e s.waits s.value wires
 line-valued n b c line l (Some (done.Load x)) next w h v there e s wires = unstored b c line l next w v there e s.waits s.value wires
@@ -105,7 +105,7 @@ line-valued n b c line l (Some (done.Store x)) next w h v there e s wires =
     (ap (λ (y : Line). y.value) at_c ∙ s.value (view_of b c) (subst (λ t. HasValue t (view_of b c)) (sym s.stored) zero_one))
     (waits-after b c line l next w x v there e s.waits)
 
-comp-fits : (cache : CacheId) (from : Origin) (comp : Option Completion) (latest : ℕ) → LoadFits latest comp → FitsLatest (plain_outcome from) latest latest → FitsLatest (outcome_of cache from comp) latest (latest_after comp latest)
+comp-fits : (cache : CacheId) (from : Origin) (comp : Option LineCompletion) (latest : ℕ) → LoadFits latest comp → FitsLatest (plain_outcome from) latest latest → FitsLatest (outcome_of cache from comp) latest (latest_after comp latest)
 comp-fits cache from None latest h o = o
 comp-fits cache from (Some (done.Load x)) latest h o = (h, refl)
 comp-fits cache from (Some (done.Store x)) latest h o = refl

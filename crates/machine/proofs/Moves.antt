@@ -37,8 +37,8 @@ use Rattle.directory_table.proofs.BaselineCells as directory_cells
 use Rattle.control.specs.declared.line.Line.{Line}
 use Rattle.control.specs.declared.line.LineInput.{LineInput}
 use Rattle.control.specs.declared.line.LineInput.TheVariants as line_input
-use Rattle.control.specs.declared.line.Completion.{Completion}
-use Rattle.control.specs.declared.line.Completion.TheVariants as done
+use Rattle.control.specs.declared.line.LineCompletion.{LineCompletion}
+use Rattle.control.specs.declared.line.LineCompletion.TheVariants as done
 use Rattle.control.specs.declared.home.HomeInput.TheVariants as home_input
 use Rattle.control.specs.Sharing.{is_sole}
 use Rattle.control.specs.Events.{event_at_line, forward_event, is_count, more_acks, event_at_home, owns}
@@ -71,7 +71,7 @@ pub record Moves (t : Transition) : Type 0 where
   pub whole : t.outcome ≢ outcome.Broken
   pub busy : t.outcome ≢ outcome.Idle
 
-completed : (cache : CacheId) (from : Origin) (c : Option Completion) → (outcome_of cache from c ≢ outcome.Held) × (outcome_of cache from c ≢ outcome.Absent) × (outcome_of cache from c ≢ outcome.Broken) × (outcome_of cache from c ≢ outcome.Idle)
+completed : (cache : CacheId) (from : Origin) (c : Option LineCompletion) → (outcome_of cache from c ≢ outcome.Held) × (outcome_of cache from c ≢ outcome.Absent) × (outcome_of cache from c ≢ outcome.Broken) × (outcome_of cache from c ≢ outcome.Idle)
 completed cache origin.Core None = (λ e. absurd (cc), λ e. absurd (cc), λ e. absurd (cc), λ e. absurd (cc))
 completed cache (origin.Request i) None = (λ e. absurd (cc), λ e. absurd (cc), λ e. absurd (cc), λ e. absurd (cc))
 completed cache (origin.Head c) None = (λ e. absurd (cc), λ e. absurd (cc), λ e. absurd (cc), λ e. absurd (cc))

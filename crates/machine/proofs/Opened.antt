@@ -37,11 +37,19 @@ opened-view : (n value c : ℕ) → view_of (opened_block n value) c ≡ idle_vi
 opened-view n value c =
     ap (λ (l : Line). seen l (opened_block n value).home (quiet n) c) (idle-line n c)
     ∙ same_view _ _ (record {
-      state = refl; early = refl; acks = refl; gets = refl; getm = refl; puts = refl; putm = refl;
+      state = refl;
+      early = refl;
+      acks = refl;
+      gets = refl;
+      getm = refl;
+      puts = refl;
+      putm = refl;
       fwd_gets = no-messages (names c is_fwd_gets) n;
       fwd_getm = no-messages (names c is_fwd_getm) n;
       invs = omega (arith, no-messages (names c is_inv) n);
-      dir_data = refl; owner_data = refl; promised = refl;
+      dir_data = refl;
+      owner_data = refl;
+      promised = refl;
       link = ap (λ l. map (λ f. f.kind) l) (linkless n c);
       shares = shares-cleared n c;
       owns = refl;

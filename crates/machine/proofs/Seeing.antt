@@ -30,45 +30,85 @@ named mine kind v = record v { fwd_gets = v.fwd_gets + only mine (is_fwd_gets ki
 pub request_sent-seen : (line : Line) (home : Home) (w : Traffic) (r : Request) (c : ℕ) → seen line home (request_sent r w) c ≡ request_added (r.from.0 == c) r.kind (seen line home w c)
 request_sent-seen line home w r c =
     same_view _ _ (record {
-      state = refl; early = refl; acks = refl;
+      state = refl;
+      early = refl;
+      acks = refl;
       gets = sum_by_push (from c is_gets) w.requests r;
       getm = sum_by_push (from c is_getm) w.requests r;
       puts = sum_by_push (from c is_puts) w.requests r;
       putm = sum_by_push (from c is_putm) w.requests r;
-      fwd_gets = refl; fwd_getm = refl; invs = refl; dir_data = refl; owner_data = refl; promised = refl; link = refl; shares = refl; owns = refl;
+      fwd_gets = refl;
+      fwd_getm = refl;
+      invs = refl;
+      dir_data = refl;
+      owner_data = refl;
+      promised = refl;
+      link = refl;
+      shares = refl;
+      owns = refl;
     })
 
 pub request_taken-seen : (line : Line) (home : Home) (w : Traffic) (i : ℕ) (r : Request) (c : ℕ) → Some r ≡ slice_get w.requests i → request_added (r.from.0 == c) r.kind (seen line home (request_taken i w) c) ≡ seen line home w c
 request_taken-seen line home w i r c e =
     same_view _ _ (record {
-      state = refl; early = refl; acks = refl;
+      state = refl;
+      early = refl;
+      acks = refl;
       gets = sum_by-remove (from c is_gets) w.requests i r e;
       getm = sum_by-remove (from c is_getm) w.requests i r e;
       puts = sum_by-remove (from c is_puts) w.requests i r e;
       putm = sum_by-remove (from c is_putm) w.requests i r e;
-      fwd_gets = refl; fwd_getm = refl; invs = refl; dir_data = refl; owner_data = refl; promised = refl; link = refl; shares = refl; owns = refl;
+      fwd_gets = refl;
+      fwd_getm = refl;
+      invs = refl;
+      dir_data = refl;
+      owner_data = refl;
+      promised = refl;
+      link = refl;
+      shares = refl;
+      owns = refl;
     })
 
 pub response_sent-seen : (line : Line) (home : Home) (w : Traffic) (x : Response) (c : ℕ) → seen line home (response_sent x w) c ≡ response_added c x (seen line home w c)
 response_sent-seen line home w x c =
     same_view _ _ (record {
-      state = refl; early = refl; acks = refl; gets = refl; getm = refl; puts = refl; putm = refl; fwd_gets = refl; fwd_getm = refl;
+      state = refl;
+      early = refl;
+      acks = refl;
+      gets = refl;
+      getm = refl;
+      puts = refl;
+      putm = refl;
+      fwd_gets = refl;
+      fwd_getm = refl;
       invs = omega (arith, sum_by_push (inv_ack c) w.responses x);
       dir_data = sum_by_push (dir_data c) w.responses x;
       owner_data = sum_by_push (owner_data c) w.responses x;
       promised = sum_by_push (ack_number c) w.responses x;
-      link = refl; shares = refl; owns = refl;
+      link = refl;
+      shares = refl;
+      owns = refl;
     })
 
 pub response_taken-seen : (line : Line) (home : Home) (w : Traffic) (i : ℕ) (x : Response) (c : ℕ) → Some x ≡ slice_get w.responses i → response_added c x (seen line home (response_taken i w) c) ≡ seen line home w c
 response_taken-seen line home w i x c e =
     same_view _ _ (record {
-      state = refl; early = refl; acks = refl; gets = refl; getm = refl; puts = refl; putm = refl; fwd_gets = refl; fwd_getm = refl;
+      state = refl;
+      early = refl;
+      acks = refl;
+      gets = refl;
+      getm = refl;
+      puts = refl;
+      putm = refl;
+      fwd_gets = refl;
+      fwd_getm = refl;
       invs = omega (arith, sum_by-remove (inv_ack c) w.responses i x e);
       dir_data = sum_by-remove (dir_data c) w.responses i x e;
       owner_data = sum_by-remove (owner_data c) w.responses i x e;
       promised = sum_by-remove (ack_number c) w.responses i x e;
-      link = refl; shares = refl; owns = refl;
+      link = refl;
+      shares = refl;
+      owns = refl;
     })
 
 -- a message is put on a link, if it is this one
@@ -91,13 +131,22 @@ pub forward_sent-seen : (line : Line) (home : Home) (w : Traffic) (k : ℕ) (m :
     → seen line home (forward_sent k m w) c ≡ named (m.requestor.0 == c) m.kind (record (seen line home w c) { link = pushed (k == c) m.kind (seen line home w c).link })
 forward_sent-seen line home w k m c h =
     same_view _ _ (record {
-      state = refl; early = refl; acks = refl; gets = refl; getm = refl; puts = refl; putm = refl;
+      state = refl;
+      early = refl;
+      acks = refl;
+      gets = refl;
+      getm = refl;
+      puts = refl;
+      putm = refl;
       fwd_gets = forward_sent-total (names c is_fwd_gets) w k m h;
       fwd_getm = forward_sent-total (names c is_fwd_getm) w k m h;
       invs = omega (arith, forward_sent-total (names c is_inv) w k m h);
-      dir_data = refl; owner_data = refl; promised = refl;
+      dir_data = refl;
+      owner_data = refl;
+      promised = refl;
       link = link-pushed w k m c h;
-      shares = refl; owns = refl;
+      shares = refl;
+      owns = refl;
     })
 
 -- a link begins with what is taken
@@ -121,11 +170,20 @@ pub head_taken-seen : (line : Line) (home : Home) (w : Traffic) (k : ℕ) (m : F
     → named (m.requestor.0 == c) m.kind (record (seen line home (head_taken k w) c) { link = headed (k == c) m.kind (seen line home (head_taken k w) c).link }) ≡ seen line home w c
 head_taken-seen line home w k m c h =
     same_view _ _ (record {
-      state = refl; early = refl; acks = refl; gets = refl; getm = refl; puts = refl; putm = refl;
+      state = refl;
+      early = refl;
+      acks = refl;
+      gets = refl;
+      getm = refl;
+      puts = refl;
+      putm = refl;
       fwd_gets = head_taken-total (names c is_fwd_gets) w k m h;
       fwd_getm = head_taken-total (names c is_fwd_getm) w k m h;
       invs = omega (arith, head_taken-total (names c is_inv) w k m h);
-      dir_data = refl; owner_data = refl; promised = refl;
+      dir_data = refl;
+      owner_data = refl;
+      promised = refl;
       link = link-headed w k m c h;
-      shares = refl; owns = refl;
+      shares = refl;
+      owns = refl;
     })

@@ -13,8 +13,8 @@ use Rattle.cache_table.specs.declared.entry.CacheEntry.TheVariants.{Blank, Stall
 use Rattle.cache_table.specs.Baseline.{baseline_entry}
 use Rattle.control.specs.declared.line.Line.{Line}
 use Rattle.control.specs.declared.line.LineInput.{LineInput}
-use Rattle.control.specs.declared.line.Completion.{Completion}
-use Rattle.control.specs.declared.line.Completion.TheVariants as done
+use Rattle.control.specs.declared.line.LineCompletion.{LineCompletion}
+use Rattle.control.specs.declared.line.LineCompletion.TheVariants as done
 use Rattle.control.specs.LineEffect.{settled, pending_completed, after_settling, after_message}
 use Rattle.machine.proofs.Truths.{Always, Never}
 use Rattle.machine.specs.Transition.{latest_after}
@@ -39,17 +39,17 @@ Waits SmA p = (x : ℕ) × (p ≡ Some (ask.Store x))
 Waits other p = p ≡ None
 
 -- a load gives the latest value
-abbrev pub LoadFits : ℕ → Option Completion → Type 0
+abbrev pub LoadFits : ℕ → Option LineCompletion → Type 0
 LoadFits latest (Some (done.Load x)) = x ≡ latest
 LoadFits latest other = Unit {0}
 
 -- a store completes in M alone
-abbrev pub StoredIn : CacheState → Option Completion → Type 0
+abbrev pub StoredIn : CacheState → Option LineCompletion → Type 0
 StoredIn next (Some (done.Store x)) = next ≡ M
 StoredIn next other = Unit {0}
 
 -- what a line and its completion are once an input has acted
-pub record Settles (next : CacheState) (latest : ℕ) (line : Line) (completion : Option Completion) : Type 0 where
+pub record Settles (next : CacheState) (latest : ℕ) (line : Line) (completion : Option LineCompletion) : Type 0 where
   pub waits : Waits next line.pending
   pub fits : LoadFits latest completion
   pub stored : StoredIn next completion

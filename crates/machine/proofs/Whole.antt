@@ -16,7 +16,7 @@ use Rattle.machine.specs.declared.decision.Origin.{Origin}
 use Rattle.machine.specs.declared.decision.Origin.TheVariants as origin
 use Rattle.machine.specs.declared.decision.Decision.{Decision}
 use Rattle.machine.specs.declared.decision.Decision.TheVariants.{Refused, AtLine, AtHome}
-use Rattle.machine.specs.Block.{BlockState, AllFrom, IsWhole}
+use Rattle.machine.specs.Block.{BlockState, AllFrom, IsBlockAmong}
 use Rattle.machine.specs.Transition.{without, carried_out, Fits}
 use Rattle.machine.proofs.Senders.{AllFrom-remove, AllFrom-all_sent, line-requests, home-requests}
 
@@ -34,7 +34,7 @@ AllFrom-without n (origin.Head c) w h = h
 AllFrom-without n (origin.Response i) w h = h
 
 -- a block stays whole where a line acts
-pub whole-at_line : (n : ℕ) (cache : CacheId) (line after : Line) (input : LineInput) (actions : List CacheAction) (from : Origin) (b new : BlockState) → IsWhole n b → cache.0 < n → new.lines ≡ slice_set b.lines cache.0 after → new.home ≡ b.home → new.traffic ≡ all_sent (line_sends cache input actions line) (without from b.traffic) → IsWhole n new
+pub whole-at_line : (n : ℕ) (cache : CacheId) (line after : Line) (input : LineInput) (actions : List CacheAction) (from : Origin) (b new : BlockState) → IsBlockAmong n b → cache.0 < n → new.lines ≡ slice_set b.lines cache.0 after → new.home ≡ b.home → new.traffic ≡ all_sent (line_sends cache input actions line) (without from b.traffic) → IsBlockAmong n new
 whole-at_line n cache line after input actions from b new h l lines home traffic = record {
   lines = ap length lines ∙ length-set b.lines cache.0 after ∙ h.lines;
   links = ap (λ (w : Traffic). length w.links) traffic ∙ links-all_sent (line_sends cache input actions line) (without from b.traffic) ∙ links-without from b.traffic ∙ h.links;
@@ -43,7 +43,7 @@ whole-at_line n cache line after input actions from b new h l lines home traffic
 }
 
 -- and where its home does
-pub whole-at_home : (n : ℕ) (input : HomeInput) (next : DirectoryState) (actions : List DirectoryAction) (from : Origin) (b new : BlockState) → IsWhole n b → IsBelow (sender_of input) n → new.lines ≡ b.lines → new.home ≡ home_after input next actions b.home → new.traffic ≡ all_sent (home_sends input actions b.home) (without from b.traffic) → IsWhole n new
+pub whole-at_home : (n : ℕ) (input : HomeInput) (next : DirectoryState) (actions : List DirectoryAction) (from : Origin) (b new : BlockState) → IsBlockAmong n b → IsBelow (sender_of input) n → new.lines ≡ b.lines → new.home ≡ home_after input next actions b.home → new.traffic ≡ all_sent (home_sends input actions b.home) (without from b.traffic) → IsBlockAmong n new
 whole-at_home n input next actions from b new h l lines home traffic =
     record {
       lines = ap length lines ∙ h.lines;
@@ -53,7 +53,7 @@ whole-at_home n input next actions from b new h l lines home traffic =
     }
 
 -- a block stays whole whatever is decided
-pub whole-carried_out : (n : ℕ) (d : Decision) (b : BlockState) → IsWhole n b → Fits d b → IsWhole n (carried_out d b).block
+pub whole-carried_out : (n : ℕ) (d : Decision) (b : BlockState) → IsBlockAmong n b → Fits d b → IsBlockAmong n (carried_out d b).block
 whole-carried_out n (Refused what) b h f = h
 whole-carried_out n (AtLine cache line input next actions from) b h f = whole-at_line n cache line (line_after input next line) input actions from b (carried_out (AtLine cache line input next actions from) b).block h (omega (arith, f.0, h.lines)) refl refl refl
 whole-carried_out n (AtHome input next actions from) b h f = whole-at_home n input next actions from b (carried_out (AtHome input next actions from) b).block h (rw h.lines at f.1) refl refl refl

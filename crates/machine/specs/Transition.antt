@@ -24,8 +24,8 @@ use Rattle.directory_table.specs.Table as directory_table
 use Rattle.control.specs.declared.line.Line.{Line}
 use Rattle.control.specs.declared.line.LineInput.{LineInput}
 use Rattle.control.specs.declared.line.LineInput.TheVariants as line_input
-use Rattle.control.specs.declared.line.Completion.{Completion}
-use Rattle.control.specs.declared.line.Completion.TheVariants as done
+use Rattle.control.specs.declared.line.LineCompletion.{LineCompletion}
+use Rattle.control.specs.declared.line.LineCompletion.TheVariants as done
 use Rattle.control.specs.declared.home.Home.{Home}
 use Rattle.control.specs.declared.home.HomeInput.{HomeInput}
 use Rattle.control.specs.declared.home.HomeInput.TheVariants as home_input
@@ -109,13 +109,13 @@ plain_outcome origin.Core = outcome.Sent
 plain_outcome other = outcome.Moved
 
 -- the outcome is the completion, if there is one
-abbrev pub outcome_of : CacheId → Origin → Option Completion → Outcome
+abbrev pub outcome_of : CacheId → Origin → Option LineCompletion → Outcome
 outcome_of cache from None = plain_outcome from
 outcome_of cache from (Some (done.Load value)) = outcome.Load cache value
 outcome_of cache from (Some (done.Store value)) = outcome.Store cache value
 
 -- a completed store is the last one
-abbrev pub latest_after : Option Completion → ℕ → ℕ
+abbrev pub latest_after : Option LineCompletion → ℕ → ℕ
 latest_after None latest = latest
 latest_after (Some (done.Load value)) latest = latest
 latest_after (Some (done.Store value)) latest = value

@@ -83,7 +83,7 @@ SecondWriterIsUnsafe = IsUnsafe
 abbrev pub DroppedValueIsUnsafe : Type 0
 DroppedValueIsUnsafe = IsUnsafe
     (with_directory_cell directory_state.M directory_event.PutMOwner
-        (directory_entry.Act directory_state.I (directory_action.ClearOwner ∷ directory_action.PutAck ∷ [])))
+    (directory_entry.Act directory_state.I (directory_action.ClearOwner ∷ directory_action.PutAck ∷ [])))
     (store 0 7 ∷ request 0 ∷ response 0 ∷ replace 0 ∷ request 0 ∷ load 1 ∷ request 0 ∷ response 0 ∷ [])
 
 -- the directory has no rule for a PutM that comes too late

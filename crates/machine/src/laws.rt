@@ -9,7 +9,7 @@ ghost use Rattle.machine.specs.Coherence.{Safe};
 ghost use Rattle.machine.specs.Unstuck.{Unstuck};
 ghost use Rattle.machine.specs.CoherenceRows.{StoreThenLoad, StaleLoadIsRefused, EarlyLoadIsRefused, OneWriterOrManyReaders};
 ghost use Rattle.machine.specs.WrongTables.{HastyReaderIsUnsafe, HastyLoadIsUnsafe, BlankCacheIsUnsafe, HastyWriterIsUnsafe, SecondWriterIsUnsafe, DroppedValueIsUnsafe, BlankDirectoryIsUnsafe, DeafSharerIsStuck};
-ghost use Rattle.machine.specs.Block.{BlockState, IsWhole};
+ghost use Rattle.machine.specs.Block.{BlockState, IsBlockAmong};
 ghost use Rattle.machine.specs.Transition.{decision_of, decided_outcome, messages_of, transition};
 ghost use Rattle.machine.specs.Machine.{State, IsRefusal, next, opened, after, sent_by};
 ghost use Rattle.machine.specs.Rows.{NothingHappens, LoadFromMemory, LoadFromOwner, HeldForward, EarlyAck};
@@ -30,7 +30,7 @@ pub fn outcome_is_the_decisions()
 
 /// A block stays whole: it keeps a line and a link for each cache, and nobody else is named in it.
 pub fn blocks_stay_whole()
-    ensures { (caches : ℕ) (tables : Tables) (step : Step) (block : BlockState) → IsWhole caches block → IsWhole caches (transition tables step block).block }
+    ensures { (caches : ℕ) (tables : Tables) (step : Step) (block : BlockState) → IsBlockAmong caches block → IsBlockAmong caches (transition tables step block).block }
 {}
 
 /// A step that is held, absent, idle, blank or made in a broken world sends nothing.

@@ -15,8 +15,8 @@ use Rattle.network.specs.Traffic.{link}
 use Rattle.control.specs.declared.line.Line.{Line}
 use Rattle.control.specs.declared.line.LineInput.{LineInput}
 use Rattle.control.specs.declared.line.LineInput.TheVariants as line_input
-use Rattle.control.specs.declared.line.Completion.{Completion}
-use Rattle.control.specs.declared.line.Completion.TheVariants as done
+use Rattle.control.specs.declared.line.LineCompletion.{LineCompletion}
+use Rattle.control.specs.declared.line.LineCompletion.TheVariants as done
 use Rattle.control.specs.LineEffect.{line_completes}
 use Rattle.cache_table.specs.Table as cache_table
 use Rattle.machine.specs.declared.decision.Origin.{Origin}
@@ -30,7 +30,7 @@ use Rattle.machine.specs.Machine.{State, Next, next, next_at}
 use Rattle.world.specs.Looks.{cache_place, forward_place, place_at, place_in, request_place, response_place}
 
 -- where a cell acts the outcome isn't blank
-acts-blank : (cache : CacheId) (from : Origin) (what : Option Completion) → ¬ (outcome_of cache from what ≡ outcome.Blank)
+acts-blank : (cache : CacheId) (from : Origin) (what : Option LineCompletion) → ¬ (outcome_of cache from what ≡ outcome.Blank)
 acts-blank cache origin.Core None e = cc
 acts-blank cache (origin.Request index) None e = cc
 acts-blank cache (origin.Head head) None e = cc

@@ -278,7 +278,13 @@ fn bad_words_and_help(rt: HostRuntime) -> Result<(), Fail> {
         assert!(rt; served.errors.is_empty());
     }
     let version = format!(in alloc; "msi {VERSION}\n")?;
-    expect(&rt, &run(alloc, "msi --version", "")?, 0, version.as_str(), "");
+    expect(
+        &rt,
+        &run(alloc, "msi --version", "")?,
+        0,
+        version.as_str(),
+        "",
+    );
     Ok(())
 }
 

@@ -2,27 +2,27 @@ use Rattle.std.proofs.Common.{◌≡◌, ◌≢◌, ◌≤◌, ◌+◌, ℕ, ◌
 use Rattle.std.proofs.lemmas.Bool.{cases_eq}
 use Rattle.std.proofs.lemmas.List.{map-set, map-append, take_more, length-map, get_or-set_same, get_or-set_other}
 use Rattle.std.proofs.Math.Seq.{map-set_same}
-use Rattle.network.specs.Links.{KeepsRoom, UsesOnePlace, messages_of, spare, spares}
+use Rattle.network.specs.Links.{KeepsRoom, UsesOnePlace, forwards_on, spare, spares}
 use Rattle.network.specs.declared.message.Forward.{Forward}
 
 -- the messages of a link that is there
-pub messages-at : (vs : List (Vec Forward Global)) (i : ℕ) (d : Vec Forward Global) → i < length vs → get_or (messages_of vs) i [] ≡ (get_or vs i d).items
+pub messages-at : (vs : List (Vec Forward Global)) (i : ℕ) (d : Vec Forward Global) → i < length vs → get_or (forwards_on vs) i [] ≡ (get_or vs i d).items
 messages-at [] i d h = absurd (omega arith)
 messages-at (v ∷ vs) zero d h = refl
 messages-at (v ∷ vs) (suc i) d h = messages-at vs i d (omega arith)
 
 -- one link is replaced by what is made of it
-pub messages-set : (vs : List (Vec Forward Global)) (i : ℕ) (old new : Vec Forward Global) (f : List Forward → List Forward) → i < length vs → old ≡ get_or vs i old → new.items ≡ f old.items → messages_of (set vs i new) ≡ set (messages_of vs) i (f (get_or (messages_of vs) i []))
+pub messages-set : (vs : List (Vec Forward Global)) (i : ℕ) (old new : Vec Forward Global) (f : List Forward → List Forward) → i < length vs → old ≡ get_or vs i old → new.items ≡ f old.items → forwards_on (set vs i new) ≡ set (forwards_on vs) i (f (get_or (forwards_on vs) i []))
 messages-set vs i old new f h is_old made =
-    map-set (λ v. v.items) vs i new ∙ ap (λ xs. set (messages_of vs) i xs) (made ∙ ap f (ap (λ v. v.items) is_old ∙ sym (messages-at vs i old h)))
+    map-set (λ v. v.items) vs i new ∙ ap (λ xs. set (forwards_on vs) i xs) (made ∙ ap f (ap (λ v. v.items) is_old ∙ sym (messages-at vs i old h)))
 
 -- one link is replaced by one with the same messages
-pub messages-set_same : (vs : List (Vec Forward Global)) (i : ℕ) (old new : Vec Forward Global) → old ≡ get_or vs i old → new.items ≡ old.items → messages_of (set vs i new) ≡ messages_of vs
+pub messages-set_same : (vs : List (Vec Forward Global)) (i : ℕ) (old new : Vec Forward Global) → old ≡ get_or vs i old → new.items ≡ old.items → forwards_on (set vs i new) ≡ forwards_on vs
 messages-set_same vs i old new is_old made =
     map-set_same (λ v. v.items) vs i new old (made ∙ ap (λ v. v.items) is_old)
 
 -- there are as many links as lists of messages
-pub below_messages : (vs : List (Vec Forward Global)) (i : ℕ) → i < length (messages_of vs) → i < length vs
+pub below_messages : (vs : List (Vec Forward Global)) (i : ℕ) → i < length (forwards_on vs) → i < length vs
 below_messages vs i h = omega (arith, length-map vs (λ v. v.items))
 
 -- the room of a link that is there
@@ -65,10 +65,10 @@ room-kept vs i old new h is_old less = record {
         omega (arith, before, spare-set vs i new h, less)
 
 -- one more link is copied
-pub messages-more : (vs copies : List (Vec Forward Global)) (i : ℕ) (v w : Vec Forward Global) → i < length vs → v ≡ get_or vs i v → w.items ≡ v.items → messages_of copies ≡ messages_of (take i vs) → messages_of (copies ++ w ∷ []) ≡ messages_of (take (i + 1) vs)
+pub messages-more : (vs copies : List (Vec Forward Global)) (i : ℕ) (v w : Vec Forward Global) → i < length vs → v ≡ get_or vs i v → w.items ≡ v.items → forwards_on copies ≡ forwards_on (take i vs) → forwards_on (copies ++ w ∷ []) ≡ forwards_on (take (i + 1) vs)
 messages-more vs copies i v w h is_v same so_far =
     map-append (λ v. v.items) copies (w ∷ [])
     ∙ ap (λ ms. ms ++ w.items ∷ []) so_far
-    ∙ ap (λ m. messages_of (take i vs) ++ m ∷ []) (same ∙ ap (λ v. v.items) is_v)
+    ∙ ap (λ m. forwards_on (take i vs) ++ m ∷ []) (same ∙ ap (λ v. v.items) is_v)
     ∙ sym (map-append (λ v. v.items) (take i vs) (get_or vs i v ∷ []))
-    ∙ ap messages_of (sym (take_more vs i v h))
+    ∙ ap forwards_on (sym (take_more vs i v h))

@@ -10,8 +10,8 @@ pub record Linked : Type 0 where
   pub room : List ℕ
 
 -- the messages of each link
-abbrev pub messages_of : List (Vec Forward Global) → List (List Forward)
-messages_of vs = map (λ v. v.items) vs
+abbrev pub forwards_on : List (Vec Forward Global) → List (List Forward)
+forwards_on vs = map (λ v. v.items) vs
 
 -- the room of a link
 abbrev pub spare : Vec Forward Global → ℕ

@@ -1,6 +1,6 @@
 ghost use Rattle.std.specs.Prelude.{◌≡◌, ◌+◌, ◌<◌, ◌≤◌, ◌∷◌, ◌++◌, [], IsOk, IfOk, OnOk, OnErr, IfErr, IfNone, OnSome, length, remove, replicate, slice_get, slice_index, slice_index_or, slice_set};
 ghost use Rattle.network.specs.Traffic.{all_nil};
-ghost use Rattle.network.specs.Links.{KeepsRoom, UsesOnePlace, messages_of};
+ghost use Rattle.network.specs.Links.{KeepsRoom, UsesOnePlace, forwards_on};
 
 use crate::message::Forward;
 use base::{CacheId, NoMemory};
@@ -14,11 +14,11 @@ pub struct Links {
 }
 
 impl Model for Links {
-    ghost use Rattle.network.specs.Links.{Linked, messages_of, spares};
+    ghost use Rattle.network.specs.Links.{Linked, forwards_on, spares};
 
     ghost Value = { Linked };
 
-    ghost view = { λ l. record { messages = messages_of l.links.items; room = spares l.links.items } };
+    ghost view = { λ l. record { messages = forwards_on l.links.items; room = spares l.links.items } };
 }
 
 impl Links {
@@ -98,7 +98,7 @@ impl Links {
 }
 
 fn are_empty(links: &[Vec<Forward>]) -> bool
-    ensures { result ≡ all_nil (messages_of links.now) }
+    ensures { result ≡ all_nil (forwards_on links.now) }
 {
     for link in links {
         if !link.is_empty() {
@@ -109,7 +109,7 @@ fn are_empty(links: &[Vec<Forward>]) -> bool
 }
 
 fn clone_all(alloc: Global, links: &[Vec<Forward>]) -> Result<Vec<Vec<Forward>>, NoMemory>
-    ensures { IfOk result (λ copies. messages_of copies.items ≡ messages_of links.now) }
+    ensures { IfOk result (λ copies. forwards_on copies.items ≡ forwards_on links.now) }
 {
     let mut copies = Vec::with_capacity(alloc, links.len())?;
     for link in links {

@@ -24,7 +24,7 @@ use Rattle.record.specs.Kept.{Kept}
 use Rattle.record.specs.Text.{text, line, header_words, shape_words, opening_words, cells_words, entries_words, entry_words, end_words, changed, changed_cells}
 use Rattle.record.specs.Grammar.{Due, header, shape_line, opening_line, cell_count, cell_line, entry_count, entry_line, end_line, nothing, cells_due, entries_due, FitsEntry, Leads, Follow}
 use Rattle.record.specs.Recordable.{AreWhole, IsRecordable}
-use Rattle.record.specs.Refused.{ended, IsWhole}
+use Rattle.record.specs.Refused.{ended, IsWellFormed}
 use Rattle.record.proofs.Following.{AreListed}
 use Rattle.record.proofs.Listed.{IsBaselineFrom, at-own, ended-line, listed-all, listed-more, plain-more}
 use Rattle.record.proofs.Standing.{baseline-whole, whole-more}
@@ -221,7 +221,7 @@ lines-text ls f =
       ),
     )
 
-pub whole-text_of : (bytes : List ℕ) → IsWhole (Some bytes) (Some []) → (r : Kept) × IsRecordable r × (bytes ≡ text r)
+pub whole-text_of : (bytes : List ℕ) → IsWellFormed (Some bytes) (Some []) → (r : Kept) × IsRecordable r × (bytes ≡ text r)
 whole-text_of bytes w =
     let found = lines-text w.lines w.follow in
     (found.0, found.1.0, w.read ∙ append-nil (flat_map ended w.lines) ∙ found.1.1)

@@ -12,7 +12,7 @@ use Rattle.record.specs.Kept.{Kept}
 use Rattle.base.specs.Spelling.{joined}
 use Rattle.record.specs.Text.{text, lines, entries_words, entry_words, end_words, is_same, is_changed, changed, changed_cells}
 use Rattle.record.specs.Grammar.{Due, header, shape_line, opening_line, cell_count, entry_count, nothing, cells_due, entries_due, IsListed, FitsEntry, Leads, Follow}
-use Rattle.record.specs.Refused.{ended, IsWhole}
+use Rattle.record.specs.Refused.{ended, IsWellFormed}
 use Rattle.record.specs.Recordable.{AreWhole, IsRecordable}
 use Rattle.record.proofs.Changed.{changed-cons}
 use Rattle.record.proofs.Legible.{IsLine, joined-short, words-joined}
@@ -122,7 +122,7 @@ pub recorded-lines : (r : Kept) → IsRecordable r → AllByRecursion IsLine (li
 recorded-lines r h = followed-lines header nothing (lines r) tt (lines-followed r h)
 
 -- the text of a recording is well formed from the first line to the last
-pub text-whole : (r : Kept) → IsRecordable r → IsWhole (Some (text r)) (Some [])
+pub text-whole : (r : Kept) → IsRecordable r → IsWellFormed (Some (text r)) (Some [])
 text-whole r h = record {
   lines = map joined (lines r);
   follow = followed-follow header nothing (lines r) tt (lines-followed r h);

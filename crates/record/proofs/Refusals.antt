@@ -6,7 +6,7 @@ use Rattle.base.specs.Spelling.{words}
 use Rattle.record.specs.declared.fault.ReadKind.{ReadKind}
 use Rattle.record.specs.declared.fault.ReadKind.TheVariants.{BadHeader, BadLine, Truncated, CountDiffers, BadOutcome, OverLimit, NoMemory, Device}
 use Rattle.record.specs.Grammar.{Due, header, nothing, Leads, Follow}
-use Rattle.record.specs.Refused.{ended, HasNoEnd, IsFaultOfLine, BeginsFaulty, IsTooLong, IsUnfinished, IsFaultOfRest, IsRefused, IsWhole, IsOutside}
+use Rattle.record.specs.Refused.{ended, HasNoEnd, IsFaultOfLine, BeginsFaulty, IsTooLong, IsUnfinished, IsFaultOfRest, IsRefused, IsWellFormed, IsOutside}
 use Rattle.record.proofs.Legible.{joined-open, joined-short}
 use Rattle.record.proofs.Ending.{some-line, line-ends_in, line-ends_within, one-line_first}
 use Rattle.record.proofs.Leading.{IsDue, leads-line, leads-due, leads-one}
@@ -94,7 +94,7 @@ whole-outside due last (x ∷ xs) (y ∷ ys) bytes kind is f g e h =
     whole-outside f.0 last xs ys bytes kind (leads-due due (words x) f.0 f.1) f.2 (subst (λ d. Follow d ys last) next g.2) same.1 h
 
 -- a whole text is refused only for want of memory or by a device
-pub whole-refused : (bytes : List ℕ) (after end : Option (List ℕ)) (line : ℕ) (kind : ReadKind) → IsWhole (Some bytes) after → IsRefused (Some bytes) end 0 header line kind → IsOutside kind
+pub whole-refused : (bytes : List ℕ) (after end : Option (List ℕ)) (line : ℕ) (kind : ReadKind) → IsWellFormed (Some bytes) after → IsRefused (Some bytes) end 0 header line kind → IsOutside kind
 whole-refused bytes None end line kind w r = absurd w.read
 whole-refused bytes (Some left) None line kind w r = absurd r.read
 whole-refused bytes (Some left) (Some more) line kind w r =
@@ -112,7 +112,7 @@ alone due (x ∷ xs) (y ∷ ys) more is f g e =
     let next : g.0 ≡ f.0 = leads-one due (words x) g.0 f.0 (subst (λ l. Leads due (words l) g.0) (sym same.0) g.1) f.1 in
     alone f.0 xs ys more (leads-due due (words x) f.0 f.1) f.2 (subst (λ d. Follow d ys nothing) next g.2) same.1
 
-pub whole-alone : (bytes front more : List ℕ) → IsWhole (Some bytes) (Some []) → IsWhole (Some front) (Some []) → bytes ≡ front ++ more → more ≡ []
+pub whole-alone : (bytes front more : List ℕ) → IsWellFormed (Some bytes) (Some []) → IsWellFormed (Some front) (Some []) → bytes ≡ front ++ more → more ≡ []
 whole-alone bytes front more w v e =
     alone header w.lines v.lines more tt w.follow v.follow
     (sym (append-nil (flat_map ended w.lines)) ∙ sym w.read ∙ e ∙ ap (λ l. l ++ more) (v.read ∙ append-nil (flat_map ended v.lines)))

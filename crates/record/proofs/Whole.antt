@@ -37,12 +37,12 @@ whole-text r =
     let count = length (changed_cells r.tables) in
     let behind : List (List ℕ) = entries_piece (length r.entries) ∷ map entry_piece r.entries ++ end_piece ∷ [] in
     ap (λ l. head_piece r.shape ++ l)
-      (flat-then value_piece r.opening (cells_piece count ∷ map (cell_piece r.tables) all_spots ++ behind)
-      ∙ ap (λ l. flat_map value_piece r.opening ++ (cells_piece count ++ l))
-        (flat-then (cell_piece r.tables) all_spots behind
-        ∙ ap (λ l. flat_map (cell_piece r.tables) all_spots ++ (entries_piece (length r.entries) ++ l)) (flat-then entry_piece r.entries (end_piece ∷ []))))
+    (flat-then value_piece r.opening (cells_piece count ∷ map (cell_piece r.tables) all_spots ++ behind)
+    ∙ ap (λ l. flat_map value_piece r.opening ++ (cells_piece count ++ l))
+    (flat-then (cell_piece r.tables) all_spots behind
+    ∙ ap (λ l. flat_map (cell_piece r.tables) all_spots ++ (entries_piece (length r.entries) ++ l)) (flat-then entry_piece r.entries (end_piece ∷ []))))
     ∙ regroup (line header_words) (line (shape_words r.shape)) (codes "opening") (flat_map value_piece r.opening) (line (cells_words count))
-      (flat_map (cell_piece r.tables) all_spots) (line (entries_words (length r.entries))) (flat_map entry_piece r.entries) (line end_words)
+    (flat_map (cell_piece r.tables) all_spots) (line (entries_words (length r.entries))) (flat_map entry_piece r.entries) (line end_words)
     ∙ ap (λ os. line header_words ++ (line (shape_words r.shape) ++ (((codes "opening" ++ os) ++ 10 ∷ []) ++ (line (cells_words (length (changed_cells r.tables))) ++ (flat_map (cell_piece r.tables) all_spots ++ (line (entries_words (length r.entries)) ++ (flat_map entry_piece r.entries ++ (line end_words ++ []))))))))
     (sym (flat_map-map (λ word. 32 ∷ word) decimal r.opening))
     ∙ ap (λ rest. line header_words ++ (line (shape_words r.shape) ++ (line (opening_words r.opening) ++ (line (cells_words (length (changed_cells r.tables))) ++ rest))))
@@ -55,11 +55,15 @@ whole-text r =
 pub pieces-count : (r : Kept) → length (pieces r) ≡ length r.opening + 164 + length r.entries
 pieces-count r =
     let behind : List (List ℕ) = entries_piece (length r.entries) ∷ map entry_piece r.entries ++ end_piece ∷ [] in
-    omega (arith,
+    omega (
+      arith,
       length-append (map value_piece r.opening) (cells_piece (length (changed_cells r.tables)) ∷ map (cell_piece r.tables) all_spots ++ behind),
       length-append (map (cell_piece r.tables) all_spots) behind,
       length-append (map entry_piece r.entries) (end_piece ∷ []),
-      length-map r.opening value_piece, length-map all_spots (cell_piece r.tables), length-map r.entries entry_piece)
+      length-map r.opening value_piece,
+      length-map all_spots (cell_piece r.tables),
+      length-map r.entries entry_piece,
+    )
 
 -- where a sink failed, exactly a front of the text went out
 pub cut-text : (r : Kept) (b n : Option (List ℕ)) (to : ℕ) → IsCutOff b n (flat (pieces r)) 0 to →

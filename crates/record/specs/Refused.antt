@@ -130,7 +130,7 @@ abbrev pub IsOutside : ReadKind → Type 0
 IsOutside kind = (kind ≡ NoMemory) ⊎ (kind ≡ Device)
 
 -- what a source had, up to what it has left, was well formed lines from the first to the last, and nothing is left
-pub record IsWhole (before after : Option (List ℕ)) : Type 0 where
+pub record IsWellFormed (before after : Option (List ℕ)) : Type 0 where
   pub lines : List (List ℕ)
   pub follow : Follow header lines nothing
   pub read : Consumes before after (flat_map ended lines)

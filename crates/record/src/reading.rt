@@ -10,7 +10,7 @@ ghost use Rattle.record.specs.declared.cells.Spot as cells_spot;
 ghost use Rattle.base.specs.Extent.{IsWithinLimits};
 ghost use Rattle.record.specs.Grammar.{header, shape_line, opening_line, cell_count, cells_due, entry_count, entry_line, entries_due, end_line, nothing, AreValues, FitsEntry, IsListed};
 ghost use Rattle.record.specs.Kept.{Kept};
-ghost use Rattle.record.specs.Refused.{IsFaultOfLine, IsOutside, IsRefused, IsWhole};
+ghost use Rattle.record.specs.Refused.{IsFaultOfLine, IsOutside, IsRefused, IsWellFormed};
 ghost use Rattle.record.specs.Recordable.{AreWhole, IsRecordable};
 ghost use Rattle.record.specs.inner.Reading.{HasRead, stream};
 
@@ -32,7 +32,7 @@ impl Recording {
     /// that recording, if memory and the source don't fail.
     pub fn read<S: Source>(alloc: Global, source: &mut S) -> Result<Recording, ReadFault>
         ensures text { IfOk result (λ recording. Consumes (S.left source.old) (S.left source.new) (text recording)) }
-        ensures whole { OnOk result (IsWhole (S.left source.old) (S.left source.new)) }
+        ensures whole { OnOk result (IsWellFormed (S.left source.old) (S.left source.new)) }
         ensures fault { IfErr result (λ fault. IsRefused (S.left source.old) (S.left source.new) 0 header fault.line fault.kind) }
         ensures device { IfErr result (λ fault. fault.kind ≡ ReadKind.Device → S.has_failed source.new ≡ true) }
         ensures recordable { IfOk result IsRecordable }

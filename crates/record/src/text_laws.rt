@@ -5,14 +5,14 @@ ghost use Rattle.record.specs.Kept.{Kept};
 ghost use Rattle.base.specs.Spelling.{joined};
 ghost use Rattle.record.specs.Text.{lines, text};
 ghost use Rattle.record.specs.Grammar.{header};
-ghost use Rattle.record.specs.Refused.{IsOutside, IsRefused, IsWhole};
+ghost use Rattle.record.specs.Refused.{IsOutside, IsRefused, IsWellFormed};
 ghost use Rattle.record.specs.Recordable.{IsRecordable};
 ghost use Rattle.record.specs.declared.fault.ReadKind.{ReadKind};
 
 /// A recording's text is well formed from the first line to the last, each line has at most 90,000 bytes, and only want of
 /// memory or a device that fails keeps it from being read.
 pub fn a_text_is_read()
-    ensures whole { (r : Kept) → IsRecordable r → IsWhole (Some (text r)) (Some []) }
+    ensures whole { (r : Kept) → IsRecordable r → IsWellFormed (Some (text r)) (Some []) }
     ensures short { (r : Kept) → IsRecordable r → All (λ words. length (joined words) ≤ 90000) (lines r) }
     ensures refused { (r : Kept) (end : Option (List ℕ)) (line : ℕ) (kind : ReadKind) →
         IsRecordable r → IsRefused (Some (text r)) end 0 header line kind → IsOutside kind }
@@ -20,7 +20,7 @@ pub fn a_text_is_read()
 
 /// Bytes that are well formed from the first line to the last are the text of a recording.
 pub fn well_formed_bytes_are_a_text()
-    ensures { (bytes : List ℕ) → IsWhole (Some bytes) (Some []) → (r : Kept) × IsRecordable r × (bytes ≡ text r) }
+    ensures { (bytes : List ℕ) → IsWellFormed (Some bytes) (Some []) → (r : Kept) × IsRecordable r × (bytes ≡ text r) }
 {}
 
 /// A text is the text of one recording at most, and no text is the beginning of another.
@@ -37,5 +37,5 @@ pub fn one_refusal_at_most()
         IsRefused (Some bytes) end 0 header line kind → IsRefused (Some bytes) other_end 0 header other_line other_kind →
         ¬ IsOutside kind → ¬ IsOutside other_kind → (line ≡ other_line) × (kind ≡ other_kind) }
     ensures none { (bytes : List ℕ) (after end : Option (List ℕ)) (line : ℕ) (kind : ReadKind) →
-        IsWhole (Some bytes) after → IsRefused (Some bytes) end 0 header line kind → IsOutside kind }
+        IsWellFormed (Some bytes) after → IsRefused (Some bytes) end 0 header line kind → IsOutside kind }
 {}

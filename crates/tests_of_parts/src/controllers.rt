@@ -5,7 +5,7 @@ use crate::asserting::same;
 use base::{Ask, CacheId, NoMemory, Place};
 use cache_table::{CacheAction, CacheActions, CacheEvent, CacheState};
 use control::{
-    Completion, Home, HomeInput, Line, LineInput, Needs, home_act, home_event, home_needs,
+    Home, HomeInput, Line, LineCompletion, LineInput, Needs, home_act, home_event, home_needs,
     home_reserve, line_act, line_ask_event, line_completion, line_event, line_needs, line_reserve,
 };
 use directory_table::{DirectoryAction, DirectoryActions, DirectoryEvent, DirectoryState};
@@ -39,7 +39,7 @@ fn line_act_as_needed(
     next: CacheState,
     actions: CacheActions,
     wires: &mut Wires,
-) -> Result<Option<Completion>, NoMemory> {
+) -> Result<Option<LineCompletion>, NoMemory> {
     let needs = line_needs(input, actions);
     wires.reserve(needs.requests, &[], needs.responses)?;
     match line_act(line, FIRST, input, next, actions, wires) {
@@ -132,7 +132,7 @@ fn a_store_waits_for_its_data(rt: HostRuntime) -> Result<(), Fail> {
         }),
     );
     let came = data(Place::Dir, 0);
-    let done = Some(Completion::Store(7));
+    let done = Some(LineCompletion::Store(7));
     same(&rt, &line_completion(&line, came, CacheState::M), &done);
     let quiet = CacheActions::none();
     same(

@@ -13,7 +13,7 @@ use Rattle.machine.specs.Tables.{Tables}
 use Rattle.machine.specs.Machine.{State, next}
 use Rattle.machine.specs.Unstuck.{IsDelivery}
 use Rattle.world.specs.Looks.{is_held}
-use Rattle.world.specs.Enabled.{enabled_steps, unless_held, held_in, requests_from, head_from, heads_from, responses_from, requests_in, heads_in, responses_in, of_each, all_enabled}
+use Rattle.world.specs.Enabled.{enabled_steps, unless_held, held_in, requests_from, head_from, heads_from, responses_from, requests_enabled, heads_in, responses_enabled, of_each, all_enabled}
 use Rattle.cores.specs.Cores.{Core, is_free}
 use Rattle.scenario.specs.Tree.{Tree}
 use Rattle.scenario.specs.Taking.{offers}
@@ -64,11 +64,11 @@ deliver-each f h i (b ∷ bs) = deliver-both (f (record { 0 = i }) b) (of_each f
 
 deliver-blocks : (tables : Tables) (bs : List BlockState) → AllDeliver (all_enabled tables bs)
 deliver-blocks tables bs =
-    deliver-both (of_each (requests_in tables) 0 bs ++ of_each (heads_in tables) 0 bs) (of_each (responses_in tables) 0 bs)
-    (deliver-both (of_each (requests_in tables) 0 bs) (of_each (heads_in tables) 0 bs)
-    (deliver-each (requests_in tables) (λ block b. deliver-requests tables block b 0 b.traffic.requests) 0 bs)
+    deliver-both (of_each (requests_enabled tables) 0 bs ++ of_each (heads_in tables) 0 bs) (of_each (responses_enabled tables) 0 bs)
+    (deliver-both (of_each (requests_enabled tables) 0 bs) (of_each (heads_in tables) 0 bs)
+    (deliver-each (requests_enabled tables) (λ block b. deliver-requests tables block b 0 b.traffic.requests) 0 bs)
     (deliver-each (heads_in tables) (λ block b. deliver-heads tables block b 0 b.traffic.links) 0 bs))
-    (deliver-each (responses_in tables) (λ block b. deliver-responses tables block b 0 b.traffic.responses) 0 bs)
+    (deliver-each (responses_enabled tables) (λ block b. deliver-responses tables block b 0 b.traffic.responses) 0 bs)
 
 deliver-enabled : (tables : Tables) (state : State) → AllDeliver (enabled_steps tables state)
 deliver-enabled tables state = elim state.broken as (λ t. AllDeliver (if t then [] else all_enabled tables state.blocks)) [

@@ -18,7 +18,7 @@ use Rattle.machine.specs.Transition.{transition, carried_out, at_request, at_for
 use Rattle.machine.specs.Machine.{State, Next, IsRefusal, next, next_at}
 use Rattle.machine.specs.Unstuck.{IsDelivery, Delivers}
 use Rattle.world.specs.Looks.{is_held}
-use Rattle.world.specs.Enabled.{enabled_steps, unless_held, held_in, requests_from, head_from, heads_from, responses_from, requests_in, heads_in, responses_in, of_each, all_enabled}
+use Rattle.world.specs.Enabled.{enabled_steps, unless_held, held_in, requests_from, head_from, heads_from, responses_from, requests_enabled, heads_in, responses_enabled, of_each, all_enabled}
 use Rattle.trials.proofs.Places.{same-some}
 
 pub front-empty : {X : Type 0} (xs ys : List X) → xs ++ ys ≡ [] → xs ≡ []
@@ -90,9 +90,9 @@ unlisted-refused tables s b e = held-refusal (transition tables s b).outcome (un
 
 -- none of a block's deliveries is listed
 record NoneOf (tables : Tables) (block : BlockId) (b : BlockState) : Type 0 where
-  requests : requests_in tables block b ≡ []
+  requests : requests_enabled tables block b ≡ []
   heads : heads_in tables block b ≡ []
-  responses : responses_in tables block b ≡ []
+  responses : responses_enabled tables block b ≡ []
 
 request-refused : (tables : Tables) (block : BlockId) (b : BlockState) (i : ℕ) (found : Option Request) → NoneOf tables block b → slice_get b.traffic.requests i ≡ found → IsRefusal (transition tables (step.Request block i) b).outcome
 request-refused tables block b i None none at = subst (λ o. IsRefusal (carried_out (at_request tables.directory i b.home o) b).outcome) (sym at) tt
@@ -123,11 +123,11 @@ none-enabled tables state whole e = sym (ap (λ t. if t then [] else all_enabled
 
 none-of : (tables : Tables) (bs : List BlockState) (block : BlockId) (b : BlockState) → all_enabled tables bs ≡ [] → slice_get bs block.0 ≡ Some b → NoneOf tables block b
 none-of tables bs block b e at =
-    let two : of_each (requests_in tables) 0 bs ++ of_each (heads_in tables) 0 bs ≡ [] = front-empty (of_each (requests_in tables) 0 bs ++ of_each (heads_in tables) 0 bs) (of_each (responses_in tables) 0 bs) e in
+    let two : of_each (requests_enabled tables) 0 bs ++ of_each (heads_in tables) 0 bs ≡ [] = front-empty (of_each (requests_enabled tables) 0 bs ++ of_each (heads_in tables) 0 bs) (of_each (responses_enabled tables) 0 bs) e in
     record {
-      requests = none-of-block (requests_in tables) bs block b (front-empty (of_each (requests_in tables) 0 bs) (of_each (heads_in tables) 0 bs) two) at;
-      heads = none-of-block (heads_in tables) bs block b (back-empty (of_each (requests_in tables) 0 bs) (of_each (heads_in tables) 0 bs) two) at;
-      responses = none-of-block (responses_in tables) bs block b (back-empty (of_each (requests_in tables) 0 bs ++ of_each (heads_in tables) 0 bs) (of_each (responses_in tables) 0 bs) e) at;
+      requests = none-of-block (requests_enabled tables) bs block b (front-empty (of_each (requests_enabled tables) 0 bs) (of_each (heads_in tables) 0 bs) two) at;
+      heads = none-of-block (heads_in tables) bs block b (back-empty (of_each (requests_enabled tables) 0 bs) (of_each (heads_in tables) 0 bs) two) at;
+      responses = none-of-block (responses_enabled tables) bs block b (back-empty (of_each (requests_enabled tables) 0 bs ++ of_each (heads_in tables) 0 bs) (of_each (responses_enabled tables) 0 bs) e) at;
     }
 
 -- a step of a world that isn't broken, at a block that is there

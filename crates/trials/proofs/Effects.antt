@@ -28,8 +28,8 @@ use Rattle.directory_table.specs.declared.entry.DirectoryEntry.TheVariants as ho
 use Rattle.control.specs.declared.line.Line.{Line}
 use Rattle.control.specs.declared.line.LineInput.{LineInput}
 use Rattle.control.specs.declared.line.LineInput.TheVariants as line_input
-use Rattle.control.specs.declared.line.Completion.{Completion}
-use Rattle.control.specs.declared.line.Completion.TheVariants as done
+use Rattle.control.specs.declared.line.LineCompletion.{LineCompletion}
+use Rattle.control.specs.declared.line.LineCompletion.TheVariants as done
 use Rattle.control.specs.declared.home.HomeInput.{HomeInput}
 use Rattle.control.specs.declared.home.HomeInput.TheVariants as home_input
 use Rattle.control.specs.Events.{event_at_line, event_at_home}
@@ -164,19 +164,19 @@ home-stays before s b (home_entry.Act state actions) input from here d = inl (re
 record IsWired (from : Origin) : Type 0 where
   moves : plain_outcome from ≡ outcome.Moved
 
-plain : (cache : CacheId) (s : Step) (from : Origin) (c : Option Completion) → IsWired from → c ≡ None → completed_by s (outcome_of cache from c) ≡ []
+plain : (cache : CacheId) (s : Step) (from : Origin) (c : Option LineCompletion) → IsWired from → c ≡ None → completed_by s (outcome_of cache from c) ≡ []
 plain cache s from c wired none = ap (λ x. completed_by s (outcome_of cache from x)) none ∙ ap (completed_by s) wired.moves
 
 -- the machine's completion of a line's
-abbrev of_line : CacheId → ℕ → Completion → completions.Completion
+abbrev of_line : CacheId → ℕ → LineCompletion → completions.Completion
 of_line cache block (done.Load value) = record { cache = cache; block = block; access = completions.load; value = value }
 of_line cache block (done.Store value) = record { cache = cache; block = block; access = completions.store; value = value }
 
-done-here : (cache : CacheId) (s : Step) (from : Origin) (c : Completion) → completed_by s (outcome_of cache from (Some c)) ≡ of_line cache (block_of s) c ∷ []
+done-here : (cache : CacheId) (s : Step) (from : Origin) (c : LineCompletion) → completed_by s (outcome_of cache from (Some c)) ≡ of_line cache (block_of s) c ∷ []
 done-here cache s from (done.Load value) = refl
 done-here cache s from (done.Store value) = refl
 
-settles-at : (before : State) (s : Step) (made : Next) (cache : CacheId) (c : Completion) → IsDelivery s → completed_by s made.outcome ≡ of_line cache (block_of s) c ∷ []
+settles-at : (before : State) (s : Step) (made : Next) (cache : CacheId) (c : LineCompletion) → IsDelivery s → completed_by s made.outcome ≡ of_line cache (block_of s) c ∷ []
     → Sets before made.state cache.0 (block_of s) (Some (settled_ask c)) None → Settles before s made
 settles-at before s made cache (done.Load value) d is sets = record { completion = _; delivery = d; put = delivery-puts-none s made.outcome d; done = is; completes = tt; sets = sets }
 settles-at before s made cache (done.Store value) d is sets = record { completion = _; delivery = d; put = delivery-puts-none s made.outcome d; done = is; completes = tt; sets = sets }
@@ -215,7 +215,7 @@ message-at-line before s b cells cache input from (Some line) here d wired found
 abbrev asked : CacheId → BlockId → Ask → CoreAsk
 asked cache block a = record { core = cache; block = block; ask = a }
 
-ask-put : (cache : CacheId) (block : BlockId) (a : Ask) (c : Option Completion) → Completes a → put_by (step.Ask cache block a) (outcome_of cache origin.Core c) ≡ asked cache block a ∷ []
+ask-put : (cache : CacheId) (block : BlockId) (a : Ask) (c : Option LineCompletion) → Completes a → put_by (step.Ask cache block a) (outcome_of cache origin.Core c) ≡ asked cache block a ∷ []
 ask-put cache block Load None e = refl
 ask-put cache block Load (Some (done.Load v)) e = refl
 ask-put cache block Load (Some (done.Store v)) e = refl
@@ -224,7 +224,7 @@ ask-put cache block (Store x) (Some (done.Load v)) e = refl
 ask-put cache block (Store x) (Some (done.Store v)) e = refl
 ask-put cache block Replace c e = absurd e
 
-answers-ask : (cache : CacheId) (block : BlockId) (c : Completion) → answered (of_line cache block.0 c) ≡ asked cache block (settled_ask c)
+answers-ask : (cache : CacheId) (block : BlockId) (c : LineCompletion) → answered (of_line cache block.0 c) ≡ asked cache block (settled_ask c)
 answers-ask cache block (done.Load v) = refl
 answers-ask cache block (done.Store v) = refl
 

@@ -12,8 +12,8 @@ use Rattle.base.specs.declared.ids.Place.TheVariants.{Dir, Cache}
 use Rattle.cache_table.specs.declared.state.CacheState.{CacheState}
 use Rattle.control.specs.declared.line.Line.{Line}
 use Rattle.control.specs.declared.line.LineInput.TheVariants as line_input
-use Rattle.control.specs.declared.line.Completion.{Completion}
-use Rattle.control.specs.declared.line.Completion.TheVariants as done
+use Rattle.control.specs.declared.line.LineCompletion.{LineCompletion}
+use Rattle.control.specs.declared.line.LineCompletion.TheVariants as done
 use Rattle.control.specs.LineEffect.{is_reader, is_writer, line_after, line_completes, taken_in, moved_on, after_ask, after_message, pending_completed}
 use Rattle.machine.specs.Block.{BlockState}
 use Rattle.machine.specs.Machine.{State}
@@ -37,32 +37,32 @@ pub record Sets (before behind : State) (cache block : ℕ) (was now : Option As
   pub blocks : (c b : ℕ) → b ≢ block → pending_at behind c b ≡ pending_at before c b
 
 -- what a line's completion answers
-abbrev pub settled_ask : Completion → Ask
+abbrev pub settled_ask : LineCompletion → Ask
 settled_ask (done.Load value) = Load
 settled_ask (done.Store value) = Store value
 
-pub settles-completes : (c : Completion) → Completes (settled_ask c)
+pub settles-completes : (c : LineCompletion) → Completes (settled_ask c)
 settles-completes (done.Load value) = tt
 settles-completes (done.Store value) = tt
 
 -- an ask that isn't done at once waits, and nothing else changes what waits
-pub record AskWaits (a : Ask) (done : Option Completion) (after : Line) : Type 0 where
+pub record AskWaits (a : Ask) (done : Option LineCompletion) (after : Line) : Type 0 where
   pub none : done ≡ None
   pub completes : Completes a
   pub waits : after.pending ≡ Some a
 
-pub record AskSettles (a : Ask) (done : Option Completion) (line after : Line) : Type 0 where
-  pub completion : Completion
+pub record AskSettles (a : Ask) (done : Option LineCompletion) (line after : Line) : Type 0 where
+  pub completion : LineCompletion
   pub some : done ≡ Some completion
   pub answers : settled_ask completion ≡ a
   pub kept : after.pending ≡ line.pending
 
-pub record AskReplaces (a : Ask) (done : Option Completion) (line after : Line) : Type 0 where
+pub record AskReplaces (a : Ask) (done : Option LineCompletion) (line after : Line) : Type 0 where
   pub none : done ≡ None
   pub replaces : a ≡ Replace
   pub kept : after.pending ≡ line.pending
 
-abbrev pub AskDoes : Ask → Option Completion → Line → Line → Type 0
+abbrev pub AskDoes : Ask → Option LineCompletion → Line → Line → Type 0
 AskDoes a done line after = AskWaits a done after ⊎ AskSettles a done line after ⊎ AskReplaces a done line after
 
 pub ask-does : (a : Ask) (next : CacheState) (line : Line) → AskDoes a (line_completes (line_input.Ask a) next line) line (line_after (line_input.Ask a) next line)
@@ -81,17 +81,17 @@ ask-does (Store v) next line =
 ask-does Replace next line = inr (inr (record { none = refl; replaces = refl; kept = refl }))
 
 -- a message leaves what waits, or completes it
-pub record MessageKeeps (done : Option Completion) (line after : Line) : Type 0 where
+pub record MessageKeeps (done : Option LineCompletion) (line after : Line) : Type 0 where
   pub none : done ≡ None
   pub kept : after.pending ≡ line.pending
 
-pub record MessageSettles (done : Option Completion) (line after : Line) : Type 0 where
-  pub completion : Completion
+pub record MessageSettles (done : Option LineCompletion) (line after : Line) : Type 0 where
+  pub completion : LineCompletion
   pub some : done ≡ Some completion
   pub waited : line.pending ≡ Some (settled_ask completion)
   pub free : after.pending ≡ None
 
-abbrev pub MessageDoes : Option Completion → Line → Line → Type 0
+abbrev pub MessageDoes : Option LineCompletion → Line → Line → Type 0
 MessageDoes done line after = MessageKeeps done line after ⊎ MessageSettles done line after
 
 settling : (waits : Option Ask) (line : Line) → line.pending ≡ waits → MessageDoes (pending_completed waits line) line (after_message (pending_completed waits line) line)
@@ -108,7 +108,7 @@ settling (Some (Store v)) line e =
     ]
 settling (Some Replace) line e = inl (record { none = refl; kept = refl })
 
-like : (what : Option Completion) (moved line after : Line) → moved.pending ≡ line.pending → MessageDoes what moved after → MessageDoes what line after
+like : (what : Option LineCompletion) (moved line after : Line) → moved.pending ≡ line.pending → MessageDoes what moved after → MessageDoes what line after
 like what moved line after e (inl h) = inl (record { none = h.none; kept = h.kept ∙ e })
 like what moved line after e (inr h) = inr (record { completion = h.completion; some = h.some; waited = sym e ∙ h.waited; free = h.free })
 

@@ -40,14 +40,14 @@ responses_from tables block b i [] = []
 responses_from tables block b i (r ∷ rs) = unless_held tables (step.Response block i) b ++ responses_from tables block b (i + 1) rs
 
 -- the three kinds of delivery of a block
-abbrev pub requests_in : Tables → BlockId → BlockState → List Step
-requests_in tables block b = requests_from tables block b 0 b.traffic.requests
+abbrev pub requests_enabled : Tables → BlockId → BlockState → List Step
+requests_enabled tables block b = requests_from tables block b 0 b.traffic.requests
 
 abbrev pub heads_in : Tables → BlockId → BlockState → List Step
 heads_in tables block b = heads_from tables block b 0 b.traffic.links
 
-abbrev pub responses_in : Tables → BlockId → BlockState → List Step
-responses_in tables block b = responses_from tables block b 0 b.traffic.responses
+abbrev pub responses_enabled : Tables → BlockId → BlockState → List Step
+responses_enabled tables block b = responses_from tables block b 0 b.traffic.responses
 
 -- what there is of each block, of those from a number on
 abbrev pub of_each : (BlockId → BlockState → List Step) → ℕ → List BlockState → List Step
@@ -56,7 +56,7 @@ of_each f i (b ∷ bs) = f (record { 0 = i }) b ++ of_each f (i + 1) bs
 
 -- the deliveries that wouldn't be held: requests by block and place, then heads by block and cache, then responses by block and place
 abbrev pub all_enabled : Tables → List BlockState → List Step
-all_enabled tables bs = of_each (requests_in tables) 0 bs ++ of_each (heads_in tables) 0 bs ++ of_each (responses_in tables) 0 bs
+all_enabled tables bs = of_each (requests_enabled tables) 0 bs ++ of_each (heads_in tables) 0 bs ++ of_each (responses_enabled tables) 0 bs
 
 -- in a broken world there are none
 abbrev pub enabled_steps : Tables → State → List Step

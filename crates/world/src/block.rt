@@ -21,7 +21,7 @@ pub struct Block {
 
 impl Model for Block {
     ghost use Rattle.std.specs.Prelude.{length};
-    ghost use Rattle.machine.specs.Block.{IsWhole};
+    ghost use Rattle.machine.specs.Block.{IsBlockAmong};
     ghost use Rattle.world.specs.Kept.{Kept};
 
     ghost Value = { Kept };
@@ -31,7 +31,7 @@ impl Model for Block {
       room = b.wires.room;
     } };
 
-    ghost invariant = { λ b. IsWhole (length b.lines.items) (record { lines = b.lines.items; home = b.home; traffic = b.wires.traffic; latest = b.latest }) };
+    ghost invariant = { λ b. IsBlockAmong (length b.lines.items) (record { lines = b.lines.items; home = b.home; traffic = b.wires.traffic; latest = b.latest }) };
 }
 
 impl Block {

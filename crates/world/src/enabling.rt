@@ -1,5 +1,5 @@
 ghost use Rattle.std.specs.Prelude.{◌≡◌, ◌<◌, ◌^◌, ◌++◌, OnOk, length};
-ghost use Rattle.world.specs.Enabled.{all_enabled, of_each, requests_in, heads_in, responses_in};
+ghost use Rattle.world.specs.Enabled.{all_enabled, of_each, requests_enabled, heads_in, responses_enabled};
 ghost use Rattle.world.specs.View.{states};
 
 use crate::block::Block;
@@ -55,7 +55,7 @@ fn list_all(blocks: &[Block], tables: &Tables, steps: &mut Vec<Step>) -> Result<
 
 fn list_requests(blocks: &[Block], tables: &Tables, steps: &mut Vec<Step>) -> Result<(), NoMemory>
     requires { length blocks.now < 2 ^ 32 }
-    ensures { OnOk result (steps.new.items ≡ steps.old.items ++ of_each (requests_in tables.now) 0 (states blocks.now)) }
+    ensures { OnOk result (steps.new.items ≡ steps.old.items ++ of_each (requests_enabled tables.now) 0 (states blocks.now)) }
 {
     for (i, block) in blocks.iter().enumerate() {
         block.push_requests(tables, BlockId(i as u32), steps)?;
@@ -75,7 +75,7 @@ fn list_heads(blocks: &[Block], tables: &Tables, steps: &mut Vec<Step>) -> Resul
 
 fn list_responses(blocks: &[Block], tables: &Tables, steps: &mut Vec<Step>) -> Result<(), NoMemory>
     requires { length blocks.now < 2 ^ 32 }
-    ensures { OnOk result (steps.new.items ≡ steps.old.items ++ of_each (responses_in tables.now) 0 (states blocks.now)) }
+    ensures { OnOk result (steps.new.items ≡ steps.old.items ++ of_each (responses_enabled tables.now) 0 (states blocks.now)) }
 {
     for (i, block) in blocks.iter().enumerate() {
         block.push_responses(tables, BlockId(i as u32), steps)?;

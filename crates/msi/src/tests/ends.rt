@@ -9,7 +9,9 @@ use std::io::{Read, Write};
 use std::test::Fail;
 
 const PLAY: &str = "msi play --caches 2";
+
 const TRIAL: &str = "msi trial --caches 2 --seed 1 --number 0 --limit 9";
+
 const BATCH: &str = "msi batch --caches 2 --seed 1 --trials 2 --limit 9";
 
 /// An input that fails.
@@ -76,7 +78,11 @@ fn an_output_that_fails(rt: HostRuntime) -> Result<(), Fail> {
     ] {
         let output = Short { left: 3 };
         let (status, errors) = serve_line(alloc, line, "{}", input.as_bytes(), output)?;
-        assert_eq!(rt; (status, errors.as_slice()), (3, b"msi: device\n".as_slice()), "at {line}");
+        assert_eq!(rt;
+            (status, errors.as_slice()),
+            (3, b"msi: device\n".as_slice()),
+            "at {line}"
+        );
     }
     Ok(())
 }

@@ -10,7 +10,7 @@ use crate::tables::Tables;
 use base::{CacheId, NoMemory, Outcome, Step};
 use cache_table::{CacheActions, CacheState};
 use control::{
-    Completion, Line, LineInput, home_perform, home_reserve, line_perform, line_reserve,
+    Line, LineCompletion, LineInput, home_perform, home_reserve, line_perform, line_reserve,
 };
 use machine::{Decision, Origin};
 use network::Wires;
@@ -151,22 +151,26 @@ fn plain(from: Origin) -> Outcome
     }
 }
 
-pub(crate) fn completion_outcome(cache: CacheId, from: Origin, done: Option<Completion>) -> Outcome
+pub(crate) fn completion_outcome(
+    cache: CacheId,
+    from: Origin,
+    done: Option<LineCompletion>,
+) -> Outcome
     ensures { result ≡ outcome_of cache from done }
 {
     match done {
         None => plain(from),
-        Some(Completion::Load(value)) => Outcome::Load { cache, value },
-        Some(Completion::Store(value)) => Outcome::Store { cache, value },
+        Some(LineCompletion::Load(value)) => Outcome::Load { cache, value },
+        Some(LineCompletion::Store(value)) => Outcome::Store { cache, value },
     }
 }
 
-fn latest_value(done: Option<Completion>, before: u64) -> u64
+fn latest_value(done: Option<LineCompletion>, before: u64) -> u64
     ensures { result ≡ latest_after done before }
 {
     match done {
-        Some(Completion::Store(value)) => value,
-        Some(Completion::Load(_)) | None => before,
+        Some(LineCompletion::Store(value)) => value,
+        Some(LineCompletion::Load(_)) | None => before,
     }
 }
 

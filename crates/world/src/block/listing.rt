@@ -4,7 +4,7 @@ use base::{BlockId, CacheId, NoMemory, Step};
 
 impl Block {
     ghost use Rattle.std.specs.Prelude.{◌≡◌, ◌++◌, OnOk};
-    ghost use Rattle.world.specs.Enabled.{unless_held, requests_in, heads_in, responses_in};
+    ghost use Rattle.world.specs.Enabled.{unless_held, requests_enabled, heads_in, responses_enabled};
 
     fn push_unless_held(
         &self,
@@ -27,7 +27,7 @@ impl Block {
         block: BlockId,
         steps: &mut Vec<Step>,
     ) -> Result<(), NoMemory>
-        ensures { OnOk result (steps.new.items ≡ steps.old.items ++ requests_in tables.now block self.now.state) }
+        ensures { OnOk result (steps.new.items ≡ steps.old.items ++ requests_enabled tables.now block self.now.state) }
     {
         for index in 0..self.wires.request_count() {
             self.push_unless_held(tables, Step::Request { block, index }, steps)?;
@@ -60,7 +60,7 @@ impl Block {
         block: BlockId,
         steps: &mut Vec<Step>,
     ) -> Result<(), NoMemory>
-        ensures { OnOk result (steps.new.items ≡ steps.old.items ++ responses_in tables.now block self.now.state) }
+        ensures { OnOk result (steps.new.items ≡ steps.old.items ++ responses_enabled tables.now block self.now.state) }
     {
         for index in 0..self.wires.response_count() {
             self.push_unless_held(tables, Step::Response { block, index }, steps)?;

@@ -14,7 +14,7 @@ returns-clause-succeeds c =
     let block = c.index_mut.result.now in
     rw (
       state-at c.args.blocks.now.items c.args.number block (omega arith) c.index_mut.ensures.value,
-      room-at c.args.blocks.now.items c.args.number block (omega arith) c.index_mut.ensures.value
+      room-at c.args.blocks.now.items c.args.number block (omega arith) c.index_mut.ensures.value,
     )
     c.ready.ensures.succeeds
 

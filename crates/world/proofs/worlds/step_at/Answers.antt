@@ -14,7 +14,7 @@ returns-clause-succeeds c =
     let block = c.index_mut.result.now in
     rw (
       state-at c.args.blocks.now.items c.args.number block (omega arith) c.index_mut.ensures.value,
-      room-at c.args.blocks.now.items c.args.number block (omega arith) c.index_mut.ensures.value
+      room-at c.args.blocks.now.items c.args.number block (omega arith) c.index_mut.ensures.value,
     )
     c.step.ensures.succeeds
 
@@ -26,7 +26,7 @@ returns-clause-ok c =
         block.state,
         state-at c.args.blocks.now.items c.args.number block (omega arith) c.index_mut.ensures.value,
         states-set c.args.blocks.now.items c.args.number c.step.new.self
-        ∙ ap (λ (t : Transition). slice_set (states c.args.blocks.now.items) c.args.number t.block) (sym made),
+            ∙ ap (λ (t : Transition). slice_set (states c.args.blocks.now.items) c.args.number t.block) (sym made),
         ap (λ (t : Transition). t.outcome) (sym made),
       );
     }) c.step.ensures.ok

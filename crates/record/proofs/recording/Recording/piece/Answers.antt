@@ -27,8 +27,8 @@ returns-then-number-count-clause-piece c =
     ∙ ap (λ (t : Tables). cell_piece t c.spot_at.result) c.tables.ensures
     ∙ ap (cell_piece c.args.self.now.tables) c.spot_at.ensures
     ∙ sym (cell-at c.args.self.now c.args.number i c.spot_at.result
-        (omega (arith, values, c.if-number-eq0.false, c.if-number-cells.false, c.if-number-cells-2.false))
-        (omega (arith, c.if-number-cells.false, c.if-number-cells-2.false, c.if-number-count.true)))
+    (omega (arith, values, c.if-number-eq0.false, c.if-number-cells.false, c.if-number-cells-2.false))
+    (omega (arith, c.if-number-cells.false, c.if-number-cells-2.false, c.if-number-count.true)))
 
 pub returns-then-number-count-2-clause-piece : goal.returns-then-number-count-2-clause-piece
 returns-then-number-count-2-clause-piece c =
@@ -43,8 +43,8 @@ returns-then-number-count-3-clause-piece c =
     c.entry_line.ensures.text
     ∙ ap (λ (l : List Entry). entry_piece (get_or l i _)) c.entries-entries.ensures.value
     ∙ sym (entry-at c.args.self.now c.args.number i _
-        (omega (arith, values, c.if-number-count.false, c.if-number-count-2.false))
-        (omega (arith, c.if-number-count.false, c.if-number-count-2.false, c.if-number-count-3.true, ap length c.entries-entries.ensures.value)))
+    (omega (arith, values, c.if-number-count.false, c.if-number-count-2.false))
+    (omega (arith, c.if-number-count.false, c.if-number-count-2.false, c.if-number-count-3.true, ap length c.entries-entries.ensures.value)))
 
 pub returns-else-number-count-3-clause-piece : goal.returns-else-number-count-3-clause-piece
 returns-else-number-count-3-clause-piece c =
@@ -52,7 +52,7 @@ returns-else-number-count-3-clause-piece c =
     let entries = ap length c.entries-entries.ensures.value in
     c.end.ensures.piece
     ∙ sym (end-at c.args.self.now c.args.number
-        (omega (arith, values, entries, c.if-number-count-3.false, c.requires.within, pieces-count c.args.self.now)))
+    (omega (arith, values, entries, c.if-number-count-3.false, c.requires.within, pieces-count c.args.self.now)))
 
 pub returns-then-number-count-3-clause-fits : goal.returns-then-number-count-3-clause-fits
 returns-then-number-count-3-clause-fits c =

@@ -16,8 +16,7 @@ pub loop-number-preserved : goal.loop-number-preserved
 loop-number-preserved g c =
     let r = c.args.self.now in
     let low = c.loop-number-test.true in
-    let count = c.count_of_pieces-number-end.ensures.count in
-    (
+    let count = c.count_of_pieces-number-end.ensures.count in (
       out-more (λ piece. piece) (pieces r) c.loop-number.number [] _ (g.S.Sink.taken c.loop-number.sink) _ 0 c.loop-number.written _ c.as_slice.result.now
           (omega (arith, low, count)) (c.as_slice.ensures.text ∙ c.piece-piece.ensures.piece) c.loop-number.invariant.0 c.in_ok-written.ensures.ok,
       c.in_ok-written.ensures.mark ∙ c.loop-number.invariant.1,
@@ -61,7 +60,7 @@ returns-in_err-written-clause-err g c =
     let count = c.count_of_pieces-number-end.ensures.count in
     handed-on c.from_residual.result _ _ _ c.from_residual.ensures.1 (
     (cut-text c.args.self.now _ _ _ (cut-at (λ piece. piece) (pieces c.args.self.now) c.loop-number.number [] _ (g.S.Sink.taken c.loop-number.sink) _ 0 c.loop-number.written _ c.as_slice.result.now
-        (omega (arith, low, count)) (c.as_slice.ensures.text ∙ c.piece-piece.ensures.piece) c.loop-number.invariant.0 c.in_err-written.ensures.err)).0)
+    (omega (arith, low, count)) (c.as_slice.ensures.text ∙ c.piece-piece.ensures.piece) c.loop-number.invariant.0 c.in_err-written.ensures.err)).0)
 
 pub returns-in_err-written-clause-short : goal.returns-in_err-written-clause-short
 returns-in_err-written-clause-short g c =
@@ -69,4 +68,4 @@ returns-in_err-written-clause-short g c =
     let count = c.count_of_pieces-number-end.ensures.count in
     handed-on c.from_residual.result _ _ _ c.from_residual.ensures.1 (
     (cut-text c.args.self.now _ _ _ (cut-at (λ piece. piece) (pieces c.args.self.now) c.loop-number.number [] _ (g.S.Sink.taken c.loop-number.sink) _ 0 c.loop-number.written _ c.as_slice.result.now
-        (omega (arith, low, count)) (c.as_slice.ensures.text ∙ c.piece-piece.ensures.piece) c.loop-number.invariant.0 c.in_err-written.ensures.err)).1)
+    (omega (arith, low, count)) (c.as_slice.ensures.text ∙ c.piece-piece.ensures.piece) c.loop-number.invariant.0 c.in_err-written.ensures.err)).1)

@@ -9,12 +9,12 @@ use Rattle.world.proofs.worlds.World.run.Goals as goal
 pub returns-clause-history : goal.returns-clause-history
 returns-clause-history c =
     on_ok_weaker c.advance_all.result (λ run opening before h.
-      history-append c.args.self.now c.advance_all.new.self opening before c.args.steps.now h run.shape run.tables run.state) c.advance_all.ensures.ok
+    history-append c.args.self.now c.advance_all.new.self opening before c.args.steps.now h run.shape run.tables run.state) c.advance_all.ensures.ok
 
 pub returns-clause-history_so_far : goal.returns-clause-history_so_far
 returns-clause-history_so_far c =
     IfErr-weaker c.advance_all.result _ _ (λ stop run opening before h.
-      history-append c.args.self.now c.advance_all.new.self opening before (take stop.done c.args.steps.now) h run.shape run.tables run.state)
+    history-append c.args.self.now c.advance_all.new.self opening before (take stop.done c.args.steps.now) h run.shape run.tables run.state)
     c.advance_all.ensures.err
 
 -- the shape was within the limits, and is the same
