@@ -1,5 +1,5 @@
 -- Transitions at a home keep the invariant.
-use Rattle.std.proofs.Common.{◌≡◌, ℕ, ◌<◌, ◌+◌, [], ◌∷◌, inl, inr, refl, sym, subst, ◌∙◌, arith, Option, Some, None, true, false, if◌then◌else◌, slice_get, slice_set, sum_by, length, replicate}
+use Rattle.std.proofs.Common.{◌≡◌, ℕ, ◌+◌, [], ◌∷◌, inl, inr, refl, sym, subst, ◌∙◌, arith, Option, Some, None, true, false, if◌then◌else◌, slice_get, slice_set, sum_by, length, replicate}
 use Rattle.base.specs.declared.ids.CacheId.{CacheId}
 use Rattle.base.specs.declared.ids.Place.{Place}
 use Rattle.base.specs.declared.ids.Place.TheVariants.{Dir, Cache}

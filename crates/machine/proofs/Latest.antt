@@ -1,5 +1,5 @@
 -- In every history the latest value of a block is the one that is due to a load of it, whatever the tables.
-use Rattle.std.proofs.Common.{◌≡◌, ℕ, List, [], ◌∷◌, ◌++◌, refl, ap, sym, ◌∙◌, Option, Some, None, Bool, true, false, if◌then◌else◌, slice_get, slice_set, map}
+use Rattle.std.proofs.Common.{◌≡◌, ℕ, List, [], ◌∷◌, refl, ap, sym, ◌∙◌, Option, Some, None, Bool, true, false, if◌then◌else◌, slice_get, slice_set}
 use Rattle.std.proofs.lemmas.List.{map-set}
 use Rattle.std.proofs.lemmas.Option.{slice_get-map}
 use Rattle.std.specs.Option.{option_map}
@@ -40,8 +40,8 @@ use Rattle.machine.specs.declared.decision.Decision.TheVariants.{Refused, AtLine
 use Rattle.machine.specs.Tables.{Tables}
 use Rattle.machine.specs.Block.{BlockState}
 use Rattle.machine.specs.Transition.{by_line_entry, at_line, by_home_entry, at_home, is_idle, at_ask, at_request, at_forward, at_response, decision_of, plain_outcome, outcome_of, latest_after, carried_out, transition}
-use Rattle.machine.specs.Machine.{State, Next, next, next_at, state_after, outcomes_of, opened, with_transition, IsHistory}
-use Rattle.machine.specs.Completions.{completions, completions_of, completed_by, due, noted}
+use Rattle.machine.specs.Machine.{State, Next, next, next_at, state_after, outcomes_of, opened, IsHistory}
+use Rattle.machine.specs.Completions.{completions, completions_of, due, noted}
 use Rattle.machine.proofs.Due.{due-nothing, due-noted}
 use Rattle.machine.proofs.Following.{latests, latests-set_same, latests-opened}
 

@@ -1,5 +1,5 @@
 -- The invariant holds of an opened block.
-use Rattle.std.proofs.Common.{◌≡◌, ℕ, ◌<◌, ◌≤◌, [], refl, ap, sym, subst, ◌∙◌, arith, false, replicate, zero, suc, map}
+use Rattle.std.proofs.Common.{◌≡◌, ℕ, ◌≤◌, [], refl, ap, sym, subst, ◌∙◌, arith, false, replicate, zero, suc, map}
 use Rattle.std.proofs.lemmas.List.{length-replicate}
 use Rattle.cache_table.specs.declared.state.CacheState.TheVariants as line_state
 use Rattle.network.specs.declared.message.Forward.{Forward}

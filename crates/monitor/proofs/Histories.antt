@@ -1,5 +1,5 @@
-use Rattle.std.proofs.Common.{◌≡◌, ◌<◌, ℕ, zero, suc, List, [], ◌∷◌, ◌++◌, Bool, true, false, cond, refl, ap, sym, ◌∙◌, Some, None, Option, get_or, map, length, slice_get, slice_set, arith, append_assoc}
-use Rattle.std.specs.Prelude.{◌==◌, filter}
+use Rattle.std.proofs.Common.{◌≡◌, ◌<◌, ℕ, List, [], ◌∷◌, ◌++◌, Bool, true, false, cond, refl, ap, sym, ◌∙◌, Some, None, Option, get_or, map, length, slice_get, append_assoc}
+use Rattle.std.specs.Prelude.{filter}
 use Rattle.std.proofs.lemmas.List.{append-nil}
 use Rattle.std.proofs.lemmas.List.Elements.{All-head, All-tail}
 use Rattle.std.proofs.lemmas.Option.{slice_get-get_or}
@@ -8,8 +8,7 @@ use Rattle.std.proofs.lemmas.Iterator.Adapters.{option_map_id}
 use Rattle.base.specs.Steps.{block_of}
 use Rattle.base.specs.declared.step.Step.{Step}
 use Rattle.base.specs.declared.step.Outcome.{Outcome}
-use Rattle.base.specs.declared.step.Outcome.TheVariants as outcome
-use Rattle.machine.specs.Completions.{Completion, HasNoStoreTo, IsStoreTo, completions, completed_by, completions_of, is_store_to, stored_to, last_of, due, noted}
+use Rattle.machine.specs.Completions.{Completion, HasNoStoreTo, IsStoreTo, completions, completed_by, is_store_to, stored_to, last_of, due, noted}
 use Rattle.machine.specs.Tables.{Tables}
 use Rattle.machine.specs.Machine.{State, next, opened, state_after, outcomes_of}
 use Rattle.machine.proofs.Due.{due-nothing, due-noted}

@@ -1,11 +1,10 @@
 -- Texts that go out part by part.
-use Rattle.std.proofs.Common.{◌≡◌, ℕ, ◌+◌, ◌<◌, List, [], ◌∷◌, ◌++◌, Option, length, take, drop, get_or, ap, sym, ◌∙◌, subst, arith, suc, length-append, take-append-drop, Result, Ok, Err, IfOk, IfErr}
-use Rattle.record.specs.declared.writing.WriteFault.{WriteFault}
+use Rattle.std.proofs.Common.{◌≡◌, ℕ, ◌+◌, ◌<◌, List, [], ◌∷◌, ◌++◌, Option, length, take, drop, get_or, ap, sym, ◌∙◌, subst, arith, suc, length-append, take-append-drop}
 use Rattle.std.proofs.lemmas.List.{take_more, append-nil, drop_more, take-append-le}
 use Rattle.std.proofs.lemmas.Grind.{flat_map-append}
 use Rattle.std.specs.List.{flat_map}
 use Rattle.std.specs.Io.KnownBytes.{Appends}
-use Rattle.std.proofs.KnownBytes.{Appends-trans, Appends-nil}
+use Rattle.std.proofs.KnownBytes.{Appends-trans}
 use Rattle.record.specs.inner.Pieces.{IsOut, IsCutOff}
 
 -- one text and then another

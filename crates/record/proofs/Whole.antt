@@ -8,7 +8,7 @@ use Rattle.std.specs.Fmt.{decimal}
 use Rattle.record.specs.Kept.{Kept}
 use Rattle.record.specs.Cells.{all_spots, cell_words}
 use Rattle.record.specs.Text.{text, line, header_words, shape_words, opening_words, cells_words, changed_cells, entries_words, entry_words, end_words}
-use Rattle.record.specs.inner.Pieces.{IsOut, IsCutOff, pieces, head_piece, value_piece, cells_piece, cell_piece, entries_piece, entry_piece, end_piece, places_before}
+use Rattle.record.specs.inner.Pieces.{IsOut, IsCutOff, pieces, head_piece, value_piece, cells_piece, cell_piece, entries_piece, entry_piece, end_piece}
 use Rattle.record.proofs.Changed.{changed-lines}
 use Rattle.record.proofs.Outs.{cut-same, out-same}
 

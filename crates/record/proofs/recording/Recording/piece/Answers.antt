@@ -1,4 +1,4 @@
-use Rattle.std.proofs.Common.{◌≡◌, ◌-◌, ◌+◌, ℕ, List, get_or, length, ap, sym, ◌∙◌, arith}
+use Rattle.std.proofs.Common.{◌-◌, ◌+◌, ℕ, List, get_or, length, ap, sym, ◌∙◌, arith}
 use Rattle.record.specs.inner.Pieces.{value_piece, cells_piece, cell_piece, entries_piece, entry_piece}
 use Rattle.record.proofs.PieceAt.{value-at, cells-at, cell-at, entries-at, entry-at, end-at, fits-at}
 use Rattle.record.proofs.Whole.{pieces-count}

@@ -1,4 +1,4 @@
-use Rattle.std.proofs.Common.{◌≡◌, ◌+◌, ap, arith, inl, inr, length, refl, subst, sym, take, ◌∙◌, []}
+use Rattle.std.proofs.Common.{◌+◌, ap, arith, inl, inr, length, refl, subst, sym, ◌∙◌, []}
 use Rattle.std.proofs.lemmas.Bool.{cases_eq}
 use Rattle.std.proofs.lemmas.List.{take_all}
 use Rattle.record.specs.Recordable.{AreWhole}

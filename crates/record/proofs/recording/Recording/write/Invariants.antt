@@ -1,4 +1,4 @@
-use Rattle.std.proofs.Common.{◌≡◌, ◌≤◌, ◌<◌, ◌+◌, ◌*◌, ℕ, take}
+use Rattle.std.proofs.Common.{◌≡◌, ◌≤◌, ◌<◌, ◌*◌, ℕ, take}
 use Rattle.record.specs.inner.Pieces.{IsOut, pieces, PieceFits}
 use Rattle.record.proofs.Whole.{flat}
 use Rattle.record.proofs.recording.Recording.write.Given as goal
