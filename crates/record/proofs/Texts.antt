@@ -85,31 +85,51 @@ pub no-directory_state : (word : List ℕ) → ¬ IsUtf8 word → (x : Directory
 no-directory_state word none x is = none (subst IsUtf8 (sym is) (directory_state-text x))
 
 directory_event-text : (x : DirectoryEvent) → IsUtf8 (directory.event_name x)
-directory_event-text directory_event.GetS = IsUtf8-from_ascii (directory.event_name directory_event.GetS) (below (directory.event_name directory_event.GetS) refl)
-directory_event-text directory_event.GetM = IsUtf8-from_ascii (directory.event_name directory_event.GetM) (below (directory.event_name directory_event.GetM) refl)
-directory_event-text directory_event.PutSNotLast = IsUtf8-from_ascii (directory.event_name directory_event.PutSNotLast) (below (directory.event_name directory_event.PutSNotLast) refl)
-directory_event-text directory_event.PutSLast = IsUtf8-from_ascii (directory.event_name directory_event.PutSLast) (below (directory.event_name directory_event.PutSLast) refl)
-directory_event-text directory_event.PutMOwner = IsUtf8-from_ascii (directory.event_name directory_event.PutMOwner) (below (directory.event_name directory_event.PutMOwner) refl)
-directory_event-text directory_event.PutMNonOwner = IsUtf8-from_ascii (directory.event_name directory_event.PutMNonOwner) (below (directory.event_name directory_event.PutMNonOwner) refl)
-directory_event-text directory_event.Data = IsUtf8-from_ascii (directory.event_name directory_event.Data) (below (directory.event_name directory_event.Data) refl)
+directory_event-text directory_event.GetS =
+    IsUtf8-from_ascii (directory.event_name directory_event.GetS) (below (directory.event_name directory_event.GetS) refl)
+directory_event-text directory_event.GetM =
+    IsUtf8-from_ascii (directory.event_name directory_event.GetM) (below (directory.event_name directory_event.GetM) refl)
+directory_event-text directory_event.PutSNotLast =
+    IsUtf8-from_ascii (directory.event_name directory_event.PutSNotLast) (below (directory.event_name directory_event.PutSNotLast) refl)
+directory_event-text directory_event.PutSLast =
+    IsUtf8-from_ascii (directory.event_name directory_event.PutSLast) (below (directory.event_name directory_event.PutSLast) refl)
+directory_event-text directory_event.PutMOwner =
+    IsUtf8-from_ascii (directory.event_name directory_event.PutMOwner) (below (directory.event_name directory_event.PutMOwner) refl)
+directory_event-text directory_event.PutMNonOwner =
+    IsUtf8-from_ascii (directory.event_name directory_event.PutMNonOwner) (below (directory.event_name directory_event.PutMNonOwner) refl)
+directory_event-text directory_event.Data =
+    IsUtf8-from_ascii (directory.event_name directory_event.Data) (below (directory.event_name directory_event.Data) refl)
 
 pub no-directory_event : (word : List ℕ) → ¬ IsUtf8 word → (x : DirectoryEvent) → word ≡ directory.event_name x → ⊥
 no-directory_event word none x is = none (subst IsUtf8 (sym is) (directory_event-text x))
 
 directory_action-text : (x : DirectoryAction) → IsUtf8 (directory.action_name x)
-directory_action-text directory_action.DataReq = IsUtf8-from_ascii (directory.action_name directory_action.DataReq) (below (directory.action_name directory_action.DataReq) refl)
-directory_action-text directory_action.DataAcks = IsUtf8-from_ascii (directory.action_name directory_action.DataAcks) (below (directory.action_name directory_action.DataAcks) refl)
-directory_action-text directory_action.InvSharers = IsUtf8-from_ascii (directory.action_name directory_action.InvSharers) (below (directory.action_name directory_action.InvSharers) refl)
-directory_action-text directory_action.FwdGetS = IsUtf8-from_ascii (directory.action_name directory_action.FwdGetS) (below (directory.action_name directory_action.FwdGetS) refl)
-directory_action-text directory_action.FwdGetM = IsUtf8-from_ascii (directory.action_name directory_action.FwdGetM) (below (directory.action_name directory_action.FwdGetM) refl)
-directory_action-text directory_action.PutAck = IsUtf8-from_ascii (directory.action_name directory_action.PutAck) (below (directory.action_name directory_action.PutAck) refl)
-directory_action-text directory_action.AddReq = IsUtf8-from_ascii (directory.action_name directory_action.AddReq) (below (directory.action_name directory_action.AddReq) refl)
-directory_action-text directory_action.AddOwner = IsUtf8-from_ascii (directory.action_name directory_action.AddOwner) (below (directory.action_name directory_action.AddOwner) refl)
-directory_action-text directory_action.RemoveReq = IsUtf8-from_ascii (directory.action_name directory_action.RemoveReq) (below (directory.action_name directory_action.RemoveReq) refl)
-directory_action-text directory_action.ClearSharers = IsUtf8-from_ascii (directory.action_name directory_action.ClearSharers) (below (directory.action_name directory_action.ClearSharers) refl)
-directory_action-text directory_action.ClearOwner = IsUtf8-from_ascii (directory.action_name directory_action.ClearOwner) (below (directory.action_name directory_action.ClearOwner) refl)
-directory_action-text directory_action.SetOwner = IsUtf8-from_ascii (directory.action_name directory_action.SetOwner) (below (directory.action_name directory_action.SetOwner) refl)
-directory_action-text directory_action.CopyData = IsUtf8-from_ascii (directory.action_name directory_action.CopyData) (below (directory.action_name directory_action.CopyData) refl)
+directory_action-text directory_action.DataReq =
+    IsUtf8-from_ascii (directory.action_name directory_action.DataReq) (below (directory.action_name directory_action.DataReq) refl)
+directory_action-text directory_action.DataAcks =
+    IsUtf8-from_ascii (directory.action_name directory_action.DataAcks) (below (directory.action_name directory_action.DataAcks) refl)
+directory_action-text directory_action.InvSharers =
+    IsUtf8-from_ascii (directory.action_name directory_action.InvSharers) (below (directory.action_name directory_action.InvSharers) refl)
+directory_action-text directory_action.FwdGetS =
+    IsUtf8-from_ascii (directory.action_name directory_action.FwdGetS) (below (directory.action_name directory_action.FwdGetS) refl)
+directory_action-text directory_action.FwdGetM =
+    IsUtf8-from_ascii (directory.action_name directory_action.FwdGetM) (below (directory.action_name directory_action.FwdGetM) refl)
+directory_action-text directory_action.PutAck =
+    IsUtf8-from_ascii (directory.action_name directory_action.PutAck) (below (directory.action_name directory_action.PutAck) refl)
+directory_action-text directory_action.AddReq =
+    IsUtf8-from_ascii (directory.action_name directory_action.AddReq) (below (directory.action_name directory_action.AddReq) refl)
+directory_action-text directory_action.AddOwner =
+    IsUtf8-from_ascii (directory.action_name directory_action.AddOwner) (below (directory.action_name directory_action.AddOwner) refl)
+directory_action-text directory_action.RemoveReq =
+    IsUtf8-from_ascii (directory.action_name directory_action.RemoveReq) (below (directory.action_name directory_action.RemoveReq) refl)
+directory_action-text directory_action.ClearSharers =
+    IsUtf8-from_ascii (directory.action_name directory_action.ClearSharers) (below (directory.action_name directory_action.ClearSharers) refl)
+directory_action-text directory_action.ClearOwner =
+    IsUtf8-from_ascii (directory.action_name directory_action.ClearOwner) (below (directory.action_name directory_action.ClearOwner) refl)
+directory_action-text directory_action.SetOwner =
+    IsUtf8-from_ascii (directory.action_name directory_action.SetOwner) (below (directory.action_name directory_action.SetOwner) refl)
+directory_action-text directory_action.CopyData =
+    IsUtf8-from_ascii (directory.action_name directory_action.CopyData) (below (directory.action_name directory_action.CopyData) refl)
 
 pub no-directory_action : (word : List ℕ) → ¬ IsUtf8 word → (x : DirectoryAction) → word ≡ directory.action_name x → ⊥
 no-directory_action word none x is = none (subst IsUtf8 (sym is) (directory_action-text x))
