@@ -72,7 +72,7 @@ returns-in_err-entries-clause-fault g c =
     (opening_line c.in_ok-shape.shape)
     (from-start c.open-lines.result (g.S.Source.left c.args.source.now)
     (stream c.read_header.new.lines
-        (g.S.Source.left c.read_header.new.source)) c.read_header.new.lines.number header shape_line c.open-lines.ensures c.in_ok-read_header.ensures.ok) c.in_ok-shape.ensures.ok) c.in_ok-opening.ensures.ok) c.in_ok-tables.ensures.ok) c.in_err-entries.ensures.err)
+    (g.S.Source.left c.read_header.new.source)) c.read_header.new.lines.number header shape_line c.open-lines.ensures c.in_ok-read_header.ensures.ok) c.in_ok-shape.ensures.ok) c.in_ok-opening.ensures.ok) c.in_ok-tables.ensures.ok) c.in_err-entries.ensures.err)
 
 pub returns-in_err-read_end-clause-fault : goal.returns-in_err-read_end-clause-fault
 returns-in_err-read_end-clause-fault g c =
@@ -94,8 +94,8 @@ returns-in_err-read_end-clause-fault g c =
     (stream c.read_shape.new.lines (g.S.Source.left c.read_shape.new.source)) 0 c.read_header.new.lines.number c.read_shape.new.lines.number header shape_line
     (opening_line c.in_ok-shape.shape)
     (from-start c.open-lines.result (g.S.Source.left c.args.source.now)
-        (stream c.read_header.new.lines
-            (g.S.Source.left c.read_header.new.source)) c.read_header.new.lines.number header shape_line c.open-lines.ensures c.in_ok-read_header.ensures.ok) c.in_ok-shape.ensures.ok) c.in_ok-opening.ensures.ok) c.in_ok-tables.ensures.ok) c.in_ok-entries.ensures.ok) c.in_err-read_end.ensures.err)
+    (stream c.read_header.new.lines
+    (g.S.Source.left c.read_header.new.source)) c.read_header.new.lines.number header shape_line c.open-lines.ensures c.in_ok-read_header.ensures.ok) c.in_ok-shape.ensures.ok) c.in_ok-opening.ensures.ok) c.in_ok-tables.ensures.ok) c.in_ok-entries.ensures.ok) c.in_err-read_end.ensures.err)
 
 pub returns-clause-whole : goal.returns-clause-whole
 returns-clause-whole g c =
@@ -118,7 +118,7 @@ returns-clause-whole g c =
     (opening_line c.in_ok-shape.shape)
     (from-start c.open-lines.result (g.S.Source.left c.args.source.now)
     (stream c.read_header.new.lines
-        (g.S.Source.left c.read_header.new.source)) c.read_header.new.lines.number header shape_line c.open-lines.ensures c.in_ok-read_header.ensures.ok) c.in_ok-shape.ensures.ok) c.in_ok-opening.ensures.ok) c.in_ok-tables.ensures.ok) c.in_ok-entries.ensures.ok) c.in_ok-read_end.ensures.ok in
+    (g.S.Source.left c.read_header.new.source)) c.read_header.new.lines.number header shape_line c.open-lines.ensures c.in_ok-read_header.ensures.ok) c.in_ok-shape.ensures.ok) c.in_ok-opening.ensures.ok) c.in_ok-tables.ensures.ok) c.in_ok-entries.ensures.ok) c.in_ok-read_end.ensures.ok in
     record { lines = all.lines; follow = all.follow; read = all.taken; end = c.in_ok-read_end.ensures.end }
 
 pub returns-clause-text : goal.returns-clause-text
