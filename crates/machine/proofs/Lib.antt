@@ -44,7 +44,6 @@ pub mod Quiet
 pub mod StallRules
 pub mod Ranks
 pub mod Moves
-pub mod Idling
 pub mod Invariant
 pub mod Safety
 pub mod Progress
