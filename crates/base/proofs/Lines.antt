@@ -14,7 +14,8 @@ one_word p (x ∷ xs) h = by_case (p x) refl (one_word p xs)
     by_case false e again = let h' = rw e at h in rw e (rw (again (omega (arith, h'))) refl)
 
 -- the first word, and the words behind its blank
-pub first_word : (p : ℕ → Bool) (xs : List ℕ) (at : ℕ) → at ≡ position_or_len p xs → at < length xs → slice_split p xs ≡ take at xs ∷ slice_split p (take (length xs - (at + 1)) (drop (at + 1) xs))
+pub first_word : (p : ℕ → Bool) (xs : List ℕ) (at : ℕ) → at ≡ position_or_len p xs → at < length xs →
+    slice_split p xs ≡ take at xs ∷ slice_split p (take (length xs - (at + 1)) (drop (at + 1) xs))
 first_word p xs at e low =
     let whole : take (length xs - (at + 1)) (drop (at + 1) xs) ≡ drop (at + 1) xs = grind (arith, common_steps) in
     rw (whole, e) (slice_split_first p xs 0 (omega (arith, e, low)))

@@ -1,5 +1,6 @@
-use Rattle.std.specs.Prelude.{◌≡◌, ◌≢◌, ℕ, ◌<◌, ◌^◌, ⊤, List, [], ◌∷◌, ◌++◌, codes, eqb}
-use Rattle.std.specs.List.{flat_map, slice_split}
+use Rattle.std.specs.Prelude.{◌≡◌, ◌≢◌, ℕ, ◌<◌, ◌^◌, ⊤, List, [], ◌∷◌, ◌++◌, Option, codes, eqb}
+use Rattle.std.specs.List.{find, flat_map, slice_split}
+use Rattle.std.specs.Str.{bytes_eq}
 use Rattle.std.specs.Fmt.{decimal}
 use Rattle.base.specs.declared.step.Ask.{Ask}
 use Rattle.base.specs.declared.step.Ask.TheVariants.{Load, Store, Replace}
@@ -22,6 +23,10 @@ spaced words = flat_map (λ word. 32 ∷ word) words
 abbrev pub joined : List (List ℕ) → List ℕ
 joined [] = []
 joined (word ∷ words) = word ++ spaced words
+
+-- the first of these things that is spelled so, if there is one
+abbrev pub named_in : {X : Type 0} → (X → List ℕ) → List ℕ → List X → Option X
+named_in spelling text all = find (λ x. bytes_eq (spelling x) text) all
 
 -- the words that spell what a core asks
 abbrev pub ask_words : Ask → List (List ℕ)

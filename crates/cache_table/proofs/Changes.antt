@@ -85,13 +85,16 @@ event_number-small event.LastInvAck = omega arith
 same-place : (cells : Cells) (i j k l : ℕ) (x d : CacheEntry) → i < length cells → j < length (get_or cells i []) → k ≡ i → l ≡ j →
     get_or (get_or (set cells i (set (get_or cells i []) j x)) k []) l d ≡ x
 same-place cells i j k l x d in_rows in_row same_row same_column =
-    rw (same_row, same_column) (ap (λ r. get_or r j d) (get_or-set_same cells i (set (get_or cells i []) j x) [] in_rows) ∙ get_or-set_same (get_or cells i []) j x d in_row)
+    rw (same_row, same_column)
+    (ap (λ r. get_or r j d) (get_or-set_same cells i (set (get_or cells i []) j x) [] in_rows) ∙ get_or-set_same (get_or cells i []) j x d in_row)
 
 -- what is read elsewhere is as it was, in the same row or another
 other-place : (cells : Cells) (i j k l : ℕ) (x d : CacheEntry) → i < length cells → (k ≡ i → l ≡ j → ⊥) → (k ≡ i) ⊎ (k ≡ i → ⊥) →
     get_or (get_or (set cells i (set (get_or cells i []) j x)) k []) l d ≡ get_or (get_or cells k []) l d
 other-place cells i j k l x d in_rows other (inl same_row) =
-    rw same_row (ap (λ r. get_or r l d) (get_or-set_same cells i (set (get_or cells i []) j x) [] in_rows) ∙ get_or-set_other (get_or cells i []) j l x d (other same_row))
+    rw same_row
+    (ap (λ r. get_or r l d) (get_or-set_same cells i (set (get_or cells i []) j x) [] in_rows) ∙ get_or-set_other (get_or cells i []) j l x d
+    (other same_row))
 other-place cells i j k l x d in_rows other (inr other_row) =
     ap (λ r. get_or r l d) (get_or-set_other cells i k (set (get_or cells i []) j x) [] other_row)
 
@@ -105,28 +108,39 @@ has-cell cells state event whole =
     omega (arith, row-length cells (state_number state) whole.columns (has-row cells state whole), event_number-small event)
 
 -- each cell but the one replaced is as it was
-pub cell-with_cell_other : (cells : Cells) (state : CacheState) (event : CacheEvent) (entry : CacheEntry) (s : CacheState) (e : CacheEvent) → IsWhole cells → ¬ ((s ≡ state) × (e ≡ event)) →
+pub cell-with_cell_other : (cells : Cells) (state : CacheState) (event : CacheEvent) (entry : CacheEntry) (s : CacheState) (e : CacheEvent) →
+    IsWhole cells → ¬ ((s ≡ state) × (e ≡ event)) →
     cell (with_cell cells state event entry) s e ≡ cell cells s e
 cell-with_cell_other cells state event entry s e whole other =
-    other-place cells (state_number state) (event_number event) (state_number s) (event_number e) entry Blank (has-row cells state whole) (λ same_row same_column. other (same-state s state same_row, same-event e event same_column)) (cases_eq (state_number s) (state_number state))
+    other-place cells (state_number state) (event_number event) (state_number s) (event_number e) entry Blank (has-row cells state whole)
+    (λ same_row same_column. other (same-state s state same_row, same-event e event same_column)) (cases_eq (state_number s) (state_number state))
 
 -- what a change gives is in its cell, by whether it is of the state and whether it is of the event
 after-change : (cells : Cells) (change : CacheChange) (state : CacheState) (event : CacheEvent) → IsWhole cells →
-    (((state_number change.state == state_number state) ≡ true) × (state_number change.state ≡ state_number state)) ⊎ (((state_number change.state == state_number state) ≡ false) × (state_number change.state ≢ state_number state)) →
-    (((event_number change.event == event_number event) ≡ true) × (event_number change.event ≡ event_number event)) ⊎ (((event_number change.event == event_number event) ≡ false) × (event_number change.event ≢ event_number event)) →
+    (((state_number change.state == state_number state) ≡ true) × (state_number change.state ≡ state_number state))
+    ⊎ (((state_number change.state == state_number state) ≡ false) × (state_number change.state ≢ state_number state)) →
+    (((event_number change.event == event_number event) ≡ true) × (event_number change.event ≡ event_number event))
+    ⊎ (((event_number change.event == event_number event) ≡ false) × (event_number change.event ≢ event_number event)) →
     cell (with_cell cells change.state change.event change.entry) state event ≡ unwrap_or (entry_given change state event) (cell cells state event)
 after-change cells change state event whole (inl (state_test, same_row)) (inl (event_test, same_column)) =
-    rw (state_test, event_test) (same-place cells (state_number change.state) (event_number change.event) (state_number state) (event_number event) change.entry Blank (has-row cells change.state whole) (has-cell cells change.state change.event whole) (sym same_row) (sym same_column))
+    rw (state_test, event_test)
+    (same-place cells (state_number change.state) (event_number change.event) (state_number state) (event_number event) change.entry Blank
+    (has-row cells change.state whole) (has-cell cells change.state change.event whole) (sym same_row) (sym same_column))
 after-change cells change state event whole (inl (state_test, same_row)) (inr (event_test, other_column)) =
-    rw (state_test, event_test) (other-place cells (state_number change.state) (event_number change.event) (state_number state) (event_number event) change.entry Blank (has-row cells change.state whole) (λ _ same_column. other_column (sym same_column)) (inl (sym same_row)))
+    rw (state_test, event_test)
+    (other-place cells (state_number change.state) (event_number change.event) (state_number state) (event_number event) change.entry Blank
+    (has-row cells change.state whole) (λ _ same_column. other_column (sym same_column)) (inl (sym same_row)))
 after-change cells change state event whole (inr (state_test, other_row)) _ =
-    rw state_test (other-place cells (state_number change.state) (event_number change.event) (state_number state) (event_number event) change.entry Blank (has-row cells change.state whole) (λ same_row _. other_row (sym same_row)) (inr (λ same_row. other_row (sym same_row))))
+    rw state_test
+    (other-place cells (state_number change.state) (event_number change.event) (state_number state) (event_number event) change.entry Blank
+    (has-row cells change.state whole) (λ same_row _. other_row (sym same_row)) (inr (λ same_row. other_row (sym same_row))))
 
 -- what a change gives is in its cell, and the others are as they were
 cell-change : (cells : Cells) (change : CacheChange) (state : CacheState) (event : CacheEvent) → IsWhole cells →
     cell (with_cell cells change.state change.event change.entry) state event ≡ unwrap_or (entry_given change state event) (cell cells state event)
 cell-change cells change state event whole =
-    after-change cells change state event whole (eqb_tells (state_number change.state) (state_number state)) (eqb_tells (event_number change.event) (event_number event))
+    after-change cells change state event whole (eqb_tells (state_number change.state) (state_number state))
+    (eqb_tells (event_number change.event) (event_number event))
 
 -- a default of a default
 unwrap_or-option_or : (first second : Option CacheEntry) (d : CacheEntry) → unwrap_or (option_or first second) d ≡ unwrap_or first (unwrap_or second d)
@@ -134,7 +148,8 @@ unwrap_or-option_or None second d = refl
 unwrap_or-option_or (Some entry) second d = refl
 
 -- a whole table is whole after a change
-pub IsWhole-with_cell : (cells : Cells) (state : CacheState) (event : CacheEvent) (entry : CacheEntry) → IsWhole cells → IsWhole (with_cell cells state event entry)
+pub IsWhole-with_cell : (cells : Cells) (state : CacheState) (event : CacheEvent) (entry : CacheEntry) → IsWhole cells →
+    IsWhole (with_cell cells state event entry)
 IsWhole-with_cell cells state event entry whole =
     IsWhole-set cells (state_number state) (event_number event) entry whole (state_number-small state)
 

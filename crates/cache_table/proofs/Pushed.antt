@@ -1,4 +1,5 @@
-use Rattle.std.proofs.Common.{◌≡◌, ℕ, ◌+◌, ◌-◌, ◌<◌, List, [], ◌∷◌, ◌++◌, length, take, set, replicate, refl, ap, sym, ◌∙◌, suc, arith, append_assoc, length-append, add-one}
+use Rattle.std.proofs.Common.{◌≡◌, ℕ, ◌+◌, ◌-◌, ◌<◌, List, [], ◌∷◌, ◌++◌, length, take, set, replicate, refl, ap, sym, ◌∙◌, suc, arith, append_assoc}
+use Rattle.std.proofs.Common.{length-append, add-one}
 use Rattle.cache_table.specs.declared.actions.CacheAction.{CacheAction}
 use Rattle.cache_table.specs.declared.actions.CacheAction.TheVariants.{GetS}
 use Rattle.cache_table.specs.declared.actions.CacheActions.TheInside.{Inside}
@@ -19,7 +20,8 @@ replicate-less : (n : ℕ) → n < 8 → replicate (8 - n) GetS ≡ GetS ∷ rep
 replicate-less n h = let e : 8 - n ≡ suc (8 - (n + 1)) = omega arith in rw e
 
 -- an action is set behind the actions
-pushed-items : (a : Inside) (x : CacheAction) → IsFilled a → a.count < 8 → set a.items a.count x ≡ take a.count a.items ++ x ∷ replicate (8 - (a.count + 1)) GetS
+pushed-items : (a : Inside) (x : CacheAction) → IsFilled a → a.count < 8 →
+    set a.items a.count x ≡ take a.count a.items ++ x ∷ replicate (8 - (a.count + 1)) GetS
 pushed-items a x h lt =
     let xs : List CacheAction = take a.count a.items in
     let rest : List CacheAction = replicate (8 - (a.count + 1)) GetS in
@@ -39,5 +41,7 @@ pub filled-pushed : (a : Inside) (x : CacheAction) → IsFilled a → a.count < 
 filled-pushed a x h lt = record {
   few = omega arith;
   counted = ap (λ l. length l) (pushed-take a x h lt) ∙ length-append (take a.count a.items) (x ∷ []) ∙ ap (λ n. n + 1) h.counted;
-  rest = pushed-items a x h lt ∙ sym (append_assoc (take a.count a.items) (x ∷ []) (replicate (8 - (a.count + 1)) GetS)) ∙ ap (λ l. l ++ replicate (8 - (a.count + 1)) GetS) (sym (pushed-take a x h lt));
+  rest =
+      pushed-items a x h lt ∙ sym (append_assoc (take a.count a.items) (x ∷ []) (replicate (8 - (a.count + 1)) GetS))
+      ∙ ap (λ l. l ++ replicate (8 - (a.count + 1)) GetS) (sym (pushed-take a x h lt));
 }

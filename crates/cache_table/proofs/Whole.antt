@@ -16,8 +16,10 @@ AllTwelve-set (r ∷ rs) (suc i) row h e = (h.0, AllTwelve-set rs i row h.1 e)
 pub IsWhole-set : (cells : Cells) (i j : ℕ) (x : CacheEntry) → IsWhole cells → i < 11 → IsWhole (set cells i (set (get_or cells i []) j x))
 IsWhole-set cells i j x h lt = record {
   rows = length-set cells i (set (get_or cells i []) j x) ∙ h.rows;
-  columns = AllTwelve-set cells i (set (get_or cells i []) j x) h.columns (length-set (get_or cells i []) j x ∙ row-length cells i h.columns (omega (arith, h.rows)));
+  columns =
+      AllTwelve-set cells i (set (get_or cells i []) j x) h.columns (length-set (get_or cells i []) j x ∙ row-length cells i h.columns (omega (arith, h.rows)));
 }
 
-pub cell-default : (cells : Cells) (i j : ℕ) (d e : CacheEntry) → IsWhole cells → i < 11 → j < 12 → get_or (get_or cells i []) j d ≡ get_or (get_or cells i []) j e
+pub cell-default : (cells : Cells) (i j : ℕ) (d e : CacheEntry) → IsWhole cells → i < 11 → j < 12 →
+    get_or (get_or cells i []) j d ≡ get_or (get_or cells i []) j e
 cell-default cells i j d e h lt lu = get_or_default (get_or cells i []) j d e (omega (arith, row-length cells i h.columns (omega (arith, h.rows))))

@@ -1,6 +1,5 @@
 use Rattle.std.specs.Prelude.{◌≢◌, ℕ, List, [], ◌∷◌, Option, codes}
-use Rattle.std.specs.List.{find}
-use Rattle.std.specs.Str.{bytes_eq}
+use Rattle.base.specs.Spelling.{named_in}
 use Rattle.cache_table.specs.Baseline.{all_states, all_events}
 use Rattle.cache_table.specs.declared.state.CacheState.{CacheState}
 use Rattle.cache_table.specs.declared.state.CacheState.TheVariants as state
@@ -25,7 +24,7 @@ state_name state.IiA = codes "II^A"
 
 -- the state that is spelled so, if there is one
 abbrev pub state_named : List ℕ → Option CacheState
-state_named text = find (λ s. bytes_eq (state_name s) text) all_states
+state_named text = named_in state_name text all_states
 
 -- no state is spelled so
 abbrev pub IsNoState : List ℕ → Type 0
@@ -48,7 +47,7 @@ event_name event.LastInvAck = codes "Last-Inv-Ack"
 
 -- the event that is spelled so, if there is one
 abbrev pub event_named : List ℕ → Option CacheEvent
-event_named text = find (λ e. bytes_eq (event_name e) text) all_events
+event_named text = named_in event_name text all_events
 
 -- no event is spelled so
 abbrev pub IsNoEvent : List ℕ → Type 0
@@ -72,7 +71,7 @@ all_actions =
 
 -- the action that is spelled so, if there is one
 abbrev pub action_named : List ℕ → Option CacheAction
-action_named text = find (λ a. bytes_eq (action_name a) text) all_actions
+action_named text = named_in action_name text all_actions
 
 -- no action is spelled so
 abbrev pub IsNoAction : List ℕ → Type 0

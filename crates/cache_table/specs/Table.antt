@@ -3,7 +3,8 @@ use Rattle.std.specs.Option.{option_or}
 use Rattle.cache_table.specs.declared.state.CacheState.{CacheState}
 use Rattle.cache_table.specs.declared.state.CacheState.TheVariants.{I, IsD, ImAd, ImA, S, SmAd, SmA, M, MiA, SiA, IiA}
 use Rattle.cache_table.specs.declared.event.CacheEvent.{CacheEvent}
-use Rattle.cache_table.specs.declared.event.CacheEvent.TheVariants.{Load, Store, Replacement, FwdGetS, FwdGetM, Inv, PutAck, DataDirZero, DataDirMore, DataOwner, InvAck, LastInvAck}
+use Rattle.cache_table.specs.declared.event.CacheEvent.TheVariants.{Load, Store, Replacement, FwdGetS, FwdGetM, Inv, PutAck, DataDirZero, DataDirMore}
+use Rattle.cache_table.specs.declared.event.CacheEvent.TheVariants.{DataOwner, InvAck, LastInvAck}
 use Rattle.cache_table.specs.declared.entry.CacheEntry.{CacheEntry}
 use Rattle.cache_table.specs.declared.change.CacheChange.{CacheChange}
 use Rattle.cache_table.specs.declared.entry.CacheEntry.TheVariants.{Blank}

@@ -2,6 +2,7 @@ use crate::actions::CacheAction;
 use crate::entry::CacheEntry;
 use crate::event::CacheEvent;
 use crate::state::CacheState;
+use base::text::{Named, find_named};
 use std::fmt;
 
 impl CacheState {
@@ -23,10 +24,21 @@ impl CacheState {
         CacheState::IiA,
     ];
 
-    /// How the state is spelled in texts.
-    pub fn name(self) -> &'static str
-        ensures { result.now ≡ state_name self }
+    /// The state that is spelled so. `None` comes exactly where none is.
+    pub fn named(name: &[u8]) -> Option<CacheState>
+        ensures spelled { MatchOption result (IsNoState name.now) (λ state. name.now ≡ state_name state) }
+        ensures named { result ≡ state_named name.now }
     {
+        find_named(&CacheState::ALL, name)
+    }
+}
+
+impl Named for CacheState {
+    ghost use Rattle.cache_table.specs.Names.{state_name};
+
+    ghost spelling = { state_name };
+
+    fn name(self) -> &'static str {
         match self {
             CacheState::I => "I",
             CacheState::IsD => "IS^D",
@@ -39,27 +51,6 @@ impl CacheState {
             CacheState::MiA => "MI^A",
             CacheState::SiA => "SI^A",
             CacheState::IiA => "II^A",
-        }
-    }
-
-    /// The state that is spelled so. `None` comes exactly where none is.
-    pub fn named(text: &str) -> Option<CacheState>
-        ensures spelled { MatchOption result (IsNoState text.now) (λ state. text.now ≡ state_name state) }
-        ensures named { result ≡ state_named text.now }
-    {
-        match text {
-            "I" => Some(CacheState::I),
-            "IS^D" => Some(CacheState::IsD),
-            "IM^AD" => Some(CacheState::ImAd),
-            "IM^A" => Some(CacheState::ImA),
-            "S" => Some(CacheState::S),
-            "SM^AD" => Some(CacheState::SmAd),
-            "SM^A" => Some(CacheState::SmA),
-            "M" => Some(CacheState::M),
-            "MI^A" => Some(CacheState::MiA),
-            "SI^A" => Some(CacheState::SiA),
-            "II^A" => Some(CacheState::IiA),
-            _ => None,
         }
     }
 }
@@ -84,10 +75,21 @@ impl CacheEvent {
         CacheEvent::LastInvAck,
     ];
 
-    /// How the event is spelled in texts.
-    pub fn name(self) -> &'static str
-        ensures { result.now ≡ event_name self }
+    /// The event that is spelled so. `None` comes exactly where none is.
+    pub fn named(name: &[u8]) -> Option<CacheEvent>
+        ensures spelled { MatchOption result (IsNoEvent name.now) (λ event. name.now ≡ event_name event) }
+        ensures named { result ≡ event_named name.now }
     {
+        find_named(&CacheEvent::ALL, name)
+    }
+}
+
+impl Named for CacheEvent {
+    ghost use Rattle.cache_table.specs.Names.{event_name};
+
+    ghost spelling = { event_name };
+
+    fn name(self) -> &'static str {
         match self {
             CacheEvent::Load => "Load",
             CacheEvent::Store => "Store",
@@ -101,28 +103,6 @@ impl CacheEvent {
             CacheEvent::DataOwner => "Data-Owner",
             CacheEvent::InvAck => "Inv-Ack",
             CacheEvent::LastInvAck => "Last-Inv-Ack",
-        }
-    }
-
-    /// The event that is spelled so. `None` comes exactly where none is.
-    pub fn named(text: &str) -> Option<CacheEvent>
-        ensures spelled { MatchOption result (IsNoEvent text.now) (λ event. text.now ≡ event_name event) }
-        ensures named { result ≡ event_named text.now }
-    {
-        match text {
-            "Load" => Some(CacheEvent::Load),
-            "Store" => Some(CacheEvent::Store),
-            "Replacement" => Some(CacheEvent::Replacement),
-            "Fwd-GetS" => Some(CacheEvent::FwdGetS),
-            "Fwd-GetM" => Some(CacheEvent::FwdGetM),
-            "Inv" => Some(CacheEvent::Inv),
-            "Put-Ack" => Some(CacheEvent::PutAck),
-            "Data-Dir-Zero" => Some(CacheEvent::DataDirZero),
-            "Data-Dir-More" => Some(CacheEvent::DataDirMore),
-            "Data-Owner" => Some(CacheEvent::DataOwner),
-            "Inv-Ack" => Some(CacheEvent::InvAck),
-            "Last-Inv-Ack" => Some(CacheEvent::LastInvAck),
-            _ => None,
         }
     }
 }
@@ -142,10 +122,21 @@ impl CacheAction {
         CacheAction::DataDir,
     ];
 
-    /// How the action is spelled in texts.
-    pub fn name(self) -> &'static str
-        ensures { result.now ≡ action_name self }
+    /// The action that is spelled so. `None` comes exactly where none is.
+    pub fn named(name: &[u8]) -> Option<CacheAction>
+        ensures spelled { MatchOption result (IsNoAction name.now) (λ action. name.now ≡ action_name action) }
+        ensures named { result ≡ action_named name.now }
     {
+        find_named(&CacheAction::ALL, name)
+    }
+}
+
+impl Named for CacheAction {
+    ghost use Rattle.cache_table.specs.Names.{action_name};
+
+    ghost spelling = { action_name };
+
+    fn name(self) -> &'static str {
         match self {
             CacheAction::GetS => "gets",
             CacheAction::GetM => "getm",
@@ -154,23 +145,6 @@ impl CacheAction {
             CacheAction::InvAck => "inv-ack",
             CacheAction::DataReq => "data-req",
             CacheAction::DataDir => "data-dir",
-        }
-    }
-
-    /// The action that is spelled so. `None` comes exactly where none is.
-    pub fn named(text: &str) -> Option<CacheAction>
-        ensures spelled { MatchOption result (IsNoAction text.now) (λ action. text.now ≡ action_name action) }
-        ensures named { result ≡ action_named text.now }
-    {
-        match text {
-            "gets" => Some(CacheAction::GetS),
-            "getm" => Some(CacheAction::GetM),
-            "puts" => Some(CacheAction::PutS),
-            "putm" => Some(CacheAction::PutM),
-            "inv-ack" => Some(CacheAction::InvAck),
-            "data-req" => Some(CacheAction::DataReq),
-            "data-dir" => Some(CacheAction::DataDir),
-            _ => None,
         }
     }
 }

@@ -16,8 +16,10 @@ AllSeven-set (r ∷ rs) (suc i) row h e = (h.0, AllSeven-set rs i row h.1 e)
 pub IsWhole-set : (cells : Cells) (i j : ℕ) (x : DirectoryEntry) → IsWhole cells → i < 4 → IsWhole (set cells i (set (get_or cells i []) j x))
 IsWhole-set cells i j x h lt = record {
   rows = length-set cells i (set (get_or cells i []) j x) ∙ h.rows;
-  columns = AllSeven-set cells i (set (get_or cells i []) j x) h.columns (length-set (get_or cells i []) j x ∙ row-length cells i h.columns (omega (arith, h.rows)));
+  columns =
+      AllSeven-set cells i (set (get_or cells i []) j x) h.columns (length-set (get_or cells i []) j x ∙ row-length cells i h.columns (omega (arith, h.rows)));
 }
 
-pub cell-default : (cells : Cells) (i j : ℕ) (d e : DirectoryEntry) → IsWhole cells → i < 4 → j < 7 → get_or (get_or cells i []) j d ≡ get_or (get_or cells i []) j e
+pub cell-default : (cells : Cells) (i j : ℕ) (d e : DirectoryEntry) → IsWhole cells → i < 4 → j < 7 →
+    get_or (get_or cells i []) j d ≡ get_or (get_or cells i []) j e
 cell-default cells i j d e h lt lu = get_or_default (get_or cells i []) j d e (omega (arith, row-length cells i h.columns (omega (arith, h.rows))))

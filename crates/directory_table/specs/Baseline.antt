@@ -6,7 +6,8 @@ use Rattle.directory_table.specs.declared.event.DirectoryEvent.{DirectoryEvent}
 use Rattle.directory_table.specs.declared.event.DirectoryEvent.TheVariants as event
 use Rattle.directory_table.specs.declared.entry.DirectoryEntry.{DirectoryEntry}
 use Rattle.directory_table.specs.declared.entry.DirectoryEntry.TheVariants.{Blank, Stall, Act}
-use Rattle.directory_table.specs.declared.actions.DirectoryAction.TheVariants.{DataReq, DataAcks, InvSharers, FwdGetS, FwdGetM, PutAck, AddReq, AddOwner, RemoveReq, ClearSharers, ClearOwner, SetOwner, CopyData}
+use Rattle.directory_table.specs.declared.actions.DirectoryAction.TheVariants.{DataReq, DataAcks, InvSharers, FwdGetS, FwdGetM, PutAck, AddReq}
+use Rattle.directory_table.specs.declared.actions.DirectoryAction.TheVariants.{AddOwner, RemoveReq, ClearSharers, ClearOwner, SetOwner, CopyData}
 
 -- the states, in the order of the rows
 abbrev pub all_states : List DirectoryState

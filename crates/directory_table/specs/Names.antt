@@ -1,6 +1,5 @@
 use Rattle.std.specs.Prelude.{◌≢◌, ℕ, List, [], ◌∷◌, Option, codes}
-use Rattle.std.specs.List.{find}
-use Rattle.std.specs.Str.{bytes_eq}
+use Rattle.base.specs.Spelling.{named_in}
 use Rattle.directory_table.specs.Baseline.{all_states, all_events}
 use Rattle.directory_table.specs.declared.state.DirectoryState.{DirectoryState}
 use Rattle.directory_table.specs.declared.state.DirectoryState.TheVariants as state
@@ -18,7 +17,7 @@ state_name state.SD = codes "S^D"
 
 -- the state that is spelled so, if there is one
 abbrev pub state_named : List ℕ → Option DirectoryState
-state_named text = find (λ s. bytes_eq (state_name s) text) all_states
+state_named text = named_in state_name text all_states
 
 -- no state is spelled so
 abbrev pub IsNoState : List ℕ → Type 0
@@ -36,7 +35,7 @@ event_name event.Data = codes "Data"
 
 -- the event that is spelled so, if there is one
 abbrev pub event_named : List ℕ → Option DirectoryEvent
-event_named text = find (λ e. bytes_eq (event_name e) text) all_events
+event_named text = named_in event_name text all_events
 
 -- no event is spelled so
 abbrev pub IsNoEvent : List ℕ → Type 0
@@ -66,7 +65,7 @@ all_actions =
 
 -- the action that is spelled so, if there is one
 abbrev pub action_named : List ℕ → Option DirectoryAction
-action_named text = find (λ a. bytes_eq (action_name a) text) all_actions
+action_named text = named_in action_name text all_actions
 
 -- no action is spelled so
 abbrev pub IsNoAction : List ℕ → Type 0

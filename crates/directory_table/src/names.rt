@@ -2,6 +2,7 @@ use crate::actions::DirectoryAction;
 use crate::entry::DirectoryEntry;
 use crate::event::DirectoryEvent;
 use crate::state::DirectoryState;
+use base::text::{Named, find_named};
 use std::fmt;
 
 impl DirectoryState {
@@ -16,29 +17,26 @@ impl DirectoryState {
         DirectoryState::SD,
     ];
 
-    /// How the state is spelled in texts.
-    pub fn name(self) -> &'static str
-        ensures { result.now ≡ state_name self }
+    /// The state that is spelled so. `None` comes exactly where none is.
+    pub fn named(name: &[u8]) -> Option<DirectoryState>
+        ensures spelled { MatchOption result (IsNoState name.now) (λ state. name.now ≡ state_name state) }
+        ensures named { result ≡ state_named name.now }
     {
+        find_named(&DirectoryState::ALL, name)
+    }
+}
+
+impl Named for DirectoryState {
+    ghost use Rattle.directory_table.specs.Names.{state_name};
+
+    ghost spelling = { state_name };
+
+    fn name(self) -> &'static str {
         match self {
             DirectoryState::I => "I",
             DirectoryState::S => "S",
             DirectoryState::M => "M",
             DirectoryState::SD => "S^D",
-        }
-    }
-
-    /// The state that is spelled so. `None` comes exactly where none is.
-    pub fn named(text: &str) -> Option<DirectoryState>
-        ensures spelled { MatchOption result (IsNoState text.now) (λ state. text.now ≡ state_name state) }
-        ensures named { result ≡ state_named text.now }
-    {
-        match text {
-            "I" => Some(DirectoryState::I),
-            "S" => Some(DirectoryState::S),
-            "M" => Some(DirectoryState::M),
-            "S^D" => Some(DirectoryState::SD),
-            _ => None,
         }
     }
 }
@@ -58,10 +56,21 @@ impl DirectoryEvent {
         DirectoryEvent::Data,
     ];
 
-    /// How the event is spelled in texts.
-    pub fn name(self) -> &'static str
-        ensures { result.now ≡ event_name self }
+    /// The event that is spelled so. `None` comes exactly where none is.
+    pub fn named(name: &[u8]) -> Option<DirectoryEvent>
+        ensures spelled { MatchOption result (IsNoEvent name.now) (λ event. name.now ≡ event_name event) }
+        ensures named { result ≡ event_named name.now }
     {
+        find_named(&DirectoryEvent::ALL, name)
+    }
+}
+
+impl Named for DirectoryEvent {
+    ghost use Rattle.directory_table.specs.Names.{event_name};
+
+    ghost spelling = { event_name };
+
+    fn name(self) -> &'static str {
         match self {
             DirectoryEvent::GetS => "GetS",
             DirectoryEvent::GetM => "GetM",
@@ -70,23 +79,6 @@ impl DirectoryEvent {
             DirectoryEvent::PutMOwner => "PutM-Owner",
             DirectoryEvent::PutMNonOwner => "PutM-NonOwner",
             DirectoryEvent::Data => "Data",
-        }
-    }
-
-    /// The event that is spelled so. `None` comes exactly where none is.
-    pub fn named(text: &str) -> Option<DirectoryEvent>
-        ensures spelled { MatchOption result (IsNoEvent text.now) (λ event. text.now ≡ event_name event) }
-        ensures named { result ≡ event_named text.now }
-    {
-        match text {
-            "GetS" => Some(DirectoryEvent::GetS),
-            "GetM" => Some(DirectoryEvent::GetM),
-            "PutS-NotLast" => Some(DirectoryEvent::PutSNotLast),
-            "PutS-Last" => Some(DirectoryEvent::PutSLast),
-            "PutM-Owner" => Some(DirectoryEvent::PutMOwner),
-            "PutM-NonOwner" => Some(DirectoryEvent::PutMNonOwner),
-            "Data" => Some(DirectoryEvent::Data),
-            _ => None,
         }
     }
 }
@@ -112,10 +104,21 @@ impl DirectoryAction {
         DirectoryAction::CopyData,
     ];
 
-    /// How the action is spelled in texts.
-    pub fn name(self) -> &'static str
-        ensures { result.now ≡ action_name self }
+    /// The action that is spelled so. `None` comes exactly where none is.
+    pub fn named(name: &[u8]) -> Option<DirectoryAction>
+        ensures spelled { MatchOption result (IsNoAction name.now) (λ action. name.now ≡ action_name action) }
+        ensures named { result ≡ action_named name.now }
     {
+        find_named(&DirectoryAction::ALL, name)
+    }
+}
+
+impl Named for DirectoryAction {
+    ghost use Rattle.directory_table.specs.Names.{action_name};
+
+    ghost spelling = { action_name };
+
+    fn name(self) -> &'static str {
         match self {
             DirectoryAction::DataReq => "data-req",
             DirectoryAction::DataAcks => "data-acks",
@@ -130,29 +133,6 @@ impl DirectoryAction {
             DirectoryAction::ClearOwner => "clear-owner",
             DirectoryAction::SetOwner => "set-owner",
             DirectoryAction::CopyData => "copy-data",
-        }
-    }
-
-    /// The action that is spelled so. `None` comes exactly where none is.
-    pub fn named(text: &str) -> Option<DirectoryAction>
-        ensures spelled { MatchOption result (IsNoAction text.now) (λ action. text.now ≡ action_name action) }
-        ensures named { result ≡ action_named text.now }
-    {
-        match text {
-            "data-req" => Some(DirectoryAction::DataReq),
-            "data-acks" => Some(DirectoryAction::DataAcks),
-            "inv-sharers" => Some(DirectoryAction::InvSharers),
-            "fwd-gets" => Some(DirectoryAction::FwdGetS),
-            "fwd-getm" => Some(DirectoryAction::FwdGetM),
-            "put-ack" => Some(DirectoryAction::PutAck),
-            "add-req" => Some(DirectoryAction::AddReq),
-            "add-owner" => Some(DirectoryAction::AddOwner),
-            "remove-req" => Some(DirectoryAction::RemoveReq),
-            "clear-sharers" => Some(DirectoryAction::ClearSharers),
-            "clear-owner" => Some(DirectoryAction::ClearOwner),
-            "set-owner" => Some(DirectoryAction::SetOwner),
-            "copy-data" => Some(DirectoryAction::CopyData),
-            _ => None,
         }
     }
 }

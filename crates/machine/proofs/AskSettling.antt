@@ -10,7 +10,8 @@ use Rattle.control.specs.declared.line.LineInput.TheVariants as line_input
 use Rattle.machine.proofs.Views.{View}
 use Rattle.machine.proofs.ValueRules.{HasValue, Waits, SettleRule}
 
-pub load_settles : (s : CacheState) (v : View) (value : ℕ) (acks : ℤ) (p : Option Ask) (latest : ℕ) → (HasValue s v → value ≡ latest) → Waits s p → SettleRule (line_input.Ask ask.Load) value acks p latest (baseline_entry s event.Load)
+pub load_settles : (s : CacheState) (v : View) (value : ℕ) (acks : ℤ) (p : Option Ask) (latest : ℕ) → (HasValue s v → value ≡ latest) → Waits s p →
+    SettleRule (line_input.Ask ask.Load) value acks p latest (baseline_entry s event.Load)
 load_settles I v value acks None latest h q = grind (arith)
 load_settles I v value acks (Some ask.Load) latest h q = grind (arith)
 load_settles I v value acks (Some (ask.Store x)) latest h q = grind (arith)
@@ -56,7 +57,8 @@ load_settles IiA v value acks (Some ask.Load) latest h q = grind (arith)
 load_settles IiA v value acks (Some (ask.Store x)) latest h q = grind (arith)
 load_settles IiA v value acks (Some ask.Replace) latest h q = grind (arith)
 
-pub store_settles : (s : CacheState) (y : ℕ) (v : View) (value : ℕ) (acks : ℤ) (p : Option Ask) (latest : ℕ) → (HasValue s v → value ≡ latest) → Waits s p → SettleRule (line_input.Ask (ask.Store y)) value acks p latest (baseline_entry s event.Store)
+pub store_settles : (s : CacheState) (y : ℕ) (v : View) (value : ℕ) (acks : ℤ) (p : Option Ask) (latest : ℕ) → (HasValue s v → value ≡ latest) →
+    Waits s p → SettleRule (line_input.Ask (ask.Store y)) value acks p latest (baseline_entry s event.Store)
 store_settles I y v value acks None latest h q = grind (arith)
 store_settles I y v value acks (Some ask.Load) latest h q = grind (arith)
 store_settles I y v value acks (Some (ask.Store x)) latest h q = grind (arith)
@@ -102,7 +104,8 @@ store_settles IiA y v value acks (Some ask.Load) latest h q = grind (arith)
 store_settles IiA y v value acks (Some (ask.Store x)) latest h q = grind (arith)
 store_settles IiA y v value acks (Some ask.Replace) latest h q = grind (arith)
 
-pub replace_settles : (s : CacheState) (v : View) (value : ℕ) (acks : ℤ) (p : Option Ask) (latest : ℕ) → (HasValue s v → value ≡ latest) → Waits s p → SettleRule (line_input.Ask ask.Replace) value acks p latest (baseline_entry s event.Replacement)
+pub replace_settles : (s : CacheState) (v : View) (value : ℕ) (acks : ℤ) (p : Option Ask) (latest : ℕ) → (HasValue s v → value ≡ latest) → Waits s p →
+    SettleRule (line_input.Ask ask.Replace) value acks p latest (baseline_entry s event.Replacement)
 replace_settles I v value acks None latest h q = grind (arith)
 replace_settles I v value acks (Some ask.Load) latest h q = grind (arith)
 replace_settles I v value acks (Some (ask.Store x)) latest h q = grind (arith)

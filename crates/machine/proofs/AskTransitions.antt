@@ -31,7 +31,8 @@ use Rattle.machine.proofs.Sound.{Sound, Fine, Bounded, own-sound, view-at, line_
 
 -- a line after its input has acted, as its view has it
 pub seen-after : (input : LineInput) (line : Line) (next : CacheState) (home : Home) (w : Traffic) (c : ℕ)
-    → seen (line_after input next line) home w c ≡ record (seen line home w c) { state = next; early = early_of (taken_in input line).acks; acks = late_of (taken_in input line).acks }
+    → seen (line_after input next line) home w c ≡ record
+    (seen line home w c) { state = next; early = early_of (taken_in input line).acks; acks = late_of (taken_in input line).acks }
 seen-after input line next home w c =
     let s : Stays (moved_on input next line) (line_after input next line) = stays-settled input (line_completes input next line) (moved_on input next line) in
     same_view _ _ (record {
@@ -60,7 +61,8 @@ pub request_added-none : (kind : RequestKind) (v : View) → request_added false
 request_added-none kind v = grind (arith)
 
 -- an ask that sends nothing
-quiet-ask : (n : ℕ) (b : BlockState) (cache : CacheId) (ask : Ask) (line : Line) (next : CacheState) (latest : ℕ) → Sound n b → Some line ≡ slice_get b.lines cache.0
+quiet-ask : (n : ℕ) (b : BlockState) (cache : CacheId) (ask : Ask) (line : Line) (next : CacheState) (latest : ℕ) → Sound n b →
+    Some line ≡ slice_get b.lines cache.0
     → Comes line.state (seen line b.home b.traffic cache.0) next (record (seen line b.home b.traffic cache.0) { state = next })
     → Sound n (line_block b cache.0 (line_after (line_input.Ask ask) next line) b.traffic latest)
 quiet-ask n b cache ask line next latest h there comes =
@@ -74,28 +76,36 @@ quiet-ask n b cache ask line next latest h there comes =
     (record { promised = bound.promised; acks = bound.acks })
 
 -- an ask that sends a request
-sent-ask : (n : ℕ) (b : BlockState) (cache : CacheId) (ask : Ask) (kind : RequestKind) (line : Line) (next : CacheState) (latest : ℕ) → Sound n b → Some line ≡ slice_get b.lines cache.0
+sent-ask : (n : ℕ) (b : BlockState) (cache : CacheId) (ask : Ask) (kind : RequestKind) (line : Line) (next : CacheState) (latest : ℕ) → Sound n b →
+    Some line ≡ slice_get b.lines cache.0
     → Comes line.state (seen line b.home b.traffic cache.0) next (record (request_added true kind (seen line b.home b.traffic cache.0)) { state = next })
     → Sound n (line_block b cache.0 (line_after (line_input.Ask ask) next line) (request_sent (record { kind = kind; from = cache }) b.traffic) latest)
 sent-ask n b cache ask kind line next latest h there comes =
     let v : View = seen line b.home b.traffic cache.0 in
     let r : Request = record { kind = kind; from = cache } in
     let bound : Bounded n v = bounded-at n b cache.0 line h there in
-    let sent : seen line b.home (request_sent r b.traffic) cache.0 ≡ request_added true kind v = request_sent-seen line b.home b.traffic r cache.0 ∙ ap (λ t. request_added t kind v) (eq-eqb cache.0 cache.0 refl) in
-    own-sound n b cache.0 line (line_after (line_input.Ask ask) next line) (request_sent r b.traffic) latest (record (request_added true kind v) { state = next }) h there
+    let sent : seen line b.home (request_sent r b.traffic) cache.0 ≡ request_added true kind v =
+    request_sent-seen line b.home b.traffic r cache.0 ∙ ap (λ t. request_added t kind v) (eq-eqb cache.0 cache.0 refl) in
+    own-sound n b cache.0 line (line_after (line_input.Ask ask) next line) (request_sent r b.traffic) latest
+    (record (request_added true kind v) { state = next }) h there
     (record {
       links = refl;
       home = refl;
       fwd_gets = refl;
-      others = λ d ne. request_sent-seen (line_of b.lines d) b.home b.traffic r d ∙ ap (λ t. request_added t kind (view_of b d)) (ne_eqb cache.0 d (λ e. ne (sym e))) ∙ request_added-none kind (view_of b d);
+      others =
+          λ d ne. request_sent-seen (line_of b.lines d) b.home b.traffic r d
+          ∙ ap (λ t. request_added t kind (view_of b d)) (ne_eqb cache.0 d (λ e. ne (sym e))) ∙ request_added-none kind (view_of b d);
     })
-    (seen-after (line_input.Ask ask) line next b.home (request_sent r b.traffic) cache.0 ∙ ap (λ (x : View). record x { state = next; early = early_of line.acks; acks = late_of line.acks }) sent)
+    (seen-after (line_input.Ask ask) line next b.home (request_sent r b.traffic) cache.0 ∙ ap
+    (λ (x : View). record x { state = next; early = early_of line.acks; acks = late_of line.acks }) sent)
     comes
     (record { shares = refl; owns = refl; fwd_gets = refl; link = λ p. p })
     (record { promised = bound.promised; acks = bound.acks })
 
-asked : (n : ℕ) (b : BlockState) (cache : CacheId) (ask : Ask) (line : Line) (next : CacheState) (actions : List CacheAction) → Sound n b → Some line ≡ slice_get b.lines cache.0
-    → Asks line.state (seen line b.home b.traffic cache.0) next actions → Sound n (carried_out (AtLine cache line (line_input.Ask ask) next actions origin.Core) b).block
+asked : (n : ℕ) (b : BlockState) (cache : CacheId) (ask : Ask) (line : Line) (next : CacheState) (actions : List CacheAction) → Sound n b →
+    Some line ≡ slice_get b.lines cache.0
+    → Asks line.state (seen line b.home b.traffic cache.0) next actions → Sound n
+    (carried_out (AtLine cache line (line_input.Ask ask) next actions origin.Core) b).block
 asked n b cache ask line next [] h there asks = quiet-ask n b cache ask line next _ h there asks
 asked n b cache ask line next (action.GetS ∷ []) h there asks =
     let v : View = seen line b.home b.traffic cache.0 in

@@ -4,7 +4,10 @@ use Rattle.std.proofs.lemmas.Bool.Decides.{eqb_tells}
 use Rattle.directory_table.specs.declared.state.DirectoryState.TheVariants as home
 use Rattle.machine.proofs.Truths.{Never}
 use Rattle.machine.proofs.Views.{local, holds, Block, Counted, Good, HasFwdGetS, HasInv}
-use Rattle.machine.proofs.LocalSteps.{invite, give, give_shared, name_s, name_m, pass_s, pass_m, ack_s, ack_m, get_s, get_m, invite_at, invite_holds, give_at, owed, give_shared_at, give_shared_holds, name_s_at, name_s_holds, name_m_at, name_m_holds, pass_s_at, pass_s_holds, pass_m_at, pass_m_holds, ack_s_at, ack_s_holds, ack_m_at, ack_m_holds, ack_m_owner, owner_holds, get_s_at, get_s_holds, get_m_at, open_gets}
+use Rattle.machine.proofs.LocalSteps.{invite, give, give_shared, name_s, name_m, pass_s, pass_m, ack_s, ack_m, get_s, get_m, invite_at, invite_holds}
+use Rattle.machine.proofs.LocalSteps.{give_at, owed, give_shared_at, give_shared_holds, name_s_at, name_s_holds, name_m_at, name_m_holds, pass_s_at}
+use Rattle.machine.proofs.LocalSteps.{pass_s_holds, pass_m_at, pass_m_holds, ack_s_at, ack_s_holds, ack_m_at, ack_m_holds, ack_m_owner, owner_holds}
+use Rattle.machine.proofs.LocalSteps.{get_s_at, get_s_holds, get_m_at, open_gets}
 
 -- what holds of two caches and of every other holds of all
 by_two : (P : ℕ → Type 0) (r o d : ℕ) → P r → P o → (d ≢ r → d ≢ o → P d) → P d
@@ -132,7 +135,9 @@ getm_at_m b b' r o g hs p ow ne hh dh fg vr vo vd =
     let ns : (c : ℕ) → (b.view c).shares ≡ true → Never = λ c q. grind arith in
     let held_r : holds (b'.view r) → holds (b.view r) = λ q. name_m_holds (b.view r).state (b.view r) p (g.each r) (subst (λ v. holds v) vr q) in
     let held_o : holds (b'.view o) → holds (b.view o) = λ q. pass_m_holds (b.view o).state (b.view o) ow (g.each o) (subst (λ v. holds v) vo q) in
-    let held : (d : ℕ) → holds (b'.view d) → holds (b.view d) = λ d. by_two (λ e. holds (b'.view e) → holds (b.view e)) r o d held_r held_o (λ n m. subst (λ v. holds v → holds (b.view d)) (sym (vd d n m)) (λ h. h)) in
+    let held : (d : ℕ) → holds (b'.view d) → holds (b.view d) =
+    λ d. by_two (λ e. holds (b'.view e) → holds (b.view e)) r o d held_r held_o
+    (λ n m. subst (λ v. holds v → holds (b.view d)) (sym (vd d n m)) (λ h. h)) in
     record {
       each = λ d. grind (arith, name_m_at, pass_m_at);
       one = λ d e p q. g.one d e (held d p) (held e q);

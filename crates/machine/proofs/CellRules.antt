@@ -135,7 +135,8 @@ inv_rule MiA v rest l h = grind (arith)
 inv_rule SiA v rest l h = grind (arith)
 inv_rule IiA v rest l h = grind (arith)
 
-pub put_ack_rule : (s : CacheState) (v : View) (rest : List ForwardKind) → v.link ≡ PutAck ∷ rest → Local s v → PutAckRule s v rest (baseline_entry s event.PutAck)
+pub put_ack_rule : (s : CacheState) (v : View) (rest : List ForwardKind) → v.link ≡ PutAck ∷ rest → Local s v →
+    PutAckRule s v rest (baseline_entry s event.PutAck)
 put_ack_rule I v rest l h = grind (arith)
 put_ack_rule IsD v rest l h = grind (arith)
 put_ack_rule ImAd v rest l h = grind (arith)
@@ -148,7 +149,8 @@ put_ack_rule MiA v rest l h = grind (arith)
 put_ack_rule SiA v rest l h = grind (arith)
 put_ack_rule IiA v rest l h = grind (arith)
 
-pub fwd_gets_rule : (s : CacheState) (v : View) (rest : List ForwardKind) → v.link ≡ FwdGetS ∷ rest → Local s v → FwdGetSRule s v rest (baseline_entry s event.FwdGetS)
+pub fwd_gets_rule : (s : CacheState) (v : View) (rest : List ForwardKind) → v.link ≡ FwdGetS ∷ rest → Local s v →
+    FwdGetSRule s v rest (baseline_entry s event.FwdGetS)
 fwd_gets_rule I v rest l h = grind (arith)
 fwd_gets_rule IsD v rest l h = grind (arith)
 fwd_gets_rule ImAd v rest l h = grind (arith)
@@ -161,7 +163,8 @@ fwd_gets_rule MiA v rest l h = grind (arith)
 fwd_gets_rule SiA v rest l h = grind (arith)
 fwd_gets_rule IiA v rest l h = grind (arith)
 
-pub fwd_getm_rule : (s : CacheState) (v : View) (rest : List ForwardKind) → v.link ≡ FwdGetM ∷ rest → Local s v → FwdGetMRule s v rest (baseline_entry s event.FwdGetM)
+pub fwd_getm_rule : (s : CacheState) (v : View) (rest : List ForwardKind) → v.link ≡ FwdGetM ∷ rest → Local s v →
+    FwdGetMRule s v rest (baseline_entry s event.FwdGetM)
 fwd_getm_rule I v rest l h = grind (arith)
 fwd_getm_rule IsD v rest l h = grind (arith)
 fwd_getm_rule ImAd v rest l h = grind (arith)
@@ -174,7 +177,8 @@ fwd_getm_rule MiA v rest l h = grind (arith)
 fwd_getm_rule SiA v rest l h = grind (arith)
 fwd_getm_rule IiA v rest l h = grind (arith)
 
-pub data_zero_rule : (s : CacheState) (v : View) (n : ℕ) → 0 < v.dir_data → (v.dir_data ≡ 1 → v.promised ≡ n) → v.acks + n ≡ v.early → Local s v → ResponseRule s v (dir_data_taken n v) (baseline_entry s event.DataDirZero)
+pub data_zero_rule : (s : CacheState) (v : View) (n : ℕ) → 0 < v.dir_data → (v.dir_data ≡ 1 → v.promised ≡ n) → v.acks + n ≡ v.early → Local s v →
+    ResponseRule s v (dir_data_taken n v) (baseline_entry s event.DataDirZero)
 data_zero_rule I v n p q e h = grind (arith)
 data_zero_rule IsD v n p q e h = grind (arith)
 data_zero_rule ImAd v n p q e h = grind (arith)
@@ -187,7 +191,8 @@ data_zero_rule MiA v n p q e h = grind (arith)
 data_zero_rule SiA v n p q e h = grind (arith)
 data_zero_rule IiA v n p q e h = grind (arith)
 
-pub data_more_rule : (s : CacheState) (v : View) (n : ℕ) → 0 < v.dir_data → (v.dir_data ≡ 1 → v.promised ≡ n) → v.acks + n ≢ v.early → Local s v → ResponseRule s v (dir_data_taken n v) (baseline_entry s event.DataDirMore)
+pub data_more_rule : (s : CacheState) (v : View) (n : ℕ) → 0 < v.dir_data → (v.dir_data ≡ 1 → v.promised ≡ n) → v.acks + n ≢ v.early → Local s v →
+    ResponseRule s v (dir_data_taken n v) (baseline_entry s event.DataDirMore)
 data_more_rule I v n p q e h = grind (arith)
 data_more_rule IsD v n p q e h = grind (arith)
 data_more_rule ImAd v n p q e h = grind (arith)

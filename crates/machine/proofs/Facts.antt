@@ -57,4 +57,11 @@ pub promised-zero : (c : ℕ) (xs : List Response) → sum_by (dir_data c) xs �
 promised-zero c [] e = refl
 promised-zero c (x ∷ xs) e =
     let none : dir_data c x ≡ 0 = omega (arith, sum_by-cons (dir_data c) x xs) in
-    omega (arith, sum_by-cons (dir_data c) x xs, sum_by-cons (ack_number c) x xs, number-zero c x none, promised-zero c xs (omega (arith, sum_by-cons (dir_data c) x xs)))
+    omega (
+      arith,
+      sum_by-cons (dir_data c) x xs,
+      sum_by-cons (ack_number c) x xs,
+      number-zero c x none,
+      promised-zero c xs
+          (omega (arith, sum_by-cons (dir_data c) x xs)),
+    )

@@ -1,4 +1,5 @@
-use Rattle.std.proofs.Common.{◌≡◌, ℕ, ◌<◌, List, [], ◌∷◌, length, refl, subst, Option, Some, None, Bool, true, false, if◌then◌else◌, slice_get, IsSome, zero, suc, arith}
+use Rattle.std.proofs.Common.{◌≡◌, ℕ, ◌<◌, List, [], ◌∷◌, length, refl, subst, Option, Some, None, Bool, true, false, if◌then◌else◌, slice_get}
+use Rattle.std.proofs.Common.{IsSome, zero, suc, arith}
 use Rattle.base.specs.declared.ids.CacheId.{CacheId}
 use Rattle.base.specs.declared.ids.Place.TheVariants.{Dir, Cache}
 use Rattle.base.specs.declared.step.Ask.{Ask}
@@ -27,7 +28,8 @@ use Rattle.machine.specs.declared.decision.Origin.TheVariants as origin
 use Rattle.machine.specs.declared.decision.Decision.{Decision}
 use Rattle.machine.specs.Tables.{Tables}
 use Rattle.machine.specs.Block.{BlockState, IsBlockAmong}
-use Rattle.machine.specs.Transition.{by_line_entry, by_home_entry, at_line, at_home, at_ask, at_request, at_forward, at_response, decision_of, is_idle, Fits, IsThere}
+use Rattle.machine.specs.Transition.{by_line_entry, by_home_entry, at_line, at_home, at_ask, at_request, at_forward, at_response, decision_of}
+use Rattle.machine.specs.Transition.{is_idle, Fits, IsThere}
 use Rattle.machine.proofs.Senders.{AllFrom-get}
 
 -- a place that is read is there
@@ -42,44 +44,56 @@ found {X} x o e = let P : Option X → Type 0 = λ o. IsSome o in subst P e is_t
     is_there : IsSome (Some x)
     is_there = refl
 
-line_entry-fits : (x : CacheEntry) (cache : CacheId) (line : Line) (input : LineInput) (from : Origin) (b : BlockState) → cache.0 < length b.lines → IsThere from b.traffic → Fits (by_line_entry x cache line input from) b
+line_entry-fits : (x : CacheEntry) (cache : CacheId) (line : Line) (input : LineInput) (from : Origin) (b : BlockState) → cache.0 < length b.lines →
+    IsThere from b.traffic → Fits (by_line_entry x cache line input from) b
 line_entry-fits line_entry.Blank cache line input from b l t = tt
 line_entry-fits line_entry.Stall cache line input from b l t = tt
 line_entry-fits (line_entry.Act next actions) cache line input from b l t = (l, t)
 
-home_entry-fits : (x : DirectoryEntry) (input : HomeInput) (from : Origin) (b : BlockState) → IsThere from b.traffic → IsBelow (sender_of input) (length b.lines) → Fits (by_home_entry x input from) b
+home_entry-fits : (x : DirectoryEntry) (input : HomeInput) (from : Origin) (b : BlockState) → IsThere from b.traffic →
+    IsBelow (sender_of input) (length b.lines) → Fits (by_home_entry x input from) b
 home_entry-fits home_entry.Blank input from b t l = tt
 home_entry-fits home_entry.Stall input from b t l = tt
 home_entry-fits (home_entry.Act next actions) input from b t l = (t, l)
 
-line-fits : (cells : cache_table.Cells) (cache : CacheId) (input : LineInput) (from : Origin) (found : Option Line) (b : BlockState) → found ≡ slice_get b.lines cache.0 → IsThere from b.traffic → Fits (at_line cells cache input from found) b
+line-fits : (cells : cache_table.Cells) (cache : CacheId) (input : LineInput) (from : Origin) (found : Option Line) (b : BlockState) →
+    found ≡ slice_get b.lines cache.0 → IsThere from b.traffic → Fits (at_line cells cache input from found) b
 line-fits cells cache input from None b e t = tt
-line-fits cells cache input from (Some line) b e t = line_entry-fits (cache_table.cell cells line.state (event_at_line line.acks input)) cache line input from b (below_read b.lines cache.0 line e) t
+line-fits cells cache input from (Some line) b e t =
+    line_entry-fits (cache_table.cell cells line.state (event_at_line line.acks input)) cache line input from b (below_read b.lines cache.0 line e) t
 
-home-fits : (cells : directory_table.Cells) (input : HomeInput) (from : Origin) (b : BlockState) → IsThere from b.traffic → IsBelow (sender_of input) (length b.lines) → Fits (at_home cells input from b.home) b
+home-fits : (cells : directory_table.Cells) (input : HomeInput) (from : Origin) (b : BlockState) → IsThere from b.traffic →
+    IsBelow (sender_of input) (length b.lines) → Fits (at_home cells input from b.home) b
 home-fits cells input from b t l = home_entry-fits (directory_table.cell cells b.home.state (event_at_home b.home.owner b.home.sharers input)) input from b t l
 
 if-fits : (test : Bool) (x y : Decision) (b : BlockState) → Fits x b → Fits y b → Fits (if test then x else y) b
 if-fits true x y b p q = p
 if-fits false x y b p q = q
 
-ask-fits : (cells : cache_table.Cells) (cache : CacheId) (ask : Ask) (found : Option Line) (b : BlockState) → found ≡ slice_get b.lines cache.0 → Fits (at_ask cells cache ask found) b
+ask-fits : (cells : cache_table.Cells) (cache : CacheId) (ask : Ask) (found : Option Line) (b : BlockState) → found ≡ slice_get b.lines cache.0 →
+    Fits (at_ask cells cache ask found) b
 ask-fits cells cache ask None b e = tt
 ask-fits cells cache ask (Some line) b e = if-fits (is_idle ask line.state) _ _ b tt (line-fits cells cache (line_input.Ask ask) origin.Core (Some line) b e tt)
 
-request-fits : (n : ℕ) (cells : directory_table.Cells) (index : ℕ) (r : Option Request) (b : BlockState) → r ≡ slice_get b.traffic.requests index → IsBlockAmong n b → Fits (at_request cells index b.home r) b
+request-fits : (n : ℕ) (cells : directory_table.Cells) (index : ℕ) (r : Option Request) (b : BlockState) → r ≡ slice_get b.traffic.requests index →
+    IsBlockAmong n b → Fits (at_request cells index b.home r) b
 request-fits n cells index None b e w = tt
-request-fits n cells index (Some r) b e w = home-fits cells (home_input.Request r) (origin.Request index) b (found r _ e) (rw w.lines (AllFrom-get n b.traffic.requests index r w.requests e))
+request-fits n cells index (Some r) b e w =
+    home-fits cells (home_input.Request r) (origin.Request index) b (found r _ e) (rw w.lines (AllFrom-get n b.traffic.requests index r w.requests e))
 
-forward-fits : (cells : cache_table.Cells) (cache : CacheId) (f : Option Forward) (b : BlockState) → f ≡ slice_get (link b.traffic cache.0) 0 → Fits (at_forward cells cache b.lines f) b
+forward-fits : (cells : cache_table.Cells) (cache : CacheId) (f : Option Forward) (b : BlockState) → f ≡ slice_get (link b.traffic cache.0) 0 →
+    Fits (at_forward cells cache b.lines f) b
 forward-fits cells cache None b e = tt
 forward-fits cells cache (Some f) b e = line-fits cells cache (line_input.Forward f) (origin.Head cache) (slice_get b.lines cache.0) b refl (found f _ e)
 
-response-fits : (tables : Tables) (index : ℕ) (r : Option Response) (b : BlockState) → r ≡ slice_get b.traffic.responses index → Fits (at_response tables index b r) b
+response-fits : (tables : Tables) (index : ℕ) (r : Option Response) (b : BlockState) → r ≡ slice_get b.traffic.responses index →
+    Fits (at_response tables index b r) b
 response-fits tables index None b e = tt
 response-fits tables index (Some (Data from Dir value acks)) b e = home-fits tables.directory (home_input.Data value) (origin.Response index) b (found _ _ e) tt
-response-fits tables index (Some (Data from (Cache to) value acks)) b e = line-fits tables.cache to (line_input.Response (Data from (Cache to) value acks)) (origin.Response index) (slice_get b.lines to.0) b refl (found _ _ e)
-response-fits tables index (Some (InvAck from to)) b e = line-fits tables.cache to (line_input.Response (InvAck from to)) (origin.Response index) (slice_get b.lines to.0) b refl (found _ _ e)
+response-fits tables index (Some (Data from (Cache to) value acks)) b e =
+    line-fits tables.cache to (line_input.Response (Data from (Cache to) value acks)) (origin.Response index) (slice_get b.lines to.0) b refl (found _ _ e)
+response-fits tables index (Some (InvAck from to)) b e =
+    line-fits tables.cache to (line_input.Response (InvAck from to)) (origin.Response index) (slice_get b.lines to.0) b refl (found _ _ e)
 
 -- what a decision names is there
 pub decision-fits : (n : ℕ) (tables : Tables) (s : Step) (b : BlockState) → IsBlockAmong n b → Fits (decision_of tables s b) b

@@ -9,7 +9,8 @@ use Rattle.cache_table.specs.Baseline.{baseline_entry}
 use Rattle.machine.proofs.Views.{View}
 use Rattle.machine.proofs.ValueRules.{HasValue, Waits, DeliverRule}
 
-pub fwd_gets_settles : (s : CacheState) (v : View) (value : ℕ) (acks : ℤ) (p : Option Ask) (latest : ℕ) → (HasValue s v → value ≡ latest) → Waits s p → DeliverRule value acks p latest (baseline_entry s event.FwdGetS)
+pub fwd_gets_settles : (s : CacheState) (v : View) (value : ℕ) (acks : ℤ) (p : Option Ask) (latest : ℕ) → (HasValue s v → value ≡ latest) →
+    Waits s p → DeliverRule value acks p latest (baseline_entry s event.FwdGetS)
 fwd_gets_settles I v value acks None latest h q = grind (arith)
 fwd_gets_settles I v value acks (Some ask.Load) latest h q = grind (arith)
 fwd_gets_settles I v value acks (Some (ask.Store x)) latest h q = grind (arith)
@@ -55,7 +56,8 @@ fwd_gets_settles IiA v value acks (Some ask.Load) latest h q = grind (arith)
 fwd_gets_settles IiA v value acks (Some (ask.Store x)) latest h q = grind (arith)
 fwd_gets_settles IiA v value acks (Some ask.Replace) latest h q = grind (arith)
 
-pub fwd_getm_settles : (s : CacheState) (v : View) (value : ℕ) (acks : ℤ) (p : Option Ask) (latest : ℕ) → (HasValue s v → value ≡ latest) → Waits s p → DeliverRule value acks p latest (baseline_entry s event.FwdGetM)
+pub fwd_getm_settles : (s : CacheState) (v : View) (value : ℕ) (acks : ℤ) (p : Option Ask) (latest : ℕ) → (HasValue s v → value ≡ latest) →
+    Waits s p → DeliverRule value acks p latest (baseline_entry s event.FwdGetM)
 fwd_getm_settles I v value acks None latest h q = grind (arith)
 fwd_getm_settles I v value acks (Some ask.Load) latest h q = grind (arith)
 fwd_getm_settles I v value acks (Some (ask.Store x)) latest h q = grind (arith)
@@ -101,7 +103,8 @@ fwd_getm_settles IiA v value acks (Some ask.Load) latest h q = grind (arith)
 fwd_getm_settles IiA v value acks (Some (ask.Store x)) latest h q = grind (arith)
 fwd_getm_settles IiA v value acks (Some ask.Replace) latest h q = grind (arith)
 
-pub inv_settles : (s : CacheState) (v : View) (value : ℕ) (acks : ℤ) (p : Option Ask) (latest : ℕ) → (HasValue s v → value ≡ latest) → Waits s p → DeliverRule value acks p latest (baseline_entry s event.Inv)
+pub inv_settles : (s : CacheState) (v : View) (value : ℕ) (acks : ℤ) (p : Option Ask) (latest : ℕ) → (HasValue s v → value ≡ latest) → Waits s p →
+    DeliverRule value acks p latest (baseline_entry s event.Inv)
 inv_settles I v value acks None latest h q = grind (arith)
 inv_settles I v value acks (Some ask.Load) latest h q = grind (arith)
 inv_settles I v value acks (Some (ask.Store x)) latest h q = grind (arith)
@@ -147,7 +150,8 @@ inv_settles IiA v value acks (Some ask.Load) latest h q = grind (arith)
 inv_settles IiA v value acks (Some (ask.Store x)) latest h q = grind (arith)
 inv_settles IiA v value acks (Some ask.Replace) latest h q = grind (arith)
 
-pub put_ack_settles : (s : CacheState) (v : View) (value : ℕ) (acks : ℤ) (p : Option Ask) (latest : ℕ) → (HasValue s v → value ≡ latest) → Waits s p → DeliverRule value acks p latest (baseline_entry s event.PutAck)
+pub put_ack_settles : (s : CacheState) (v : View) (value : ℕ) (acks : ℤ) (p : Option Ask) (latest : ℕ) → (HasValue s v → value ≡ latest) → Waits s p →
+    DeliverRule value acks p latest (baseline_entry s event.PutAck)
 put_ack_settles I v value acks None latest h q = grind (arith)
 put_ack_settles I v value acks (Some ask.Load) latest h q = grind (arith)
 put_ack_settles I v value acks (Some (ask.Store x)) latest h q = grind (arith)

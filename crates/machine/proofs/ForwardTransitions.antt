@@ -1,5 +1,6 @@
 -- Transitions on the head of a link keep the invariant.
-use Rattle.std.proofs.Common.{◌≡◌, ◌≢◌, ℕ, ◌<◌, ◌+◌, List, [], ◌∷◌, inl, inr, refl, ap, sym, subst, ◌∙◌, arith, Some, Bool, true, false, ◌==◌, slice_get, eq-eqb, map}
+use Rattle.std.proofs.Common.{◌≡◌, ◌≢◌, ℕ, ◌<◌, ◌+◌, List, [], ◌∷◌, inl, inr, refl, ap, sym, subst, ◌∙◌, arith, Some, Bool, true, false, ◌==◌, slice_get}
+use Rattle.std.proofs.Common.{eq-eqb, map}
 use Rattle.std.proofs.lemmas.Bool.{ne_eqb}
 use Rattle.std.proofs.lemmas.List.{length-set}
 use Rattle.std.proofs.lemmas.List.Sums.{sum_by_push}
@@ -50,21 +51,27 @@ rest_of b c = map (λ f. f.kind) (link (head_taken c b.traffic) c)
 own-headed : (b : BlockState) (c : ℕ) (m : Forward) (line : Line) → Some m ≡ slice_get (link b.traffic c) 0
     → named (m.requestor.0 == c) m.kind (record (seen line b.home (head_taken c b.traffic) c) { link = m.kind ∷ rest_of b c }) ≡ seen line b.home b.traffic c
 own-headed b c m line at =
-    ap (λ t. named (m.requestor.0 == c) m.kind (record (seen line b.home (head_taken c b.traffic) c) { link = headed t m.kind (rest_of b c) })) (sym (eq-eqb c c refl))
+    ap (λ t. named (m.requestor.0 == c) m.kind (record (seen line b.home (head_taken c b.traffic) c) { link = headed t m.kind (rest_of b c) }))
+    (sym (eq-eqb c c refl))
     ∙ head_taken-seen line b.home b.traffic c m c at
 
-pub own-begins : (b : BlockState) (c : ℕ) (m : Forward) (line : Line) → Some m ≡ slice_get (link b.traffic c) 0 → (seen line b.home b.traffic c).link ≡ m.kind ∷ rest_of b c
+pub own-begins : (b : BlockState) (c : ℕ) (m : Forward) (line : Line) → Some m ≡ slice_get (link b.traffic c) 0 →
+    (seen line b.home b.traffic c).link ≡ m.kind ∷ rest_of b c
 own-begins b c m line at = sym (ap (λ (v : View). v.link) (own-headed b c m line at))
 
 -- and of another link
 other-headed : (b : BlockState) (c d : ℕ) (m : Forward) (line : Line) → d ≢ c → Some m ≡ slice_get (link b.traffic c) 0
     → named (m.requestor.0 == d) m.kind (seen line b.home (head_taken c b.traffic) d) ≡ seen line b.home b.traffic d
 other-headed b c d m line ne at =
-    ap (λ t. named (m.requestor.0 == d) m.kind (record (seen line b.home (head_taken c b.traffic) d) { link = headed t m.kind (seen line b.home (head_taken c b.traffic) d).link })) (sym (ne_eqb c d (λ e. ne (sym e))))
+    ap
+    (λ t. named (m.requestor.0 == d) m.kind
+    (record (seen line b.home (head_taken c b.traffic) d) { link = headed t m.kind (seen line b.home (head_taken c b.traffic) d).link }))
+    (sym (ne_eqb c d (λ e. ne (sym e))))
     ∙ head_taken-seen line b.home b.traffic c m d at
 
 -- an Inv-Ack stands for the Inv that it answers
-inv-passed : (t : Bool) (u v : View) (l : List ForwardKind) → named t Inv (record u { link = l }) ≡ v → record u { link = l; invs = u.invs + only t 1; dir_data = u.dir_data + 0; owner_data = u.owner_data + 0; promised = u.promised + 0 } ≡ v
+inv-passed : (t : Bool) (u v : View) (l : List ForwardKind) → named t Inv (record u { link = l }) ≡ v →
+    record u { link = l; invs = u.invs + only t 1; dir_data = u.dir_data + 0; owner_data = u.owner_data + 0; promised = u.promised + 0 } ≡ v
 inv-passed true u v l e = grind (arith)
 inv-passed false u v l e = grind (arith)
 
@@ -82,9 +89,12 @@ has-rest k l rest ne e h = elim (subst (λ x. HasFwdGetS x) e h) as (λ _. HasFw
 ]
 
 -- an Inv at its line
-inv-acted : (n : ℕ) (b : BlockState) (cache r : CacheId) (line : Line) (next : CacheState) (latest : ℕ) → Sound n b → Some line ≡ slice_get b.lines cache.0 → Some (record { kind = Inv; requestor = r }) ≡ slice_get (link b.traffic cache.0) 0
+inv-acted : (n : ℕ) (b : BlockState) (cache r : CacheId) (line : Line) (next : CacheState) (latest : ℕ) → Sound n b → Some line ≡ slice_get b.lines cache.0 →
+    Some (record { kind = Inv; requestor = r }) ≡ slice_get (link b.traffic cache.0) 0
     → Comes line.state (seen line b.home b.traffic cache.0) next (record (seen line b.home b.traffic cache.0) { state = next; link = rest_of b cache.0 })
-    → Sound n (line_block b cache.0 (line_after (line_input.Forward (record { kind = Inv; requestor = r })) next line) (response_sent (response.InvAck cache r) (head_taken cache.0 b.traffic)) latest)
+    → Sound n
+    (line_block b cache.0 (line_after (line_input.Forward (record { kind = Inv; requestor = r })) next line)
+    (response_sent (response.InvAck cache r) (head_taken cache.0 b.traffic)) latest)
 inv-acted n b cache r line next latest h there at comes =
     let m : Forward = record { kind = Inv; requestor = r } in
     let x : Response = response.InvAck cache r in
@@ -94,21 +104,27 @@ inv-acted n b cache r line next latest h there at comes =
     let u : View = seen line b.home w1 cache.0 in
     let bound : Bounded n v = bounded-at n b cache.0 line h there in
     let mine : response_added cache.0 x u ≡ record v { link = rest_of b cache.0 } =
-    relinked (response_added cache.0 x u) v (Inv ∷ rest_of b cache.0) (inv-passed (r.0 == cache.0) u v (Inv ∷ rest_of b cache.0) (own-headed b cache.0 m line at)) in
+    relinked (response_added cache.0 x u) v (Inv ∷ rest_of b cache.0)
+    (inv-passed (r.0 == cache.0) u v (Inv ∷ rest_of b cache.0) (own-headed b cache.0 m line at)) in
     own-sound n b cache.0 line (line_after (line_input.Forward m) next line) w latest (record v { state = next; link = rest_of b cache.0 }) h there
     (record {
       links = length-set b.traffic.links cache.0 _;
       home = sum_by_push home_data w1.responses x ∙ omega arith;
       fwd_gets = omega (arith, head_taken-total (of_kind is_fwd_gets) b.traffic cache.0 m at);
-      others = λ d ne. response_sent-seen (line_of b.lines d) b.home w1 x d ∙ inv-passed (r.0 == d) (seen (line_of b.lines d) b.home w1 d) (view_of b d) (seen (line_of b.lines d) b.home w1 d).link (other-headed b cache.0 d m (line_of b.lines d) ne at);
+      others =
+          λ d ne. response_sent-seen (line_of b.lines d) b.home w1 x d
+          ∙ inv-passed (r.0 == d) (seen (line_of b.lines d) b.home w1 d) (view_of b d) (seen (line_of b.lines d) b.home w1 d).link
+          (other-headed b cache.0 d m (line_of b.lines d) ne at);
     })
-    (seen-after (line_input.Forward m) line next b.home w cache.0 ∙ ap (λ (y : View). record y { state = next; early = early_of line.acks; acks = late_of line.acks }) (response_sent-seen line b.home w1 x cache.0 ∙ mine))
+    (seen-after (line_input.Forward m) line next b.home w cache.0 ∙ ap
+    (λ (y : View). record y { state = next; early = early_of line.acks; acks = late_of line.acks }) (response_sent-seen line b.home w1 x cache.0 ∙ mine))
     comes
     (record { shares = refl; owns = refl; fwd_gets = refl; link = has-rest Inv v.link (rest_of b cache.0) (λ e. absurd (cc)) (own-begins b cache.0 m line at) })
     (record { promised = bound.promised; acks = bound.acks })
 
 -- a Put-Ack at its line
-put-ack-acted : (n : ℕ) (b : BlockState) (cache r : CacheId) (line : Line) (next : CacheState) (latest : ℕ) → Sound n b → Some line ≡ slice_get b.lines cache.0 → Some (record { kind = PutAck; requestor = r }) ≡ slice_get (link b.traffic cache.0) 0
+put-ack-acted : (n : ℕ) (b : BlockState) (cache r : CacheId) (line : Line) (next : CacheState) (latest : ℕ) → Sound n b →
+    Some line ≡ slice_get b.lines cache.0 → Some (record { kind = PutAck; requestor = r }) ≡ slice_get (link b.traffic cache.0) 0
     → Comes line.state (seen line b.home b.traffic cache.0) next (record (seen line b.home b.traffic cache.0) { state = next; link = rest_of b cache.0 })
     → Sound n (line_block b cache.0 (line_after (line_input.Forward (record { kind = PutAck; requestor = r })) next line) (head_taken cache.0 b.traffic) latest)
 put-ack-acted n b cache r line next latest h there at comes =
@@ -117,15 +133,19 @@ put-ack-acted n b cache r line next latest h there at comes =
     let v : View = seen line b.home b.traffic cache.0 in
     let u : View = seen line b.home w cache.0 in
     let bound : Bounded n v = bounded-at n b cache.0 line h there in
-    let mine : u ≡ record v { link = rest_of b cache.0 } = relinked u v (PutAck ∷ rest_of b cache.0) (ack-passed (r.0 == cache.0) u v (PutAck ∷ rest_of b cache.0) (own-headed b cache.0 m line at)) in
+    let mine : u ≡ record v { link = rest_of b cache.0 } =
+    relinked u v (PutAck ∷ rest_of b cache.0) (ack-passed (r.0 == cache.0) u v (PutAck ∷ rest_of b cache.0) (own-headed b cache.0 m line at)) in
     own-sound n b cache.0 line (line_after (line_input.Forward m) next line) w latest (record v { state = next; link = rest_of b cache.0 }) h there
     (record {
       links = length-set b.traffic.links cache.0 _;
       home = refl;
       fwd_gets = omega (arith, head_taken-total (of_kind is_fwd_gets) b.traffic cache.0 m at);
-      others = λ d ne. ack-passed (r.0 == d) (seen (line_of b.lines d) b.home w d) (view_of b d) (seen (line_of b.lines d) b.home w d).link (other-headed b cache.0 d m (line_of b.lines d) ne at);
+      others =
+          λ d ne. ack-passed (r.0 == d) (seen (line_of b.lines d) b.home w d) (view_of b d) (seen (line_of b.lines d) b.home w d).link
+          (other-headed b cache.0 d m (line_of b.lines d) ne at);
     })
-    (seen-after (line_input.Forward m) line next b.home w cache.0 ∙ ap (λ (y : View). record y { state = next; early = early_of line.acks; acks = late_of line.acks }) mine)
+    (seen-after (line_input.Forward m) line next b.home w cache.0 ∙ ap
+    (λ (y : View). record y { state = next; early = early_of line.acks; acks = late_of line.acks }) mine)
     comes
     (record { shares = refl; owns = refl; fwd_gets = refl; link = has-rest PutAck v.link (rest_of b cache.0) (λ e. absurd (cc)) (own-begins b cache.0 m line at) })
     (record { promised = bound.promised; acks = bound.acks })
@@ -161,9 +181,13 @@ getm-named : (u v : View) → named true FwdGetM u ≡ v
 getm-named u v e = grind (arith)
 
 -- a FwdGetS at the line that holds the block
-gets-acted : (n : ℕ) (b : BlockState) (cache r : CacheId) (line : Line) (next : CacheState) (latest : ℕ) → Sound n b → Some line ≡ slice_get b.lines cache.0 → Some (record { kind = FwdGetS; requestor = r }) ≡ slice_get (link b.traffic cache.0) 0
+gets-acted : (n : ℕ) (b : BlockState) (cache r : CacheId) (line : Line) (next : CacheState) (latest : ℕ) → Sound n b → Some line ≡ slice_get b.lines cache.0 →
+    Some (record { kind = FwdGetS; requestor = r }) ≡ slice_get (link b.traffic cache.0) 0
     → Gives line.state (seen line b.home b.traffic cache.0) next (record (seen line b.home b.traffic cache.0) { state = next; link = rest_of b cache.0 })
-    → Sound n (line_block b cache.0 (line_after (line_input.Forward (record { kind = FwdGetS; requestor = r })) next line) (response_sent (response.Data (Cache cache) Dir line.value 0) (response_sent (response.Data (Cache cache) (Cache r) line.value 0) (head_taken cache.0 b.traffic))) latest)
+    → Sound n
+    (line_block b cache.0 (line_after (line_input.Forward (record { kind = FwdGetS; requestor = r })) next line)
+    (response_sent (response.Data (Cache cache) Dir line.value 0)
+    (response_sent (response.Data (Cache cache) (Cache r) line.value 0) (head_taken cache.0 b.traffic))) latest)
 gets-acted n b cache r line next latest h there at gives =
     let m : Forward = record { kind = FwdGetS; requestor = r } in
     let x : Response = response.Data (Cache cache) (Cache r) line.value 0 in
@@ -179,15 +203,18 @@ gets-acted n b cache r line next latest h there at gives =
     let is_v : view_of b cache.0 ≡ v = view-at b cache.0 line there in
     let own : named (r.0 == cache.0) FwdGetS (record (seen line b.home w1 cache.0) { link = FwdGetS ∷ rest }) ≡ v = own-headed b cache.0 m line at in
     let apart : cache.0 ≢ r.0 = λ e.
-    let one : named true FwdGetS (record (seen line b.home w1 cache.0) { link = FwdGetS ∷ rest }) ≡ v = ap (λ t. named t FwdGetS (record (seen line b.home w1 cache.0) { link = FwdGetS ∷ rest })) (sym (eq-eqb r.0 cache.0 (sym e))) ∙ own in
+    let one : named true FwdGetS (record (seen line b.home w1 cache.0) { link = FwdGetS ∷ rest }) ≡ v =
+    ap (λ t. named t FwdGetS (record (seen line b.home w1 cache.0) { link = FwdGetS ∷ rest })) (sym (eq-eqb r.0 cache.0 (sym e))) ∙ own in
     let some : 0 < v.fwd_gets + v.fwd_getm = omega (arith, ap (λ (z : View). z.fwd_gets) one, ap (λ (z : View). z.fwd_getm) one) in
     absurd (omega (arith, named-waits line.state v some local_c gives.held)) in
     let other_test : (r.0 == cache.0) ≡ false = ne_eqb r.0 cache.0 (λ e. apart (sym e)) in
-    let sent : (z : Line) (d : ℕ) → seen z b.home w d ≡ response_added d y (response_added d x (seen z b.home w1 d)) = λ z d. response_sent-seen z b.home (response_sent x w1) y d ∙ ap (λ (u : View). response_added d y u) (response_sent-seen z b.home w1 x d) in
+    let sent : (z : Line) (d : ℕ) → seen z b.home w d ≡ response_added d y (response_added d x (seen z b.home w1 d)) =
+    λ z d. response_sent-seen z b.home (response_sent x w1) y d ∙ ap (λ (u : View). response_added d y u) (response_sent-seen z b.home w1 x d) in
     let mine : seen line b.home w cache.0 ≡ record v { link = rest } =
     sent line cache.0 ∙ relinked _ v (FwdGetS ∷ rest)
     (ap (λ t. let u : View = seen line b.home w1 cache.0 in record u { link = FwdGetS ∷ rest; invs = u.invs + 0 + 0; dir_data = u.dir_data + 0 + 0; owner_data = u.owner_data + only t 1 + 0; promised = u.promised + 0 + 0 }) other_test
-    ∙ gets-other (seen line b.home w1 cache.0) v (FwdGetS ∷ rest) (ap (λ t. named t FwdGetS (record (seen line b.home w1 cache.0) { link = FwdGetS ∷ rest })) (sym other_test) ∙ own)) in
+    ∙ gets-other (seen line b.home w1 cache.0) v (FwdGetS ∷ rest)
+    (ap (λ t. named t FwdGetS (record (seen line b.home w1 cache.0) { link = FwdGetS ∷ rest })) (sym other_test) ∙ own)) in
     let after : view_of b' cache.0 ≡ record v { state = next; link = rest } =
     view-own b cache.0 l w latest (below_read b.lines cache.0 line there) ∙ seen-after (line_input.Forward m) line next b.home w cache.0
     ∙ ap (λ (z : View). record z { state = next; early = early_of line.acks; acks = late_of line.acks }) mine in
@@ -199,35 +226,45 @@ gets-acted n b cache r line next latest h there at gives =
     ∙ ap (λ t. record u { invs = u.invs + 0 + 0; dir_data = u.dir_data + 0 + 0; owner_data = u.owner_data + only t 1 + 0; promised = u.promised + 0 + 0 }) no
     ∙ gets-other u (view_of b d) u.link (ap (λ t. named t FwdGetS u) (sym no) ∙ other-headed b cache.0 d m z nc at) in
     let r_test : (r.0 == r.0) ≡ true = eq-eqb r.0 r.0 refl in
-    let headed_r : named true FwdGetS (seen (line_of b.lines r.0) b.home w1 r.0) ≡ view_of b r.0 = ap (λ t. named t FwdGetS (seen (line_of b.lines r.0) b.home w1 r.0)) (sym r_test) ∙ other-headed b cache.0 r.0 m (line_of b.lines r.0) (λ e. apart (sym e)) at in
+    let headed_r : named true FwdGetS (seen (line_of b.lines r.0) b.home w1 r.0) ≡ view_of b r.0 =
+    ap (λ t. named t FwdGetS (seen (line_of b.lines r.0) b.home w1 r.0)) (sym r_test)
+    ∙ other-headed b cache.0 r.0 m (line_of b.lines r.0) (λ e. apart (sym e)) at in
     let requestor : view_of b' r.0 ≡ get_s (view_of b r.0) =
     let u : View = seen (line_of b.lines r.0) b.home w1 r.0 in
     view-other b cache.0 r.0 l w latest (λ e. apart (sym e)) ∙ sent (line_of b.lines r.0) r.0
-    ∙ ap (λ t. record u { invs = u.invs + 0 + 0; dir_data = u.dir_data + 0 + 0; owner_data = u.owner_data + only t 1 + 0; promised = u.promised + 0 + 0 }) r_test
+    ∙ ap
+    (λ t. record u { invs = u.invs + 0 + 0; dir_data = u.dir_data + 0 + 0; owner_data = u.owner_data + only t 1 + 0; promised = u.promised + 0 + 0 }) r_test
     ∙ gets-named u (view_of b r.0) headed_r in
     let held : holds (view_of b cache.0) = subst (λ z. holds z) (sym is_v) gives.held in
-    let taken : total (of_kind is_fwd_gets) w1.links + is_fwd_gets FwdGetS ≡ total (of_kind is_fwd_gets) b.traffic.links = head_taken-total (of_kind is_fwd_gets) b.traffic cache.0 m at in
+    let taken : total (of_kind is_fwd_gets) w1.links + is_fwd_gets FwdGetS ≡ total (of_kind is_fwd_gets) b.traffic.links =
+    head_taken-total (of_kind is_fwd_gets) b.traffic cache.0 m at in
     record {
       few = h.few;
       lines = length-set b.lines cache.0 l ∙ h.lines;
       links = length-set b.traffic.links cache.0 _ ∙ h.links;
       sharers = h.sharers;
       owned = h.owned;
-      good = fwd_gets_served (block_view b) (block_view b') cache.0 r.0 h.good (counted b) apart (omega (arith, ap (λ (z : View). z.fwd_gets) headed_r)) held refl
+      good =
+          fwd_gets_served (block_view b) (block_view b') cache.0 r.0 h.good (counted b) apart (omega (arith, ap (λ (z : View). z.fwd_gets) headed_r)) held refl
           (omega (arith, sum_by_push home_data w1.responses x, sum_by_push home_data (response_sent x w1).responses y)) (omega (arith, taken))
           (subst (λ z. local z) (sym after) gives.fits) (λ q. gives.given (subst (λ z. holds z) after q))
           (ap (λ (z : View). z.shares) after ∙ ap (λ (z : View). z.shares) (sym is_v)) (ap (λ (z : View). z.owns) after ∙ ap (λ (z : View). z.owns) (sym is_v))
           requestor others;
       bounds = bounds-set n b b' cache.0 h (subst (λ z. Bounded n z) (sym after) (record { promised = bound.promised; acks = bound.acks }))
-          (λ d nc. by-eq d r.0 (λ e. subst (λ k. (view_of b' k).promised ≡ (view_of b k).promised) (sym e) (ap (λ (z : View). z.promised) requestor)) (λ nr. ap (λ (z : View). z.promised) (others d nr nc)))
-          (λ d nc. by-eq d r.0 (λ e. subst (λ k. (view_of b' k).acks ≡ (view_of b k).acks) (sym e) (ap (λ (z : View). z.acks) requestor)) (λ nr. ap (λ (z : View). z.acks) (others d nr nc)));
+          (λ d nc. by-eq d r.0 (λ e. subst (λ k. (view_of b' k).promised ≡ (view_of b k).promised) (sym e) (ap (λ (z : View). z.promised) requestor))
+          (λ nr. ap (λ (z : View). z.promised) (others d nr nc)))
+          (λ d nc. by-eq d r.0 (λ e. subst (λ k. (view_of b' k).acks ≡ (view_of b k).acks) (sym e) (ap (λ (z : View). z.acks) requestor))
+          (λ nr. ap (λ (z : View). z.acks) (others d nr nc)));
     }
 
 -- a FwdGetM at the line that holds the block
-getm-acted : (n : ℕ) (b : BlockState) (cache r : CacheId) (line : Line) (next : CacheState) (latest : ℕ) → Sound n b → Some line ≡ slice_get b.lines cache.0 → Some (record { kind = FwdGetM; requestor = r }) ≡ slice_get (link b.traffic cache.0) 0
+getm-acted : (n : ℕ) (b : BlockState) (cache r : CacheId) (line : Line) (next : CacheState) (latest : ℕ) → Sound n b → Some line ≡ slice_get b.lines cache.0 →
+    Some (record { kind = FwdGetM; requestor = r }) ≡ slice_get (link b.traffic cache.0) 0
     → (seen line b.home b.traffic cache.0).shares ≡ false
     → Gives line.state (seen line b.home b.traffic cache.0) next (record (seen line b.home b.traffic cache.0) { state = next; link = rest_of b cache.0 })
-    → Sound n (line_block b cache.0 (line_after (line_input.Forward (record { kind = FwdGetM; requestor = r })) next line) (response_sent (response.Data (Cache cache) (Cache r) line.value 0) (head_taken cache.0 b.traffic)) latest)
+    → Sound n
+    (line_block b cache.0 (line_after (line_input.Forward (record { kind = FwdGetM; requestor = r })) next line)
+    (response_sent (response.Data (Cache cache) (Cache r) line.value 0) (head_taken cache.0 b.traffic)) latest)
 getm-acted n b cache r line next latest h there at unshared gives =
     let m : Forward = record { kind = FwdGetM; requestor = r } in
     let x : Response = response.Data (Cache cache) (Cache r) line.value 0 in
@@ -242,7 +279,8 @@ getm-acted n b cache r line next latest h there at unshared gives =
     let is_v : view_of b cache.0 ≡ v = view-at b cache.0 line there in
     let own : named (r.0 == cache.0) FwdGetM (record (seen line b.home w1 cache.0) { link = FwdGetM ∷ rest }) ≡ v = own-headed b cache.0 m line at in
     let apart : cache.0 ≢ r.0 = λ e.
-    let one : named true FwdGetM (record (seen line b.home w1 cache.0) { link = FwdGetM ∷ rest }) ≡ v = ap (λ t. named t FwdGetM (record (seen line b.home w1 cache.0) { link = FwdGetM ∷ rest })) (sym (eq-eqb r.0 cache.0 (sym e))) ∙ own in
+    let one : named true FwdGetM (record (seen line b.home w1 cache.0) { link = FwdGetM ∷ rest }) ≡ v =
+    ap (λ t. named t FwdGetM (record (seen line b.home w1 cache.0) { link = FwdGetM ∷ rest })) (sym (eq-eqb r.0 cache.0 (sym e))) ∙ own in
     let some : 0 < v.fwd_gets + v.fwd_getm = omega (arith, ap (λ (z : View). z.fwd_gets) one, ap (λ (z : View). z.fwd_getm) one) in
     absurd (omega (arith, named-waits line.state v some local_c gives.held)) in
     let other_test : (r.0 == cache.0) ≡ false = ne_eqb r.0 cache.0 (λ e. apart (sym e)) in
@@ -250,7 +288,8 @@ getm-acted n b cache r line next latest h there at unshared gives =
     let mine : seen line b.home w cache.0 ≡ record v { link = rest } =
     sent line cache.0 ∙ relinked _ v (FwdGetM ∷ rest)
     (ap (λ t. let u : View = seen line b.home w1 cache.0 in record u { link = FwdGetM ∷ rest; invs = u.invs + 0; dir_data = u.dir_data + 0; owner_data = u.owner_data + only t 1; promised = u.promised + 0 }) other_test
-    ∙ getm-other (seen line b.home w1 cache.0) v (FwdGetM ∷ rest) (ap (λ t. named t FwdGetM (record (seen line b.home w1 cache.0) { link = FwdGetM ∷ rest })) (sym other_test) ∙ own)) in
+    ∙ getm-other (seen line b.home w1 cache.0) v (FwdGetM ∷ rest)
+    (ap (λ t. named t FwdGetM (record (seen line b.home w1 cache.0) { link = FwdGetM ∷ rest })) (sym other_test) ∙ own)) in
     let after : view_of b' cache.0 ≡ record v { state = next; link = rest } =
     view-own b cache.0 l w latest (below_read b.lines cache.0 line there) ∙ seen-after (line_input.Forward m) line next b.home w cache.0
     ∙ ap (λ (z : View). record z { state = next; early = early_of line.acks; acks = late_of line.acks }) mine in
@@ -262,66 +301,104 @@ getm-acted n b cache r line next latest h there at unshared gives =
     ∙ ap (λ t. record u { invs = u.invs + 0; dir_data = u.dir_data + 0; owner_data = u.owner_data + only t 1; promised = u.promised + 0 }) no
     ∙ getm-other u (view_of b d) u.link (ap (λ t. named t FwdGetM u) (sym no) ∙ other-headed b cache.0 d m z nc at) in
     let r_test : (r.0 == r.0) ≡ true = eq-eqb r.0 r.0 refl in
-    let headed_r : named true FwdGetM (seen (line_of b.lines r.0) b.home w1 r.0) ≡ view_of b r.0 = ap (λ t. named t FwdGetM (seen (line_of b.lines r.0) b.home w1 r.0)) (sym r_test) ∙ other-headed b cache.0 r.0 m (line_of b.lines r.0) (λ e. apart (sym e)) at in
+    let headed_r : named true FwdGetM (seen (line_of b.lines r.0) b.home w1 r.0) ≡ view_of b r.0 =
+    ap (λ t. named t FwdGetM (seen (line_of b.lines r.0) b.home w1 r.0)) (sym r_test)
+    ∙ other-headed b cache.0 r.0 m (line_of b.lines r.0) (λ e. apart (sym e)) at in
     let requestor : view_of b' r.0 ≡ get_m (view_of b r.0) =
     let u : View = seen (line_of b.lines r.0) b.home w1 r.0 in
     view-other b cache.0 r.0 l w latest (λ e. apart (sym e)) ∙ sent (line_of b.lines r.0) r.0
     ∙ ap (λ t. record u { invs = u.invs + 0; dir_data = u.dir_data + 0; owner_data = u.owner_data + only t 1; promised = u.promised + 0 }) r_test
     ∙ getm-named u (view_of b r.0) headed_r in
     let held : holds (view_of b cache.0) = subst (λ z. holds z) (sym is_v) gives.held in
-    let taken : total (of_kind is_fwd_gets) w1.links + is_fwd_gets FwdGetM ≡ total (of_kind is_fwd_gets) b.traffic.links = head_taken-total (of_kind is_fwd_gets) b.traffic cache.0 m at in
+    let taken : total (of_kind is_fwd_gets) w1.links + is_fwd_gets FwdGetM ≡ total (of_kind is_fwd_gets) b.traffic.links =
+    head_taken-total (of_kind is_fwd_gets) b.traffic cache.0 m at in
     record {
       few = h.few;
       lines = length-set b.lines cache.0 l ∙ h.lines;
       links = length-set b.traffic.links cache.0 _ ∙ h.links;
       sharers = h.sharers;
       owned = h.owned;
-      good = fwd_getm_served (block_view b) (block_view b') cache.0 r.0 h.good (counted b) apart (omega (arith, ap (λ (z : View). z.fwd_getm) headed_r)) held (ap (λ (z : View). z.invs) is_v ∙ gives.settled)
+      good =
+          fwd_getm_served (block_view b) (block_view b') cache.0 r.0 h.good (counted b) apart (omega (arith, ap (λ (z : View). z.fwd_getm) headed_r)) held
+          (ap (λ (z : View). z.invs) is_v ∙ gives.settled)
           (record { home = refl; data_home = omega (arith, sum_by_push home_data w1.responses x); all_fwd_gets = omega (arith, taken) })
           (subst (λ z. local z) (sym after) gives.fits) (λ q. gives.given (subst (λ z. holds z) after q))
           (ap (λ (z : View). z.shares) after ∙ ap (λ (z : View). z.shares) (sym is_v)) (ap (λ (z : View). z.owns) after ∙ ap (λ (z : View). z.owns) (sym is_v))
           (ap (λ (z : View). z.shares) is_v ∙ unshared)
           requestor others;
       bounds = bounds-set n b b' cache.0 h (subst (λ z. Bounded n z) (sym after) (record { promised = bound.promised; acks = bound.acks }))
-          (λ d nc. by-eq d r.0 (λ e. subst (λ k. (view_of b' k).promised ≡ (view_of b k).promised) (sym e) (ap (λ (z : View). z.promised) requestor)) (λ nr. ap (λ (z : View). z.promised) (others d nr nc)))
-          (λ d nc. by-eq d r.0 (λ e. subst (λ k. (view_of b' k).acks ≡ (view_of b k).acks) (sym e) (ap (λ (z : View). z.acks) requestor)) (λ nr. ap (λ (z : View). z.acks) (others d nr nc)));
+          (λ d nc. by-eq d r.0 (λ e. subst (λ k. (view_of b' k).promised ≡ (view_of b k).promised) (sym e) (ap (λ (z : View). z.promised) requestor))
+          (λ nr. ap (λ (z : View). z.promised) (others d nr nc)))
+          (λ d nc. by-eq d r.0 (λ e. subst (λ k. (view_of b' k).acks ≡ (view_of b k).acks) (sym e) (ap (λ (z : View). z.acks) requestor))
+          (λ nr. ap (λ (z : View). z.acks) (others d nr nc)));
     }
 
 -- a forward at its line is fine
-at-line : (n : ℕ) (b : BlockState) (cache : CacheId) (m : Forward) (line : Line) (next : CacheState) (actions known : List CacheAction) → actions ≡ known → Sound n (carried_out (AtLine cache line (line_input.Forward m) next known (origin.Head cache)) b).block
+at-line : (n : ℕ) (b : BlockState) (cache : CacheId) (m : Forward) (line : Line) (next : CacheState) (actions known : List CacheAction) → actions ≡ known →
+    Sound n (carried_out (AtLine cache line (line_input.Forward m) next known (origin.Head cache)) b).block
     → Fine n (carried_out (AtLine cache line (line_input.Forward m) next actions (origin.Head cache)) b)
 at-line n b cache m line next actions known e h = record {
   sound = subst (λ (a : List CacheAction). Sound n (carried_out (AtLine cache line (line_input.Forward m) next a (origin.Head cache)) b).block) (sym e) h;
   met = acted-outcome cache (origin.Head cache) (line_completes (line_input.Forward m) next line);
 }
 
-inv-fine : (n : ℕ) (b : BlockState) (cache r : CacheId) (line : Line) (x : CacheEntry) → Sound n b → Some line ≡ slice_get b.lines cache.0 → Some (record { kind = Inv; requestor = r }) ≡ slice_get (link b.traffic cache.0) 0
-    → InvRule line.state (seen line b.home b.traffic cache.0) (rest_of b cache.0) x → Fine n (carried_out (by_line_entry x cache line (line_input.Forward (record { kind = Inv; requestor = r })) (origin.Head cache)) b)
+inv-fine : (n : ℕ) (b : BlockState) (cache r : CacheId) (line : Line) (x : CacheEntry) → Sound n b → Some line ≡ slice_get b.lines cache.0 →
+    Some (record { kind = Inv; requestor = r }) ≡ slice_get (link b.traffic cache.0) 0
+    → InvRule line.state (seen line b.home b.traffic cache.0) (rest_of b cache.0) x → Fine n
+    (carried_out (by_line_entry x cache line (line_input.Forward (record { kind = Inv; requestor = r })) (origin.Head cache)) b)
 inv-fine n b cache r line entry.Blank h there at rule = absurd rule
 inv-fine n b cache r line entry.Stall h there at rule = record { sound = h; met = λ e. absurd (cc) }
-inv-fine n b cache r line (entry.Act next actions) h there at rule = at-line n b cache (record { kind = Inv; requestor = r }) line next actions (action.InvAck ∷ []) rule.0 (inv-acted n b cache r line next _ h there at rule.1)
+inv-fine n b cache r line (entry.Act next actions) h there at rule =
+    at-line n b cache (record { kind = Inv; requestor = r }) line next actions (action.InvAck ∷ []) rule.0 (inv-acted n b cache r line next _ h there at rule.1)
 
-put-ack-fine : (n : ℕ) (b : BlockState) (cache r : CacheId) (line : Line) (x : CacheEntry) → Sound n b → Some line ≡ slice_get b.lines cache.0 → Some (record { kind = PutAck; requestor = r }) ≡ slice_get (link b.traffic cache.0) 0
-    → PutAckRule line.state (seen line b.home b.traffic cache.0) (rest_of b cache.0) x → Fine n (carried_out (by_line_entry x cache line (line_input.Forward (record { kind = PutAck; requestor = r })) (origin.Head cache)) b)
+put-ack-fine : (n : ℕ) (b : BlockState) (cache r : CacheId) (line : Line) (x : CacheEntry) → Sound n b → Some line ≡ slice_get b.lines cache.0 →
+    Some (record { kind = PutAck; requestor = r }) ≡ slice_get (link b.traffic cache.0) 0
+    → PutAckRule line.state (seen line b.home b.traffic cache.0) (rest_of b cache.0) x → Fine n
+    (carried_out (by_line_entry x cache line (line_input.Forward (record { kind = PutAck; requestor = r })) (origin.Head cache)) b)
 put-ack-fine n b cache r line entry.Blank h there at rule = absurd rule
 put-ack-fine n b cache r line entry.Stall h there at rule = record { sound = h; met = λ e. absurd (cc) }
-put-ack-fine n b cache r line (entry.Act next actions) h there at rule = at-line n b cache (record { kind = PutAck; requestor = r }) line next actions [] rule.0 (put-ack-acted n b cache r line next _ h there at rule.1)
+put-ack-fine n b cache r line (entry.Act next actions) h there at rule =
+    at-line n b cache (record { kind = PutAck; requestor = r }) line next actions [] rule.0 (put-ack-acted n b cache r line next _ h there at rule.1)
 
-gets-fine : (n : ℕ) (b : BlockState) (cache r : CacheId) (line : Line) (x : CacheEntry) → Sound n b → Some line ≡ slice_get b.lines cache.0 → Some (record { kind = FwdGetS; requestor = r }) ≡ slice_get (link b.traffic cache.0) 0
-    → FwdGetSRule line.state (seen line b.home b.traffic cache.0) (rest_of b cache.0) x → Fine n (carried_out (by_line_entry x cache line (line_input.Forward (record { kind = FwdGetS; requestor = r })) (origin.Head cache)) b)
+gets-fine : (n : ℕ) (b : BlockState) (cache r : CacheId) (line : Line) (x : CacheEntry) → Sound n b → Some line ≡ slice_get b.lines cache.0 →
+    Some (record { kind = FwdGetS; requestor = r }) ≡ slice_get (link b.traffic cache.0) 0
+    → FwdGetSRule line.state (seen line b.home b.traffic cache.0) (rest_of b cache.0) x → Fine n
+    (carried_out (by_line_entry x cache line (line_input.Forward (record { kind = FwdGetS; requestor = r })) (origin.Head cache)) b)
 gets-fine n b cache r line entry.Blank h there at rule = absurd rule
 gets-fine n b cache r line entry.Stall h there at rule = record { sound = h; met = λ e. absurd (cc) }
-gets-fine n b cache r line (entry.Act next actions) h there at rule = at-line n b cache (record { kind = FwdGetS; requestor = r }) line next actions (action.DataReq ∷ action.DataDir ∷ []) rule.0 (gets-acted n b cache r line next _ h there at rule.1)
+gets-fine n b cache r line (entry.Act next actions) h there at rule =
+    at-line n b cache (record { kind = FwdGetS; requestor = r }) line next actions (action.DataReq ∷ action.DataDir ∷ []) rule.0
+    (gets-acted n b cache r line next _ h there at rule.1)
 
-getm-fine : (n : ℕ) (b : BlockState) (cache r : CacheId) (line : Line) (x : CacheEntry) → Sound n b → Some line ≡ slice_get b.lines cache.0 → Some (record { kind = FwdGetM; requestor = r }) ≡ slice_get (link b.traffic cache.0) 0
-    → FwdGetMRule line.state (seen line b.home b.traffic cache.0) (rest_of b cache.0) x → Fine n (carried_out (by_line_entry x cache line (line_input.Forward (record { kind = FwdGetM; requestor = r })) (origin.Head cache)) b)
+getm-fine : (n : ℕ) (b : BlockState) (cache r : CacheId) (line : Line) (x : CacheEntry) → Sound n b → Some line ≡ slice_get b.lines cache.0 →
+    Some (record { kind = FwdGetM; requestor = r }) ≡ slice_get (link b.traffic cache.0) 0
+    → FwdGetMRule line.state (seen line b.home b.traffic cache.0) (rest_of b cache.0) x → Fine n
+    (carried_out (by_line_entry x cache line (line_input.Forward (record { kind = FwdGetM; requestor = r })) (origin.Head cache)) b)
 getm-fine n b cache r line entry.Blank h there at rule = absurd rule
 getm-fine n b cache r line entry.Stall h there at rule = record { sound = h; met = λ e. absurd (cc) }
-getm-fine n b cache r line (entry.Act next actions) h there at rule = at-line n b cache (record { kind = FwdGetM; requestor = r }) line next actions (action.DataReq ∷ []) rule.0 (getm-acted n b cache r line next _ h there at rule.1 rule.2)
+getm-fine n b cache r line (entry.Act next actions) h there at rule =
+    at-line n b cache (record { kind = FwdGetM; requestor = r }) line next actions (action.DataReq ∷ []) rule.0
+    (getm-acted n b cache r line next _ h there at rule.1 rule.2)
 
-pub forward-fine : (n : ℕ) (b : BlockState) (cache : CacheId) (kind : ForwardKind) (r : CacheId) (line : Line) → Sound n b → Some line ≡ slice_get b.lines cache.0 → Some (record { kind = kind; requestor = r }) ≡ slice_get (link b.traffic cache.0) 0
-    → Fine n (carried_out (by_line_entry (baseline_entry line.state (forward_event kind)) cache line (line_input.Forward (record { kind = kind; requestor = r })) (origin.Head cache)) b)
-forward-fine n b cache Inv r line h there at = inv-fine n b cache r line (baseline_entry line.state event.Inv) h there at (inv_rule line.state (seen line b.home b.traffic cache.0) (rest_of b cache.0) (own-begins b cache.0 (record { kind = Inv; requestor = r }) line at) (local-at n b cache.0 line h there))
-forward-fine n b cache PutAck r line h there at = put-ack-fine n b cache r line (baseline_entry line.state event.PutAck) h there at (put_ack_rule line.state (seen line b.home b.traffic cache.0) (rest_of b cache.0) (own-begins b cache.0 (record { kind = PutAck; requestor = r }) line at) (local-at n b cache.0 line h there))
-forward-fine n b cache FwdGetS r line h there at = gets-fine n b cache r line (baseline_entry line.state event.FwdGetS) h there at (fwd_gets_rule line.state (seen line b.home b.traffic cache.0) (rest_of b cache.0) (own-begins b cache.0 (record { kind = FwdGetS; requestor = r }) line at) (local-at n b cache.0 line h there))
-forward-fine n b cache FwdGetM r line h there at = getm-fine n b cache r line (baseline_entry line.state event.FwdGetM) h there at (fwd_getm_rule line.state (seen line b.home b.traffic cache.0) (rest_of b cache.0) (own-begins b cache.0 (record { kind = FwdGetM; requestor = r }) line at) (local-at n b cache.0 line h there))
+pub forward-fine : (n : ℕ) (b : BlockState) (cache : CacheId) (kind : ForwardKind) (r : CacheId) (line : Line) → Sound n b →
+    Some line ≡ slice_get b.lines cache.0 → Some (record { kind = kind; requestor = r }) ≡ slice_get (link b.traffic cache.0) 0
+    → Fine n
+    (carried_out
+    (by_line_entry (baseline_entry line.state (forward_event kind)) cache line (line_input.Forward (record { kind = kind; requestor = r }))
+    (origin.Head cache)) b)
+forward-fine n b cache Inv r line h there at =
+    inv-fine n b cache r line (baseline_entry line.state event.Inv) h there at
+    (inv_rule line.state (seen line b.home b.traffic cache.0) (rest_of b cache.0) (own-begins b cache.0 (record { kind = Inv; requestor = r }) line at)
+    (local-at n b cache.0 line h there))
+forward-fine n b cache PutAck r line h there at =
+    put-ack-fine n b cache r line (baseline_entry line.state event.PutAck) h there at
+    (put_ack_rule line.state (seen line b.home b.traffic cache.0) (rest_of b cache.0)
+    (own-begins b cache.0 (record { kind = PutAck; requestor = r }) line at) (local-at n b cache.0 line h there))
+forward-fine n b cache FwdGetS r line h there at =
+    gets-fine n b cache r line (baseline_entry line.state event.FwdGetS) h there at
+    (fwd_gets_rule line.state (seen line b.home b.traffic cache.0) (rest_of b cache.0)
+    (own-begins b cache.0 (record { kind = FwdGetS; requestor = r }) line at) (local-at n b cache.0 line h there))
+forward-fine n b cache FwdGetM r line h there at =
+    getm-fine n b cache r line (baseline_entry line.state event.FwdGetM) h there at
+    (fwd_getm_rule line.state (seen line b.home b.traffic cache.0) (rest_of b cache.0)
+    (own-begins b cache.0 (record { kind = FwdGetM; requestor = r }) line at) (local-at n b cache.0 line h there))

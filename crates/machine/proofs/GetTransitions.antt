@@ -1,5 +1,6 @@
 -- A home that serves a GetS or a GetM keeps the invariant.
-use Rattle.std.proofs.Common.{◌≡◌, ◌≢◌, ℕ, ◌<◌, ◌≤◌, ◌+◌, ◌-◌, List, [], ◌∷◌, ◌++◌, ◌⊎◌, inl, inr, length, refl, ap, sym, subst, ◌∙◌, arith, Option, Some, None, Bool, true, false, ◌==◌, ◌&&◌, not, slice_get, slice_set, sum_by, eq-eqb, replicate}
+use Rattle.std.proofs.Common.{◌≡◌, ◌≢◌, ℕ, ◌<◌, ◌≤◌, ◌+◌, ◌-◌, List, [], ◌∷◌, ◌++◌, ◌⊎◌, inl, inr, length, refl, ap, sym, subst, ◌∙◌, arith, Option}
+use Rattle.std.proofs.Common.{Some, None, Bool, true, false, ◌==◌, ◌&&◌, not, slice_get, slice_set, sum_by, eq-eqb, replicate}
 use Rattle.std.proofs.lemmas.Bool.{ne_eqb}
 use Rattle.std.proofs.lemmas.List.{length-set, length-replicate}
 use Rattle.std.proofs.lemmas.List.Sums.{sum_by_push}
@@ -42,7 +43,8 @@ home_block b home w = record { lines = b.lines; home = home; traffic = w; latest
 
 -- what a view becomes when Data is sent by the home, with these acks, and the home's notes on the cache are these
 abbrev pub with_data : Bool → ℕ → Bool → Bool → View → View
-with_data mine acks sh ow u = record u { invs = u.invs + 0; dir_data = u.dir_data + only mine 1; owner_data = u.owner_data + 0; promised = u.promised + only mine acks; shares = sh; owns = ow }
+with_data mine acks sh ow u =
+    record u { invs = u.invs + 0; dir_data = u.dir_data + only mine 1; owner_data = u.owner_data + 0; promised = u.promised + only mine acks; shares = sh; owns = ow }
 
 shared-own : (t sh : Bool) (u v : View) → t ≡ true → sh ≡ true → request_added true GetS u ≡ v → with_data t 0 sh u.owns u ≡ give_shared v
 shared-own true true u v p q e = grind (arith)
@@ -54,12 +56,17 @@ data-other true sh ow acks u v p q o e = absurd (cc)
 data-other false sh ow acks u v p q o e = grind (arith)
 
 -- bounds where only one cache is promised acks
-pub bounds-one : (n : ℕ) (b b' : BlockState) (r : ℕ) → Sound n b → (view_of b' r).promised ≤ n → ((d : ℕ) → d ≢ r → (view_of b' d).promised ≡ (view_of b d).promised) → ((d : ℕ) → (view_of b' d).acks ≡ (view_of b d).acks) → (d : ℕ) → Bounded n (view_of b' d)
+pub bounds-one : (n : ℕ) (b b' : BlockState) (r : ℕ) → Sound n b → (view_of b' r).promised ≤ n →
+    ((d : ℕ) → d ≢ r → (view_of b' d).promised ≡ (view_of b d).promised) → ((d : ℕ) → (view_of b' d).acks ≡ (view_of b d).acks) → (d : ℕ) →
+    Bounded n (view_of b' d)
 bounds-one n b b' r h own p a d = bounds-set n b b' r h (record { promised = own; acks = omega (arith, a r, (h.bounds r).acks) }) p (λ d ne. a d) d
 
 -- the home in I or S serves a GetS
-pub gets-shared : (n : ℕ) (b : BlockState) (i : ℕ) (r : CacheId) → Sound n b → (b.home.state ≡ home.I) ⊎ (b.home.state ≡ home.S) → Some (req GetS r) ≡ slice_get b.traffic.requests i
-    → Sound n (home_block b (record b.home { state = home.S; sharers = slice_set b.home.sharers r.0 true }) (response_sent (Data Dir (Cache r) b.home.memory 0) (request_taken i b.traffic)))
+pub gets-shared : (n : ℕ) (b : BlockState) (i : ℕ) (r : CacheId) → Sound n b → (b.home.state ≡ home.I) ⊎ (b.home.state ≡ home.S) →
+    Some (req GetS r) ≡ slice_get b.traffic.requests i
+    → Sound n
+    (home_block b (record b.home { state = home.S; sharers = slice_set b.home.sharers r.0 true })
+    (response_sent (Data Dir (Cache r) b.home.memory 0) (request_taken i b.traffic)))
 gets-shared n b i r h hs at =
     let w1 : Traffic = request_taken i b.traffic in
     let x : Response = Data Dir (Cache r) b.home.memory 0 in
@@ -72,9 +79,12 @@ gets-shared n b i r h hs at =
     let sent : (d : ℕ) → view_of b' d ≡ with_data (r.0 == d) 0 (shares (slice_set b.home.sharers r.0 true) d) (is_owner b.home.owner d) (u d)
     = λ d. ap (λ (v : View). record v { shares = shares (slice_set b.home.sharers r.0 true) d }) (response_sent-seen (line_of b.lines d) b.home w1 x d) in
     let requestor : view_of b' r.0 ≡ give_shared (view_of b r.0) =
-    sent r.0 ∙ shared-own (r.0 == r.0) _ (u r.0) (view_of b r.0) (eq-eqb r.0 r.0 refl) (shares-set_same b.home.sharers r.0 true (omega (arith, h.sharers))) own in
+    sent r.0
+    ∙ shared-own (r.0 == r.0) _ (u r.0) (view_of b r.0) (eq-eqb r.0 r.0 refl) (shares-set_same b.home.sharers r.0 true (omega (arith, h.sharers))) own in
     let others : (d : ℕ) → d ≢ r.0 → view_of b' d ≡ view_of b d = λ d ne.
-    sent d ∙ data-other (r.0 == d) _ _ 0 (u d) (view_of b d) (ne_eqb r.0 d (λ e. ne (sym e))) (shares-set_other b.home.sharers r.0 d true ne) refl (request-others b i (req GetS r) at d ne) in
+    sent d
+    ∙ data-other (r.0 == d) _ _ 0 (u d) (view_of b d) (ne_eqb r.0 d (λ e. ne (sym e))) (shares-set_other b.home.sharers r.0 d true ne) refl
+    (request-others b i (req GetS r) at d ne) in
     record {
       few = h.few;
       lines = h.lines;
@@ -82,7 +92,9 @@ gets-shared n b i r h hs at =
       sharers = length-set b.home.sharers r.0 true ∙ h.sharers;
       owned = λ e. absurd (cc);
       good = gets_at_s (block_view b) (block_view b') r.0 h.good hs asks refl (omega (arith, sum_by_push home_data w1.responses x)) refl requestor others;
-      bounds = bounds-one n b b' r.0 h (omega (arith, ap (λ (v : View). v.promised) requestor, (h.bounds r.0).promised)) (λ d ne. ap (λ (v : View). v.promised) (others d ne)) (λ d. refl);
+      bounds =
+          bounds-one n b b' r.0 h (omega (arith, ap (λ (v : View). v.promised) requestor, (h.bounds r.0).promised))
+          (λ d ne. ap (λ (v : View). v.promised) (others d ne)) (λ d. refl);
     }
 
 -- who shares and owns the block where the home is in I, and in M
@@ -95,7 +107,8 @@ at-m b g e c = grind (arith, g.sharers c)
 pub at-s : (b : Block) → Good b → b.home ≡ home.S → (c : ℕ) → (b.view c).owns ≡ false
 at-s b g e c = grind (arith, g.owner c)
 
-given-own : (t ow : Bool) (acks : ℕ) (u v : View) → t ≡ true → ow ≡ true → v.shares ≡ false → request_added true GetM u ≡ v → with_data t acks u.shares ow u ≡ record v { getm = v.getm - 1; dir_data = v.dir_data + 1; promised = v.promised + acks; invs = v.invs + 0; shares = false; owns = true }
+given-own : (t ow : Bool) (acks : ℕ) (u v : View) → t ≡ true → ow ≡ true → v.shares ≡ false → request_added true GetM u ≡ v →
+    with_data t acks u.shares ow u ≡ record v { getm = v.getm - 1; dir_data = v.dir_data + 1; promised = v.promised + acks; invs = v.invs + 0; shares = false; owns = true }
 given-own true true acks u v p q s e = grind (arith)
 given-own true false acks u v p q s e = absurd (cc)
 given-own false ow acks u v p q s e = absurd (cc)
@@ -117,22 +130,29 @@ getm-invalid n b i r h hs at =
     let requestor : view_of b' r.0 ≡ give 0 (view_of b r.0) =
     sent r.0 ∙ given-own (r.0 == r.0) (r.0 == r.0) 0 (u r.0) (view_of b r.0) (eq-eqb r.0 r.0 refl) (eq-eqb r.0 r.0 refl) (apart r.0).0 own in
     let others : (d : ℕ) → d ≢ r.0 → view_of b' d ≡ view_of b d = λ d ne.
-    sent d ∙ data-other (r.0 == d) _ _ 0 (u d) (view_of b d) (ne_eqb r.0 d (λ e. ne (sym e))) refl (ne_eqb r.0 d (λ e. ne (sym e)) ∙ sym (apart d).1) (request-others b i (req GetM r) at d ne) in
+    sent d
+    ∙ data-other (r.0 == d) _ _ 0 (u d) (view_of b d) (ne_eqb r.0 d (λ e. ne (sym e))) refl (ne_eqb r.0 d (λ e. ne (sym e)) ∙ sym (apart d).1)
+    (request-others b i (req GetM r) at d ne) in
     record {
       few = h.few;
       lines = h.lines;
       links = h.links;
       sharers = h.sharers;
       owned = λ e. (r, refl);
-      good = getm_at_i (block_view b) (block_view b') r.0 h.good (counted b) hs asks refl (omega (arith, sum_by_push home_data w1.responses x)) refl requestor others;
-      bounds = bounds-one n b b' r.0 h (omega (arith, ap (λ (v : View). v.promised) requestor, (h.bounds r.0).promised)) (λ d ne. ap (λ (v : View). v.promised) (others d ne)) (λ d. refl);
+      good =
+          getm_at_i (block_view b) (block_view b') r.0 h.good (counted b) hs asks refl
+          (omega (arith, sum_by_push home_data w1.responses x)) refl requestor others;
+      bounds =
+          bounds-one n b b' r.0 h (omega (arith, ap (λ (v : View). v.promised) requestor, (h.bounds r.0).promised))
+          (λ d ne. ap (λ (v : View). v.promised) (others d ne)) (λ d. refl);
     }
 
 -- what a view becomes when a forward that names a cache is sent on a link
 abbrev pub forwarded : ForwardKind → Bool → Bool → Bool → Bool → View → View
 forwarded kind mine to sh ow u = record (named mine kind (record u { link = pushed to kind u.link })) { shares = sh; owns = ow }
 
-gets-names : (t k sh ow : Bool) (u v : View) → t ≡ true → k ≡ false → sh ≡ true → ow ≡ false → v.owns ≡ false → request_added true GetS u ≡ v → forwarded FwdGetS t k sh ow u ≡ name_s v
+gets-names : (t k sh ow : Bool) (u v : View) → t ≡ true → k ≡ false → sh ≡ true → ow ≡ false → v.owns ≡ false → request_added true GetS u ≡ v →
+    forwarded FwdGetS t k sh ow u ≡ name_s v
 gets-names true false true false u v a b c d o e = grind (arith)
 gets-names false k sh ow u v a b c d o e = absurd (cc)
 gets-names true true sh ow u v a b c d o e = absurd (cc)
@@ -158,7 +178,8 @@ getm-passes true k ow u v a b c e = absurd (cc)
 getm-passes false false ow u v a b c e = absurd (cc)
 getm-passes false true true u v a b c e = absurd (cc)
 
-forward-other : (kind : ForwardKind) (t k sh ow : Bool) (u v : View) → t ≡ false → k ≡ false → sh ≡ v.shares → ow ≡ false → v.owns ≡ false → u ≡ v → forwarded kind t k sh ow u ≡ v
+forward-other : (kind : ForwardKind) (t k sh ow : Bool) (u v : View) → t ≡ false → k ≡ false → sh ≡ v.shares → ow ≡ false → v.owns ≡ false → u ≡ v →
+    forwarded kind t k sh ow u ≡ v
 forward-other kind false false sh false u v a b c d o e = grind (arith)
 forward-other kind true k sh ow u v a b c d o e = absurd (cc)
 forward-other kind false true sh ow u v a b c d o e = absurd (cc)
@@ -169,8 +190,11 @@ has-pushed [] = inl refl
 has-pushed (k ∷ l) = inr (has-pushed l)
 
 -- the home in M forwards a GetS to the owner
-pub gets-forwarded : (n : ℕ) (b : BlockState) (i : ℕ) (r o : CacheId) → Sound n b → b.home.state ≡ home.M → b.home.owner ≡ Some o → Some (req GetS r) ≡ slice_get b.traffic.requests i
-    → Sound n (home_block b (record b.home { state = home.SD; sharers = slice_set (slice_set b.home.sharers r.0 true) o.0 true; owner = None }) (forward_sent o.0 (record { kind = FwdGetS; requestor = r }) (request_taken i b.traffic)))
+pub gets-forwarded : (n : ℕ) (b : BlockState) (i : ℕ) (r o : CacheId) → Sound n b → b.home.state ≡ home.M → b.home.owner ≡ Some o →
+    Some (req GetS r) ≡ slice_get b.traffic.requests i
+    → Sound n
+    (home_block b (record b.home { state = home.SD; sharers = slice_set (slice_set b.home.sharers r.0 true) o.0 true; owner = None })
+    (forward_sent o.0 (record { kind = FwdGetS; requestor = r }) (request_taken i b.traffic)))
 gets-forwarded n b i r o h hs own_o at =
     let w1 : Traffic = request_taken i b.traffic in
     let m : Forward = record { kind = FwdGetS; requestor = r } in
@@ -187,32 +211,43 @@ gets-forwarded n b i r o h hs own_o at =
     let r_not : (view_of b r.0).owns ≡ false = (open_gets (view_of b r.0).state (view_of b r.0) asks (h.good.each r.0)).0 in
     let ne : r.0 ≢ o.0 = λ e. let same : (view_of b r.0).owns ≡ true = ap (λ d. (view_of b d).owns) e ∙ owner_owns in absurd (cc) in
     let sent : (d : ℕ) → view_of b' d ≡ forwarded FwdGetS (r.0 == d) (o.0 == d) (shares (slice_set first o.0 true) d) false (u d)
-    = λ d. ap (λ (v : View). record v { shares = shares (slice_set first o.0 true) d; owns = false }) (forward_sent-seen (line_of b.lines d) b.home w1 o.0 m d (omega (arith, h.links))) in
+    = λ d. ap (λ (v : View). record v { shares = shares (slice_set first o.0 true) d; owns = false })
+    (forward_sent-seen (line_of b.lines d) b.home w1 o.0 m d (omega (arith, h.links))) in
     let requestor : view_of b' r.0 ≡ name_s (view_of b r.0) =
     sent r.0 ∙ gets-names (r.0 == r.0) (o.0 == r.0) _ false (u r.0) (view_of b r.0) (eq-eqb r.0 r.0 refl) (ne_eqb o.0 r.0 (λ e. ne (sym e)))
     (shares-set_other first o.0 r.0 true ne ∙ shares-set_same b.home.sharers r.0 true (omega (arith, h.sharers))) refl r_not own in
     let owner : view_of b' o.0 ≡ pass_s (view_of b o.0) =
     sent o.0 ∙ gets-passes (r.0 == o.0) (o.0 == o.0) _ false (u o.0) (view_of b o.0) (ne_eqb r.0 o.0 ne) (eq-eqb o.0 o.0 refl)
-    (shares-set_same first o.0 true (omega (arith, h.sharers, length-set b.home.sharers r.0 true))) refl (request-others b i (req GetS r) at o.0 (λ e. ne (sym e))) in
+    (shares-set_same first o.0 true (omega (arith, h.sharers, length-set b.home.sharers r.0 true))) refl
+    (request-others b i (req GetS r) at o.0 (λ e. ne (sym e))) in
     let others : (d : ℕ) → d ≢ r.0 → d ≢ o.0 → view_of b' d ≡ view_of b d = λ d nr no.
     sent d ∙ forward-other FwdGetS (r.0 == d) (o.0 == d) _ false (u d) (view_of b d) (ne_eqb r.0 d (λ e. nr (sym e))) (ne_eqb o.0 d (λ e. no (sym e)))
-    (shares-set_other first o.0 d true no ∙ shares-set_other b.home.sharers r.0 d true nr) refl (owns d ∙ ne_eqb o.0 d (λ e. no (sym e))) (request-others b i (req GetS r) at d nr) in
-    let only_o : (d : ℕ) → (view_of b d).owns ≡ true → d ≡ o.0 = λ d p. by-eq d o.0 (λ e. e) (λ x. let no : (view_of b d).owns ≡ false = owns d ∙ ne_eqb o.0 d (λ e. x (sym e)) in absurd (cc)) in
+    (shares-set_other first o.0 d true no ∙ shares-set_other b.home.sharers r.0 d true nr) refl (owns d ∙ ne_eqb o.0 d (λ e. no (sym e)))
+    (request-others b i (req GetS r) at d nr) in
+    let only_o : (d : ℕ) → (view_of b d).owns ≡ true → d ≡ o.0 =
+    λ d p. by-eq d o.0 (λ e. e) (λ x. let no : (view_of b d).owns ≡ false = owns d ∙ ne_eqb o.0 d (λ e. x (sym e)) in absurd (cc)) in
     record {
       few = h.few;
       lines = h.lines;
       links = length-set b.traffic.links o.0 _ ∙ h.links;
       sharers = length-set first o.0 true ∙ length-set b.home.sharers r.0 true ∙ h.sharers;
       owned = λ e. absurd (cc);
-      good = gets_at_m (block_view b) (block_view b') r.0 o.0 h.good hs asks owner_owns ne refl refl (forward_sent-total (of_kind is_fwd_gets) w1 o.0 m (omega (arith, h.links))) requestor owner others only_o
+      good =
+          gets_at_m (block_view b) (block_view b') r.0 o.0 h.good hs asks owner_owns ne refl refl
+          (forward_sent-total (of_kind is_fwd_gets) w1 o.0 m (omega (arith, h.links))) requestor owner others only_o
           (subst (λ (v : View). HasFwdGetS v.link) (sym owner) (has-pushed (view_of b o.0).link));
       bounds = bounds-one n b b' r.0 h (omega (arith, ap (λ (v : View). v.promised) requestor, (h.bounds r.0).promised))
-          (λ d nr. by-eq d o.0 (λ e. subst (λ k. (view_of b' k).promised ≡ (view_of b k).promised) (sym e) (ap (λ (v : View). v.promised) owner)) (λ no. ap (λ (v : View). v.promised) (others d nr no))) (λ d. refl);
+          (λ d nr. by-eq d o.0 (λ e. subst (λ k. (view_of b' k).promised ≡ (view_of b k).promised) (sym e) (ap (λ (v : View). v.promised) owner))
+          (λ no. ap (λ (v : View). v.promised) (others d nr no)))
+          (λ d. refl);
     }
 
 -- the home in M forwards a GetM to the owner
-pub getm-forwarded : (n : ℕ) (b : BlockState) (i : ℕ) (r o : CacheId) → Sound n b → b.home.state ≡ home.M → b.home.owner ≡ Some o → Some (req GetM r) ≡ slice_get b.traffic.requests i
-    → Sound n (home_block b (record b.home { state = home.M; owner = Some r }) (forward_sent o.0 (record { kind = FwdGetM; requestor = r }) (request_taken i b.traffic)))
+pub getm-forwarded : (n : ℕ) (b : BlockState) (i : ℕ) (r o : CacheId) → Sound n b → b.home.state ≡ home.M → b.home.owner ≡ Some o →
+    Some (req GetM r) ≡ slice_get b.traffic.requests i
+    → Sound n
+    (home_block b (record b.home { state = home.M; owner = Some r })
+    (forward_sent o.0 (record { kind = FwdGetM; requestor = r }) (request_taken i b.traffic)))
 getm-forwarded n b i r o h hs own_o at =
     let w1 : Traffic = request_taken i b.traffic in
     let m : Forward = record { kind = FwdGetM; requestor = r } in
@@ -229,9 +264,13 @@ getm-forwarded n b i r o h hs own_o at =
     let sent : (d : ℕ) → view_of b' d ≡ forwarded FwdGetM (r.0 == d) (o.0 == d) (shares b.home.sharers d) (r.0 == d) (u d)
     = λ d. ap (λ (v : View). record v { owns = r.0 == d }) (forward_sent-seen (line_of b.lines d) b.home w1 o.0 m d (omega (arith, h.links))) in
     let requestor : view_of b' r.0 ≡ name_m (view_of b r.0) =
-    sent r.0 ∙ getm-names (r.0 == r.0) (o.0 == r.0) (r.0 == r.0) (u r.0) (view_of b r.0) (eq-eqb r.0 r.0 refl) (ne_eqb o.0 r.0 (λ e. ne (sym e))) (eq-eqb r.0 r.0 refl) own in
+    sent r.0
+    ∙ getm-names (r.0 == r.0) (o.0 == r.0) (r.0 == r.0) (u r.0) (view_of b r.0) (eq-eqb r.0 r.0 refl) (ne_eqb o.0 r.0 (λ e. ne (sym e)))
+    (eq-eqb r.0 r.0 refl) own in
     let owner : view_of b' o.0 ≡ pass_m (view_of b o.0) =
-    sent o.0 ∙ getm-passes (r.0 == o.0) (o.0 == o.0) (r.0 == o.0) (u o.0) (view_of b o.0) (ne_eqb r.0 o.0 ne) (eq-eqb o.0 o.0 refl) (ne_eqb r.0 o.0 ne) (request-others b i (req GetM r) at o.0 (λ e. ne (sym e))) in
+    sent o.0
+    ∙ getm-passes (r.0 == o.0) (o.0 == o.0) (r.0 == o.0) (u o.0) (view_of b o.0) (ne_eqb r.0 o.0 ne) (eq-eqb o.0 o.0 refl) (ne_eqb r.0 o.0 ne)
+    (request-others b i (req GetM r) at o.0 (λ e. ne (sym e))) in
     let others : (d : ℕ) → d ≢ r.0 → d ≢ o.0 → view_of b' d ≡ view_of b d = λ d nr no.
     sent d ∙ forward-other FwdGetM (r.0 == d) (o.0 == d) _ (r.0 == d) (u d) (view_of b d) (ne_eqb r.0 d (λ e. nr (sym e))) (ne_eqb o.0 d (λ e. no (sym e)))
     refl (ne_eqb r.0 d (λ e. nr (sym e))) (owns d ∙ ne_eqb o.0 d (λ e. no (sym e))) (request-others b i (req GetM r) at d nr) in
@@ -241,16 +280,22 @@ getm-forwarded n b i r o h hs own_o at =
       links = length-set b.traffic.links o.0 _ ∙ h.links;
       sharers = h.sharers;
       owned = λ e. (r, refl);
-      good = getm_at_m (block_view b) (block_view b') r.0 o.0 h.good hs asks owner_owns ne refl refl (omega (arith, forward_sent-total (of_kind is_fwd_gets) w1 o.0 m (omega (arith, h.links)))) requestor owner others;
+      good =
+          getm_at_m (block_view b) (block_view b') r.0 o.0 h.good hs asks owner_owns ne refl refl
+          (omega (arith, forward_sent-total (of_kind is_fwd_gets) w1 o.0 m (omega (arith, h.links)))) requestor owner others;
       bounds = bounds-one n b b' r.0 h (omega (arith, ap (λ (v : View). v.promised) requestor, (h.bounds r.0).promised))
-          (λ d nr. by-eq d o.0 (λ e. subst (λ k. (view_of b' k).promised ≡ (view_of b k).promised) (sym e) (ap (λ (v : View). v.promised) owner)) (λ no. ap (λ (v : View). v.promised) (others d nr no))) (λ d. refl);
+          (λ d nr. by-eq d o.0 (λ e. subst (λ k. (view_of b' k).promised ≡ (view_of b k).promised) (sym e) (ap (λ (v : View). v.promised) owner))
+          (λ no. ap (λ (v : View). v.promised) (others d nr no)))
+          (λ d. refl);
     }
 
 -- what a view becomes when a home in S serves a GetM
 abbrev exclusive : Bool → Bool → ℕ → Bool → View → View
-exclusive mine invited acks ow u = record u { invs = u.invs + 0 + only mine acks; dir_data = u.dir_data + only mine 1; owner_data = u.owner_data + 0; promised = u.promised + only mine acks; link = pushed invited Inv u.link; shares = false; owns = ow }
+exclusive mine invited acks ow u =
+    record u { invs = u.invs + 0 + only mine acks; dir_data = u.dir_data + only mine 1; owner_data = u.owner_data + 0; promised = u.promised + only mine acks; link = pushed invited Inv u.link; shares = false; owns = ow }
 
-exclusive-own : (t k ow : Bool) (acks : ℕ) (u v : View) → t ≡ true → k ≡ false → ow ≡ true → request_added true GetM u ≡ v → exclusive t k acks ow u ≡ give acks v
+exclusive-own : (t k ow : Bool) (acks : ℕ) (u v : View) → t ≡ true → k ≡ false → ow ≡ true → request_added true GetM u ≡ v →
+    exclusive t k acks ow u ≡ give acks v
 exclusive-own true false true acks u v a b c e = grind (arith)
 exclusive-own false k ow acks u v a b c e = absurd (cc)
 exclusive-own true true ow acks u v a b c e = absurd (cc)
@@ -262,7 +307,8 @@ exclusive-sharer true k ow acks u v a b c o e = absurd (cc)
 exclusive-sharer false false ow acks u v a b c o e = absurd (cc)
 exclusive-sharer false true true acks u v a b c o e = absurd (cc)
 
-exclusive-other : (t k ow : Bool) (acks : ℕ) (u v : View) → t ≡ false → k ≡ false → ow ≡ false → v.owns ≡ false → v.shares ≡ false → u ≡ v → exclusive t k acks ow u ≡ v
+exclusive-other : (t k ow : Bool) (acks : ℕ) (u v : View) → t ≡ false → k ≡ false → ow ≡ false → v.owns ≡ false → v.shares ≡ false → u ≡ v →
+    exclusive t k acks ow u ≡ v
 exclusive-other false false false acks u v a b c o s e = grind (arith)
 exclusive-other true k ow acks u v a b c o s e = absurd (cc)
 exclusive-other false true ow acks u v a b c o s e = absurd (cc)
@@ -313,15 +359,23 @@ getm-shared n b i r h hs at =
     let sent : (d : ℕ) → view_of b' d ≡ exclusive (r.0 == d) (shares flags d && not (d == r.0)) acks (r.0 == d) (u d) = λ d.
     ap (λ (v : View). record v { shares = shares (replicate (length flags) false) d; owns = r.0 == d })
     (invs-seen (line_of b.lines d) b.home r flags w2 d fits
-    ∙ ap (λ (v : View). record v { link = pushed (shares flags d && not (d == r.0)) Inv v.link; invs = v.invs + only (r.0 == d) acks }) (response_sent-seen (line_of b.lines d) b.home w1 x d))
+    ∙ ap (λ (v : View). record v { link = pushed (shares flags d && not (d == r.0)) Inv v.link; invs = v.invs + only (r.0 == d) acks })
+    (response_sent-seen (line_of b.lines d) b.home w1 x d))
     ∙ ap (λ s. record (exclusive (r.0 == d) (shares flags d && not (d == r.0)) acks (r.0 == d) (u d)) { shares = s }) (shares-cleared (length flags) d) in
     let requestor : view_of b' r.0 ≡ give acks (view_of b r.0) =
-    sent r.0 ∙ exclusive-own (r.0 == r.0) _ (r.0 == r.0) acks (u r.0) (view_of b r.0) (eq-eqb r.0 r.0 refl) (not-invited (shares flags r.0) (r.0 == r.0) (eq-eqb r.0 r.0 refl)) (eq-eqb r.0 r.0 refl) own in
+    sent r.0
+    ∙ exclusive-own (r.0 == r.0) _ (r.0 == r.0) acks (u r.0) (view_of b r.0) (eq-eqb r.0 r.0 refl)
+    (not-invited (shares flags r.0) (r.0 == r.0) (eq-eqb r.0 r.0 refl)) (eq-eqb r.0 r.0 refl) own in
     let apart : (d : ℕ) → d ≢ r.0 → (r.0 == d) ≡ false = λ d ne. ne_eqb r.0 d (λ e. ne (sym e)) in
     let sharers : (d : ℕ) → d ≢ r.0 → (view_of b d).shares ≡ true → view_of b' d ≡ invite (view_of b d) = λ d ne s.
-    sent d ∙ exclusive-sharer (r.0 == d) _ (r.0 == d) acks (u d) (view_of b d) (apart d ne) (only-invited (shares flags d) (d == r.0) true s (ne_eqb d r.0 ne)) (apart d ne) (unowned d) (request-others b i (req GetM r) at d ne) in
+    sent d
+    ∙ exclusive-sharer (r.0 == d) _ (r.0 == d) acks (u d) (view_of b d) (apart d ne)
+    (only-invited (shares flags d) (d == r.0) true s (ne_eqb d r.0 ne)) (apart d ne) (unowned d) (request-others b i (req GetM r) at d ne) in
     let others : (d : ℕ) → d ≢ r.0 → (view_of b d).shares ≡ false → view_of b' d ≡ view_of b d = λ d ne s.
-    sent d ∙ exclusive-other (r.0 == d) _ (r.0 == d) acks (u d) (view_of b d) (apart d ne) (only-invited (shares flags d) (d == r.0) false s (ne_eqb d r.0 ne)) (apart d ne) (unowned d) s (request-others b i (req GetM r) at d ne) in
+    sent d
+    ∙ exclusive-other (r.0 == d) _ (r.0 == d) acks (u d) (view_of b d) (apart d ne)
+    (only-invited (shares flags d) (d == r.0) false s (ne_eqb d r.0 ne)) (apart d ne) (unowned d) s
+    (request-others b i (req GetM r) at d ne) in
     let none : (view_of b r.0).promised ≡ 0 = promised-none (view_of b r.0).state (view_of b r.0) asks (h.good.each r.0) in
     record {
       few = h.few;

@@ -39,7 +39,13 @@ opened-ranked caches value = record { ranks = (λ x. 0, λ a d p. absurd (omega 
 pub guards : (caches : ℕ) → caches ≤ 4294967296 → Guards (Keeps caches) baseline caches
 guards caches few = record {
   at_first = λ value. record { sound = opened-sound caches value few; valued = opened-valued caches value; ranked = opened-ranked caches value };
-  kept = λ s b h. record { sound = (transition-fine caches s b h.sound).sound; valued = (transition-right caches s b h.sound h.valued).valued; ranked = transition-ranked caches s b h.sound h.ranked };
+  kept =
+      λ s b h. record {
+        sound = (transition-fine caches s b h.sound).sound;
+        valued =
+            (transition-right caches s b h.sound h.valued).valued;
+        ranked = transition-ranked caches s b h.sound h.ranked;
+      };
   single = λ b h. sound-single caches b h.sound;
   unmet = λ s b h. (transition-fine caches s b h.sound).met;
 }

@@ -1,5 +1,6 @@
 -- The Invs that a home sends for a GetM.
-use Rattle.std.proofs.Common.{◌≡◌, ◌≢◌, ℕ, ◌<◌, ◌≤◌, ◌+◌, List, [], ◌∷◌, ◌++◌, length, refl, ap, ◌∙◌, zero, suc, arith, Bool, true, false, ◌==◌, ◌&&◌, not, if◌then◌else◌, sum_by, map}
+use Rattle.std.proofs.Common.{◌≡◌, ◌≢◌, ℕ, ◌<◌, ◌≤◌, ◌+◌, List, [], ◌∷◌, ◌++◌, length, refl, ap, ◌∙◌, zero, suc, arith, Bool, true, false, ◌==◌, ◌&&◌}
+use Rattle.std.proofs.Common.{not, if◌then◌else◌, sum_by, map}
 use Rattle.std.proofs.lemmas.List.{length-set}
 use Rattle.base.specs.declared.ids.CacheId.{CacheId}
 use Rattle.network.specs.declared.message.Forward.{Forward}
@@ -12,7 +13,8 @@ use Rattle.control.specs.declared.line.Line.{Line}
 use Rattle.control.specs.declared.home.Home.{Home}
 use Rattle.control.specs.Sharing.{shares, others_from}
 use Rattle.machine.proofs.Counts.{only, total, forward_sent-total, link-sent, link-sent_other, only-nothing}
-use Rattle.machine.proofs.Seen.{seen, names, is_fwd_gets, is_fwd_getm, is_inv, from, is_gets, is_getm, is_puts, is_putm, dir_data, owner_data, ack_number, inv_ack}
+use Rattle.machine.proofs.Seen.{seen, names, is_fwd_gets, is_fwd_getm, is_inv, from, is_gets, is_getm, is_puts, is_putm, dir_data, owner_data}
+use Rattle.machine.proofs.Seen.{ack_number, inv_ack}
 use Rattle.machine.proofs.SameView.{same_view}
 use Rattle.machine.proofs.Seeing.{pushed}
 
@@ -93,37 +95,53 @@ invs-link r i (flag ∷ flags) w (suc j) d e h =
     invs-link r (i + 1) flags (maybe (flag && not (i == r.0)) r i w) j d (omega arith) (omega (arith, h, maybe-length (flag && not (i == r.0)) r i w))
     ∙ ap (λ l. if shares flags j && not (d == r.0) then l ++ inv_of r ∷ [] else l) same
 
-maybe-none : (f : Forward → ℕ) (t : Bool) (r : CacheId) (i : ℕ) (w : Traffic) → f (inv_of r) ≡ 0 → i < length w.links → total f (maybe t r i w).links ≡ total f w.links
+maybe-none : (f : Forward → ℕ) (t : Bool) (r : CacheId) (i : ℕ) (w : Traffic) → f (inv_of r) ≡ 0 → i < length w.links →
+    total f (maybe t r i w).links ≡ total f w.links
 maybe-none f true r i w e h = omega (arith, forward_sent-total f w i (inv_of r) h, e)
 maybe-none f false r i w e h = refl
 
-maybe-one : (f : Forward → ℕ) (t : Bool) (r : CacheId) (i : ℕ) (w : Traffic) → f (inv_of r) ≡ 1 → i < length w.links → total f (maybe t r i w).links ≡ total f w.links + one_if t
+maybe-one : (f : Forward → ℕ) (t : Bool) (r : CacheId) (i : ℕ) (w : Traffic) → f (inv_of r) ≡ 1 → i < length w.links →
+    total f (maybe t r i w).links ≡ total f w.links + one_if t
 maybe-one f true r i w e h = omega (arith, forward_sent-total f w i (inv_of r) h, e)
 maybe-one f false r i w e h = omega arith
 
-pub invs-none : (f : Forward → ℕ) (r : CacheId) (i : ℕ) (flags : List Bool) (w : Traffic) → f (inv_of r) ≡ 0 → i + length flags ≤ length w.links → total f (invs_from r i flags w).links ≡ total f w.links
+pub invs-none : (f : Forward → ℕ) (r : CacheId) (i : ℕ) (flags : List Bool) (w : Traffic) → f (inv_of r) ≡ 0 → i + length flags ≤ length w.links →
+    total f (invs_from r i flags w).links ≡ total f w.links
 invs-none f r i [] w e h = refl
 invs-none f r i (flag ∷ flags) w e h =
-    invs-none f r (i + 1) flags (maybe (flag && not (i == r.0)) r i w) e (omega (arith, h, maybe-length (flag && not (i == r.0)) r i w)) ∙ maybe-none f (flag && not (i == r.0)) r i w e (omega arith)
+    invs-none f r (i + 1) flags (maybe (flag && not (i == r.0)) r i w) e (omega (arith, h, maybe-length (flag && not (i == r.0)) r i w))
+    ∙ maybe-none f (flag && not (i == r.0)) r i w e (omega arith)
 
-pub invs-each : (f : Forward → ℕ) (r : CacheId) (i : ℕ) (flags : List Bool) (w : Traffic) → f (inv_of r) ≡ 1 → i + length flags ≤ length w.links → total f (invs_from r i flags w).links ≡ total f w.links + others_from i r.0 flags
+pub invs-each : (f : Forward → ℕ) (r : CacheId) (i : ℕ) (flags : List Bool) (w : Traffic) → f (inv_of r) ≡ 1 → i + length flags ≤ length w.links →
+    total f (invs_from r i flags w).links ≡ total f w.links + others_from i r.0 flags
 invs-each f r i [] w e h = omega arith
 invs-each f r i (flag ∷ flags) w e h =
-    omega (arith, invs-each f r (i + 1) flags (maybe (flag && not (i == r.0)) r i w) e (omega (arith, h, maybe-length (flag && not (i == r.0)) r i w)), maybe-one f (flag && not (i == r.0)) r i w e (omega arith))
+    omega (
+      arith,
+      invs-each f r (i + 1) flags (maybe (flag && not (i == r.0)) r i w) e
+          (omega (arith, h, maybe-length (flag && not (i == r.0)) r i w)),
+      maybe-one f (flag && not (i == r.0)) r i w e (omega arith),
+    )
 
 map-kinds : (t : Bool) (r : CacheId) (l : List Forward) → map (λ f. f.kind) (if t then l ++ inv_of r ∷ [] else l) ≡ pushed t Inv (map (λ f. f.kind) l)
 map-kinds false r l = refl
 map-kinds true r [] = refl
 map-kinds true r (f ∷ l) = ap (λ k. f.kind ∷ k) (map-kinds true r l)
 
-count-invs : (t : Bool) (d : ℕ) (r : CacheId) (flags : List Bool) (w : Traffic) → (r.0 == d) ≡ t → length flags ≤ length w.links → total (names d is_inv) (invs_from r 0 flags w).links ≡ total (names d is_inv) w.links + only t (others_from 0 r.0 flags)
+count-invs : (t : Bool) (d : ℕ) (r : CacheId) (flags : List Bool) (w : Traffic) → (r.0 == d) ≡ t → length flags ≤ length w.links →
+    total (names d is_inv) (invs_from r 0 flags w).links ≡ total (names d is_inv) w.links + only t (others_from 0 r.0 flags)
 count-invs true d r flags w e h = invs-each (names d is_inv) r 0 flags w (ap (λ t. only t 1) e) (omega arith)
 count-invs false d r flags w e h = invs-none (names d is_inv) r 0 flags w (ap (λ t. only t 1) e) (omega arith) ∙ omega arith
 
 -- what the Invs of a GetM do to a view
 pub invs-seen : (line : Line) (home : Home) (r : CacheId) (flags : List Bool) (w : Traffic) (d : ℕ) → length flags ≤ length w.links
     → seen line home (invs_from r 0 flags w) d
-    ≡ record (seen line home w d) { link = pushed (shares flags d && not (d == r.0)) Inv (seen line home w d).link; invs = (seen line home w d).invs + only (r.0 == d) (others_from 0 r.0 flags) }
+    ≡ record
+    (seen line home w d) {
+      link = pushed (shares flags d && not (d == r.0)) Inv (seen line home w d).link;
+      invs = (seen line home w d).invs + only
+          (r.0 == d) (others_from 0 r.0 flags);
+    }
 invs-seen line home r flags w d h =
     let rs : (invs_from r 0 flags w).requests ≡ w.requests = invs-requests r 0 flags w in
     let xs : (invs_from r 0 flags w).responses ≡ w.responses = invs-responses r 0 flags w in

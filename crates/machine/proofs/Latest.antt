@@ -39,7 +39,8 @@ use Rattle.machine.specs.declared.decision.Decision.{Decision}
 use Rattle.machine.specs.declared.decision.Decision.TheVariants.{Refused, AtLine, AtHome}
 use Rattle.machine.specs.Tables.{Tables}
 use Rattle.machine.specs.Block.{BlockState}
-use Rattle.machine.specs.Transition.{by_line_entry, at_line, by_home_entry, at_home, is_idle, at_ask, at_request, at_forward, at_response, decision_of, plain_outcome, outcome_of, latest_after, carried_out, transition}
+use Rattle.machine.specs.Transition.{by_line_entry, at_line, by_home_entry, at_home, is_idle, at_ask, at_request, at_forward, at_response}
+use Rattle.machine.specs.Transition.{decision_of, plain_outcome, outcome_of, latest_after, carried_out, transition}
 use Rattle.machine.specs.Machine.{State, Next, next, next_at, state_after, outcomes_of, opened, IsHistory}
 use Rattle.machine.specs.Completions.{completions, completions_of, due, noted}
 use Rattle.machine.proofs.Due.{due-nothing, due-noted}
@@ -112,7 +113,8 @@ plain-left (origin.Request index) latest = refl
 plain-left (origin.Head cache) latest = refl
 plain-left (origin.Response index) latest = refl
 
-completion-left : (cache : CacheId) (from : Origin) (comes : Option LineCompletion) (latest : ℕ) → latest_after comes latest ≡ left_by (outcome_of cache from comes) latest
+completion-left : (cache : CacheId) (from : Origin) (comes : Option LineCompletion) (latest : ℕ) →
+    latest_after comes latest ≡ left_by (outcome_of cache from comes) latest
 completion-left cache from None latest = plain-left from latest
 completion-left cache from (Some (done.Load value)) latest = refl
 completion-left cache from (Some (done.Store value)) latest = refl

@@ -44,6 +44,7 @@ pub mod Quiet
 pub mod StallRules
 pub mod Ranks
 pub mod Moves
+pub mod Idling
 pub mod Invariant
 pub mod Safety
 pub mod Progress

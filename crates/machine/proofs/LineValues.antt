@@ -1,5 +1,6 @@
 -- Transitions at a line keep the latest value in its places, and answer by it.
-use Rattle.std.proofs.Common.{◌≡◌, ◌≢◌, ℕ, ◌<◌, List, [], ◌∷◌, inl, inr, refl, ap, sym, subst, ◌∙◌, arith, Option, Some, None, Bool, if◌then◌else◌, get_or, slice_get, slice_set, map, ℤ}
+use Rattle.std.proofs.Common.{◌≡◌, ◌≢◌, ℕ, ◌<◌, List, [], ◌∷◌, inl, inr, refl, ap, sym, subst, ◌∙◌, arith, Option, Some, None, Bool, if◌then◌else◌}
+use Rattle.std.proofs.Common.{get_or, slice_get, slice_set, map, ℤ}
 use Rattle.std.proofs.lemmas.Bool.{cases_eq}
 use Rattle.base.specs.declared.ids.CacheId.{CacheId}
 use Rattle.base.specs.declared.step.Ask.{Ask}
@@ -38,7 +39,9 @@ use Rattle.machine.proofs.Settling.{stays-settled}
 use Rattle.machine.proofs.Sound.{Sound, line_block, line_of-set_same, line_of-set_other, line_of-there, local-at}
 use Rattle.machine.proofs.ForwardTransitions.{rest_of, own-begins}
 use Rattle.machine.proofs.CellRules.{Asks, AskRule, InvRule, PutAckRule, FwdGetSRule, FwdGetMRule, inv_rule, put_ack_rule, fwd_gets_rule, fwd_getm_rule}
-use Rattle.machine.proofs.ValueRules.{HasValue, Waits, LoadFits, Settles, SettleRule, DeliverRule, ValueRule, PutRule, put_rule, value_link, fwd_gets_value, fwd_getm_value, QuietRule, data_zero_quiet, data_more_quiet, data_owner_quiet, inv_ack_quiet, last_ack_quiet}
+use Rattle.machine.proofs.ValueRules.{HasValue, Waits, LoadFits, Settles, SettleRule, DeliverRule, ValueRule, PutRule, put_rule, value_link}
+use Rattle.machine.proofs.ValueRules.{fwd_gets_value, fwd_getm_value, QuietRule, data_zero_quiet, data_more_quiet, data_owner_quiet, inv_ack_quiet}
+use Rattle.machine.proofs.ValueRules.{last_ack_quiet}
 use Rattle.machine.proofs.ForwardSettling.{inv_settles, put_ack_settles, fwd_gets_settles, fwd_getm_settles}
 use Rattle.machine.proofs.ResponseSettling.{inv_ack_settles, last_ack_settles, data_zero_settles, data_more_settles, data_owner_settles}
 use Rattle.machine.proofs.Values.{Carries, PutsCarry, Valued, carries-pushed, carries-removed, carries-read, puts-pushed, puts-none, fresh}
@@ -63,16 +66,20 @@ pub record WiresFit (b : BlockState) (c : ℕ) (next : CacheState) (w : Traffic)
   pub puts : (d : ℕ) → d ≢ c → (line_of b.lines d).state ≡ MiA → PutsCarry b.latest d w.requests
   pub own : next ≡ MiA → PutsCarry b.latest c w.requests
 
-waits-after : (b : BlockState) (c : ℕ) (line l : Line) (next : CacheState) (w : Traffic) (latest : ℕ) → Valued b → Some line ≡ slice_get b.lines c → l.state ≡ next → Waits next l.pending
+waits-after : (b : BlockState) (c : ℕ) (line l : Line) (next : CacheState) (w : Traffic) (latest : ℕ) → Valued b → Some line ≡ slice_get b.lines c →
+    l.state ≡ next → Waits next l.pending
     → (d : ℕ) → Waits (line_of (line_block b c l w latest).lines d).state (line_of (line_block b c l w latest).lines d).pending
-waits-after b c line l next w latest v there e waits d = elim (cases_eq d c) as (λ _. Waits (line_of (slice_set b.lines c l) d).state (line_of (slice_set b.lines c l) d).pending) [
-  | inl same ↦ subst (λ k. Waits (line_of (slice_set b.lines c l) k).state (line_of (slice_set b.lines c l) k).pending) (sym same)
-      (subst (λ (x : Line). Waits x.state x.pending) (sym (line_of-set_same b.lines c l (below_read b.lines c line there))) (subst (λ s. Waits s l.pending) (sym e) waits))
-  | inr ne ↦ subst (λ (x : Line). Waits x.state x.pending) (sym (line_of-set_other b.lines c d l ne)) (v.waits d)
-]
+waits-after b c line l next w latest v there e waits d =
+    elim (cases_eq d c) as (λ _. Waits (line_of (slice_set b.lines c l) d).state (line_of (slice_set b.lines c l) d).pending) [
+      | inl same ↦ subst (λ k. Waits (line_of (slice_set b.lines c l) k).state (line_of (slice_set b.lines c l) k).pending) (sym same)
+          (subst (λ (x : Line). Waits x.state x.pending) (sym (line_of-set_same b.lines c l (below_read b.lines c line there)))
+          (subst (λ s. Waits s l.pending) (sym e) waits))
+      | inr ne ↦ subst (λ (x : Line). Waits x.state x.pending) (sym (line_of-set_other b.lines c d l ne)) (v.waits d)
+    ]
 
 -- a transition of a line that stores nothing
-unstored : (b : BlockState) (c : ℕ) (line l : Line) (next : CacheState) (w : Traffic) → Valued b → Some line ≡ slice_get b.lines c → l.state ≡ next → Waits next l.pending → ((u : View) → HasValue next u → l.value ≡ b.latest) → WiresFit b c next w
+unstored : (b : BlockState) (c : ℕ) (line l : Line) (next : CacheState) (w : Traffic) → Valued b → Some line ≡ slice_get b.lines c → l.state ≡ next →
+    Waits next l.pending → ((u : View) → HasValue next u → l.value ≡ b.latest) → WiresFit b c next w
     → Valued (line_block b c l w b.latest)
 unstored b c line l next w v there e waits value wires =
     let b' : BlockState = line_block b c l w b.latest in
@@ -84,17 +91,22 @@ unstored b c line l next w v there e waits value wires =
           (λ ne p.
           let same : line_of b'.lines d ≡ line_of b.lines d = line_of-set_other b.lines c d l ne in
           ap (λ (x : Line). x.value) same
-          ∙ v.lines d (value_link (line_of b.lines d).state (view_of b' d) (view_of b d) (ap (λ l. map (λ f. f.kind) l) (wires.links d ne)) (subst (λ s. HasValue s (view_of b' d)) (ap (λ (x : Line). x.state) same) p)));
+          ∙ v.lines d
+          (value_link (line_of b.lines d).state (view_of b' d) (view_of b d) (ap (λ l. map (λ f. f.kind) l) (wires.links d ne))
+          (subst (λ s. HasValue s (view_of b' d)) (ap (λ (x : Line). x.state) same) p)));
       sent = wires.sent;
       memory = v.memory;
       puts = λ d. by-eq d c
-          (λ same. subst (λ k. (line_of b'.lines k).state ≡ MiA → PutsCarry b.latest k w.requests) (sym same) (λ m. wires.own (sym (ap (λ (x : Line). x.state) at_c ∙ e) ∙ m)))
+          (λ same. subst (λ k. (line_of b'.lines k).state ≡ MiA → PutsCarry b.latest k w.requests) (sym same)
+          (λ m. wires.own (sym (ap (λ (x : Line). x.state) at_c ∙ e) ∙ m)))
           (λ ne m. wires.puts d ne (sym (ap (λ (x : Line). x.state) (line_of-set_other b.lines c d l ne)) ∙ m));
       waits = waits-after b c line l next w b.latest v there e waits;
     }
 
 -- a transition of a line keeps the latest value in its places
-line-valued : (n : ℕ) (b : BlockState) (c : ℕ) (line l : Line) (comp : Option LineCompletion) (next : CacheState) (w : Traffic) → Sound n (line_block b c l w (latest_after comp b.latest)) → Valued b → Some line ≡ slice_get b.lines c → l.state ≡ next → Settles next b.latest l comp → WiresFit b c next w
+line-valued : (n : ℕ) (b : BlockState) (c : ℕ) (line l : Line) (comp : Option LineCompletion) (next : CacheState) (w : Traffic) →
+    Sound n (line_block b c l w (latest_after comp b.latest)) → Valued b → Some line ≡ slice_get b.lines c → l.state ≡ next →
+    Settles next b.latest l comp → WiresFit b c next w
     → Valued (line_block b c l w (latest_after comp b.latest))
 line-valued n b c line l None next w h v there e s wires = unstored b c line l next w v there e s.waits s.value wires
 line-valued n b c line l (Some (done.Load x)) next w h v there e s wires = unstored b c line l next w v there e s.waits s.value wires
@@ -105,51 +117,92 @@ line-valued n b c line l (Some (done.Store x)) next w h v there e s wires =
     (ap (λ (y : Line). y.value) at_c ∙ s.value (view_of b c) (subst (λ t. HasValue t (view_of b c)) (sym s.stored) zero_one))
     (waits-after b c line l next w x v there e s.waits)
 
-comp-fits : (cache : CacheId) (from : Origin) (comp : Option LineCompletion) (latest : ℕ) → LoadFits latest comp → FitsLatest (plain_outcome from) latest latest → FitsLatest (outcome_of cache from comp) latest (latest_after comp latest)
+comp-fits : (cache : CacheId) (from : Origin) (comp : Option LineCompletion) (latest : ℕ) → LoadFits latest comp →
+    FitsLatest (plain_outcome from) latest latest → FitsLatest (outcome_of cache from comp) latest (latest_after comp latest)
 comp-fits cache from None latest h o = o
 comp-fits cache from (Some (done.Load x)) latest h o = (h, refl)
 comp-fits cache from (Some (done.Store x)) latest h o = refl
 
-pub value-at : (b : BlockState) (c : ℕ) (line : Line) → Valued b → Some line ≡ slice_get b.lines c → HasValue line.state (seen line b.home b.traffic c) → line.value ≡ b.latest
-value-at b c line v there = subst (λ (l : Line). HasValue l.state (seen l b.home b.traffic c) → l.value ≡ b.latest) (line_of-there b.lines c line there) (v.lines c)
+pub value-at : (b : BlockState) (c : ℕ) (line : Line) → Valued b → Some line ≡ slice_get b.lines c →
+    HasValue line.state (seen line b.home b.traffic c) → line.value ≡ b.latest
+value-at b c line v there =
+    subst (λ (l : Line). HasValue l.state (seen l b.home b.traffic c) → l.value ≡ b.latest) (line_of-there b.lines c line there) (v.lines c)
 
 pub waits-at : (b : BlockState) (c : ℕ) (line : Line) → Valued b → Some line ≡ slice_get b.lines c → Waits line.state line.pending
 waits-at b c line v there = subst (λ (l : Line). Waits l.state l.pending) (line_of-there b.lines c line there) (v.waits c)
 
 -- what acts at a line is right
-acted-right : (n : ℕ) (b : BlockState) (cache : CacheId) (input : LineInput) (line : Line) (next : CacheState) (actions : List CacheAction) (from : Origin) → FitsLatest (plain_outcome from) b.latest b.latest
+acted-right : (n : ℕ) (b : BlockState) (cache : CacheId) (input : LineInput) (line : Line) (next : CacheState) (actions : List CacheAction) (from : Origin) →
+    FitsLatest (plain_outcome from) b.latest b.latest
     → Sound n (carried_out (by_line_entry (entry.Act next actions) cache line input from) b).block → Valued b → Some line ≡ slice_get b.lines cache.0
-    → Settles next b.latest (line_after input next line) (line_completes input next line) → WiresFit b cache.0 next (all_sent (line_messages cache (taken_in input line).value (requestor_of input) actions) (without from b.traffic))
+    → Settles next b.latest (line_after input next line) (line_completes input next line) → WiresFit b cache.0 next
+    (all_sent (line_messages cache (taken_in input line).value (requestor_of input) actions) (without from b.traffic))
     → Right b (carried_out (by_line_entry (entry.Act next actions) cache line input from) b)
 acted-right n b cache input line next actions from plain h v there s wires = record {
-  valued = line-valued n b cache.0 line (line_after input next line) (line_completes input next line) next _ h v there (stays-settled input (line_completes input next line) (moved_on input next line)).state s wires;
+  valued =
+      line-valued n b cache.0 line (line_after input next line) (line_completes input next line) next _ h v there
+      (stays-settled input (line_completes input next line) (moved_on input next line)).state s wires;
   fits = comp-fits cache from (line_completes input next line) b.latest s.fits plain;
 }
 
 -- asks: the requests that they send
-asks-wires : (b : BlockState) (cache : CacheId) (value : ℕ) (s next : CacheState) (v : View) (actions : List CacheAction) → Asks s v next actions → Valued b → (next ≡ MiA → PutsCarry b.latest cache.0 b.traffic.requests) → (next ≡ MiA → value ≡ b.latest)
+asks-wires : (b : BlockState) (cache : CacheId) (value : ℕ) (s next : CacheState) (v : View) (actions : List CacheAction) → Asks s v next actions →
+    Valued b → (next ≡ MiA → PutsCarry b.latest cache.0 b.traffic.requests) → (next ≡ MiA → value ≡ b.latest)
     → WiresFit b cache.0 next (all_sent (line_messages cache value None actions) b.traffic)
 asks-wires b cache value s next v [] asks h old new = record { links = λ d ne. refl; sent = h.sent; puts = λ d ne m. h.puts d m; own = old }
-asks-wires b cache value s next v (action.GetS ∷ []) asks h old new = record { links = λ d ne. refl; sent = h.sent; puts = λ d ne m. puts-pushed b.latest d b.traffic.requests _ (h.puts d m) tt; own = λ m. puts-pushed b.latest cache.0 b.traffic.requests _ (old m) tt }
-asks-wires b cache value s next v (action.GetM ∷ []) asks h old new = record { links = λ d ne. refl; sent = h.sent; puts = λ d ne m. puts-pushed b.latest d b.traffic.requests _ (h.puts d m) tt; own = λ m. puts-pushed b.latest cache.0 b.traffic.requests _ (old m) tt }
-asks-wires b cache value s next v (action.PutS ∷ []) asks h old new = record { links = λ d ne. refl; sent = h.sent; puts = λ d ne m. puts-pushed b.latest d b.traffic.requests _ (h.puts d m) tt; own = λ m. puts-pushed b.latest cache.0 b.traffic.requests _ (old m) tt }
-asks-wires b cache value s next v (action.PutM ∷ []) asks h old new = record { links = λ d ne. refl; sent = h.sent; puts = λ d ne m. puts-pushed b.latest d b.traffic.requests _ (h.puts d m) (λ e. absurd (ne (sym e))); own = λ m. puts-pushed b.latest cache.0 b.traffic.requests _ (old m) (λ e. new m) }
+asks-wires b cache value s next v (action.GetS ∷ []) asks h old new =
+    record {
+      links = λ d ne. refl;
+      sent = h.sent;
+      puts = λ d ne m. puts-pushed b.latest d b.traffic.requests _
+          (h.puts d m) tt;
+      own = λ m. puts-pushed b.latest cache.0 b.traffic.requests _ (old m) tt;
+    }
+asks-wires b cache value s next v (action.GetM ∷ []) asks h old new =
+    record {
+      links = λ d ne. refl;
+      sent = h.sent;
+      puts = λ d ne m. puts-pushed b.latest d b.traffic.requests _
+          (h.puts d m) tt;
+      own = λ m. puts-pushed b.latest cache.0 b.traffic.requests _ (old m) tt;
+    }
+asks-wires b cache value s next v (action.PutS ∷ []) asks h old new =
+    record {
+      links = λ d ne. refl;
+      sent = h.sent;
+      puts = λ d ne m. puts-pushed b.latest d b.traffic.requests _
+          (h.puts d m) tt;
+      own = λ m. puts-pushed b.latest cache.0 b.traffic.requests _ (old m) tt;
+    }
+asks-wires b cache value s next v (action.PutM ∷ []) asks h old new =
+    record {
+      links = λ d ne. refl;
+      sent = h.sent;
+      puts = λ d ne m. puts-pushed b.latest d b.traffic.requests _ (h.puts d m)
+          (λ e. absurd (ne (sym e)));
+      own = λ m. puts-pushed b.latest cache.0 b.traffic.requests _ (old m) (λ e. new m);
+    }
 asks-wires b cache value s next v actions asks h old new = absurd asks
 
 pub ask-right : (n : ℕ) (b : BlockState) (cache : CacheId) (ask : Ask) (line : Line) (x : CacheEntry) → Valued b → Some line ≡ slice_get b.lines cache.0
-    → AskRule line.state (seen line b.home b.traffic cache.0) x → PutRule line.state (seen line b.home b.traffic cache.0) x → SettleRule (line_input.Ask ask) line.value line.acks line.pending b.latest x
-    → Sound n (carried_out (by_line_entry x cache line (line_input.Ask ask) origin.Core) b).block → Right b (carried_out (by_line_entry x cache line (line_input.Ask ask) origin.Core) b)
+    → AskRule line.state (seen line b.home b.traffic cache.0) x → PutRule line.state (seen line b.home b.traffic cache.0) x → SettleRule
+    (line_input.Ask ask) line.value line.acks line.pending b.latest x
+    → Sound n (carried_out (by_line_entry x cache line (line_input.Ask ask) origin.Core) b).block → Right b
+    (carried_out (by_line_entry x cache line (line_input.Ask ask) origin.Core) b)
 ask-right n b cache ask line entry.Blank v there rule put s h = absurd rule
 ask-right n b cache ask line entry.Stall v there rule put s h = record { valued = v; fits = refl }
 ask-right n b cache ask line (entry.Act next actions) v there rule put s h =
     acted-right n b cache (line_input.Ask ask) line next actions origin.Core refl h v there s
-    (asks-wires b cache line.value line.state next (seen line b.home b.traffic cache.0) actions rule v (λ m. puts-none b.latest cache.0 b.traffic.requests (put m).0) (λ m. value-at b cache.0 line v there (put m).1))
+    (asks-wires b cache line.value line.state next (seen line b.home b.traffic cache.0) actions rule v
+    (λ m. puts-none b.latest cache.0 b.traffic.requests (put m).0) (λ m. value-at b cache.0 line v there (put m).1))
 
 -- forwards
 link-same : (w u : Traffic) → w.links ≡ u.links → (d : ℕ) → link w d ≡ link u d
 link-same w u e d = ap (λ ls. get_or ls d []) e
 
-forward-wires : (b : BlockState) (cache : CacheId) (next : CacheState) (w : Traffic) → Valued b → (next ≡ MiA → PutsCarry b.latest cache.0 b.traffic.requests) → w.links ≡ (head_taken cache.0 b.traffic).links → w.requests ≡ b.traffic.requests → Carries b.latest w.responses → WiresFit b cache.0 next w
+forward-wires : (b : BlockState) (cache : CacheId) (next : CacheState) (w : Traffic) → Valued b →
+    (next ≡ MiA → PutsCarry b.latest cache.0 b.traffic.requests) → w.links ≡ (head_taken cache.0 b.traffic).links → w.requests ≡ b.traffic.requests →
+    Carries b.latest w.responses → WiresFit b cache.0 next w
 forward-wires b cache next w v old links requests sent = record {
   links = λ d ne. link-same w (head_taken cache.0 b.traffic) links d ∙ link-taken_other b.traffic cache.0 d ne;
   sent = sent;
@@ -158,18 +211,26 @@ forward-wires b cache next w v old links requests sent = record {
 }
 
 inv-right : (n : ℕ) (b : BlockState) (cache r : CacheId) (line : Line) (x : CacheEntry) → Valued b → Some line ≡ slice_get b.lines cache.0
-    → InvRule line.state (seen line b.home b.traffic cache.0) (rest_of b cache.0) x → PutRule line.state (seen line b.home b.traffic cache.0) x → DeliverRule line.value line.acks line.pending b.latest x
-    → Sound n (carried_out (by_line_entry x cache line (line_input.Forward (record { kind = Inv; requestor = r })) (origin.Head cache)) b).block → Right b (carried_out (by_line_entry x cache line (line_input.Forward (record { kind = Inv; requestor = r })) (origin.Head cache)) b)
+    → InvRule line.state (seen line b.home b.traffic cache.0) (rest_of b cache.0) x → PutRule line.state
+    (seen line b.home b.traffic cache.0) x → DeliverRule line.value line.acks line.pending b.latest x
+    → Sound n
+    (carried_out (by_line_entry x cache line (line_input.Forward (record { kind = Inv; requestor = r })) (origin.Head cache)) b).block → Right b
+    (carried_out (by_line_entry x cache line (line_input.Forward (record { kind = Inv; requestor = r })) (origin.Head cache)) b)
 inv-right n b cache r line entry.Blank v there rule put s h = absurd rule
 inv-right n b cache r line entry.Stall v there rule put s h = record { valued = v; fits = refl }
 inv-right n b cache r line (entry.Act next actions) v there rule put s h =
     acted-right n b cache (line_input.Forward (record { kind = Inv; requestor = r })) line next actions (origin.Head cache) refl h v there s
-    (subst (λ (a : List CacheAction). WiresFit b cache.0 next (all_sent (line_messages cache line.value (Some r) a) (head_taken cache.0 b.traffic))) (sym rule.0)
-    (forward-wires b cache next _ v (λ m. puts-none b.latest cache.0 b.traffic.requests (put m).0) refl refl (carries-pushed b.latest b.traffic.responses (response.InvAck cache r) v.sent tt)))
+    (subst (λ (a : List CacheAction). WiresFit b cache.0 next (all_sent (line_messages cache line.value (Some r) a) (head_taken cache.0 b.traffic)))
+    (sym rule.0)
+    (forward-wires b cache next _ v (λ m. puts-none b.latest cache.0 b.traffic.requests (put m).0) refl refl
+    (carries-pushed b.latest b.traffic.responses (response.InvAck cache r) v.sent tt)))
 
 put-ack-right : (n : ℕ) (b : BlockState) (cache r : CacheId) (line : Line) (x : CacheEntry) → Valued b → Some line ≡ slice_get b.lines cache.0
-    → PutAckRule line.state (seen line b.home b.traffic cache.0) (rest_of b cache.0) x → PutRule line.state (seen line b.home b.traffic cache.0) x → DeliverRule line.value line.acks line.pending b.latest x
-    → Sound n (carried_out (by_line_entry x cache line (line_input.Forward (record { kind = PutAck; requestor = r })) (origin.Head cache)) b).block → Right b (carried_out (by_line_entry x cache line (line_input.Forward (record { kind = PutAck; requestor = r })) (origin.Head cache)) b)
+    → PutAckRule line.state (seen line b.home b.traffic cache.0) (rest_of b cache.0) x → PutRule line.state
+    (seen line b.home b.traffic cache.0) x → DeliverRule line.value line.acks line.pending b.latest x
+    → Sound n
+    (carried_out (by_line_entry x cache line (line_input.Forward (record { kind = PutAck; requestor = r })) (origin.Head cache)) b).block → Right b
+    (carried_out (by_line_entry x cache line (line_input.Forward (record { kind = PutAck; requestor = r })) (origin.Head cache)) b)
 put-ack-right n b cache r line entry.Blank v there rule put s h = absurd rule
 put-ack-right n b cache r line entry.Stall v there rule put s h = record { valued = v; fits = refl }
 put-ack-right n b cache r line (entry.Act next actions) v there rule put s h =
@@ -178,105 +239,170 @@ put-ack-right n b cache r line (entry.Act next actions) v there rule put s h =
     (forward-wires b cache next _ v (λ m. puts-none b.latest cache.0 b.traffic.requests (put m).0) refl refl v.sent))
 
 gets-right : (n : ℕ) (b : BlockState) (cache r : CacheId) (line : Line) (x : CacheEntry) → Valued b → Some line ≡ slice_get b.lines cache.0
-    → FwdGetSRule line.state (seen line b.home b.traffic cache.0) (rest_of b cache.0) x → PutRule line.state (seen line b.home b.traffic cache.0) x → DeliverRule line.value line.acks line.pending b.latest x → ValueRule line.state (seen line b.home b.traffic cache.0) x
-    → Sound n (carried_out (by_line_entry x cache line (line_input.Forward (record { kind = FwdGetS; requestor = r })) (origin.Head cache)) b).block → Right b (carried_out (by_line_entry x cache line (line_input.Forward (record { kind = FwdGetS; requestor = r })) (origin.Head cache)) b)
+    → FwdGetSRule line.state (seen line b.home b.traffic cache.0) (rest_of b cache.0) x → PutRule line.state
+    (seen line b.home b.traffic cache.0) x → DeliverRule line.value line.acks line.pending b.latest x → ValueRule line.state
+    (seen line b.home b.traffic cache.0) x
+    → Sound n
+    (carried_out (by_line_entry x cache line (line_input.Forward (record { kind = FwdGetS; requestor = r })) (origin.Head cache)) b).block → Right b
+    (carried_out (by_line_entry x cache line (line_input.Forward (record { kind = FwdGetS; requestor = r })) (origin.Head cache)) b)
 gets-right n b cache r line entry.Blank v there rule put s has h = absurd rule
 gets-right n b cache r line entry.Stall v there rule put s has h = record { valued = v; fits = refl }
 gets-right n b cache r line (entry.Act next actions) v there rule put s has h =
     let value : line.value ≡ b.latest = value-at b cache.0 line v there has in
     acted-right n b cache (line_input.Forward (record { kind = FwdGetS; requestor = r })) line next actions (origin.Head cache) refl h v there s
-    (subst (λ (a : List CacheAction). WiresFit b cache.0 next (all_sent (line_messages cache line.value (Some r) a) (head_taken cache.0 b.traffic))) (sym rule.0)
+    (subst (λ (a : List CacheAction). WiresFit b cache.0 next (all_sent (line_messages cache line.value (Some r) a) (head_taken cache.0 b.traffic)))
+    (sym rule.0)
     (forward-wires b cache next _ v (λ m. puts-none b.latest cache.0 b.traffic.requests (put m).0) refl refl
-    (carries-pushed b.latest _ (response.Data (Cache cache) Dir line.value 0) (carries-pushed b.latest b.traffic.responses (response.Data (Cache cache) (Cache r) line.value 0) v.sent value) value)))
+    (carries-pushed b.latest _ (response.Data (Cache cache) Dir line.value 0)
+    (carries-pushed b.latest b.traffic.responses (response.Data (Cache cache) (Cache r) line.value 0) v.sent value) value)))
 
 getm-right : (n : ℕ) (b : BlockState) (cache r : CacheId) (line : Line) (x : CacheEntry) → Valued b → Some line ≡ slice_get b.lines cache.0
-    → FwdGetMRule line.state (seen line b.home b.traffic cache.0) (rest_of b cache.0) x → PutRule line.state (seen line b.home b.traffic cache.0) x → DeliverRule line.value line.acks line.pending b.latest x → ValueRule line.state (seen line b.home b.traffic cache.0) x
-    → Sound n (carried_out (by_line_entry x cache line (line_input.Forward (record { kind = FwdGetM; requestor = r })) (origin.Head cache)) b).block → Right b (carried_out (by_line_entry x cache line (line_input.Forward (record { kind = FwdGetM; requestor = r })) (origin.Head cache)) b)
+    → FwdGetMRule line.state (seen line b.home b.traffic cache.0) (rest_of b cache.0) x → PutRule line.state
+    (seen line b.home b.traffic cache.0) x → DeliverRule line.value line.acks line.pending b.latest x → ValueRule line.state
+    (seen line b.home b.traffic cache.0) x
+    → Sound n
+    (carried_out (by_line_entry x cache line (line_input.Forward (record { kind = FwdGetM; requestor = r })) (origin.Head cache)) b).block → Right b
+    (carried_out (by_line_entry x cache line (line_input.Forward (record { kind = FwdGetM; requestor = r })) (origin.Head cache)) b)
 getm-right n b cache r line entry.Blank v there rule put s has h = absurd rule
 getm-right n b cache r line entry.Stall v there rule put s has h = record { valued = v; fits = refl }
 getm-right n b cache r line (entry.Act next actions) v there rule put s has h =
     let value : line.value ≡ b.latest = value-at b cache.0 line v there has in
     acted-right n b cache (line_input.Forward (record { kind = FwdGetM; requestor = r })) line next actions (origin.Head cache) refl h v there s
-    (subst (λ (a : List CacheAction). WiresFit b cache.0 next (all_sent (line_messages cache line.value (Some r) a) (head_taken cache.0 b.traffic))) (sym rule.0)
+    (subst (λ (a : List CacheAction). WiresFit b cache.0 next (all_sent (line_messages cache line.value (Some r) a) (head_taken cache.0 b.traffic)))
+    (sym rule.0)
     (forward-wires b cache next _ v (λ m. puts-none b.latest cache.0 b.traffic.requests (put m).0) refl refl
     (carries-pushed b.latest b.traffic.responses (response.Data (Cache cache) (Cache r) line.value 0) v.sent value)))
 
-pub forward-right : (n : ℕ) (b : BlockState) (cache : CacheId) (kind : ForwardKind) (r : CacheId) (line : Line) → Sound n b → Valued b → Some line ≡ slice_get b.lines cache.0 → Some (record { kind = kind; requestor = r }) ≡ slice_get (link b.traffic cache.0) 0
-    → Sound n (carried_out (by_line_entry (baseline_entry line.state (forward_event kind)) cache line (line_input.Forward (record { kind = kind; requestor = r })) (origin.Head cache)) b).block
-    → Right b (carried_out (by_line_entry (baseline_entry line.state (forward_event kind)) cache line (line_input.Forward (record { kind = kind; requestor = r })) (origin.Head cache)) b)
+pub forward-right : (n : ℕ) (b : BlockState) (cache : CacheId) (kind : ForwardKind) (r : CacheId) (line : Line) → Sound n b → Valued b →
+    Some line ≡ slice_get b.lines cache.0 → Some (record { kind = kind; requestor = r }) ≡ slice_get (link b.traffic cache.0) 0
+    → Sound n
+    (carried_out
+    (by_line_entry (baseline_entry line.state (forward_event kind)) cache line (line_input.Forward (record { kind = kind; requestor = r }))
+    (origin.Head cache)) b).block
+    → Right b
+    (carried_out
+    (by_line_entry (baseline_entry line.state (forward_event kind)) cache line (line_input.Forward (record { kind = kind; requestor = r }))
+    (origin.Head cache)) b)
 forward-right n b cache Inv r line h v there at h' =
     let view : View = seen line b.home b.traffic cache.0 in
     let local : Local line.state view = local-at n b cache.0 line h there in
     let begins : view.link ≡ Inv ∷ rest_of b cache.0 = own-begins b cache.0 (record { kind = Inv; requestor = r }) line at in
-    inv-right n b cache r line (baseline_entry line.state event.Inv) v there (inv_rule line.state view (rest_of b cache.0) begins local) (put_rule line.state event.Inv view local) (inv_settles line.state view line.value line.acks line.pending b.latest (value-at b cache.0 line v there) (waits-at b cache.0 line v there)) h'
+    inv-right n b cache r line (baseline_entry line.state event.Inv) v there (inv_rule line.state view (rest_of b cache.0) begins local)
+    (put_rule line.state event.Inv view local)
+    (inv_settles line.state view line.value line.acks line.pending b.latest (value-at b cache.0 line v there) (waits-at b cache.0 line v there)) h'
 forward-right n b cache PutAck r line h v there at h' =
     let view : View = seen line b.home b.traffic cache.0 in
     let local : Local line.state view = local-at n b cache.0 line h there in
     let begins : view.link ≡ PutAck ∷ rest_of b cache.0 = own-begins b cache.0 (record { kind = PutAck; requestor = r }) line at in
-    put-ack-right n b cache r line (baseline_entry line.state event.PutAck) v there (put_ack_rule line.state view (rest_of b cache.0) begins local) (put_rule line.state event.PutAck view local) (put_ack_settles line.state view line.value line.acks line.pending b.latest (value-at b cache.0 line v there) (waits-at b cache.0 line v there)) h'
+    put-ack-right n b cache r line (baseline_entry line.state event.PutAck) v there (put_ack_rule line.state view (rest_of b cache.0) begins local)
+    (put_rule line.state event.PutAck view local)
+    (put_ack_settles line.state view line.value line.acks line.pending b.latest (value-at b cache.0 line v there) (waits-at b cache.0 line v there)) h'
 forward-right n b cache FwdGetS r line h v there at h' =
     let view : View = seen line b.home b.traffic cache.0 in
     let local : Local line.state view = local-at n b cache.0 line h there in
     let begins : view.link ≡ FwdGetS ∷ rest_of b cache.0 = own-begins b cache.0 (record { kind = FwdGetS; requestor = r }) line at in
-    gets-right n b cache r line (baseline_entry line.state event.FwdGetS) v there (fwd_gets_rule line.state view (rest_of b cache.0) begins local) (put_rule line.state event.FwdGetS view local) (fwd_gets_settles line.state view line.value line.acks line.pending b.latest (value-at b cache.0 line v there) (waits-at b cache.0 line v there)) (fwd_gets_value line.state view (rest_of b cache.0) begins local) h'
+    gets-right n b cache r line (baseline_entry line.state event.FwdGetS) v there (fwd_gets_rule line.state view (rest_of b cache.0) begins local)
+    (put_rule line.state event.FwdGetS view local)
+    (fwd_gets_settles line.state view line.value line.acks line.pending b.latest (value-at b cache.0 line v there) (waits-at b cache.0 line v there))
+    (fwd_gets_value line.state view (rest_of b cache.0) begins local) h'
 forward-right n b cache FwdGetM r line h v there at h' =
     let view : View = seen line b.home b.traffic cache.0 in
     let local : Local line.state view = local-at n b cache.0 line h there in
     let begins : view.link ≡ FwdGetM ∷ rest_of b cache.0 = own-begins b cache.0 (record { kind = FwdGetM; requestor = r }) line at in
-    getm-right n b cache r line (baseline_entry line.state event.FwdGetM) v there (fwd_getm_rule line.state view (rest_of b cache.0) begins local) (put_rule line.state event.FwdGetM view local) (fwd_getm_settles line.state view line.value line.acks line.pending b.latest (value-at b cache.0 line v there) (waits-at b cache.0 line v there)) (fwd_getm_value line.state view (rest_of b cache.0) begins local) h'
+    getm-right n b cache r line (baseline_entry line.state event.FwdGetM) v there (fwd_getm_rule line.state view (rest_of b cache.0) begins local)
+    (put_rule line.state event.FwdGetM view local)
+    (fwd_getm_settles line.state view line.value line.acks line.pending b.latest (value-at b cache.0 line v there) (waits-at b cache.0 line v there))
+    (fwd_getm_value line.state view (rest_of b cache.0) begins local) h'
 
 -- responses
-response-wires : (b : BlockState) (cache : CacheId) (next : CacheState) (i : ℕ) → Valued b → (next ≡ MiA → PutsCarry b.latest cache.0 b.traffic.requests) → WiresFit b cache.0 next (response_taken i b.traffic)
-response-wires b cache next i v old = record { links = λ d ne. refl; sent = carries-removed b.latest b.traffic.responses i v.sent; puts = λ d ne m. v.puts d m; own = old }
+response-wires : (b : BlockState) (cache : CacheId) (next : CacheState) (i : ℕ) → Valued b →
+    (next ≡ MiA → PutsCarry b.latest cache.0 b.traffic.requests) → WiresFit b cache.0 next (response_taken i b.traffic)
+response-wires b cache next i v old =
+    record { links = λ d ne. refl; sent = carries-removed b.latest b.traffic.responses i v.sent; puts = λ d ne m. v.puts d m; own = old }
 
-response-right : (n : ℕ) (b : BlockState) (cache : CacheId) (i : ℕ) (r : Response) (line : Line) (x : CacheEntry) → Valued b → Some line ≡ slice_get b.lines cache.0
-    → QuietRule x → PutRule line.state (seen line b.home b.traffic cache.0) x → DeliverRule (taken_in (line_input.Response r) line).value (taken_in (line_input.Response r) line).acks (taken_in (line_input.Response r) line).pending b.latest x
-    → Sound n (carried_out (by_line_entry x cache line (line_input.Response r) (origin.Response i)) b).block → Right b (carried_out (by_line_entry x cache line (line_input.Response r) (origin.Response i)) b)
+response-right : (n : ℕ) (b : BlockState) (cache : CacheId) (i : ℕ) (r : Response) (line : Line) (x : CacheEntry) → Valued b →
+    Some line ≡ slice_get b.lines cache.0
+    → QuietRule x → PutRule line.state (seen line b.home b.traffic cache.0) x → DeliverRule (taken_in (line_input.Response r) line).value
+    (taken_in (line_input.Response r) line).acks (taken_in (line_input.Response r) line).pending b.latest x
+    → Sound n (carried_out (by_line_entry x cache line (line_input.Response r) (origin.Response i)) b).block → Right b
+    (carried_out (by_line_entry x cache line (line_input.Response r) (origin.Response i)) b)
 response-right n b cache i r line entry.Blank v there quiet put s h = record { valued = v; fits = refl }
 response-right n b cache i r line entry.Stall v there quiet put s h = record { valued = v; fits = refl }
 response-right n b cache i r line (entry.Act next actions) v there quiet put s h =
     acted-right n b cache (line_input.Response r) line next actions (origin.Response i) refl h v there s
-    (subst (λ (a : List CacheAction). WiresFit b cache.0 next (all_sent (line_messages cache (taken_in (line_input.Response r) line).value None a) (response_taken i b.traffic))) (sym quiet)
+    (subst
+    (λ (a : List CacheAction). WiresFit b cache.0 next
+    (all_sent (line_messages cache (taken_in (line_input.Response r) line).value None a) (response_taken i b.traffic)))
+    (sym quiet)
     (response-wires b cache next i v (λ m. puts-none b.latest cache.0 b.traffic.requests (put m).0)))
 
 -- Data from the home
-pub dir-data-right : (n : ℕ) (b : BlockState) (cache : CacheId) (i : ℕ) (value acks : ℕ) (line : Line) → Sound n b → Valued b → Some line ≡ slice_get b.lines cache.0 → Some (response.Data Dir (Cache cache) value acks) ≡ slice_get b.traffic.responses i
-    → Sound n (carried_out (by_line_entry (baseline_entry line.state (event_at_line line.acks (line_input.Response (response.Data Dir (Cache cache) value acks)))) cache line (line_input.Response (response.Data Dir (Cache cache) value acks)) (origin.Response i)) b).block
-    → Right b (carried_out (by_line_entry (baseline_entry line.state (event_at_line line.acks (line_input.Response (response.Data Dir (Cache cache) value acks)))) cache line (line_input.Response (response.Data Dir (Cache cache) value acks)) (origin.Response i)) b)
+pub dir-data-right : (n : ℕ) (b : BlockState) (cache : CacheId) (i : ℕ) (value acks : ℕ) (line : Line) → Sound n b → Valued b →
+    Some line ≡ slice_get b.lines cache.0 → Some (response.Data Dir (Cache cache) value acks) ≡ slice_get b.traffic.responses i
+    → Sound n
+    (carried_out
+    (by_line_entry
+    (baseline_entry line.state (event_at_line line.acks (line_input.Response (response.Data Dir (Cache cache) value acks)))) cache line
+    (line_input.Response (response.Data Dir (Cache cache) value acks)) (origin.Response i)) b).block
+    → Right b
+    (carried_out
+    (by_line_entry
+    (baseline_entry line.state (event_at_line line.acks (line_input.Response (response.Data Dir (Cache cache) value acks)))) cache line
+    (line_input.Response (response.Data Dir (Cache cache) value acks)) (origin.Response i)) b)
 dir-data-right n b cache i value acks line h v there at h' =
     let e : CacheEvent = event_at_line line.acks (line_input.Response (response.Data Dir (Cache cache) value acks)) in
     let latest : value ≡ b.latest = carries-read b.latest b.traffic.responses i (response.Data Dir (Cache cache) value acks) v.sent at in
     let waits : Waits line.state line.pending = waits-at b cache.0 line v there in
     let zero_test : Bool = is_count (more_acks line.acks acks) 0 in
     response-right n b cache i (response.Data Dir (Cache cache) value acks) line (baseline_entry line.state e) v there
-    (by-test (λ t. QuietRule (baseline_entry line.state (if t then event.DataDirZero else event.DataDirMore))) zero_test (λ t. data_zero_quiet line.state) (λ t. data_more_quiet line.state))
+    (by-test (λ t. QuietRule (baseline_entry line.state (if t then event.DataDirZero else event.DataDirMore))) zero_test
+    (λ t. data_zero_quiet line.state) (λ t. data_more_quiet line.state))
     (put_rule line.state e (seen line b.home b.traffic cache.0) (local-at n b cache.0 line h there))
-    (by-test (λ t. DeliverRule value (more_acks line.acks acks) line.pending b.latest (baseline_entry line.state (if t then event.DataDirZero else event.DataDirMore))) zero_test
-    (λ t. data_zero_settles line.state value (more_acks line.acks acks) line.pending b.latest latest waits) (λ t. data_more_settles line.state value (more_acks line.acks acks) line.pending b.latest latest waits))
+    (by-test
+    (λ t. DeliverRule value (more_acks line.acks acks) line.pending b.latest
+    (baseline_entry line.state (if t then event.DataDirZero else event.DataDirMore))) zero_test
+    (λ t. data_zero_settles line.state value (more_acks line.acks acks) line.pending b.latest latest waits)
+    (λ t. data_more_settles line.state value (more_acks line.acks acks) line.pending b.latest latest waits))
     h'
 
 -- Data from an owner
-pub owner-data-right : (n : ℕ) (b : BlockState) (by cache : CacheId) (i : ℕ) (value acks : ℕ) (line : Line) → Sound n b → Valued b → Some line ≡ slice_get b.lines cache.0 → Some (response.Data (Cache by) (Cache cache) value acks) ≡ slice_get b.traffic.responses i
-    → Sound n (carried_out (by_line_entry (baseline_entry line.state event.DataOwner) cache line (line_input.Response (response.Data (Cache by) (Cache cache) value acks)) (origin.Response i)) b).block
-    → Right b (carried_out (by_line_entry (baseline_entry line.state event.DataOwner) cache line (line_input.Response (response.Data (Cache by) (Cache cache) value acks)) (origin.Response i)) b)
+pub owner-data-right : (n : ℕ) (b : BlockState) (by cache : CacheId) (i : ℕ) (value acks : ℕ) (line : Line) → Sound n b → Valued b →
+    Some line ≡ slice_get b.lines cache.0 → Some (response.Data (Cache by) (Cache cache) value acks) ≡ slice_get b.traffic.responses i
+    → Sound n
+    (carried_out
+    (by_line_entry (baseline_entry line.state event.DataOwner) cache line
+    (line_input.Response (response.Data (Cache by) (Cache cache) value acks)) (origin.Response i)) b).block
+    → Right b
+    (carried_out
+    (by_line_entry (baseline_entry line.state event.DataOwner) cache line
+    (line_input.Response (response.Data (Cache by) (Cache cache) value acks)) (origin.Response i)) b)
 owner-data-right n b by cache i value acks line h v there at h' =
     response-right n b cache i (response.Data (Cache by) (Cache cache) value acks) line (baseline_entry line.state event.DataOwner) v there
     (data_owner_quiet line.state) (put_rule line.state event.DataOwner (seen line b.home b.traffic cache.0) (local-at n b cache.0 line h there))
-    (data_owner_settles line.state value line.acks line.pending b.latest (carries-read b.latest b.traffic.responses i (response.Data (Cache by) (Cache cache) value acks) v.sent at) (waits-at b cache.0 line v there))
+    (data_owner_settles line.state value line.acks line.pending b.latest
+    (carries-read b.latest b.traffic.responses i (response.Data (Cache by) (Cache cache) value acks) v.sent at) (waits-at b cache.0 line v there))
     h'
 
 -- an Inv-Ack
 pub inv-ack-right : (n : ℕ) (b : BlockState) (by cache : CacheId) (i : ℕ) (line : Line) → Sound n b → Valued b → Some line ≡ slice_get b.lines cache.0
-    → Sound n (carried_out (by_line_entry (baseline_entry line.state (event_at_line line.acks (line_input.Response (response.InvAck by cache)))) cache line (line_input.Response (response.InvAck by cache)) (origin.Response i)) b).block
-    → Right b (carried_out (by_line_entry (baseline_entry line.state (event_at_line line.acks (line_input.Response (response.InvAck by cache)))) cache line (line_input.Response (response.InvAck by cache)) (origin.Response i)) b)
+    → Sound n
+    (carried_out
+    (by_line_entry (baseline_entry line.state (event_at_line line.acks (line_input.Response (response.InvAck by cache)))) cache line
+    (line_input.Response (response.InvAck by cache)) (origin.Response i)) b).block
+    → Right b
+    (carried_out
+    (by_line_entry (baseline_entry line.state (event_at_line line.acks (line_input.Response (response.InvAck by cache)))) cache line
+    (line_input.Response (response.InvAck by cache)) (origin.Response i)) b)
 inv-ack-right n b by cache i line h v there h' =
     let e : CacheEvent = event_at_line line.acks (line_input.Response (response.InvAck by cache)) in
     let view : View = seen line b.home b.traffic cache.0 in
     let acks : ℤ = (taken_in (line_input.Response (response.InvAck by cache)) line).acks in
     response-right n b cache i (response.InvAck by cache) line (baseline_entry line.state e) v there
-    (by-test (λ t. QuietRule (baseline_entry line.state (if t then event.LastInvAck else event.InvAck))) (is_count line.acks 1) (λ t. last_ack_quiet line.state) (λ t. inv_ack_quiet line.state))
+    (by-test (λ t. QuietRule (baseline_entry line.state (if t then event.LastInvAck else event.InvAck))) (is_count line.acks 1)
+    (λ t. last_ack_quiet line.state) (λ t. inv_ack_quiet line.state))
     (put_rule line.state e view (local-at n b cache.0 line h there))
-    (by-test (λ t. DeliverRule line.value acks line.pending b.latest (baseline_entry line.state (if t then event.LastInvAck else event.InvAck))) (is_count line.acks 1)
+    (by-test (λ t. DeliverRule line.value acks line.pending b.latest (baseline_entry line.state (if t then event.LastInvAck else event.InvAck)))
+    (is_count line.acks 1)
     (λ t. last_ack_settles line.state view line.value acks line.pending b.latest (value-at b cache.0 line v there) (waits-at b cache.0 line v there))
     (λ t. inv_ack_settles line.state view line.value acks line.pending b.latest (value-at b cache.0 line v there) (waits-at b cache.0 line v there)))
     h'

@@ -1,5 +1,6 @@
 -- Owners that wait for one another are in a row: each step keeps them so.
-use Rattle.std.proofs.Common.{◌≡◌, ◌≢◌, ℕ, ◌<◌, ◌≤◌, ◌+◌, List, [], ◌∷◌, ◌++◌, inl, inr, length, remove, refl, ap, sym, subst, ◌∙◌, arith, Option, Some, None, Bool, true, false, ◌==◌, ◌&&◌, not, if◌then◌else◌, get_or, slice_get, sum_by, eq-eqb, map}
+use Rattle.std.proofs.Common.{◌≡◌, ◌≢◌, ℕ, ◌<◌, ◌≤◌, ◌+◌, List, [], ◌∷◌, ◌++◌, inl, inr, length, remove, refl, ap, sym, subst, ◌∙◌, arith, Option}
+use Rattle.std.proofs.Common.{Some, None, Bool, true, false, ◌==◌, ◌&&◌, not, if◌then◌else◌, get_or, slice_get, sum_by, eq-eqb, map}
 use Rattle.std.proofs.lemmas.Bool.{ne_eqb, cases_eq}
 use Rattle.std.proofs.lemmas.List.Sums.{sum_by_push, sum_by-cons}
 use Rattle.base.specs.declared.ids.CacheId.{CacheId}
@@ -41,7 +42,8 @@ use Rattle.control.specs.Events.{event_at_line, event_at_home, owns}
 use Rattle.machine.proofs.Truths.{Never}
 use Rattle.machine.proofs.Invitations.{invs_from, invs-link, invited}
 use Rattle.machine.specs.Block.{BlockState}
-use Rattle.machine.specs.Transition.{Transition, carried_out, by_line_entry, by_home_entry, at_line, at_ask, at_request, at_forward, at_response, is_idle, transition, without}
+use Rattle.machine.specs.Transition.{Transition, carried_out, by_line_entry, by_home_entry, at_line, at_ask, at_request, at_forward, at_response}
+use Rattle.machine.specs.Transition.{is_idle, transition, without}
 use Rattle.machine.specs.declared.decision.Origin.{Origin}
 use Rattle.machine.specs.declared.decision.Origin.TheVariants as origin
 use Rattle.machine.specs.declared.decision.Decision.TheVariants.{Refused, AtHome}
@@ -85,19 +87,28 @@ head-fewer f (x ∷ l) = omega (arith, sum_by-cons f x l)
 
 taken-fewer : (w : Traffic) (c : ℕ) (m : Forward) → Some m ≡ slice_get (link w c) 0 → Fewer w (head_taken c w)
 taken-fewer w c m at a d = elim (cases_eq a c) as (λ _. owed_to (head_taken c w) a d ≤ owed_to w a d) [
-  | inl e ↦ subst (λ k. owed_to (head_taken c w) k d ≤ owed_to w k d) (sym e) (omega (arith, ap (λ l. sum_by (names d is_fwd_getm) l) (link-taken w c (link-there c m w at)), head-fewer (names d is_fwd_getm) (link w c)))
+  | inl e ↦ subst (λ k. owed_to (head_taken c w) k d ≤ owed_to w k d) (sym e)
+      (omega (arith, ap (λ l. sum_by (names d is_fwd_getm) l) (link-taken w c (link-there c m w at)), head-fewer (names d is_fwd_getm) (link w c)))
   | inr ne ↦ omega (arith, ap (λ l. sum_by (names d is_fwd_getm) l) (link-taken_other w c a ne))
 ]
 
 sent-fewer : (w : Traffic) (k : ℕ) (m : Forward) → k < length w.links → is_fwd_getm m.kind ≡ 0 → Fewer w (forward_sent k m w)
 sent-fewer w k m h z a d = elim (cases_eq a k) as (λ _. owed_to (forward_sent k m w) a d ≤ owed_to w a d) [
   | inl e ↦ subst (λ x. owed_to (forward_sent k m w) x d ≤ owed_to w x d) (sym e)
-      (omega (arith, ap (λ l. sum_by (names d is_fwd_getm) l) (link-sent w k m h), sum_by_push (names d is_fwd_getm) (link w k) m, ap (λ n. only (m.requestor.0 == d) n) z, only-nothing (m.requestor.0 == d)))
+      (omega (
+        arith,
+        ap (λ l. sum_by (names d is_fwd_getm) l) (link-sent w k m h),
+        sum_by_push (names d is_fwd_getm) (link w k) m,
+        ap
+            (λ n. only (m.requestor.0 == d) n) z,
+        only-nothing (m.requestor.0 == d),
+      ))
   | inr ne ↦ omega (arith, ap (λ l. sum_by (names d is_fwd_getm) l) (link-sent_other w k a m ne))
 ]
 
 -- a line sends nothing on links
-message-links : (cache : CacheId) (value : ℕ) (to : Option CacheId) (a : CacheAction) (w : Traffic) → (all_sent (line_message cache value to a) w).links ≡ w.links
+message-links : (cache : CacheId) (value : ℕ) (to : Option CacheId) (a : CacheAction) (w : Traffic) →
+    (all_sent (line_message cache value to a) w).links ≡ w.links
 message-links cache value to cache_action.GetS w = refl
 message-links cache value to cache_action.GetM w = refl
 message-links cache value to cache_action.PutS w = refl
@@ -108,21 +119,32 @@ message-links cache value None cache_action.DataReq w = refl
 message-links cache value (Some c) cache_action.DataReq w = refl
 message-links cache value to cache_action.DataDir w = refl
 
-messages-links : (cache : CacheId) (value : ℕ) (to : Option CacheId) (actions : List CacheAction) (w : Traffic) → (all_sent (line_messages cache value to actions) w).links ≡ w.links
+messages-links : (cache : CacheId) (value : ℕ) (to : Option CacheId) (actions : List CacheAction) (w : Traffic) →
+    (all_sent (line_messages cache value to actions) w).links ≡ w.links
 messages-links cache value to [] w = refl
 messages-links cache value to (a ∷ actions) w =
     ap (λ (u : Traffic). u.links) (all_sent-append (line_message cache value to a) (line_messages cache value to actions) w)
     ∙ messages-links cache value to actions (all_sent (line_message cache value to a) w) ∙ message-links cache value to a w
 
-line-ranked : (b : BlockState) (cache : CacheId) (line : Line) (input : LineInput) (from : Origin) (x : CacheEntry) → Ranked b → Fewer b.traffic (without from b.traffic) → Ranked (carried_out (by_line_entry x cache line input from) b).block
+line-ranked : (b : BlockState) (cache : CacheId) (line : Line) (input : LineInput) (from : Origin) (x : CacheEntry) → Ranked b →
+    Fewer b.traffic (without from b.traffic) → Ranked (carried_out (by_line_entry x cache line input from) b).block
 line-ranked b cache line input from entry.Blank h f = h
 line-ranked b cache line input from entry.Stall h f = h
 line-ranked b cache line input from (entry.Act next actions) h f =
-    ranked-fewer b _ h (λ a d. omega (arith, f a d, same-links (without from b.traffic) (all_sent (line_messages cache (taken_in input line).value (requestor_of input) actions) (without from b.traffic)) (messages-links cache (taken_in input line).value (requestor_of input) actions (without from b.traffic)) a d))
+    ranked-fewer b _ h
+    (λ a d. omega (
+      arith,
+      f a d,
+      same-links (without from b.traffic)
+          (all_sent (line_messages cache (taken_in input line).value (requestor_of input) actions) (without from b.traffic))
+          (messages-links cache (taken_in input line).value (requestor_of input) actions (without from b.traffic)) a d,
+    ))
 
-at-line-ranked : (b : BlockState) (cache : CacheId) (input : LineInput) (from : Origin) (found : Option Line) → Ranked b → Fewer b.traffic (without from b.traffic) → Ranked (carried_out (at_line cache_table.baseline_cells cache input from found) b).block
+at-line-ranked : (b : BlockState) (cache : CacheId) (input : LineInput) (from : Origin) (found : Option Line) → Ranked b →
+    Fewer b.traffic (without from b.traffic) → Ranked (carried_out (at_line cache_table.baseline_cells cache input from found) b).block
 at-line-ranked b cache input from None h f = h
-at-line-ranked b cache input from (Some line) h f = line-ranked b cache line input from (cache_table_cells.cell cache_table.baseline_cells line.state (event_at_line line.acks input)) h f
+at-line-ranked b cache input from (Some line) h f =
+    line-ranked b cache line input from (cache_table_cells.cell cache_table.baseline_cells line.state (event_at_line line.acks input)) h f
 
 if-ranked : (t : Bool) (x y : Transition) → Ranked x.block → Ranked y.block → Ranked (if t then x else y).block
 if-ranked true x y p q = p
@@ -136,14 +158,17 @@ not-fwd_getm PutAck t h = only-nothing t
 
 none-owed : (l : List Forward) (d : ℕ) → (HasFwdGetM (map (λ f. f.kind) l) → Never) → sum_by (names d is_fwd_getm) l ≡ 0
 none-owed [] d h = refl
-none-owed (f ∷ l) d h = omega (arith, sum_by-cons (names d is_fwd_getm) f l, none-owed l d (λ p. h (inr p)), not-fwd_getm f.kind (f.requestor.0 == d) (λ e. h (inl e)))
+none-owed (f ∷ l) d h =
+    omega (arith, sum_by-cons (names d is_fwd_getm) f l, none-owed l d (λ p. h (inr p)), not-fwd_getm f.kind (f.requestor.0 == d) (λ e. h (inl e)))
 
-maybe-sum : (d : ℕ) (r : CacheId) (t : Bool) (l : List Forward) → sum_by (names d is_fwd_getm) (if t then l ++ record { kind = Inv; requestor = r } ∷ [] else l) ≡ sum_by (names d is_fwd_getm) l
+maybe-sum : (d : ℕ) (r : CacheId) (t : Bool) (l : List Forward) →
+    sum_by (names d is_fwd_getm) (if t then l ++ record { kind = Inv; requestor = r } ∷ [] else l) ≡ sum_by (names d is_fwd_getm) l
 maybe-sum d r true l = omega (arith, sum_by_push (names d is_fwd_getm) l (record { kind = Inv; requestor = r }), only-nothing (r.0 == d))
 maybe-sum d r false l = refl
 
 -- a GetM that is forwarded comes after the owner
-edge : (b : BlockState) (i : ℕ) (r o : CacheId) (n : ℕ) → Sound n b → Ranked b → (o.0 < n) → (r.0 ≢ o.0) → Some (req request.GetM r) ≡ slice_get b.traffic.requests i
+edge : (b : BlockState) (i : ℕ) (r o : CacheId) (n : ℕ) → Sound n b → Ranked b → (o.0 < n) → (r.0 ≢ o.0) →
+    Some (req request.GetM r) ≡ slice_get b.traffic.requests i
     → (b' : BlockState) → b'.traffic ≡ forward_sent o.0 (record { kind = FwdGetM; requestor = r }) (request_taken i b.traffic) → Ranked b'
 edge b i r o n h ranked below ne at b' e =
     let rk : ℕ → ℕ = ranked.ranks.0 in
@@ -151,14 +176,17 @@ edge b i r o n h ranked below ne at b' e =
     let m : Forward = record { kind = FwdGetM; requestor = r } in
     let w' : Traffic = forward_sent o.0 m w1 in
     let asks : 0 < (view_of b r.0).getm = omega (arith, ap (λ (v : View). v.getm) (request-own b i (req request.GetM r) at)) in
-    let first : ((view_of b r.0).fwd_getm ≡ 0) × (HasFwdGetM (view_of b r.0).link → Never) = getm_first (view_of b r.0).state (view_of b r.0) asks (h.good.each r.0) in
+    let first : ((view_of b r.0).fwd_getm ≡ 0) × (HasFwdGetM (view_of b r.0).link → Never) =
+    getm_first (view_of b r.0).state (view_of b r.0) asks (h.good.each r.0) in
     let into : (a : ℕ) → owed_to b.traffic a r.0 ≡ 0 = λ a. omega (arith, link-total (names r.0 is_fwd_getm) b.traffic a, first.0) in
     let out : (d : ℕ) → owed_to b.traffic r.0 d ≡ 0 = λ d. none-owed (link b.traffic r.0) d first.1 in
     let rank' : ℕ → ℕ = λ x. if x == r.0 then rk o.0 + 1 else rk x in
     let at_r : rank' r.0 ≡ rk o.0 + 1 = ap (λ t. if t then rk o.0 + 1 else rk r.0) (eq-eqb r.0 r.0 refl) in
     let else_at : (x : ℕ) → x ≢ r.0 → rank' x ≡ rk x = λ x nr. ap (λ t. if t then rk o.0 + 1 else rk x) (ne_eqb x r.0 nr) in
-    let count_o : (d : ℕ) → owed_to w' o.0 d ≡ owed_to b.traffic o.0 d + only (r.0 == d) 1 = λ d. ap (λ l. sum_by (names d is_fwd_getm) l) (link-sent w1 o.0 m (omega (arith, h.links))) ∙ sum_by_push (names d is_fwd_getm) (link w1 o.0) m in
-    let count : (a d : ℕ) → a ≢ o.0 → owed_to w' a d ≡ owed_to b.traffic a d = λ a d na. ap (λ l. sum_by (names d is_fwd_getm) l) (link-sent_other w1 o.0 a m na) in
+    let count_o : (d : ℕ) → owed_to w' o.0 d ≡ owed_to b.traffic o.0 d + only (r.0 == d) 1 =
+    λ d. ap (λ l. sum_by (names d is_fwd_getm) l) (link-sent w1 o.0 m (omega (arith, h.links))) ∙ sum_by_push (names d is_fwd_getm) (link w1 o.0) m in
+    let count : (a d : ℕ) → a ≢ o.0 → owed_to w' a d ≡ owed_to b.traffic a d =
+    λ a d na. ap (λ l. sum_by (names d is_fwd_getm) l) (link-sent_other w1 o.0 a m na) in
     let old : (a d : ℕ) → d ≢ r.0 → 0 < owed_to b.traffic a d → rank' a < rank' d = λ a d nd p. elim (cases_eq a r.0) as (λ _. rank' a < rank' d) [
       | inl ar ↦ absurd (omega (arith, out d, ap (λ x. owed_to b.traffic x d) ar))
       | inr na ↦ omega (arith, ranked.ranks.1 a d p, else_at a na, else_at d nd)
@@ -189,21 +217,39 @@ edge b i r o n h ranked below ne at b' e =
 invs-fewer : (b : BlockState) (r : CacheId) (w : Traffic) (n : ℕ) → Sound n b → w.links ≡ b.traffic.links → Fewer b.traffic (invs_from r 0 b.home.sharers w)
 invs-fewer b r w n h e a d =
     let same : link w a ≡ link b.traffic a = ap (λ ls. get_or ls a []) e in
-    let got : link (invs_from r 0 b.home.sharers w) a ≡ (if shares b.home.sharers a && not (a == r.0) then link w a ++ record { kind = Inv; requestor = r } ∷ [] else link w a) = invs-link r 0 b.home.sharers w a a (omega arith) (omega (arith, h.sharers, h.links, ap (λ ls. length ls) e)) in
-    omega (arith, ap (λ l. sum_by (names d is_fwd_getm) l) got, maybe-sum d r (shares b.home.sharers a && not (a == r.0)) (link w a), ap (λ l. sum_by (names d is_fwd_getm) l) same)
+    let got : link (invs_from r 0 b.home.sharers w) a ≡
+    (if shares b.home.sharers a && not (a == r.0) then link w a ++ record { kind = Inv; requestor = r } ∷ [] else link w a) =
+    invs-link r 0 b.home.sharers w a a
+    (omega arith) (omega (arith, h.sharers, h.links, ap (λ ls. length ls) e)) in
+    omega (
+      arith,
+      ap (λ l. sum_by (names d is_fwd_getm) l) got,
+      maybe-sum d r (shares b.home.sharers a && not (a == r.0)) (link w a),
+      ap
+          (λ l. sum_by (names d is_fwd_getm) l) same,
+    )
 
-gets-ranked : (n : ℕ) (b : BlockState) (i : ℕ) (r : CacheId) (s : DirectoryState) → b.home.state ≡ s → Sound n b → Ranked b → Ranked (carried_out (by_home_entry (directory_table.baseline_entry s event.GetS) (home_input.Request (req request.GetS r)) (origin.Request i)) b).block
+gets-ranked : (n : ℕ) (b : BlockState) (i : ℕ) (r : CacheId) (s : DirectoryState) → b.home.state ≡ s → Sound n b → Ranked b →
+    Ranked (carried_out (by_home_entry (directory_table.baseline_entry s event.GetS) (home_input.Request (req request.GetS r)) (origin.Request i)) b).block
 gets-ranked n b i r home.I e h k = ranked-same b _ k refl
 gets-ranked n b i r home.S e h k = ranked-same b _ k refl
 gets-ranked n b i r home.M e h k =
     let o : (o : CacheId) × (b.home.owner ≡ Some o) = h.owned e in
     let owner_owns : (view_of b o.0.0).owns ≡ true = ap (λ (x : Option CacheId). is_owner x o.0.0) o.1 ∙ eq-eqb o.0.0 o.0.0 refl in
     let below : o.0.0 < n = owner-below n b o.0.0 h owner_owns in
-    subst (λ (x : Option CacheId). Ranked (carried_out (AtHome (home_input.Request (req request.GetS r)) home.SD (action.FwdGetS ∷ action.AddReq ∷ action.AddOwner ∷ action.ClearOwner ∷ []) (origin.Request i)) (owned_by b x)).block) (sym o.1)
+    subst
+    (λ (x : Option CacheId). Ranked
+    (carried_out
+    (AtHome (home_input.Request (req request.GetS r)) home.SD (action.FwdGetS ∷ action.AddReq ∷ action.AddOwner ∷ action.ClearOwner ∷ [])
+    (origin.Request i))
+    (owned_by b x)).block)
+    (sym o.1)
     (ranked-fewer b _ k (sent-fewer (request_taken i b.traffic) o.0.0 (record { kind = FwdGetS; requestor = r }) (omega (arith, h.links)) refl))
 gets-ranked n b i r home.SD e h k = k
 
-getm-ranked : (n : ℕ) (b : BlockState) (i : ℕ) (r : CacheId) (s : DirectoryState) → b.home.state ≡ s → Sound n b → Ranked b → Some (req request.GetM r) ≡ slice_get b.traffic.requests i → Ranked (carried_out (by_home_entry (directory_table.baseline_entry s event.GetM) (home_input.Request (req request.GetM r)) (origin.Request i)) b).block
+getm-ranked : (n : ℕ) (b : BlockState) (i : ℕ) (r : CacheId) (s : DirectoryState) → b.home.state ≡ s → Sound n b → Ranked b →
+    Some (req request.GetM r) ≡ slice_get b.traffic.requests i →
+    Ranked (carried_out (by_home_entry (directory_table.baseline_entry s event.GetM) (home_input.Request (req request.GetM r)) (origin.Request i)) b).block
 getm-ranked n b i r home.I e h k at = ranked-same b _ k refl
 getm-ranked n b i r home.S e h k at =
     let w : Traffic = response_sent (response.Data Dir (Cache r) b.home.memory (others_from 0 r.0 b.home.sharers)) (request_taken i b.traffic) in
@@ -215,76 +261,130 @@ getm-ranked n b i r home.M e h k at =
     let asks : 0 < (view_of b r.0).getm = omega (arith, ap (λ (v : View). v.getm) (request-own b i (req request.GetM r) at)) in
     let r_not : (view_of b r.0).owns ≡ false = (open_shares (view_of b r.0).state (view_of b r.0) asks (h.good.each r.0)).0 in
     let ne : r.0 ≢ o.0.0 = λ e. let same : (view_of b r.0).owns ≡ true = ap (λ d. (view_of b d).owns) e ∙ owner_owns in absurd (cc) in
-    subst (λ (x : Option CacheId). Ranked (carried_out (AtHome (home_input.Request (req request.GetM r)) home.M (action.FwdGetM ∷ action.SetOwner ∷ []) (origin.Request i)) (owned_by b x)).block) (sym o.1)
+    subst
+    (λ (x : Option CacheId). Ranked
+    (carried_out (AtHome (home_input.Request (req request.GetM r)) home.M (action.FwdGetM ∷ action.SetOwner ∷ []) (origin.Request i))
+    (owned_by b x)).block)
+    (sym o.1)
     (edge b i r o.0 n h k below ne at _ refl)
 getm-ranked n b i r home.SD e h k at = k
 
-put-ranked : (n : ℕ) (b : BlockState) (i : ℕ) (kind : RequestKind) (r : CacheId) (b' : BlockState) → Sound n b → Ranked b → Some (req kind r) ≡ slice_get b.traffic.requests i → b'.traffic ≡ forward_sent r.0 (record { kind = PutAck; requestor = r }) (request_taken i b.traffic) → Ranked b'
+put-ranked : (n : ℕ) (b : BlockState) (i : ℕ) (kind : RequestKind) (r : CacheId) (b' : BlockState) → Sound n b → Ranked b →
+    Some (req kind r) ≡ slice_get b.traffic.requests i →
+    b'.traffic ≡ forward_sent r.0 (record { kind = PutAck; requestor = r }) (request_taken i b.traffic) → Ranked b'
 put-ranked n b i kind r b' h k at e =
-    ranked-fewer b b' k (λ a d. omega (arith, ap (λ w. owed_to w a d) e, sent-fewer (request_taken i b.traffic) r.0 (record { kind = PutAck; requestor = r }) (omega (arith, put-below n b i r kind h at, h.links)) refl a d))
+    ranked-fewer b b' k
+    (λ a d. omega (
+      arith,
+      ap (λ w. owed_to w a d) e,
+      sent-fewer (request_taken i b.traffic) r.0 (record { kind = PutAck; requestor = r })
+          (omega (arith, put-below n b i r kind h at, h.links)) refl a d,
+    ))
 
-puts-ranked : (n : ℕ) (b : BlockState) (i : ℕ) (r : CacheId) (s : DirectoryState) → Sound n b → Ranked b → Some (req request.PutS r) ≡ slice_get b.traffic.requests i → Ranked (carried_out (by_home_entry (directory_table.baseline_entry s event.PutSNotLast) (home_input.Request (req request.PutS r)) (origin.Request i)) b).block
+puts-ranked : (n : ℕ) (b : BlockState) (i : ℕ) (r : CacheId) (s : DirectoryState) → Sound n b → Ranked b →
+    Some (req request.PutS r) ≡ slice_get b.traffic.requests i →
+    Ranked
+    (carried_out (by_home_entry (directory_table.baseline_entry s event.PutSNotLast) (home_input.Request (req request.PutS r)) (origin.Request i)) b).block
 puts-ranked n b i r home.I h k at = put-ranked n b i request.PutS r _ h k at refl
 puts-ranked n b i r home.S h k at = put-ranked n b i request.PutS r _ h k at refl
 puts-ranked n b i r home.M h k at = put-ranked n b i request.PutS r _ h k at refl
 puts-ranked n b i r home.SD h k at = put-ranked n b i request.PutS r _ h k at refl
 
-puts_last-ranked : (n : ℕ) (b : BlockState) (i : ℕ) (r : CacheId) (s : DirectoryState) → Sound n b → Ranked b → Some (req request.PutS r) ≡ slice_get b.traffic.requests i → Ranked (carried_out (by_home_entry (directory_table.baseline_entry s event.PutSLast) (home_input.Request (req request.PutS r)) (origin.Request i)) b).block
+puts_last-ranked : (n : ℕ) (b : BlockState) (i : ℕ) (r : CacheId) (s : DirectoryState) → Sound n b → Ranked b →
+    Some (req request.PutS r) ≡ slice_get b.traffic.requests i →
+    Ranked (carried_out (by_home_entry (directory_table.baseline_entry s event.PutSLast) (home_input.Request (req request.PutS r)) (origin.Request i)) b).block
 puts_last-ranked n b i r home.I h k at = put-ranked n b i request.PutS r _ h k at refl
 puts_last-ranked n b i r home.S h k at = put-ranked n b i request.PutS r _ h k at refl
 puts_last-ranked n b i r home.M h k at = put-ranked n b i request.PutS r _ h k at refl
 puts_last-ranked n b i r home.SD h k at = put-ranked n b i request.PutS r _ h k at refl
 
-putm-ranked : (n : ℕ) (b : BlockState) (i : ℕ) (r : CacheId) (value : ℕ) (s : DirectoryState) → Sound n b → Ranked b → Some (req (request.PutM value) r) ≡ slice_get b.traffic.requests i → Ranked (carried_out (by_home_entry (directory_table.baseline_entry s event.PutMNonOwner) (home_input.Request (req (request.PutM value) r)) (origin.Request i)) b).block
+putm-ranked : (n : ℕ) (b : BlockState) (i : ℕ) (r : CacheId) (value : ℕ) (s : DirectoryState) → Sound n b → Ranked b →
+    Some (req (request.PutM value) r) ≡ slice_get b.traffic.requests i →
+    Ranked
+    (carried_out
+    (by_home_entry (directory_table.baseline_entry s event.PutMNonOwner) (home_input.Request (req (request.PutM value) r)) (origin.Request i)) b).block
 putm-ranked n b i r value home.I h k at = put-ranked n b i (request.PutM value) r _ h k at refl
 putm-ranked n b i r value home.S h k at = put-ranked n b i (request.PutM value) r _ h k at refl
 putm-ranked n b i r value home.M h k at = put-ranked n b i (request.PutM value) r _ h k at refl
 putm-ranked n b i r value home.SD h k at = put-ranked n b i (request.PutM value) r _ h k at refl
 
-putm_owner-ranked : (n : ℕ) (b : BlockState) (i : ℕ) (r : CacheId) (value : ℕ) (s : DirectoryState) → Sound n b → Ranked b → Some (req (request.PutM value) r) ≡ slice_get b.traffic.requests i → Ranked (carried_out (by_home_entry (directory_table.baseline_entry s event.PutMOwner) (home_input.Request (req (request.PutM value) r)) (origin.Request i)) b).block
+putm_owner-ranked : (n : ℕ) (b : BlockState) (i : ℕ) (r : CacheId) (value : ℕ) (s : DirectoryState) → Sound n b → Ranked b →
+    Some (req (request.PutM value) r) ≡ slice_get b.traffic.requests i →
+    Ranked
+    (carried_out
+    (by_home_entry (directory_table.baseline_entry s event.PutMOwner) (home_input.Request (req (request.PutM value) r)) (origin.Request i)) b).block
 putm_owner-ranked n b i r value home.I h k at = k
 putm_owner-ranked n b i r value home.S h k at = k
 putm_owner-ranked n b i r value home.M h k at = put-ranked n b i (request.PutM value) r _ h k at refl
 putm_owner-ranked n b i r value home.SD h k at = k
 
 request-ranked : (n : ℕ) (b : BlockState) (i : ℕ) (kind : RequestKind) (r : CacheId) → Sound n b → Ranked b → Some (req kind r) ≡ slice_get b.traffic.requests i
-    → Ranked (carried_out (by_home_entry (directory_table.baseline_entry b.home.state (event_at_home b.home.owner b.home.sharers (home_input.Request (req kind r)))) (home_input.Request (req kind r)) (origin.Request i)) b).block
+    → Ranked
+    (carried_out
+    (by_home_entry (directory_table.baseline_entry b.home.state (event_at_home b.home.owner b.home.sharers (home_input.Request (req kind r))))
+    (home_input.Request (req kind r)) (origin.Request i)) b).block
 request-ranked n b i request.GetS r h k at = gets-ranked n b i r b.home.state refl h k
 request-ranked n b i request.GetM r h k at = getm-ranked n b i r b.home.state refl h k at
 request-ranked n b i request.PutS r h k at =
-    by-test (λ t. Ranked (carried_out (by_home_entry (directory_table.baseline_entry b.home.state (if t then event.PutSLast else event.PutSNotLast)) (home_input.Request (req request.PutS r)) (origin.Request i)) b).block) (is_sole r.0 b.home.sharers)
+    by-test
+    (λ t. Ranked
+    (carried_out
+    (by_home_entry (directory_table.baseline_entry b.home.state (if t then event.PutSLast else event.PutSNotLast))
+    (home_input.Request (req request.PutS r)) (origin.Request i)) b).block)
+    (is_sole r.0 b.home.sharers)
     (λ t. puts_last-ranked n b i r b.home.state h k at) (λ t. puts-ranked n b i r b.home.state h k at)
 request-ranked n b i (request.PutM value) r h k at =
-    by-test (λ t. Ranked (carried_out (by_home_entry (directory_table.baseline_entry b.home.state (if t then event.PutMOwner else event.PutMNonOwner)) (home_input.Request (req (request.PutM value) r)) (origin.Request i)) b).block) (owns b.home.owner r)
+    by-test
+    (λ t. Ranked
+    (carried_out
+    (by_home_entry (directory_table.baseline_entry b.home.state (if t then event.PutMOwner else event.PutMNonOwner))
+    (home_input.Request (req (request.PutM value) r)) (origin.Request i)) b).block)
+    (owns b.home.owner r)
     (λ t. putm_owner-ranked n b i r value b.home.state h k at) (λ t. putm-ranked n b i r value b.home.state h k at)
 
-data-ranked : (b : BlockState) (i : ℕ) (value : ℕ) (s : DirectoryState) → Ranked b → Ranked (carried_out (by_home_entry (directory_table.baseline_entry s event.Data) (home_input.Data value) (origin.Response i)) b).block
+data-ranked : (b : BlockState) (i : ℕ) (value : ℕ) (s : DirectoryState) → Ranked b →
+    Ranked (carried_out (by_home_entry (directory_table.baseline_entry s event.Data) (home_input.Data value) (origin.Response i)) b).block
 data-ranked b i value home.I k = k
 data-ranked b i value home.S k = k
 data-ranked b i value home.M k = k
 data-ranked b i value home.SD k = ranked-same b _ k refl
 
-asked-ranked : (b : BlockState) (cache : CacheId) (ask : Ask) (found : Option Line) → Ranked b → Ranked (carried_out (at_ask cache_table.baseline_cells cache ask found) b).block
+asked-ranked : (b : BlockState) (cache : CacheId) (ask : Ask) (found : Option Line) → Ranked b →
+    Ranked (carried_out (at_ask cache_table.baseline_cells cache ask found) b).block
 asked-ranked b cache ask None k = k
-asked-ranked b cache ask (Some line) k = by-test (λ t. Ranked (carried_out (if t then Refused outcome.Idle else at_line cache_table.baseline_cells cache (line_input.Ask ask) origin.Core (Some line)) b).block) (is_idle ask line.state)
+asked-ranked b cache ask (Some line) k =
+    by-test
+    (λ t. Ranked
+    (carried_out (if t then Refused outcome.Idle else at_line cache_table.baseline_cells cache (line_input.Ask ask) origin.Core (Some line)) b).block)
+    (is_idle ask line.state)
     (λ t. k) (λ t. at-line-ranked b cache (line_input.Ask ask) origin.Core (Some line) k (same-links b.traffic b.traffic refl))
 
-requested-ranked : (n : ℕ) (b : BlockState) (i : ℕ) (found : Option Request) → found ≡ slice_get b.traffic.requests i → Sound n b → Ranked b → Ranked (carried_out (at_request directory_table.baseline_cells i b.home found) b).block
+requested-ranked : (n : ℕ) (b : BlockState) (i : ℕ) (found : Option Request) → found ≡ slice_get b.traffic.requests i → Sound n b → Ranked b →
+    Ranked (carried_out (at_request directory_table.baseline_cells i b.home found) b).block
 requested-ranked n b i None e h k = k
 requested-ranked n b i (Some r) e h k =
-    subst (λ (x : DirectoryEntry). Ranked (carried_out (by_home_entry x (home_input.Request r) (origin.Request i)) b).block) (sym (directory_cells.cell-baseline b.home.state (event_at_home b.home.owner b.home.sharers (home_input.Request r))))
+    subst (λ (x : DirectoryEntry). Ranked (carried_out (by_home_entry x (home_input.Request r) (origin.Request i)) b).block)
+    (sym (directory_cells.cell-baseline b.home.state (event_at_home b.home.owner b.home.sharers (home_input.Request r))))
     (request-ranked n b i r.kind r.from h k e)
 
-headed-ranked : (b : BlockState) (cache : CacheId) (found : Option Forward) → found ≡ slice_get (link b.traffic cache.0) 0 → Ranked b → Ranked (carried_out (at_forward cache_table.baseline_cells cache b.lines found) b).block
+headed-ranked : (b : BlockState) (cache : CacheId) (found : Option Forward) → found ≡ slice_get (link b.traffic cache.0) 0 → Ranked b →
+    Ranked (carried_out (at_forward cache_table.baseline_cells cache b.lines found) b).block
 headed-ranked b cache None e k = k
-headed-ranked b cache (Some m) e k = at-line-ranked b cache (line_input.Forward m) (origin.Head cache) (slice_get b.lines cache.0) k (taken-fewer b.traffic cache.0 m e)
+headed-ranked b cache (Some m) e k =
+    at-line-ranked b cache (line_input.Forward m) (origin.Head cache) (slice_get b.lines cache.0) k (taken-fewer b.traffic cache.0 m e)
 
 answered-ranked : (b : BlockState) (i : ℕ) (found : Option Response) → Ranked b → Ranked (carried_out (at_response baseline i b found) b).block
 answered-ranked b i None k = k
 answered-ranked b i (Some (response.Data by Dir value acks)) k =
-    subst (λ (x : DirectoryEntry). Ranked (carried_out (by_home_entry x (home_input.Data value) (origin.Response i)) b).block) (sym (directory_cells.cell-baseline b.home.state (event_at_home b.home.owner b.home.sharers (home_input.Data value)))) (data-ranked b i value b.home.state k)
-answered-ranked b i (Some (response.Data by (Cache cache) value acks)) k = at-line-ranked b cache (line_input.Response (response.Data by (Cache cache) value acks)) (origin.Response i) (slice_get b.lines cache.0) k (same-links b.traffic (response_taken i b.traffic) refl)
-answered-ranked b i (Some (response.InvAck by cache)) k = at-line-ranked b cache (line_input.Response (response.InvAck by cache)) (origin.Response i) (slice_get b.lines cache.0) k (same-links b.traffic (response_taken i b.traffic) refl)
+    subst (λ (x : DirectoryEntry). Ranked (carried_out (by_home_entry x (home_input.Data value) (origin.Response i)) b).block)
+    (sym (directory_cells.cell-baseline b.home.state (event_at_home b.home.owner b.home.sharers (home_input.Data value))))
+    (data-ranked b i value b.home.state k)
+answered-ranked b i (Some (response.Data by (Cache cache) value acks)) k =
+    at-line-ranked b cache (line_input.Response (response.Data by (Cache cache) value acks)) (origin.Response i) (slice_get b.lines cache.0) k
+    (same-links b.traffic (response_taken i b.traffic) refl)
+answered-ranked b i (Some (response.InvAck by cache)) k =
+    at-line-ranked b cache (line_input.Response (response.InvAck by cache)) (origin.Response i) (slice_get b.lines cache.0) k
+    (same-links b.traffic (response_taken i b.traffic) refl)
 
 -- each step keeps the owners ranked
 pub transition-ranked : (n : ℕ) (s : Step) (b : BlockState) → Sound n b → Ranked b → Ranked (transition baseline s b).block

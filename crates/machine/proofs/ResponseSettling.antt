@@ -9,7 +9,8 @@ use Rattle.cache_table.specs.Baseline.{baseline_entry}
 use Rattle.machine.proofs.Views.{View}
 use Rattle.machine.proofs.ValueRules.{HasValue, Waits, DeliverRule}
 
-pub inv_ack_settles : (s : CacheState) (v : View) (value : ℕ) (acks : ℤ) (p : Option Ask) (latest : ℕ) → (HasValue s v → value ≡ latest) → Waits s p → DeliverRule value acks p latest (baseline_entry s event.InvAck)
+pub inv_ack_settles : (s : CacheState) (v : View) (value : ℕ) (acks : ℤ) (p : Option Ask) (latest : ℕ) → (HasValue s v → value ≡ latest) → Waits s p →
+    DeliverRule value acks p latest (baseline_entry s event.InvAck)
 inv_ack_settles I v value acks None latest h q = grind (arith)
 inv_ack_settles I v value acks (Some ask.Load) latest h q = grind (arith)
 inv_ack_settles I v value acks (Some (ask.Store x)) latest h q = grind (arith)
@@ -55,7 +56,8 @@ inv_ack_settles IiA v value acks (Some ask.Load) latest h q = grind (arith)
 inv_ack_settles IiA v value acks (Some (ask.Store x)) latest h q = grind (arith)
 inv_ack_settles IiA v value acks (Some ask.Replace) latest h q = grind (arith)
 
-pub last_ack_settles : (s : CacheState) (v : View) (value : ℕ) (acks : ℤ) (p : Option Ask) (latest : ℕ) → (HasValue s v → value ≡ latest) → Waits s p → DeliverRule value acks p latest (baseline_entry s event.LastInvAck)
+pub last_ack_settles : (s : CacheState) (v : View) (value : ℕ) (acks : ℤ) (p : Option Ask) (latest : ℕ) → (HasValue s v → value ≡ latest) →
+    Waits s p → DeliverRule value acks p latest (baseline_entry s event.LastInvAck)
 last_ack_settles I v value acks None latest h q = grind (arith)
 last_ack_settles I v value acks (Some ask.Load) latest h q = grind (arith)
 last_ack_settles I v value acks (Some (ask.Store x)) latest h q = grind (arith)
@@ -101,7 +103,8 @@ last_ack_settles IiA v value acks (Some ask.Load) latest h q = grind (arith)
 last_ack_settles IiA v value acks (Some (ask.Store x)) latest h q = grind (arith)
 last_ack_settles IiA v value acks (Some ask.Replace) latest h q = grind (arith)
 
-pub data_zero_settles : (s : CacheState) (value : ℕ) (acks : ℤ) (p : Option Ask) (latest : ℕ) → value ≡ latest → Waits s p → DeliverRule value acks p latest (baseline_entry s event.DataDirZero)
+pub data_zero_settles : (s : CacheState) (value : ℕ) (acks : ℤ) (p : Option Ask) (latest : ℕ) → value ≡ latest → Waits s p →
+    DeliverRule value acks p latest (baseline_entry s event.DataDirZero)
 data_zero_settles I value acks None latest h q = grind (arith)
 data_zero_settles I value acks (Some ask.Load) latest h q = grind (arith)
 data_zero_settles I value acks (Some (ask.Store x)) latest h q = grind (arith)
@@ -147,7 +150,8 @@ data_zero_settles IiA value acks (Some ask.Load) latest h q = grind (arith)
 data_zero_settles IiA value acks (Some (ask.Store x)) latest h q = grind (arith)
 data_zero_settles IiA value acks (Some ask.Replace) latest h q = grind (arith)
 
-pub data_more_settles : (s : CacheState) (value : ℕ) (acks : ℤ) (p : Option Ask) (latest : ℕ) → value ≡ latest → Waits s p → DeliverRule value acks p latest (baseline_entry s event.DataDirMore)
+pub data_more_settles : (s : CacheState) (value : ℕ) (acks : ℤ) (p : Option Ask) (latest : ℕ) → value ≡ latest → Waits s p →
+    DeliverRule value acks p latest (baseline_entry s event.DataDirMore)
 data_more_settles I value acks None latest h q = grind (arith)
 data_more_settles I value acks (Some ask.Load) latest h q = grind (arith)
 data_more_settles I value acks (Some (ask.Store x)) latest h q = grind (arith)
@@ -193,7 +197,8 @@ data_more_settles IiA value acks (Some ask.Load) latest h q = grind (arith)
 data_more_settles IiA value acks (Some (ask.Store x)) latest h q = grind (arith)
 data_more_settles IiA value acks (Some ask.Replace) latest h q = grind (arith)
 
-pub data_owner_settles : (s : CacheState) (value : ℕ) (acks : ℤ) (p : Option Ask) (latest : ℕ) → value ≡ latest → Waits s p → DeliverRule value acks p latest (baseline_entry s event.DataOwner)
+pub data_owner_settles : (s : CacheState) (value : ℕ) (acks : ℤ) (p : Option Ask) (latest : ℕ) → value ≡ latest → Waits s p →
+    DeliverRule value acks p latest (baseline_entry s event.DataOwner)
 data_owner_settles I value acks None latest h q = grind (arith)
 data_owner_settles I value acks (Some ask.Load) latest h q = grind (arith)
 data_owner_settles I value acks (Some (ask.Store x)) latest h q = grind (arith)

@@ -1,5 +1,6 @@
 -- Transitions on responses to a line keep the invariant.
-use Rattle.std.proofs.Common.{◌≡◌, ◌≢◌, ℕ, ◌<◌, ◌≤◌, ◌+◌, ◌-◌, List, refl, ap, sym, subst, ◌∙◌, arith, Some, true, false, slice_get, eq-eqb, ℤ, pos, negsuc, if◌then◌else◌}
+use Rattle.std.proofs.Common.{◌≡◌, ◌≢◌, ℕ, ◌<◌, ◌≤◌, ◌+◌, ◌-◌, List, refl, ap, sym, subst, ◌∙◌, arith, Some, true, false, slice_get, eq-eqb, ℤ, pos}
+use Rattle.std.proofs.Common.{negsuc, if◌then◌else◌}
 use Rattle.std.proofs.lemmas.Bool.Decides.{nat_tests}
 use Rattle.std.proofs.lemmas.Bool.{ne_eqb}
 use Rattle.base.specs.declared.ids.CacheId.{CacheId}
@@ -30,7 +31,8 @@ use Rattle.machine.proofs.Seen.{seen, line_of, early_of, late_of, home_data}
 use Rattle.machine.proofs.Seeing.{response_added, response_taken-seen}
 use Rattle.machine.proofs.Facts.{promised-zero}
 use Rattle.machine.proofs.Acks.{sum-early, sum-late, rest-early, rest-late}
-use Rattle.machine.proofs.CellRules.{Comes, ResponseRule, dir_data_taken, owner_data_taken, ack_taken, data_zero_rule, data_more_rule, data_owner_rule, inv_ack_rule, last_ack_rule}
+use Rattle.machine.proofs.CellRules.{Comes, ResponseRule, dir_data_taken, owner_data_taken, ack_taken, data_zero_rule, data_more_rule}
+use Rattle.machine.proofs.CellRules.{data_owner_rule, inv_ack_rule, last_ack_rule}
 use Rattle.machine.proofs.Settling.{acted-outcome}
 use Rattle.machine.proofs.Sound.{Sound, Fine, Bounded, Alike, own-sound, local-at, line_block}
 use Rattle.machine.proofs.AskTransitions.{seen-after, bounded-at}
@@ -38,13 +40,16 @@ use Rattle.machine.proofs.Cases.{by-test}
 
 -- a line without the response that it takes, as its view has it
 abbrev taken_view : Line → Home → Traffic → ℕ → LineInput → ℕ → CacheState → View
-taken_view line home w i input c next = record (seen line home (response_taken i w) c) { state = next; early = early_of (taken_in input line).acks; acks = late_of (taken_in input line).acks }
+taken_view line home w i input c next =
+    record (seen line home (response_taken i w) c) { state = next; early = early_of (taken_in input line).acks; acks = late_of (taken_in input line).acks }
 
 -- a response that concerns its receiver alone
-taken-sound : (n : ℕ) (b : BlockState) (cache : CacheId) (i : ℕ) (x : Response) (line : Line) (next : CacheState) (latest : ℕ) (after : View) → Sound n b → Some line ≡ slice_get b.lines cache.0 → Some x ≡ slice_get b.traffic.responses i
+taken-sound : (n : ℕ) (b : BlockState) (cache : CacheId) (i : ℕ) (x : Response) (line : Line) (next : CacheState) (latest : ℕ) (after : View) →
+    Sound n b → Some line ≡ slice_get b.lines cache.0 → Some x ≡ slice_get b.traffic.responses i
     → home_data x ≡ 0 → ((d : ℕ) (v : View) → d ≢ cache.0 → response_added d x v ≡ v)
     → taken_view line b.home b.traffic i (line_input.Response x) cache.0 next ≡ record after { state = next }
-    → Comes line.state (seen line b.home b.traffic cache.0) next (record after { state = next }) → Alike (seen line b.home b.traffic cache.0) after → Bounded n after
+    → Comes line.state (seen line b.home b.traffic cache.0) next (record after { state = next }) → Alike
+    (seen line b.home b.traffic cache.0) after → Bounded n after
     → Sound n (line_block b cache.0 (line_after (line_input.Response x) next line) (response_taken i b.traffic) latest)
 taken-sound n b cache i x line next latest after h there at home none e comes alike bound =
     own-sound n b cache.0 line (line_after (line_input.Response x) next line) (response_taken i b.traffic) latest (record after { state = next }) h there
@@ -52,7 +57,9 @@ taken-sound n b cache i x line next latest after h there at home none e comes al
       links = refl;
       home = omega (arith, sum_by-remove home_data b.traffic.responses i x at);
       fwd_gets = refl;
-      others = λ d ne. sym (none d (seen (line_of b.lines d) b.home (response_taken i b.traffic) d) ne) ∙ response_taken-seen (line_of b.lines d) b.home b.traffic i x d at;
+      others =
+          λ d ne. sym (none d (seen (line_of b.lines d) b.home (response_taken i b.traffic) d) ne)
+          ∙ response_taken-seen (line_of b.lines d) b.home b.traffic i x d at;
     })
     (seen-after (line_input.Response x) line next b.home (response_taken i b.traffic) cache.0 ∙ e)
     comes
@@ -60,7 +67,8 @@ taken-sound n b cache i x line next latest after h there at home none e comes al
     (record { promised = bound.promised; acks = bound.acks })
 
 -- what the Data from the home leaves
-data-left : (v u : View) (n early acks : ℕ) → early ≡ v.early - (v.acks + n) → acks ≡ v.acks + n - v.early → record u { invs = u.invs + 0; dir_data = u.dir_data + 1; owner_data = u.owner_data + 0; promised = u.promised + n } ≡ v
+data-left : (v u : View) (n early acks : ℕ) → early ≡ v.early - (v.acks + n) → acks ≡ v.acks + n - v.early →
+    record u { invs = u.invs + 0; dir_data = u.dir_data + 1; owner_data = u.owner_data + 0; promised = u.promised + n } ≡ v
     → (next : CacheState) → record u { state = next; early = early; acks = acks } ≡ record (dir_data_taken n v) { state = next }
 data-left v u n early acks p q e next = grind (arith)
 
@@ -71,7 +79,8 @@ owner-left : (v u : View) → record u { invs = u.invs + 0; dir_data = u.dir_dat
     → (next : CacheState) → record u { state = next; early = v.early; acks = v.acks } ≡ record (owner_data_taken v) { state = next }
 owner-left v u e next = grind (arith)
 
-ack-left : (v u : View) (early acks : ℕ) → early ≡ v.early + 1 - v.acks → acks ≡ v.acks - 1 → record u { invs = u.invs + 1; dir_data = u.dir_data + 0; owner_data = u.owner_data + 0; promised = u.promised + 0 } ≡ v
+ack-left : (v u : View) (early acks : ℕ) → early ≡ v.early + 1 - v.acks → acks ≡ v.acks - 1 →
+    record u { invs = u.invs + 1; dir_data = u.dir_data + 0; owner_data = u.owner_data + 0; promised = u.promised + 0 } ≡ v
     → (next : CacheState) → record u { state = next; early = early; acks = acks } ≡ record (ack_taken v) { state = next }
 ack-left v u early acks p q e next = grind (arith)
 
@@ -103,7 +112,8 @@ none-awaited SiA v p h = grind (arith)
 none-awaited IiA v p h = grind (arith)
 
 -- a response that finds its cell is fine
-response-fine : (n : ℕ) (b : BlockState) (cache : CacheId) (i : ℕ) (r : Response) (line : Line) (after : View) (x : CacheEntry) → Sound n b → Some line ≡ slice_get b.lines cache.0 → Some r ≡ slice_get b.traffic.responses i
+response-fine : (n : ℕ) (b : BlockState) (cache : CacheId) (i : ℕ) (r : Response) (line : Line) (after : View) (x : CacheEntry) → Sound n b →
+    Some line ≡ slice_get b.lines cache.0 → Some r ≡ slice_get b.traffic.responses i
     → home_data r ≡ 0 → ((d : ℕ) (v : View) → d ≢ cache.0 → response_added d r v ≡ v)
     → ((next : CacheState) → taken_view line b.home b.traffic i (line_input.Response r) cache.0 next ≡ record after { state = next })
     → Alike (seen line b.home b.traffic cache.0) after → Bounded n after
@@ -134,8 +144,12 @@ one-false (pos m) e = grind (arith, nat_tests)
 one-false (negsuc m) e = grind (arith)
 
 -- Data from the home
-pub dir-data-fine : (n : ℕ) (b : BlockState) (cache : CacheId) (i : ℕ) (value acks : ℕ) (line : Line) → Sound n b → Some line ≡ slice_get b.lines cache.0 → Some (Data Dir (Cache cache) value acks) ≡ slice_get b.traffic.responses i
-    → Fine n (carried_out (by_line_entry (baseline_entry line.state (event_at_line line.acks (line_input.Response (Data Dir (Cache cache) value acks)))) cache line (line_input.Response (Data Dir (Cache cache) value acks)) (origin.Response i)) b)
+pub dir-data-fine : (n : ℕ) (b : BlockState) (cache : CacheId) (i : ℕ) (value acks : ℕ) (line : Line) → Sound n b →
+    Some line ≡ slice_get b.lines cache.0 → Some (Data Dir (Cache cache) value acks) ≡ slice_get b.traffic.responses i
+    → Fine n
+    (carried_out
+    (by_line_entry (baseline_entry line.state (event_at_line line.acks (line_input.Response (Data Dir (Cache cache) value acks)))) cache line
+    (line_input.Response (Data Dir (Cache cache) value acks)) (origin.Response i)) b)
 dir-data-fine n b cache i value acks line h there at =
     let r : Response = Data Dir (Cache cache) value acks in
     let v : View = seen line b.home b.traffic cache.0 in
@@ -143,45 +157,64 @@ dir-data-fine n b cache i value acks line h there at =
     let local : Local line.state v = local-at n b cache.0 line h there in
     let bound : Bounded n v = bounded-at n b cache.0 line h there in
     let added : record u { invs = u.invs + 0; dir_data = u.dir_data + 1; owner_data = u.owner_data + 0; promised = u.promised + acks } ≡ v =
-    ap (λ t. record u { invs = u.invs + 0; dir_data = u.dir_data + only t 1; owner_data = u.owner_data + 0; promised = u.promised + only t acks }) (sym (eq-eqb cache.0 cache.0 refl)) ∙ response_taken-seen line b.home b.traffic i r cache.0 at in
+    ap (λ t. record u { invs = u.invs + 0; dir_data = u.dir_data + only t 1; owner_data = u.owner_data + 0; promised = u.promised + only t acks })
+    (sym (eq-eqb cache.0 cache.0 refl))
+    ∙ response_taken-seen line b.home b.traffic i r cache.0 at in
     let more : u.dir_data + 1 ≡ v.dir_data = ap (λ (x : View). x.dir_data) added in
     let sum : u.promised + acks ≡ v.promised = ap (λ (x : View). x.promised) added in
     let few : n ≤ 4294967296 = h.few in
     let early : v.early ≤ v.promised = early-promised line.state v local in
     let late : v.acks ≡ 0 = none-awaited line.state v (omega arith) local in
     let first : v.dir_data ≡ 1 → v.promised ≡ acks = λ e. omega (arith, promised-zero cache.0 (response_taken i b.traffic).responses (omega arith)) in
-    let e1 : early_of (more_acks line.acks acks) ≡ v.early - (v.acks + acks) = sum-early line.acks acks (omega (arith, bound.promised)) (omega (arith, bound.acks)) (omega (arith, bound.promised)) in
-    let e2 : late_of (more_acks line.acks acks) ≡ v.acks + acks - v.early = sum-late line.acks acks (omega (arith, bound.promised)) (omega (arith, bound.acks)) (omega (arith, bound.promised)) in
+    let e1 : early_of (more_acks line.acks acks) ≡ v.early - (v.acks + acks) =
+    sum-early line.acks acks (omega (arith, bound.promised)) (omega (arith, bound.acks)) (omega (arith, bound.promised)) in
+    let e2 : late_of (more_acks line.acks acks) ≡ v.acks + acks - v.early =
+    sum-late line.acks acks (omega (arith, bound.promised)) (omega (arith, bound.acks)) (omega (arith, bound.promised)) in
     response-fine n b cache i r line (dir_data_taken acks v) (baseline_entry line.state (event_at_line line.acks (line_input.Response r))) h there at refl
-    (λ d x ne. ap (λ t. record x { invs = x.invs + 0; dir_data = x.dir_data + only t 1; owner_data = x.owner_data + 0; promised = x.promised + only t acks }) (ne_eqb cache.0 d (λ e. ne (sym e))) ∙ nothing-added x)
+    (λ d x ne. ap
+    (λ t. record x { invs = x.invs + 0; dir_data = x.dir_data + only t 1; owner_data = x.owner_data + 0; promised = x.promised + only t acks })
+    (ne_eqb cache.0 d (λ e. ne (sym e))) ∙ nothing-added x)
     (data-left v u acks (early_of (more_acks line.acks acks)) (late_of (more_acks line.acks acks)) e1 e2 added)
     (record { shares = refl; owns = refl; fwd_gets = refl; link = λ p. p })
     (record { promised = omega (arith, bound.promised); acks = omega (arith, bound.promised) })
-    (by-test (λ t. ResponseRule line.state v (dir_data_taken acks v) (baseline_entry line.state (if t then event.DataDirZero else event.DataDirMore))) (is_count (more_acks line.acks acks) 0)
+    (by-test (λ t. ResponseRule line.state v (dir_data_taken acks v) (baseline_entry line.state (if t then event.DataDirZero else event.DataDirMore)))
+    (is_count (more_acks line.acks acks) 0)
     (λ t. data_zero_rule line.state v acks (omega arith) first (omega (arith, zero-true (more_acks line.acks acks) t, e1, e2)) local)
     (λ t. data_more_rule line.state v acks (omega arith) first (λ e. zero-false (more_acks line.acks acks) t (omega (arith, e1, e2, e))) local))
 
 -- Data from an owner
-pub owner-data-fine : (n : ℕ) (b : BlockState) (by cache : CacheId) (i : ℕ) (value acks : ℕ) (line : Line) → Sound n b → Some line ≡ slice_get b.lines cache.0 → Some (Data (Cache by) (Cache cache) value acks) ≡ slice_get b.traffic.responses i
-    → Fine n (carried_out (by_line_entry (baseline_entry line.state (event_at_line line.acks (line_input.Response (Data (Cache by) (Cache cache) value acks)))) cache line (line_input.Response (Data (Cache by) (Cache cache) value acks)) (origin.Response i)) b)
+pub owner-data-fine : (n : ℕ) (b : BlockState) (by cache : CacheId) (i : ℕ) (value acks : ℕ) (line : Line) → Sound n b →
+    Some line ≡ slice_get b.lines cache.0 → Some (Data (Cache by) (Cache cache) value acks) ≡ slice_get b.traffic.responses i
+    → Fine n
+    (carried_out
+    (by_line_entry
+    (baseline_entry line.state (event_at_line line.acks (line_input.Response (Data (Cache by) (Cache cache) value acks)))) cache line
+    (line_input.Response (Data (Cache by) (Cache cache) value acks)) (origin.Response i)) b)
 owner-data-fine n b by cache i value acks line h there at =
     let r : Response = Data (Cache by) (Cache cache) value acks in
     let v : View = seen line b.home b.traffic cache.0 in
     let u : View = seen line b.home (response_taken i b.traffic) cache.0 in
     let bound : Bounded n v = bounded-at n b cache.0 line h there in
     let added : record u { invs = u.invs + 0; dir_data = u.dir_data + 0; owner_data = u.owner_data + 1; promised = u.promised + 0 } ≡ v =
-    ap (λ t. record u { invs = u.invs + 0; dir_data = u.dir_data + 0; owner_data = u.owner_data + only t 1; promised = u.promised + 0 }) (sym (eq-eqb cache.0 cache.0 refl)) ∙ response_taken-seen line b.home b.traffic i r cache.0 at in
+    ap (λ t. record u { invs = u.invs + 0; dir_data = u.dir_data + 0; owner_data = u.owner_data + only t 1; promised = u.promised + 0 })
+    (sym (eq-eqb cache.0 cache.0 refl))
+    ∙ response_taken-seen line b.home b.traffic i r cache.0 at in
     let more : u.owner_data + 1 ≡ v.owner_data = ap (λ (x : View). x.owner_data) added in
     response-fine n b cache i r line (owner_data_taken v) (baseline_entry line.state event.DataOwner) h there at refl
-    (λ d x ne. ap (λ t. record x { invs = x.invs + 0; dir_data = x.dir_data + 0; owner_data = x.owner_data + only t 1; promised = x.promised + 0 }) (ne_eqb cache.0 d (λ e. ne (sym e))) ∙ nothing-added x)
+    (λ d x ne. ap (λ t. record x { invs = x.invs + 0; dir_data = x.dir_data + 0; owner_data = x.owner_data + only t 1; promised = x.promised + 0 })
+    (ne_eqb cache.0 d (λ e. ne (sym e))) ∙ nothing-added x)
     (owner-left v u added)
     (record { shares = refl; owns = refl; fwd_gets = refl; link = λ p. p })
     (record { promised = bound.promised; acks = bound.acks })
     (data_owner_rule line.state v (omega arith) (local-at n b cache.0 line h there))
 
 -- an Inv-Ack
-pub inv-ack-fine : (n : ℕ) (b : BlockState) (by cache : CacheId) (i : ℕ) (line : Line) → Sound n b → Some line ≡ slice_get b.lines cache.0 → Some (InvAck by cache) ≡ slice_get b.traffic.responses i
-    → Fine n (carried_out (by_line_entry (baseline_entry line.state (event_at_line line.acks (line_input.Response (InvAck by cache)))) cache line (line_input.Response (InvAck by cache)) (origin.Response i)) b)
+pub inv-ack-fine : (n : ℕ) (b : BlockState) (by cache : CacheId) (i : ℕ) (line : Line) → Sound n b → Some line ≡ slice_get b.lines cache.0 →
+    Some (InvAck by cache) ≡ slice_get b.traffic.responses i
+    → Fine n
+    (carried_out
+    (by_line_entry (baseline_entry line.state (event_at_line line.acks (line_input.Response (InvAck by cache)))) cache line
+    (line_input.Response (InvAck by cache)) (origin.Response i)) b)
 inv-ack-fine n b by cache i line h there at =
     let r : Response = InvAck by cache in
     let v : View = seen line b.home b.traffic cache.0 in
@@ -191,12 +224,15 @@ inv-ack-fine n b by cache i line h there at =
     let few : n ≤ 4294967296 = h.few in
     let early : v.early ≤ v.promised = early-promised line.state v local in
     let added : record u { invs = u.invs + 1; dir_data = u.dir_data + 0; owner_data = u.owner_data + 0; promised = u.promised + 0 } ≡ v =
-    ap (λ t. record u { invs = u.invs + only t 1; dir_data = u.dir_data + 0; owner_data = u.owner_data + 0; promised = u.promised + 0 }) (sym (eq-eqb cache.0 cache.0 refl)) ∙ response_taken-seen line b.home b.traffic i r cache.0 at in
+    ap (λ t. record u { invs = u.invs + only t 1; dir_data = u.dir_data + 0; owner_data = u.owner_data + 0; promised = u.promised + 0 })
+    (sym (eq-eqb cache.0 cache.0 refl))
+    ∙ response_taken-seen line b.home b.traffic i r cache.0 at in
     let more : u.invs + 1 ≡ v.invs = ap (λ (x : View). x.invs) added in
     let e1 : early_of (one_ack_less line.acks) ≡ v.early + 1 - v.acks = rest-early line.acks (omega (arith, bound.promised)) (omega (arith, bound.acks)) in
     let e2 : late_of (one_ack_less line.acks) ≡ v.acks - 1 = rest-late line.acks (omega (arith, bound.promised)) (omega (arith, bound.acks)) in
     response-fine n b cache i r line (ack_taken v) (baseline_entry line.state (event_at_line line.acks (line_input.Response r))) h there at refl
-    (λ d x ne. ap (λ t. record x { invs = x.invs + only t 1; dir_data = x.dir_data + 0; owner_data = x.owner_data + 0; promised = x.promised + 0 }) (ne_eqb cache.0 d (λ e. ne (sym e))) ∙ nothing-added x)
+    (λ d x ne. ap (λ t. record x { invs = x.invs + only t 1; dir_data = x.dir_data + 0; owner_data = x.owner_data + 0; promised = x.promised + 0 })
+    (ne_eqb cache.0 d (λ e. ne (sym e))) ∙ nothing-added x)
     (ack-left v u (early_of (one_ack_less line.acks)) (late_of (one_ack_less line.acks)) e1 e2 added)
     (record { shares = refl; owns = refl; fwd_gets = refl; link = λ p. p })
     (record { promised = bound.promised; acks = omega (arith, bound.acks) })

@@ -24,5 +24,6 @@ safe shape opening steps within =
       unmet = λ front rest s e. guarded-unmet (Keeps shape.caches) baseline shape g opening front s;
       explained = followed-explained opening (completions steps (outcomes_of baseline (opened shape opening) steps))
           (subst (λ (l : List ℕ). Follows l (completions steps (outcomes_of baseline (opened shape opening) steps))) (latests-opened shape opening)
-          (followed-from (Keeps shape.caches) baseline g.kept (λ s b h. (transition-right shape.caches s b h.sound h.valued).fits) steps (opened shape opening) (guarded (Keeps shape.caches) baseline shape g opening [])));
+          (followed-from (Keeps shape.caches) baseline g.kept (λ s b h. (transition-right shape.caches s b h.sound h.valued).fits) steps
+          (opened shape opening) (guarded (Keeps shape.caches) baseline shape g opening [])));
     }

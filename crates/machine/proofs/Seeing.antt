@@ -1,5 +1,6 @@
 -- What each message sent or taken does to each view.
-use Rattle.std.proofs.Common.{◌≡◌, ℕ, ◌<◌, ◌+◌, List, [], ◌∷◌, ◌++◌, length, remove, refl, ap, sym, arith, inl, inr, Some, Bool, true, false, ◌==◌, slice_get, map, eq-eqb}
+use Rattle.std.proofs.Common.{◌≡◌, ℕ, ◌<◌, ◌+◌, List, [], ◌∷◌, ◌++◌, length, remove, refl, ap, sym, arith, inl, inr, Some, Bool, true, false, ◌==◌}
+use Rattle.std.proofs.Common.{slice_get, map, eq-eqb}
 use Rattle.std.proofs.lemmas.Bool.{ne_eqb, cases_eq}
 use Rattle.std.proofs.lemmas.List.Sums.{sum_by_push}
 use Rattle.network.specs.declared.message.Request.{Request}
@@ -11,23 +12,40 @@ use Rattle.network.specs.Traffic.{Traffic, link, request_sent, response_sent, fo
 use Rattle.control.specs.declared.line.Line.{Line}
 use Rattle.control.specs.declared.home.Home.{Home}
 use Rattle.machine.proofs.Views.{View}
-use Rattle.machine.proofs.Counts.{only, sum_by-remove, forward_sent-total, head_taken-total, link-sent, link-sent_other, link-taken, link-taken_other, link-there}
-use Rattle.machine.proofs.Seen.{seen, from, names, is_gets, is_getm, is_puts, is_putm, is_fwd_gets, is_fwd_getm, is_inv, dir_data, ack_number, owner_data, inv_ack}
+use Rattle.machine.proofs.Counts.{only, sum_by-remove, forward_sent-total, head_taken-total, link-sent, link-sent_other, link-taken, link-taken_other}
+use Rattle.machine.proofs.Counts.{link-there}
+use Rattle.machine.proofs.Seen.{seen, from, names, is_gets, is_getm, is_puts, is_putm, is_fwd_gets, is_fwd_getm, is_inv, dir_data, ack_number}
+use Rattle.machine.proofs.Seen.{owner_data, inv_ack}
 use Rattle.machine.proofs.SameView.{same_view}
 
 -- what a message adds to a view: a request to its sender's
 abbrev pub request_added : Bool → RequestKind → View → View
-request_added mine kind v = record v { gets = v.gets + only mine (is_gets kind); getm = v.getm + only mine (is_getm kind); puts = v.puts + only mine (is_puts kind); putm = v.putm + only mine (is_putm kind) }
+request_added mine kind v =
+    record v {
+      gets = v.gets + only mine (is_gets kind);
+      getm = v.getm + only mine (is_getm kind);
+      puts = v.puts + only mine
+          (is_puts kind);
+      putm = v.putm + only mine (is_putm kind);
+    }
 
 -- a response adds to its receiver's
 abbrev pub response_added : ℕ → Response → View → View
-response_added c x v = record v { invs = v.invs + inv_ack c x; dir_data = v.dir_data + dir_data c x; owner_data = v.owner_data + owner_data c x; promised = v.promised + ack_number c x }
+response_added c x v =
+    record v { invs = v.invs + inv_ack c x; dir_data = v.dir_data + dir_data c x; owner_data = v.owner_data + owner_data c x; promised = v.promised + ack_number c x }
 
 -- a forward adds to that of the cache that it names
 abbrev pub named : Bool → ForwardKind → View → View
-named mine kind v = record v { fwd_gets = v.fwd_gets + only mine (is_fwd_gets kind); fwd_getm = v.fwd_getm + only mine (is_fwd_getm kind); invs = v.invs + only mine (is_inv kind) }
+named mine kind v =
+    record v {
+      fwd_gets = v.fwd_gets + only mine (is_fwd_gets kind);
+      fwd_getm = v.fwd_getm + only mine (is_fwd_getm kind);
+      invs = v.invs + only mine
+          (is_inv kind);
+    }
 
-pub request_sent-seen : (line : Line) (home : Home) (w : Traffic) (r : Request) (c : ℕ) → seen line home (request_sent r w) c ≡ request_added (r.from.0 == c) r.kind (seen line home w c)
+pub request_sent-seen : (line : Line) (home : Home) (w : Traffic) (r : Request) (c : ℕ) →
+    seen line home (request_sent r w) c ≡ request_added (r.from.0 == c) r.kind (seen line home w c)
 request_sent-seen line home w r c =
     same_view _ _ (record {
       state = refl;
@@ -48,7 +66,8 @@ request_sent-seen line home w r c =
       owns = refl;
     })
 
-pub request_taken-seen : (line : Line) (home : Home) (w : Traffic) (i : ℕ) (r : Request) (c : ℕ) → Some r ≡ slice_get w.requests i → request_added (r.from.0 == c) r.kind (seen line home (request_taken i w) c) ≡ seen line home w c
+pub request_taken-seen : (line : Line) (home : Home) (w : Traffic) (i : ℕ) (r : Request) (c : ℕ) → Some r ≡ slice_get w.requests i →
+    request_added (r.from.0 == c) r.kind (seen line home (request_taken i w) c) ≡ seen line home w c
 request_taken-seen line home w i r c e =
     same_view _ _ (record {
       state = refl;
@@ -69,7 +88,8 @@ request_taken-seen line home w i r c e =
       owns = refl;
     })
 
-pub response_sent-seen : (line : Line) (home : Home) (w : Traffic) (x : Response) (c : ℕ) → seen line home (response_sent x w) c ≡ response_added c x (seen line home w c)
+pub response_sent-seen : (line : Line) (home : Home) (w : Traffic) (x : Response) (c : ℕ) →
+    seen line home (response_sent x w) c ≡ response_added c x (seen line home w c)
 response_sent-seen line home w x c =
     same_view _ _ (record {
       state = refl;
@@ -90,7 +110,8 @@ response_sent-seen line home w x c =
       owns = refl;
     })
 
-pub response_taken-seen : (line : Line) (home : Home) (w : Traffic) (i : ℕ) (x : Response) (c : ℕ) → Some x ≡ slice_get w.responses i → response_added c x (seen line home (response_taken i w) c) ≡ seen line home w c
+pub response_taken-seen : (line : Line) (home : Home) (w : Traffic) (i : ℕ) (x : Response) (c : ℕ) → Some x ≡ slice_get w.responses i →
+    response_added c x (seen line home (response_taken i w) c) ≡ seen line home w c
 response_taken-seen line home w i x c e =
     same_view _ _ (record {
       state = refl;
@@ -120,7 +141,8 @@ map-pushed : (l : List Forward) (m : Forward) → map (λ f. f.kind) (l ++ m ∷
 map-pushed [] m = refl
 map-pushed (f ∷ l) m = ap (λ k. f.kind ∷ k) (map-pushed l m)
 
-link-pushed : (w : Traffic) (k : ℕ) (m : Forward) (c : ℕ) → k < length w.links → map (λ f. f.kind) (link (forward_sent k m w) c) ≡ pushed (k == c) m.kind (map (λ f. f.kind) (link w c))
+link-pushed : (w : Traffic) (k : ℕ) (m : Forward) (c : ℕ) → k < length w.links →
+    map (λ f. f.kind) (link (forward_sent k m w) c) ≡ pushed (k == c) m.kind (map (λ f. f.kind) (link w c))
 link-pushed w k m c h =
     elim (cases_eq c k) [
       | inl e ↦ rw (e, eq-eqb k k refl, link-sent w k m h) (map-pushed (link w k) m)
@@ -128,7 +150,8 @@ link-pushed w k m c h =
     ]
 
 pub forward_sent-seen : (line : Line) (home : Home) (w : Traffic) (k : ℕ) (m : Forward) (c : ℕ) → k < length w.links
-    → seen line home (forward_sent k m w) c ≡ named (m.requestor.0 == c) m.kind (record (seen line home w c) { link = pushed (k == c) m.kind (seen line home w c).link })
+    → seen line home (forward_sent k m w) c ≡ named (m.requestor.0 == c) m.kind
+    (record (seen line home w c) { link = pushed (k == c) m.kind (seen line home w c).link })
 forward_sent-seen line home w k m c h =
     same_view _ _ (record {
       state = refl;
@@ -159,7 +182,8 @@ abbrev pub headed : Bool → ForwardKind → List ForwardKind → List ForwardKi
 headed true kind l = kind ∷ l
 headed false kind l = l
 
-link-headed : (w : Traffic) (k : ℕ) (m : Forward) (c : ℕ) → Some m ≡ slice_get (link w k) 0 → headed (k == c) m.kind (map (λ f. f.kind) (link (head_taken k w) c)) ≡ map (λ f. f.kind) (link w c)
+link-headed : (w : Traffic) (k : ℕ) (m : Forward) (c : ℕ) → Some m ≡ slice_get (link w k) 0 →
+    headed (k == c) m.kind (map (λ f. f.kind) (link (head_taken k w) c)) ≡ map (λ f. f.kind) (link w c)
 link-headed w k m c h =
     elim (cases_eq c k) [
       | inl e ↦ rw (e, eq-eqb k k refl, link-taken w k (link-there k m w h)) (sym (begins (link w k) m h))
@@ -167,7 +191,8 @@ link-headed w k m c h =
     ]
 
 pub head_taken-seen : (line : Line) (home : Home) (w : Traffic) (k : ℕ) (m : Forward) (c : ℕ) → Some m ≡ slice_get (link w k) 0
-    → named (m.requestor.0 == c) m.kind (record (seen line home (head_taken k w) c) { link = headed (k == c) m.kind (seen line home (head_taken k w) c).link }) ≡ seen line home w c
+    → named (m.requestor.0 == c) m.kind
+    (record (seen line home (head_taken k w) c) { link = headed (k == c) m.kind (seen line home (head_taken k w) c).link }) ≡ seen line home w c
 head_taken-seen line home w k m c h =
     same_view _ _ (record {
       state = refl;

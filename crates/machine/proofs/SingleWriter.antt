@@ -16,7 +16,8 @@ use Rattle.machine.proofs.Sound.{Sound, local-at, view-at}
 
 -- where a cache may write a block, no other may read it
 abbrev pub HasOneWriter : BlockState → Type 0
-HasOneWriter b = (i j : ℕ) (x y : Line) → Some x ≡ slice_get b.lines i → Some y ≡ slice_get b.lines j → is_writer x.state ≡ true → is_reader y.state ≡ true → i ≡ j
+HasOneWriter b =
+    (i j : ℕ) (x y : Line) → Some x ≡ slice_get b.lines i → Some y ≡ slice_get b.lines j → is_writer x.state ≡ true → is_reader y.state ≡ true → i ≡ j
 
 -- a writer holds the block, and waits for no acks
 writes : (s : CacheState) (v : View) → is_writer s ≡ true → Local s v → Holds s v × (v.invs ≡ 0)
@@ -33,7 +34,8 @@ writes SiA v w h = absurd (cc)
 writes IiA v w h = absurd (cc)
 
 -- a reader holds the block, or the home knows of it, or an Inv is on its way
-reads : (s : CacheState) (v : View) → is_reader s ≡ true → Local s v → Holds s v ⊎ HasInv v.link ⊎ ((v.shares ≡ true) × (v.fwd_gets ≡ 0) × (HasFwdGetS v.link → Never))
+reads : (s : CacheState) (v : View) → is_reader s ≡ true → Local s v →
+    Holds s v ⊎ HasInv v.link ⊎ ((v.shares ≡ true) × (v.fwd_gets ≡ 0) × (HasFwdGetS v.link → Never))
 reads I v r h = absurd (cc)
 reads IsD v r h = absurd (cc)
 reads ImAd v r h = absurd (cc)
@@ -72,7 +74,9 @@ sole-reader b c d g k h e (inr (inr known)) =
 
 pub sound-single : (n : ℕ) (b : BlockState) → Sound n b → HasOneWriter b
 sound-single n b h i j x y ex ey w r =
-    let wx : Holds x.state (seen x b.home b.traffic i) × ((seen x b.home b.traffic i).invs ≡ 0) = writes x.state (seen x b.home b.traffic i) w (local-at n b i x h ex) in
+    let wx : Holds x.state (seen x b.home b.traffic i) × ((seen x b.home b.traffic i).invs ≡ 0) =
+    writes x.state (seen x b.home b.traffic i) w (local-at n b i x h ex) in
     sole-reader (block_view b) i j h.good (counted b)
     (subst (λ v. holds v) (sym (view-at b i x ex)) wx.0) wx.1
-    (subst (λ v. holds v ⊎ HasInv v.link ⊎ ((v.shares ≡ true) × (v.fwd_gets ≡ 0) × (HasFwdGetS v.link → Never))) (sym (view-at b j y ey)) (reads y.state (seen y b.home b.traffic j) r (local-at n b j y h ey)))
+    (subst (λ v. holds v ⊎ HasInv v.link ⊎ ((v.shares ≡ true) × (v.fwd_gets ≡ 0) × (HasFwdGetS v.link → Never))) (sym (view-at b j y ey))
+    (reads y.state (seen y b.home b.traffic j) r (local-at n b j y h ey)))

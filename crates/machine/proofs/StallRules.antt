@@ -116,7 +116,8 @@ inv_serves SiA v rest l u h = grind (arith)
 inv_serves IiA v rest l u h = grind (arith)
 
 -- a FwdGetS that heads its link is served, or its line waits for an Inv-Ack, or for an earlier owner
-pub fwd_gets_serves : (s : CacheState) (v : View) (rest : List ForwardKind) → v.link ≡ FwdGetS ∷ rest → Unanswered v → Local s v → Serves (baseline_entry s event.FwdGetS) ⊎ (0 < v.invs) ⊎ (0 < v.fwd_getm)
+pub fwd_gets_serves : (s : CacheState) (v : View) (rest : List ForwardKind) → v.link ≡ FwdGetS ∷ rest → Unanswered v → Local s v →
+    Serves (baseline_entry s event.FwdGetS) ⊎ (0 < v.invs) ⊎ (0 < v.fwd_getm)
 fwd_gets_serves I v rest l u h = grind (arith)
 fwd_gets_serves IsD v rest l u h = grind (arith)
 fwd_gets_serves ImAd v rest l u h = grind (arith)
@@ -130,7 +131,8 @@ fwd_gets_serves SiA v rest l u h = grind (arith)
 fwd_gets_serves IiA v rest l u h = grind (arith)
 
 -- a FwdGetM that heads its link is served, or its line waits for an Inv-Ack, or for an earlier owner
-pub fwd_getm_serves : (s : CacheState) (v : View) (rest : List ForwardKind) → v.link ≡ FwdGetM ∷ rest → Unanswered v → Local s v → Serves (baseline_entry s event.FwdGetM) ⊎ (0 < v.invs) ⊎ (0 < v.fwd_getm)
+pub fwd_getm_serves : (s : CacheState) (v : View) (rest : List ForwardKind) → v.link ≡ FwdGetM ∷ rest → Unanswered v → Local s v →
+    Serves (baseline_entry s event.FwdGetM) ⊎ (0 < v.invs) ⊎ (0 < v.fwd_getm)
 fwd_getm_serves I v rest l u h = grind (arith)
 fwd_getm_serves IsD v rest l u h = grind (arith)
 fwd_getm_serves ImAd v rest l u h = grind (arith)

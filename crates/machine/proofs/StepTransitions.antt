@@ -44,7 +44,9 @@ use Rattle.machine.proofs.Cases.{by-test}
 line-cell : (n : ℕ) (b : BlockState) (cache : CacheId) (line : Line) (input : LineInput) (from : Origin)
     → Fine n (carried_out (by_line_entry (cache_table.baseline_entry line.state (event_at_line line.acks input)) cache line input from) b)
     → Fine n (carried_out (at_line cache_table.baseline_cells cache input from (Some line)) b)
-line-cell n b cache line input from h = subst (λ (x : CacheEntry). Fine n (carried_out (by_line_entry x cache line input from) b)) (sym (cache_cells.cell-baseline line.state (event_at_line line.acks input))) h
+line-cell n b cache line input from h =
+    subst (λ (x : CacheEntry). Fine n (carried_out (by_line_entry x cache line input from) b))
+    (sym (cache_cells.cell-baseline line.state (event_at_line line.acks input))) h
 
 -- what changes nothing and isn't blank
 still : (n : ℕ) (b : BlockState) → Sound n b → Fine n (carried_out (Refused outcome.Absent) b)
@@ -63,49 +65,74 @@ not-idle MiA e = λ x. absurd (cc)
 not-idle SiA e = λ x. absurd (cc)
 not-idle IiA e = λ x. absurd (cc)
 
-asked-fine : (n : ℕ) (b : BlockState) (cache : CacheId) (ask : Ask) (found : Option Line) → found ≡ slice_get b.lines cache.0 → Sound n b → Fine n (carried_out (at_ask cache_table.baseline_cells cache ask found) b)
+asked-fine : (n : ℕ) (b : BlockState) (cache : CacheId) (ask : Ask) (found : Option Line) → found ≡ slice_get b.lines cache.0 → Sound n b →
+    Fine n (carried_out (at_ask cache_table.baseline_cells cache ask found) b)
 asked-fine n b cache ask None e h = still n b h
-asked-fine n b cache Load (Some line) e h = line-cell n b cache line (line_input.Ask Load) origin.Core (ask-fine n b cache Load line _ h e (load_rule line.state (seen line b.home b.traffic cache.0) (local-at n b cache.0 line h e)))
-asked-fine n b cache (Store value) (Some line) e h = line-cell n b cache line (line_input.Ask (Store value)) origin.Core (ask-fine n b cache (Store value) line _ h e (store_rule line.state (seen line b.home b.traffic cache.0) (local-at n b cache.0 line h e)))
+asked-fine n b cache Load (Some line) e h =
+    line-cell n b cache line (line_input.Ask Load) origin.Core
+    (ask-fine n b cache Load line _ h e (load_rule line.state (seen line b.home b.traffic cache.0) (local-at n b cache.0 line h e)))
+asked-fine n b cache (Store value) (Some line) e h =
+    line-cell n b cache line (line_input.Ask (Store value)) origin.Core
+    (ask-fine n b cache (Store value) line _ h e (store_rule line.state (seen line b.home b.traffic cache.0) (local-at n b cache.0 line h e)))
 asked-fine n b cache Replace (Some line) e h =
-    by-test (λ t. Fine n (carried_out (if t then Refused outcome.Idle else at_line cache_table.baseline_cells cache (line_input.Ask Replace) origin.Core (Some line)) b)) (is_idle Replace line.state)
+    by-test
+    (λ t. Fine n
+    (carried_out (if t then Refused outcome.Idle else at_line cache_table.baseline_cells cache (line_input.Ask Replace) origin.Core (Some line)) b))
+    (is_idle Replace line.state)
     (λ t. record { sound = h; met = λ e. absurd (cc) })
-    (λ t. line-cell n b cache line (line_input.Ask Replace) origin.Core (ask-fine n b cache Replace line _ h e (replace_rule line.state (seen line b.home b.traffic cache.0) (not-idle line.state t) (local-at n b cache.0 line h e))))
+    (λ t. line-cell n b cache line (line_input.Ask Replace) origin.Core
+    (ask-fine n b cache Replace line _ h e
+    (replace_rule line.state (seen line b.home b.traffic cache.0) (not-idle line.state t) (local-at n b cache.0 line h e))))
 
-requested-fine : (n : ℕ) (b : BlockState) (i : ℕ) (found : Option Request) → found ≡ slice_get b.traffic.requests i → Sound n b → Fine n (carried_out (at_request directory_table.baseline_cells i b.home found) b)
+requested-fine : (n : ℕ) (b : BlockState) (i : ℕ) (found : Option Request) → found ≡ slice_get b.traffic.requests i → Sound n b →
+    Fine n (carried_out (at_request directory_table.baseline_cells i b.home found) b)
 requested-fine n b i None e h = still n b h
 requested-fine n b i (Some r) e h =
-    subst (λ (x : DirectoryEntry). Fine n (carried_out (by_home_entry x (home_input.Request r) (origin.Request i)) b)) (sym (directory_cells.cell-baseline b.home.state (event_at_home b.home.owner b.home.sharers (home_input.Request r))))
+    subst (λ (x : DirectoryEntry). Fine n (carried_out (by_home_entry x (home_input.Request r) (origin.Request i)) b))
+    (sym (directory_cells.cell-baseline b.home.state (event_at_home b.home.owner b.home.sharers (home_input.Request r))))
     (request-fine n b i r.kind r.from h e)
 
-forwarded-fine : (n : ℕ) (b : BlockState) (cache : CacheId) (m : Forward) (found : Option Line) → found ≡ slice_get b.lines cache.0 → Some m ≡ slice_get (link b.traffic cache.0) 0 → Sound n b
+forwarded-fine : (n : ℕ) (b : BlockState) (cache : CacheId) (m : Forward) (found : Option Line) → found ≡ slice_get b.lines cache.0 →
+    Some m ≡ slice_get (link b.traffic cache.0) 0 → Sound n b
     → Fine n (carried_out (at_line cache_table.baseline_cells cache (line_input.Forward m) (origin.Head cache) found) b)
 forwarded-fine n b cache m None e at h = still n b h
-forwarded-fine n b cache m (Some line) e at h = line-cell n b cache line (line_input.Forward m) (origin.Head cache) (forward-fine n b cache m.kind m.requestor line h e at)
+forwarded-fine n b cache m (Some line) e at h =
+    line-cell n b cache line (line_input.Forward m) (origin.Head cache) (forward-fine n b cache m.kind m.requestor line h e at)
 
-headed-fine : (n : ℕ) (b : BlockState) (cache : CacheId) (found : Option Forward) → found ≡ slice_get (link b.traffic cache.0) 0 → Sound n b → Fine n (carried_out (at_forward cache_table.baseline_cells cache b.lines found) b)
+headed-fine : (n : ℕ) (b : BlockState) (cache : CacheId) (found : Option Forward) → found ≡ slice_get (link b.traffic cache.0) 0 → Sound n b →
+    Fine n (carried_out (at_forward cache_table.baseline_cells cache b.lines found) b)
 headed-fine n b cache None e h = still n b h
 headed-fine n b cache (Some m) e h = forwarded-fine n b cache m (slice_get b.lines cache.0) refl e h
 
-dir-data-at : (n : ℕ) (b : BlockState) (i : ℕ) (cache : CacheId) (value acks : ℕ) (found : Option Line) → found ≡ slice_get b.lines cache.0 → Some (Data Dir (Cache cache) value acks) ≡ slice_get b.traffic.responses i → Sound n b
+dir-data-at : (n : ℕ) (b : BlockState) (i : ℕ) (cache : CacheId) (value acks : ℕ) (found : Option Line) → found ≡ slice_get b.lines cache.0 →
+    Some (Data Dir (Cache cache) value acks) ≡ slice_get b.traffic.responses i → Sound n b
     → Fine n (carried_out (at_line cache_table.baseline_cells cache (line_input.Response (Data Dir (Cache cache) value acks)) (origin.Response i) found) b)
 dir-data-at n b i cache value acks None e at h = still n b h
-dir-data-at n b i cache value acks (Some line) e at h = line-cell n b cache line (line_input.Response (Data Dir (Cache cache) value acks)) (origin.Response i) (dir-data-fine n b cache i value acks line h e at)
+dir-data-at n b i cache value acks (Some line) e at h =
+    line-cell n b cache line (line_input.Response (Data Dir (Cache cache) value acks)) (origin.Response i) (dir-data-fine n b cache i value acks line h e at)
 
-owner-data-at : (n : ℕ) (b : BlockState) (i : ℕ) (by cache : CacheId) (value acks : ℕ) (found : Option Line) → found ≡ slice_get b.lines cache.0 → Some (Data (Cache by) (Cache cache) value acks) ≡ slice_get b.traffic.responses i → Sound n b
-    → Fine n (carried_out (at_line cache_table.baseline_cells cache (line_input.Response (Data (Cache by) (Cache cache) value acks)) (origin.Response i) found) b)
+owner-data-at : (n : ℕ) (b : BlockState) (i : ℕ) (by cache : CacheId) (value acks : ℕ) (found : Option Line) → found ≡ slice_get b.lines cache.0 →
+    Some (Data (Cache by) (Cache cache) value acks) ≡ slice_get b.traffic.responses i → Sound n b
+    → Fine n
+    (carried_out (at_line cache_table.baseline_cells cache (line_input.Response (Data (Cache by) (Cache cache) value acks)) (origin.Response i) found) b)
 owner-data-at n b i by cache value acks None e at h = still n b h
-owner-data-at n b i by cache value acks (Some line) e at h = line-cell n b cache line (line_input.Response (Data (Cache by) (Cache cache) value acks)) (origin.Response i) (owner-data-fine n b by cache i value acks line h e at)
+owner-data-at n b i by cache value acks (Some line) e at h =
+    line-cell n b cache line (line_input.Response (Data (Cache by) (Cache cache) value acks)) (origin.Response i)
+    (owner-data-fine n b by cache i value acks line h e at)
 
-inv-ack-at : (n : ℕ) (b : BlockState) (i : ℕ) (by cache : CacheId) (found : Option Line) → found ≡ slice_get b.lines cache.0 → Some (InvAck by cache) ≡ slice_get b.traffic.responses i → Sound n b
+inv-ack-at : (n : ℕ) (b : BlockState) (i : ℕ) (by cache : CacheId) (found : Option Line) → found ≡ slice_get b.lines cache.0 →
+    Some (InvAck by cache) ≡ slice_get b.traffic.responses i → Sound n b
     → Fine n (carried_out (at_line cache_table.baseline_cells cache (line_input.Response (InvAck by cache)) (origin.Response i) found) b)
 inv-ack-at n b i by cache None e at h = still n b h
-inv-ack-at n b i by cache (Some line) e at h = line-cell n b cache line (line_input.Response (InvAck by cache)) (origin.Response i) (inv-ack-fine n b by cache i line h e at)
+inv-ack-at n b i by cache (Some line) e at h =
+    line-cell n b cache line (line_input.Response (InvAck by cache)) (origin.Response i) (inv-ack-fine n b by cache i line h e at)
 
-answered-fine : (n : ℕ) (b : BlockState) (i : ℕ) (found : Option Response) → found ≡ slice_get b.traffic.responses i → Sound n b → Fine n (carried_out (at_response baseline i b found) b)
+answered-fine : (n : ℕ) (b : BlockState) (i : ℕ) (found : Option Response) → found ≡ slice_get b.traffic.responses i → Sound n b →
+    Fine n (carried_out (at_response baseline i b found) b)
 answered-fine n b i None e h = still n b h
 answered-fine n b i (Some (Data by Dir value acks)) e h =
-    subst (λ (x : DirectoryEntry). Fine n (carried_out (by_home_entry x (home_input.Data value) (origin.Response i)) b)) (sym (directory_cells.cell-baseline b.home.state (event_at_home b.home.owner b.home.sharers (home_input.Data value))))
+    subst (λ (x : DirectoryEntry). Fine n (carried_out (by_home_entry x (home_input.Data value) (origin.Response i)) b))
+    (sym (directory_cells.cell-baseline b.home.state (event_at_home b.home.owner b.home.sharers (home_input.Data value))))
     (data-fine n b i by value acks h e)
 answered-fine n b i (Some (Data Dir (Cache cache) value acks)) e h = dir-data-at n b i cache value acks (slice_get b.lines cache.0) refl e h
 answered-fine n b i (Some (Data (Cache by) (Cache cache) value acks)) e h = owner-data-at n b i by cache value acks (slice_get b.lines cache.0) refl e h

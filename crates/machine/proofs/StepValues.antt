@@ -50,68 +50,98 @@ use Rattle.machine.proofs.Cases.{by-test}
 line-cell : (b : BlockState) (cache : CacheId) (line : Line) (input : LineInput) (from : Origin)
     → Right b (carried_out (by_line_entry (cache_table.baseline_entry line.state (event_at_line line.acks input)) cache line input from) b)
     → Right b (carried_out (at_line cache_table.baseline_cells cache input from (Some line)) b)
-line-cell b cache line input from h = subst (λ (x : CacheEntry). Right b (carried_out (by_line_entry x cache line input from) b)) (sym (cache_cells.cell-baseline line.state (event_at_line line.acks input))) h
+line-cell b cache line input from h =
+    subst (λ (x : CacheEntry). Right b (carried_out (by_line_entry x cache line input from) b))
+    (sym (cache_cells.cell-baseline line.state (event_at_line line.acks input))) h
 
 still : (b : BlockState) → Valued b → Right b (carried_out (Refused outcome.Absent) b)
 still b v = record { valued = v; fits = refl }
 
-asked-right : (n : ℕ) (b : BlockState) (cache : CacheId) (ask : Ask) (found : Option Line) → found ≡ slice_get b.lines cache.0 → Sound n b → Valued b → Right b (carried_out (at_ask cache_table.baseline_cells cache ask found) b)
+asked-right : (n : ℕ) (b : BlockState) (cache : CacheId) (ask : Ask) (found : Option Line) → found ≡ slice_get b.lines cache.0 → Sound n b →
+    Valued b → Right b (carried_out (at_ask cache_table.baseline_cells cache ask found) b)
 asked-right n b cache ask None e h v = still b v
 asked-right n b cache Load (Some line) e h v =
     let view : View = seen line b.home b.traffic cache.0 in
     let local : Local line.state view = local-at n b cache.0 line h e in
     line-cell b cache line (line_input.Ask Load) origin.Core
-    (ask-right n b cache Load line (baseline_entry line.state event.Load) v e (load_rule line.state view local) (put_rule line.state event.Load view local) (load_settles line.state view line.value line.acks line.pending b.latest (value-at b cache.0 line v e) (waits-at b cache.0 line v e))
+    (ask-right n b cache Load line (baseline_entry line.state event.Load) v e (load_rule line.state view local)
+    (put_rule line.state event.Load view local)
+    (load_settles line.state view line.value line.acks line.pending b.latest (value-at b cache.0 line v e) (waits-at b cache.0 line v e))
     (ask-fine n b cache Load line (baseline_entry line.state event.Load) h e (load_rule line.state view local)).sound)
 asked-right n b cache (Store value) (Some line) e h v =
     let view : View = seen line b.home b.traffic cache.0 in
     let local : Local line.state view = local-at n b cache.0 line h e in
     line-cell b cache line (line_input.Ask (Store value)) origin.Core
-    (ask-right n b cache (Store value) line (baseline_entry line.state event.Store) v e (store_rule line.state view local) (put_rule line.state event.Store view local) (store_settles line.state value view line.value line.acks line.pending b.latest (value-at b cache.0 line v e) (waits-at b cache.0 line v e))
+    (ask-right n b cache (Store value) line (baseline_entry line.state event.Store) v e (store_rule line.state view local)
+    (put_rule line.state event.Store view local)
+    (store_settles line.state value view line.value line.acks line.pending b.latest (value-at b cache.0 line v e) (waits-at b cache.0 line v e))
     (ask-fine n b cache (Store value) line (baseline_entry line.state event.Store) h e (store_rule line.state view local)).sound)
 asked-right n b cache Replace (Some line) e h v =
     let view : View = seen line b.home b.traffic cache.0 in
     let local : Local line.state view = local-at n b cache.0 line h e in
-    by-test (λ t. Right b (carried_out (if t then Refused outcome.Idle else at_line cache_table.baseline_cells cache (line_input.Ask Replace) origin.Core (Some line)) b)) (is_idle Replace line.state)
+    by-test
+    (λ t. Right b
+    (carried_out (if t then Refused outcome.Idle else at_line cache_table.baseline_cells cache (line_input.Ask Replace) origin.Core (Some line)) b))
+    (is_idle Replace line.state)
     (λ t. record { valued = v; fits = refl })
     (λ t. line-cell b cache line (line_input.Ask Replace) origin.Core
-    (ask-right n b cache Replace line (baseline_entry line.state event.Replacement) v e (replace_rule line.state view (not-idle line.state t) local) (put_rule line.state event.Replacement view local) (replace_settles line.state view line.value line.acks line.pending b.latest (value-at b cache.0 line v e) (waits-at b cache.0 line v e))
+    (ask-right n b cache Replace line (baseline_entry line.state event.Replacement) v e (replace_rule line.state view (not-idle line.state t) local)
+    (put_rule line.state event.Replacement view local)
+    (replace_settles line.state view line.value line.acks line.pending b.latest (value-at b cache.0 line v e) (waits-at b cache.0 line v e))
     (ask-fine n b cache Replace line (baseline_entry line.state event.Replacement) h e (replace_rule line.state view (not-idle line.state t) local)).sound))
 
-requested-right : (n : ℕ) (b : BlockState) (i : ℕ) (found : Option Request) → found ≡ slice_get b.traffic.requests i → Sound n b → Valued b → Right b (carried_out (at_request directory_table.baseline_cells i b.home found) b)
+requested-right : (n : ℕ) (b : BlockState) (i : ℕ) (found : Option Request) → found ≡ slice_get b.traffic.requests i → Sound n b → Valued b →
+    Right b (carried_out (at_request directory_table.baseline_cells i b.home found) b)
 requested-right n b i None e h v = still b v
 requested-right n b i (Some r) e h v =
-    subst (λ (x : DirectoryEntry). Right b (carried_out (by_home_entry x (home_input.Request r) (origin.Request i)) b)) (sym (directory_cells.cell-baseline b.home.state (event_at_home b.home.owner b.home.sharers (home_input.Request r))))
+    subst (λ (x : DirectoryEntry). Right b (carried_out (by_home_entry x (home_input.Request r) (origin.Request i)) b))
+    (sym (directory_cells.cell-baseline b.home.state (event_at_home b.home.owner b.home.sharers (home_input.Request r))))
     (request-right n b i r.kind r.from h v e)
 
-forwarded-right : (n : ℕ) (b : BlockState) (cache : CacheId) (m : Forward) (found : Option Line) → found ≡ slice_get b.lines cache.0 → Some m ≡ slice_get (link b.traffic cache.0) 0 → Sound n b → Valued b
+forwarded-right : (n : ℕ) (b : BlockState) (cache : CacheId) (m : Forward) (found : Option Line) → found ≡ slice_get b.lines cache.0 →
+    Some m ≡ slice_get (link b.traffic cache.0) 0 → Sound n b → Valued b
     → Right b (carried_out (at_line cache_table.baseline_cells cache (line_input.Forward m) (origin.Head cache) found) b)
 forwarded-right n b cache m None e at h v = still b v
-forwarded-right n b cache m (Some line) e at h v = line-cell b cache line (line_input.Forward m) (origin.Head cache) (forward-right n b cache m.kind m.requestor line h v e at (forward-fine n b cache m.kind m.requestor line h e at).sound)
+forwarded-right n b cache m (Some line) e at h v =
+    line-cell b cache line (line_input.Forward m) (origin.Head cache)
+    (forward-right n b cache m.kind m.requestor line h v e at (forward-fine n b cache m.kind m.requestor line h e at).sound)
 
-headed-right : (n : ℕ) (b : BlockState) (cache : CacheId) (found : Option Forward) → found ≡ slice_get (link b.traffic cache.0) 0 → Sound n b → Valued b → Right b (carried_out (at_forward cache_table.baseline_cells cache b.lines found) b)
+headed-right : (n : ℕ) (b : BlockState) (cache : CacheId) (found : Option Forward) → found ≡ slice_get (link b.traffic cache.0) 0 → Sound n b →
+    Valued b → Right b (carried_out (at_forward cache_table.baseline_cells cache b.lines found) b)
 headed-right n b cache None e h v = still b v
 headed-right n b cache (Some m) e h v = forwarded-right n b cache m (slice_get b.lines cache.0) refl e h v
 
-dir-data-at : (n : ℕ) (b : BlockState) (i : ℕ) (cache : CacheId) (value acks : ℕ) (found : Option Line) → found ≡ slice_get b.lines cache.0 → Some (Data Dir (Cache cache) value acks) ≡ slice_get b.traffic.responses i → Sound n b → Valued b
+dir-data-at : (n : ℕ) (b : BlockState) (i : ℕ) (cache : CacheId) (value acks : ℕ) (found : Option Line) → found ≡ slice_get b.lines cache.0 →
+    Some (Data Dir (Cache cache) value acks) ≡ slice_get b.traffic.responses i → Sound n b → Valued b
     → Right b (carried_out (at_line cache_table.baseline_cells cache (line_input.Response (Data Dir (Cache cache) value acks)) (origin.Response i) found) b)
 dir-data-at n b i cache value acks None e at h v = still b v
-dir-data-at n b i cache value acks (Some line) e at h v = line-cell b cache line (line_input.Response (Data Dir (Cache cache) value acks)) (origin.Response i) (dir-data-right n b cache i value acks line h v e at (dir-data-fine n b cache i value acks line h e at).sound)
+dir-data-at n b i cache value acks (Some line) e at h v =
+    line-cell b cache line (line_input.Response (Data Dir (Cache cache) value acks)) (origin.Response i)
+    (dir-data-right n b cache i value acks line h v e at (dir-data-fine n b cache i value acks line h e at).sound)
 
-owner-data-at : (n : ℕ) (b : BlockState) (i : ℕ) (by cache : CacheId) (value acks : ℕ) (found : Option Line) → found ≡ slice_get b.lines cache.0 → Some (Data (Cache by) (Cache cache) value acks) ≡ slice_get b.traffic.responses i → Sound n b → Valued b
-    → Right b (carried_out (at_line cache_table.baseline_cells cache (line_input.Response (Data (Cache by) (Cache cache) value acks)) (origin.Response i) found) b)
+owner-data-at : (n : ℕ) (b : BlockState) (i : ℕ) (by cache : CacheId) (value acks : ℕ) (found : Option Line) → found ≡ slice_get b.lines cache.0 →
+    Some (Data (Cache by) (Cache cache) value acks) ≡ slice_get b.traffic.responses i → Sound n b → Valued b
+    → Right b
+    (carried_out (at_line cache_table.baseline_cells cache (line_input.Response (Data (Cache by) (Cache cache) value acks)) (origin.Response i) found) b)
 owner-data-at n b i by cache value acks None e at h v = still b v
-owner-data-at n b i by cache value acks (Some line) e at h v = line-cell b cache line (line_input.Response (Data (Cache by) (Cache cache) value acks)) (origin.Response i) (owner-data-right n b by cache i value acks line h v e at (owner-data-fine n b by cache i value acks line h e at).sound)
+owner-data-at n b i by cache value acks (Some line) e at h v =
+    line-cell b cache line (line_input.Response (Data (Cache by) (Cache cache) value acks)) (origin.Response i)
+    (owner-data-right n b by cache i value acks line h v e at (owner-data-fine n b by cache i value acks line h e at).sound)
 
-inv-ack-at : (n : ℕ) (b : BlockState) (i : ℕ) (by cache : CacheId) (found : Option Line) → found ≡ slice_get b.lines cache.0 → Some (InvAck by cache) ≡ slice_get b.traffic.responses i → Sound n b → Valued b
+inv-ack-at : (n : ℕ) (b : BlockState) (i : ℕ) (by cache : CacheId) (found : Option Line) → found ≡ slice_get b.lines cache.0 →
+    Some (InvAck by cache) ≡ slice_get b.traffic.responses i → Sound n b → Valued b
     → Right b (carried_out (at_line cache_table.baseline_cells cache (line_input.Response (InvAck by cache)) (origin.Response i) found) b)
 inv-ack-at n b i by cache None e at h v = still b v
-inv-ack-at n b i by cache (Some line) e at h v = line-cell b cache line (line_input.Response (InvAck by cache)) (origin.Response i) (inv-ack-right n b by cache i line h v e (inv-ack-fine n b by cache i line h e at).sound)
+inv-ack-at n b i by cache (Some line) e at h v =
+    line-cell b cache line (line_input.Response (InvAck by cache)) (origin.Response i)
+    (inv-ack-right n b by cache i line h v e (inv-ack-fine n b by cache i line h e at).sound)
 
-answered-right : (n : ℕ) (b : BlockState) (i : ℕ) (found : Option Response) → found ≡ slice_get b.traffic.responses i → Sound n b → Valued b → Right b (carried_out (at_response baseline i b found) b)
+answered-right : (n : ℕ) (b : BlockState) (i : ℕ) (found : Option Response) → found ≡ slice_get b.traffic.responses i → Sound n b → Valued b →
+    Right b (carried_out (at_response baseline i b found) b)
 answered-right n b i None e h v = still b v
 answered-right n b i (Some (Data by Dir value acks)) e h v =
-    subst (λ (x : DirectoryEntry). Right b (carried_out (by_home_entry x (home_input.Data value) (origin.Response i)) b)) (sym (directory_cells.cell-baseline b.home.state (event_at_home b.home.owner b.home.sharers (home_input.Data value))))
+    subst (λ (x : DirectoryEntry). Right b (carried_out (by_home_entry x (home_input.Data value) (origin.Response i)) b))
+    (sym (directory_cells.cell-baseline b.home.state (event_at_home b.home.owner b.home.sharers (home_input.Data value))))
     (data-right n b i by value acks h v e)
 answered-right n b i (Some (Data Dir (Cache cache) value acks)) e h v = dir-data-at n b i cache value acks (slice_get b.lines cache.0) refl e h v
 answered-right n b i (Some (Data (Cache by) (Cache cache) value acks)) e h v = owner-data-at n b i by cache value acks (slice_get b.lines cache.0) refl e h v

@@ -63,13 +63,17 @@ line_in state value acks p = record { state = state; value = value; acks = acks;
 abbrev pub SettleRule : LineInput → ℕ → ℤ → Option Ask → ℕ → CacheEntry → Type 0
 SettleRule input value acks p latest Blank = Unit {0}
 SettleRule input value acks p latest Stall = Unit {0}
-SettleRule input value acks p latest (Act next actions) = Settles next latest (after_settling input (settled input (line_in next value acks p)) (line_in next value acks p)) (settled input (line_in next value acks p))
+SettleRule input value acks p latest (Act next actions) =
+    Settles next latest (after_settling input (settled input (line_in next value acks p)) (line_in next value acks p))
+    (settled input (line_in next value acks p))
 
 -- a delivery settles what is pending
 abbrev pub DeliverRule : ℕ → ℤ → Option Ask → ℕ → CacheEntry → Type 0
 DeliverRule value acks p latest Blank = Unit {0}
 DeliverRule value acks p latest Stall = Unit {0}
-DeliverRule value acks p latest (Act next actions) = Settles next latest (after_message (pending_completed p (line_in next value acks p)) (line_in next value acks p)) (pending_completed p (line_in next value acks p))
+DeliverRule value acks p latest (Act next actions) =
+    Settles next latest (after_message (pending_completed p (line_in next value acks p)) (line_in next value acks p))
+    (pending_completed p (line_in next value acks p))
 
 -- who serves a forward has the latest value
 abbrev pub ValueRule : CacheState → View → CacheEntry → Type 0
@@ -77,7 +81,8 @@ ValueRule s v Blank = Unit {0}
 ValueRule s v Stall = Unit {0}
 ValueRule s v (Act next actions) = HasValue s v
 
-pub fwd_gets_value : (s : CacheState) (v : View) (rest : List ForwardKind) → v.link ≡ FwdGetS ∷ rest → Local s v → ValueRule s v (baseline_entry s event.FwdGetS)
+pub fwd_gets_value : (s : CacheState) (v : View) (rest : List ForwardKind) → v.link ≡ FwdGetS ∷ rest → Local s v →
+    ValueRule s v (baseline_entry s event.FwdGetS)
 fwd_gets_value I v rest l h = grind (arith)
 fwd_gets_value IsD v rest l h = grind (arith)
 fwd_gets_value ImAd v rest l h = grind (arith)
@@ -90,7 +95,8 @@ fwd_gets_value MiA v rest l h = grind (arith)
 fwd_gets_value SiA v rest l h = grind (arith)
 fwd_gets_value IiA v rest l h = grind (arith)
 
-pub fwd_getm_value : (s : CacheState) (v : View) (rest : List ForwardKind) → v.link ≡ FwdGetM ∷ rest → Local s v → ValueRule s v (baseline_entry s event.FwdGetM)
+pub fwd_getm_value : (s : CacheState) (v : View) (rest : List ForwardKind) → v.link ≡ FwdGetM ∷ rest → Local s v →
+    ValueRule s v (baseline_entry s event.FwdGetM)
 fwd_getm_value I v rest l h = grind (arith)
 fwd_getm_value IsD v rest l h = grind (arith)
 fwd_getm_value ImAd v rest l h = grind (arith)

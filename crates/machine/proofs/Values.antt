@@ -1,5 +1,6 @@
 -- The invariant of a block's values.
-use Rattle.std.proofs.Common.{◌≡◌, ℕ, ◌<◌, ◌+◌, List, [], ◌∷◌, ◌++◌, ◌⊎◌, inl, inr, remove, refl, ap, sym, subst, ◌∙◌, zero, suc, arith, Some, ◌==◌, slice_get, sum_by, eq-eqb}
+use Rattle.std.proofs.Common.{◌≡◌, ℕ, ◌<◌, ◌+◌, List, [], ◌∷◌, ◌++◌, ◌⊎◌, inl, inr, remove, refl, ap, sym, subst, ◌∙◌, zero, suc, arith, Some, ◌==◌}
+use Rattle.std.proofs.Common.{slice_get, sum_by, eq-eqb}
 use Rattle.std.proofs.lemmas.Bool.{cases_eq}
 use Rattle.std.proofs.lemmas.List.Sums.{sum_by-cons}
 use Rattle.base.specs.declared.ids.CacheId.{CacheId}
@@ -75,9 +76,11 @@ puts-removed latest c [] (suc i) h = tt
 puts-removed latest c (y ∷ ys) zero h = h.1
 puts-removed latest c (y ∷ ys) (suc i) h = (h.0, puts-removed latest c ys i h.1)
 
-pub puts-read : (latest c : ℕ) (rs : List Request) (i : ℕ) (kind : RequestKind) (by : CacheId) → PutsCarry latest c rs → Some (record { kind = kind; from = by }) ≡ slice_get rs i → PutOne latest c kind by
+pub puts-read : (latest c : ℕ) (rs : List Request) (i : ℕ) (kind : RequestKind) (by : CacheId) → PutsCarry latest c rs →
+    Some (record { kind = kind; from = by }) ≡ slice_get rs i → PutOne latest c kind by
 puts-read latest c [] i kind by h e = absurd (cc)
-puts-read latest c (y ∷ ys) zero kind by h e = let s : y ≡ record { kind = kind; from = by } = cc in subst (λ (z : Request). PutOne latest c z.kind z.from) s h.0
+puts-read latest c (y ∷ ys) zero kind by h e =
+    let s : y ≡ record { kind = kind; from = by } = cc in subst (λ (z : Request). PutOne latest c z.kind z.from) s h.0
 puts-read latest c (y ∷ ys) (suc i) kind by h e = puts-read latest c ys i kind by h.1 e
 
 put-none : (latest c : ℕ) (kind : RequestKind) (by : CacheId) → only (by.0 == c) (is_putm kind) ≡ 0 → PutOne latest c kind by
@@ -89,7 +92,11 @@ put-none latest c (request.PutM value) by e = λ x. absurd (omega (arith, e, ap 
 -- without PutMs there is nothing to carry
 pub puts-none : (latest c : ℕ) (rs : List Request) → sum_by (from c is_putm) rs ≡ 0 → PutsCarry latest c rs
 puts-none latest c [] e = tt
-puts-none latest c (r ∷ rs) e = (put-none latest c r.kind r.from (omega (arith, sum_by-cons (from c is_putm) r rs)), puts-none latest c rs (omega (arith, sum_by-cons (from c is_putm) r rs)))
+puts-none latest c (r ∷ rs) e = (
+  put-none latest c r.kind r.from (omega (arith, sum_by-cons (from c is_putm) r rs)),
+  puts-none latest c rs
+      (omega (arith, sum_by-cons (from c is_putm) r rs)),
+)
 
 -- without Data either
 data-none : (latest : ℕ) (x : Response) → home_data x ≡ 0 → ((d : ℕ) → dir_data d x ≡ 0) → ((d : ℕ) → owner_data d x ≡ 0) → CarriesOne latest x
@@ -99,11 +106,14 @@ data-none latest (Data Dir (Cache to) value acks) h p q = absurd (omega (arith, 
 data-none latest (Data (Cache by) (Cache to) value acks) h p q = absurd (omega (arith, q to.0, ap (λ t. only t 1) (eq-eqb to.0 to.0 refl)))
 data-none latest (InvAck by to) h p q = tt
 
-carries-none : (latest : ℕ) (xs : List Response) → sum_by home_data xs ≡ 0 → ((d : ℕ) → sum_by (dir_data d) xs ≡ 0) → ((d : ℕ) → sum_by (owner_data d) xs ≡ 0) → Carries latest xs
+carries-none : (latest : ℕ) (xs : List Response) → sum_by home_data xs ≡ 0 → ((d : ℕ) → sum_by (dir_data d) xs ≡ 0) →
+    ((d : ℕ) → sum_by (owner_data d) xs ≡ 0) → Carries latest xs
 carries-none latest [] h p q = tt
 carries-none latest (x ∷ xs) h p q = (
-  data-none latest x (omega (arith, sum_by-cons home_data x xs)) (λ d. omega (arith, p d, sum_by-cons (dir_data d) x xs)) (λ d. omega (arith, q d, sum_by-cons (owner_data d) x xs)),
-  carries-none latest xs (omega (arith, sum_by-cons home_data x xs)) (λ d. omega (arith, p d, sum_by-cons (dir_data d) x xs)) (λ d. omega (arith, q d, sum_by-cons (owner_data d) x xs)),
+  data-none latest x (omega (arith, sum_by-cons home_data x xs)) (λ d. omega (arith, p d, sum_by-cons (dir_data d) x xs))
+      (λ d. omega (arith, q d, sum_by-cons (owner_data d) x xs)),
+  carries-none latest xs (omega (arith, sum_by-cons home_data x xs)) (λ d. omega (arith, p d, sum_by-cons (dir_data d) x xs))
+      (λ d. omega (arith, q d, sum_by-cons (owner_data d) x xs)),
 )
 
 writer : (s : CacheState) (v : View) → s ≡ M → Local s v → Holds s v × (v.invs ≡ 0) × (v.dir_data ≡ 0) × (v.owner_data ≡ 0)
@@ -113,12 +123,15 @@ put-holds : (s : CacheState) (v : View) → s ≡ MiA → 0 < v.putm → Local s
 put-holds s v e p h = grind (arith)
 
 -- where a writer has the latest value, nothing else matters
-pub fresh : (n : ℕ) (b : BlockState) (c : ℕ) → Sound n b → (line_of b.lines c).state ≡ M → (line_of b.lines c).value ≡ b.latest → ((d : ℕ) → Waits (line_of b.lines d).state (line_of b.lines d).pending) → Valued b
+pub fresh : (n : ℕ) (b : BlockState) (c : ℕ) → Sound n b → (line_of b.lines c).state ≡ M → (line_of b.lines c).value ≡ b.latest →
+    ((d : ℕ) → Waits (line_of b.lines d).state (line_of b.lines d).pending) → Valued b
 fresh n b c h e is_latest waits =
     let g : Good (block_view b) = h.good in
-    let w : Holds (line_of b.lines c).state (view_of b c) × ((view_of b c).invs ≡ 0) × ((view_of b c).dir_data ≡ 0) × ((view_of b c).owner_data ≡ 0) = writer (line_of b.lines c).state (view_of b c) e (g.each c) in
+    let w : Holds (line_of b.lines c).state (view_of b c) × ((view_of b c).invs ≡ 0) × ((view_of b c).dir_data ≡ 0) × ((view_of b c).owner_data ≡ 0) =
+    writer (line_of b.lines c).state (view_of b c) e (g.each c) in
     let sole : (d : ℕ) → Reads (line_of b.lines d).state (view_of b d) → c ≡ d = λ d p. sole-reader (block_view b) c d g (counted b) w.0 w.1 p in
-    let quiet : (d : ℕ) → (view_of b d).dir_data + (view_of b d).owner_data ≡ 0 = λ d. elim (cases_eq ((view_of b d).dir_data + (view_of b d).owner_data) 0) as (λ _. (view_of b d).dir_data + (view_of b d).owner_data ≡ 0) [
+    let quiet : (d : ℕ) → (view_of b d).dir_data + (view_of b d).owner_data ≡ 0 =
+    λ d. elim (cases_eq ((view_of b d).dir_data + (view_of b d).owner_data) 0) as (λ _. (view_of b d).dir_data + (view_of b d).owner_data ≡ 0) [
       | inl z ↦ z
       | inr ne ↦
           let same : c ≡ d = sole d (data_reads (line_of b.lines d).state (view_of b d) (omega (arith, ne)) (g.each d)) in

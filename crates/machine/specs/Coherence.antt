@@ -34,7 +34,8 @@ abbrev pub Explained : List ℕ → List Completion → Type 0
 Explained opening done =
     (before rest : List Completion) (c : Completion) → done ≡ before ++ c ∷ rest → c.access ≡ load → due opening before c.block ≡ Some c.value
 
--- steps from an opened world are safe: after every front of them each block has one writer or many readers, none of them meets a blank cell where it stands, and all their loads are explained
+-- steps from an opened world are safe: after every front of them each block has one writer or many readers, none of them meets a blank cell where it
+-- stands, and all their loads are explained
 pub record Safe (shape : Extent) (tables : Tables) (opening : List ℕ) (steps : List Step) : Type 0 where
   pub single : (front rest : List Step) → steps ≡ front ++ rest → Single (after tables (opened shape opening) front).state
   pub unmet : (front rest : List Step) (step : Step) → steps ≡ front ++ step ∷ rest → ¬ Met tables (after tables (opened shape opening) front).state step

@@ -68,7 +68,8 @@ early_ack = load 0 ∷ request 0 ∷ store 1 5 ∷ request 0 ∷ forward 0 ∷ r
 
 -- then the owner waits for one ack less than none, and the Data that announces one ack completes its store
 pub record EarlyAck : Type 0 where
-  pub acks : option_and_then (λ b. option_map (λ line. line.acks) (slice_get b.lines 1)) (slice_get (state_after baseline two_caches early_ack).blocks 0) ≡ Some (negsuc 0)
+  pub acks : option_and_then (λ b. option_map (λ line. line.acks) (slice_get b.lines 1))
+      (slice_get (state_after baseline two_caches early_ack).blocks 0) ≡ Some (negsuc 0)
   pub outcomes : Gives
       (load 0 ∷ request 0 ∷ store 1 5 ∷ request 0 ∷ forward 0 ∷ response 0 ∷ forward 0 ∷ response 1 ∷ response 0 ∷ [])
       (Sent ∷ Moved ∷ Sent ∷ Moved ∷ Held ∷ Load (cache 0) 0 ∷ Moved ∷ Moved ∷ Store (cache 1) 5 ∷ [])

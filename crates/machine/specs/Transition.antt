@@ -86,8 +86,10 @@ at_forward cells cache lines (Some f) = at_line cells cache (line_input.Forward 
 abbrev pub at_response : Tables → ℕ → BlockState → Option Response → Decision
 at_response tables index b None = Refused outcome.Absent
 at_response tables index b (Some (Data from Dir value acks)) = at_home tables.directory (home_input.Data value) (origin.Response index) b.home
-at_response tables index b (Some (Data from (Cache to) value acks)) = at_line tables.cache to (line_input.Response (Data from (Cache to) value acks)) (origin.Response index) (slice_get b.lines to.0)
-at_response tables index b (Some (InvAck from to)) = at_line tables.cache to (line_input.Response (InvAck from to)) (origin.Response index) (slice_get b.lines to.0)
+at_response tables index b (Some (Data from (Cache to) value acks)) =
+    at_line tables.cache to (line_input.Response (Data from (Cache to) value acks)) (origin.Response index) (slice_get b.lines to.0)
+at_response tables index b (Some (InvAck from to)) =
+    at_line tables.cache to (line_input.Response (InvAck from to)) (origin.Response index) (slice_get b.lines to.0)
 
 -- what a step comes to at its block
 abbrev pub decision_of : Tables → Step → BlockState → Decision

@@ -8,7 +8,8 @@ ghost use Rattle.machine.specs.Tables.{Tables, baseline};
 ghost use Rattle.machine.specs.Coherence.{Safe};
 ghost use Rattle.machine.specs.Unstuck.{Unstuck};
 ghost use Rattle.machine.specs.CoherenceRows.{StoreThenLoad, StaleLoadIsRefused, EarlyLoadIsRefused, OneWriterOrManyReaders};
-ghost use Rattle.machine.specs.WrongTables.{HastyReaderIsUnsafe, HastyLoadIsUnsafe, BlankCacheIsUnsafe, HastyWriterIsUnsafe, SecondWriterIsUnsafe, DroppedValueIsUnsafe, BlankDirectoryIsUnsafe, DeafSharerIsStuck};
+ghost use Rattle.machine.specs.WrongTables.{HastyReaderIsUnsafe, HastyLoadIsUnsafe, BlankCacheIsUnsafe, HastyWriterIsUnsafe, SecondWriterIsUnsafe};
+ghost use Rattle.machine.specs.WrongTables.{DroppedValueIsUnsafe, BlankDirectoryIsUnsafe, DeafSharerIsStuck};
 ghost use Rattle.machine.specs.Block.{BlockState, IsBlockAmong};
 ghost use Rattle.machine.specs.Transition.{decision_of, decided_outcome, messages_of, transition};
 ghost use Rattle.machine.specs.Machine.{State, IsRefusal, next, opened, after, sent_by};
@@ -30,7 +31,8 @@ pub fn outcome_is_the_decisions()
 
 /// A block stays whole: it keeps a line and a link for each cache, and nobody else is named in it.
 pub fn blocks_stay_whole()
-    ensures { (caches : ℕ) (tables : Tables) (step : Step) (block : BlockState) → IsBlockAmong caches block → IsBlockAmong caches (transition tables step block).block }
+    ensures { (caches : ℕ) (tables : Tables) (step : Step) (block : BlockState) → IsBlockAmong caches block →
+        IsBlockAmong caches (transition tables step block).block }
 {}
 
 /// A step that is held, absent, idle, blank or made in a broken world sends nothing.
@@ -62,11 +64,13 @@ pub fn wrong_tables_are_refused()
 /// writer or many readers, no step meets a blank cell, and each load returns the value of the last
 /// store to its block, or the opening value.
 pub fn safe()
-    ensures { (shape : Extent) (opening : List ℕ) (steps : List Step) → IsWithinLimits shape → length opening ≡ shape.blocks → Safe shape baseline opening steps }
+    ensures { (shape : Extent) (opening : List ℕ) (steps : List Step) → IsWithinLimits shape → length opening ≡ shape.blocks →
+        Safe shape baseline opening steps }
 {}
 
 /// Nor does such a run ever get stuck: in each state that it reaches a block with messages on their
 /// way has one that can be delivered, and in a block without any no ask waits and none is held.
 pub fn unstuck()
-    ensures { (shape : Extent) (opening : List ℕ) (steps : List Step) → IsWithinLimits shape → length opening ≡ shape.blocks → Unstuck baseline (after baseline (opened shape opening) steps).state }
+    ensures { (shape : Extent) (opening : List ℕ) (steps : List Step) → IsWithinLimits shape → length opening ≡ shape.blocks →
+        Unstuck baseline (after baseline (opened shape opening) steps).state }
 {}

@@ -50,27 +50,34 @@ outcome-decided (AtLine cache line input next actions from) b = refl
 outcome-decided (AtHome input next actions from) b = refl
 
 -- a blank cell of a line is that of a cache that is there
-line-blank : (cells : cache_table.Cells) (cache : CacheId) (input : LineInput) (from : Origin) (line : Option Line) → decided_outcome (at_line cells cache input from line) ≡ outcome.Blank → IsSome (cache_place cache line)
+line-blank : (cells : cache_table.Cells) (cache : CacheId) (input : LineInput) (from : Origin) (line : Option Line) →
+    decided_outcome (at_line cells cache input from line) ≡ outcome.Blank → IsSome (cache_place cache line)
 line-blank cells cache input from None e = cc
 line-blank cells cache input from (Some line) e = refl
 
-ask-blank : (cells : cache_table.Cells) (cache : CacheId) (a : Ask) (line : Option Line) → decided_outcome (at_ask cells cache a line) ≡ outcome.Blank → IsSome (cache_place cache line)
+ask-blank : (cells : cache_table.Cells) (cache : CacheId) (a : Ask) (line : Option Line) →
+    decided_outcome (at_ask cells cache a line) ≡ outcome.Blank → IsSome (cache_place cache line)
 ask-blank cells cache a None e = cc
 ask-blank cells cache a (Some line) e = refl
 
-request-blank : (tables : Tables) (b : BlockState) (index : ℕ) (r : Option Request) → decided_outcome (at_request tables.directory index b.home r) ≡ outcome.Blank → IsSome (request_place r)
+request-blank : (tables : Tables) (b : BlockState) (index : ℕ) (r : Option Request) →
+    decided_outcome (at_request tables.directory index b.home r) ≡ outcome.Blank → IsSome (request_place r)
 request-blank tables b index None e = cc
 request-blank tables b index (Some r) e = refl
 
-forward-blank : (tables : Tables) (b : BlockState) (cache : CacheId) (f : Option Forward) → decided_outcome (at_forward tables.cache cache b.lines f) ≡ outcome.Blank → IsSome (forward_place cache (slice_get b.lines cache.0) f)
+forward-blank : (tables : Tables) (b : BlockState) (cache : CacheId) (f : Option Forward) →
+    decided_outcome (at_forward tables.cache cache b.lines f) ≡ outcome.Blank → IsSome (forward_place cache (slice_get b.lines cache.0) f)
 forward-blank tables b cache None e = cc
 forward-blank tables b cache (Some f) e = line-blank tables.cache cache (line_input.Forward f) (origin.Head cache) (slice_get b.lines cache.0) e
 
-response-blank : (tables : Tables) (b : BlockState) (index : ℕ) (r : Option Response) → decided_outcome (at_response tables index b r) ≡ outcome.Blank → IsSome (response_place b.lines r)
+response-blank : (tables : Tables) (b : BlockState) (index : ℕ) (r : Option Response) →
+    decided_outcome (at_response tables index b r) ≡ outcome.Blank → IsSome (response_place b.lines r)
 response-blank tables b index None e = cc
 response-blank tables b index (Some (Data from Dir value acks)) e = refl
-response-blank tables b index (Some (Data from (Cache to) value acks)) e = line-blank tables.cache to (line_input.Response (Data from (Cache to) value acks)) (origin.Response index) (slice_get b.lines to.0) e
-response-blank tables b index (Some (InvAck from to)) e = line-blank tables.cache to (line_input.Response (InvAck from to)) (origin.Response index) (slice_get b.lines to.0) e
+response-blank tables b index (Some (Data from (Cache to) value acks)) e =
+    line-blank tables.cache to (line_input.Response (Data from (Cache to) value acks)) (origin.Response index) (slice_get b.lines to.0) e
+response-blank tables b index (Some (InvAck from to)) e =
+    line-blank tables.cache to (line_input.Response (InvAck from to)) (origin.Response index) (slice_get b.lines to.0) e
 
 -- a blank cell is that of a controller that can be named
 place-blank : (tables : Tables) (s : Step) (b : BlockState) → decided_outcome (decision_of tables s b) ≡ outcome.Blank → IsSome (place_in s b)
@@ -80,12 +87,14 @@ place-blank tables (step.Forward block cache) b e = forward-blank tables b cache
 place-blank tables (step.Response block index) b e = response-blank tables b index (slice_get b.traffic.responses index) e
 
 -- what is set is there
-set-there : (blocks : List BlockState) (number : ℕ) (old new : BlockState) → slice_get blocks number ≡ Some old → slice_get (slice_set blocks number new) number ≡ Some new
+set-there : (blocks : List BlockState) (number : ℕ) (old new : BlockState) → slice_get blocks number ≡ Some old →
+    slice_get (slice_set blocks number new) number ≡ Some new
 set-there [] number old new e = cc
 set-there (b ∷ blocks) zero old new e = refl
 set-there (b ∷ blocks) (suc number) old new e = set-there blocks number old new e
 
-next_at-blank : (tables : Tables) (state : State) (s : Step) (b : Option BlockState) → slice_get state.blocks (block_of s) ≡ b → (next_at tables state s b).outcome ≡ outcome.Blank → IsSome (place_at (next_at tables state s b).state s)
+next_at-blank : (tables : Tables) (state : State) (s : Step) (b : Option BlockState) → slice_get state.blocks (block_of s) ≡ b →
+    (next_at tables state s b).outcome ≡ outcome.Blank → IsSome (place_at (next_at tables state s b).state s)
 next_at-blank tables state s None there e = cc
 next_at-blank tables state s (Some b) there e =
     let d : Decision = decision_of tables s b in

@@ -25,7 +25,8 @@ none-then scene low mid high before after violation above below shown =
     ]
 
 -- nothing of these kinds, and the first of the kinds after them
-pub first-then : (scene : Scene) (low mid high : ℕ) (violation : Violation) → low ≤ mid → ShowsNone scene low mid → IsFirst scene mid high violation → IsFirst scene low high violation
+pub first-then : (scene : Scene) (low mid high : ℕ) (violation : Violation) → low ≤ mid → ShowsNone scene low mid → IsFirst scene mid high violation →
+    IsFirst scene low high violation
 first-then scene low mid high violation le before found = record {
   shown = found.shown;
   from = omega arith;

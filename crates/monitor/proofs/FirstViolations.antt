@@ -1,5 +1,6 @@
 -- One step more: where none of the steps before it shows a violation, it shows the first one, if any.
-use Rattle.std.proofs.Common.{◌≡◌, ◌⊎◌, ◌<◌, ◌≤◌, ℕ, zero, suc, List, [], ◌∷◌, ◌++◌, Option, Some, None, length, take, slice_get, refl, ap, sym, subst, ◌∙◌, inl, inr, arith}
+use Rattle.std.proofs.Common.{◌≡◌, ◌⊎◌, ◌<◌, ◌≤◌, ℕ, zero, suc, List, [], ◌∷◌, ◌++◌, Option, Some, None, length, take, slice_get, refl, ap, sym}
+use Rattle.std.proofs.Common.{subst, ◌∙◌, inl, inr, arith}
 use Rattle.std.specs.Option.{option_or, option_zip}
 use Rattle.std.proofs.lemmas.List.{take_all, take-append-le}
 use Rattle.base.specs.Extent.{Extent}
@@ -41,16 +42,19 @@ take-whole xs ys = take-append-le (length xs) xs ys (omega arith) ∙ take_all (
 -- a step that isn't the last shows what it showed
 scene-kept : (shape : Extent) (tables : Tables) (opening : List ℕ) (steps : List Step) (step : Step) (k : ℕ) (s : Step) → k < length steps →
     scene_after shape tables opening (take k steps) s ≡ scene_after shape tables opening (take k (steps ++ step ∷ [])) s
-scene-kept shape tables opening steps step k s low = ap (λ (front : List Step). scene_after shape tables opening front s) (sym (take-append-le k steps (step ∷ []) (omega arith)))
+scene-kept shape tables opening steps step k s low =
+    ap (λ (front : List Step). scene_after shape tables opening front s) (sym (take-append-le k steps (step ∷ []) (omega arith)))
 
 -- the last step is made after the others
 scene-last : (shape : Extent) (tables : Tables) (opening : List ℕ) (steps : List Step) (step : Step) (k : ℕ) → k ≡ length steps →
     scene_after shape tables opening steps step ≡ scene_after shape tables opening (take k (steps ++ step ∷ [])) step
-scene-last shape tables opening steps step k is = ap (λ (front : List Step). scene_after shape tables opening front step) (sym (ap (λ n. take n (steps ++ step ∷ [])) is ∙ take-whole steps (step ∷ [])))
+scene-last shape tables opening steps step k is =
+    ap (λ (front : List Step). scene_after shape tables opening front step) (sym (ap (λ n. take n (steps ++ step ∷ [])) is ∙ take-whole steps (step ∷ [])))
 
 -- the steps of a list with one more show no violation below a number
 none-below : (shape : Extent) (tables : Tables) (opening : List ℕ) (steps : List Step) (step : Step) (n k : ℕ) (s : Step) → n ≤ length steps →
-    ((j : ℕ) (t : Step) → j < n → slice_get steps j ≡ Some t → HasNone (scene_after shape tables opening (take j steps) t)) → k < n → slice_get (steps ++ step ∷ []) k ≡ Some s → HasNone (scene_after shape tables opening (take k (steps ++ step ∷ [])) s)
+    ((j : ℕ) (t : Step) → j < n → slice_get steps j ≡ Some t → HasNone (scene_after shape tables opening (take j steps) t)) → k < n →
+    slice_get (steps ++ step ∷ []) k ≡ Some s → HasNone (scene_after shape tables opening (take k (steps ++ step ∷ [])) s)
 none-below shape tables opening steps step n k s fits none low e =
     elim (get-push steps step s k e) [
       | inl h ↦ subst HasNone (scene-kept shape tables opening steps step k s h.1) (none k s low h.0)
@@ -63,7 +67,8 @@ none-last : (shape : Extent) (tables : Tables) (opening : List ℕ) (steps : Lis
 none-last shape tables opening steps step none last k s e =
     elim (get-push steps step s k e) [
       | inl h ↦ subst HasNone (scene-kept shape tables opening steps step k s h.1) (none k s h.0)
-      | inr h ↦ subst (λ (t : Step). HasNone (scene_after shape tables opening (take k (steps ++ step ∷ [])) t)) h.1 (subst HasNone (scene-last shape tables opening steps step k h.0) last)
+      | inr h ↦ subst (λ (t : Step). HasNone (scene_after shape tables opening (take k (steps ++ step ∷ [])) t)) h.1
+          (subst HasNone (scene-last shape tables opening steps step k h.0) last)
     ]
 
 -- the violation found so far, or else the one that is seen after the step of this number
@@ -71,7 +76,8 @@ abbrev pub first_seen : Option (ℕ × Violation) → ℕ → Option Violation �
 first_seen found number seen = option_or found (option_zip (Some number) seen)
 
 -- one more step
-pub first-push : (shape : Extent) (tables : Tables) (opening : List ℕ) (steps : List Step) (step : Step) (n : ℕ) (found : Option (ℕ × Violation)) (seen : Option Violation) →
+pub first-push : (shape : Extent) (tables : Tables) (opening : List ℕ) (steps : List Step) (step : Step) (n : ℕ) (found : Option (ℕ × Violation))
+    (seen : Option Violation) →
     n ≡ length steps → AnswersFirst shape tables opening steps found → Answers (scene_after shape tables opening steps step) seen →
     AnswersFirst shape tables opening (steps ++ step ∷ []) (first_seen found n seen)
 first-push shape tables opening steps step n None None is none last = none-last shape tables opening steps step none last

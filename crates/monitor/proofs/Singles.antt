@@ -1,5 +1,6 @@
 -- One writer or many readers of a block: kept by a step that shows no violation.
-use Rattle.std.proofs.Common.{◌≡◌, ◌≢◌, ◌⊎◌, inl, inr, ℕ, zero, suc, ◌<◌, Bool, true, false, List, [], ◌∷◌, length, Option, Some, None, IsTrue, slice_get, slice_set, refl, sym, ap, ◌∙◌, subst, arith}
+use Rattle.std.proofs.Common.{◌≡◌, ◌≢◌, ◌⊎◌, inl, inr, ℕ, zero, suc, ◌<◌, Bool, true, false, List, [], ◌∷◌, length, Option, Some, None, IsTrue}
+use Rattle.std.proofs.Common.{slice_get, slice_set, refl, sym, ap, ◌∙◌, subst, arith}
 use Rattle.std.proofs.lemmas.Bool.{cases_eq}
 use Rattle.std.specs.Prelude.{if◌then◌else◌}
 use Rattle.std.specs.Option.{option_and_then, IsSomeAnd}
@@ -67,7 +68,8 @@ some-more None P Q f h = h
 some-more (Some x) P Q f h = f x h
 
 pub writes-reads : (s : State) (cache block : ℕ) → Writes s cache block → Reads s cache block
-writes-reads s cache block w = some-more (line_at s cache block) (λ line. IsTrue (is_writer line.state)) (λ line. IsTrue (is_reader line.state)) (λ line. writer-reads line.state) w
+writes-reads s cache block w =
+    some-more (line_at s cache block) (λ line. IsTrue (is_writer line.state)) (λ line. IsTrue (is_reader line.state)) (λ line. writer-reads line.state) w
 
 -- ---- one block has one writer or many readers
 
@@ -90,7 +92,10 @@ beside-shown : (scene : Scene) → IsLookedAt scene.outcome → HasNone scene �
     → (reader : ℕ) → reader ≢ first → Reads scene.state reader (block_of scene.step) → ⊥
 beside-shown scene looked none first least reader other reads =
     let block = block_of scene.step in
-    let found = least-of (λ c. (c ≢ first) × Reads scene.state c block) (λ c. and-or-not (c ≢ first) (Reads scene.state c block) (other-or-not c first) (reads-or-not scene.state c block)) reader (other, reads) in
+    let found =
+    least-of (λ c. (c ≢ first) × Reads scene.state c block)
+    (λ c. and-or-not (c ≢ first) (Reads scene.state c block) (other-or-not c first) (reads-or-not scene.state c block)) reader
+    (other, reads) in
     none
     (WriterBesideReader (record { 0 = block }) (record { 0 = first }) (record { 0 = found.0 }))
     (refl, record { looked_at = looked; writes = least; beside = found.1 })
@@ -162,14 +167,18 @@ same-or-looked : (tables : Tables) (s : State) (step : Step) (found : Option Blo
     → SameLines s (next_at tables s step found).state block ⊎ (IsLookedAt (next_at tables s step found).outcome × (block ≡ block_of step))
 same-or-looked tables s step None block there = inl (λ cache. refl)
 same-or-looked tables s step (Some b) block there = elim (cases_eq block (block_of step)) [
-  | inr ne ↦ inl (λ cache. ap (λ o. option_and_then (λ k. slice_get k.lines cache) o) (get-set-other s.blocks (block_of step) block (transition tables step b).block ne))
+  | inr ne ↦ inl
+      (λ cache. ap (λ o. option_and_then (λ k. slice_get k.lines cache) o) (get-set-other s.blocks (block_of step) block (transition tables step b).block ne))
   | inl e ↦ elim (kept-or-looked (decision_of tables step b) b) [
-    | inl kept ↦ inl (λ cache. ap (λ bs. option_and_then (λ k. slice_get k.lines cache) (slice_get bs block)) (set-same s.blocks (block_of step) b (transition tables step b).block there kept))
+    | inl kept ↦ inl
+        (λ cache. ap (λ bs. option_and_then (λ k. slice_get k.lines cache) (slice_get bs block))
+        (set-same s.blocks (block_of step) b (transition tables step b).block there kept))
     | inr looked ↦ inr (looked, e)
   ]
 ]
 
-next-same-or-looked : (tables : Tables) (s : State) (step : Step) (block : ℕ) → SameLines s (next tables s step).state block ⊎ (IsLookedAt (next tables s step).outcome × (block ≡ block_of step))
+next-same-or-looked : (tables : Tables) (s : State) (step : Step) (block : ℕ) →
+    SameLines s (next tables s step).state block ⊎ (IsLookedAt (next tables s step).outcome × (block ≡ block_of step))
 next-same-or-looked tables s step block =
     let broken : Next = record { state = s; outcome = outcome.Broken } in
     let made : Next = next_at tables s step (slice_get s.blocks (block_of step)) in
@@ -178,7 +187,8 @@ next-same-or-looked tables s step block =
       | false ↦ same-or-looked tables s step (slice_get s.blocks (block_of step)) block refl
     ]
 
-pub single-next : (tables : Tables) (s : State) (step : Step) (due' : Option ℕ) → HasNone (scene_of step (next tables s step) due') → ((block : ℕ) → SingleAt s block) → (block : ℕ) → SingleAt (next tables s step).state block
+pub single-next : (tables : Tables) (s : State) (step : Step) (due' : Option ℕ) → HasNone (scene_of step (next tables s step) due') →
+    ((block : ℕ) → SingleAt s block) → (block : ℕ) → SingleAt (next tables s step).state block
 single-next tables s step due' none single block = elim (next-same-or-looked tables s step block) [
   | inl same ↦ single-same s (next tables s step).state block same (single block)
   | inr looked ↦ subst (SingleAt (next tables s step).state) (sym looked.1) (single-looked (scene_of step (next tables s step) due') looked.0 none)

@@ -1,5 +1,6 @@
 -- No step shows a violation exactly where the steps are safe.
-use Rattle.std.proofs.Common.{◌≡◌, ◌⊎◌, inl, inr, ℕ, zero, suc, ◌<◌, ◌+◌, true, false, List, [], ◌∷◌, ◌++◌, length, take, drop, map, Option, Some, None, IsSome, IsTrue, slice_get, refl, sym, ap, ◌∙◌, subst, arith, add-one, append_assoc}
+use Rattle.std.proofs.Common.{◌≡◌, ◌⊎◌, inl, inr, ℕ, zero, suc, ◌<◌, ◌+◌, true, false, List, [], ◌∷◌, ◌++◌, length, take, drop, map, Option, Some}
+use Rattle.std.proofs.Common.{None, IsSome, IsTrue, slice_get, refl, sym, ap, ◌∙◌, subst, arith, add-one, append_assoc}
 use Rattle.std.proofs.lemmas.List.{append-nil}
 use Rattle.std.proofs.lemmas.Bool.{cases_eq}
 use Rattle.std.specs.Prelude.{if◌then◌else◌, replicate}
@@ -56,12 +57,15 @@ split-at [] i x e = absurd (cc e)
 split-at (y ∷ ys) zero x e = let e' : y ≡ x = cc e in ap (λ z. z ∷ ys) e'
 split-at (y ∷ ys) (suc i) x e = ap (λ zs. y ∷ zs) (split-at ys i x e)
 
-state-more : (tables : Tables) (s : State) (front : List Step) (step : Step) → state_after tables s (front ++ step ∷ []) ≡ (next tables (state_after tables s front) step).state
+state-more : (tables : Tables) (s : State) (front : List Step) (step : Step) →
+    state_after tables s (front ++ step ∷ []) ≡ (next tables (state_after tables s front) step).state
 state-more tables s [] step = refl
 state-more tables s (x ∷ front) step = state-more tables (next tables s x).state front step
 
 completions-split : (tables : Tables) (s : State) (front : List Step) (step : Step) (later : List Step)
-    → (rest : List Completion) × (completions (front ++ step ∷ later) (outcomes_of tables s (front ++ step ∷ later)) ≡ completions front (outcomes_of tables s front) ++ (completed_by step (next tables (state_after tables s front) step).outcome ++ rest))
+    → (rest : List Completion)
+    × (completions (front ++ step ∷ later) (outcomes_of tables s (front ++ step ∷ later)) ≡ completions front (outcomes_of tables s front) ++
+    (completed_by step (next tables (state_after tables s front) step).outcome ++ rest))
 completions-split tables s [] step later = (completions later (outcomes_of tables (next tables s step).state later), refl)
 completions-split tables s (x ∷ front) step later =
     let there = completions-split tables (next tables s x).state front step later in
@@ -98,7 +102,8 @@ record At (tables : Tables) (s : State) (steps : List Step) (before : List Compl
   earlier : before ≡ completions front (outcomes_of tables s front)
   done : completed_by step (next tables (state_after tables s front) step).outcome ≡ c ∷ []
 
-at-behind : (tables : Tables) (s : State) (x : Step) (xs : List Step) (before : List Completion) (c : Completion) → At tables (next tables s x).state xs before c
+at-behind : (tables : Tables) (s : State) (x : Step) (xs : List Step) (before : List Completion) (c : Completion) →
+    At tables (next tables s x).state xs before c
     → At tables s (x ∷ xs) (completed_by x (next tables s x).outcome ++ before) c
 at-behind tables s x xs before c at = record {
   front = x ∷ at.front;
@@ -109,53 +114,66 @@ at-behind tables s x xs before c at = record {
   done = at.done;
 }
 
-at-first : (tables : Tables) (s : State) (x : Step) (xs : List Step) (c : Completion) → completed_by x (next tables s x).outcome ≡ c ∷ [] → At tables s (x ∷ xs) [] c
+at-first : (tables : Tables) (s : State) (x : Step) (xs : List Step) (c : Completion) → completed_by x (next tables s x).outcome ≡ c ∷ [] →
+    At tables s (x ∷ xs) [] c
 at-first tables s x xs c e = record { front = []; step = x; later = xs; split = refl; earlier = refl; done = e }
 
-at-either : (tables : Tables) (s : State) (x : Step) (xs : List Step) (before : List Completion) (c c' : Completion) (rest : List Completion) → completed_by x (next tables s x).outcome ≡ c' ∷ []
-    → ((before : List Completion) → completions xs (outcomes_of tables (next tables s x).state xs) ≡ before ++ c ∷ rest → At tables (next tables s x).state xs before c)
+at-either : (tables : Tables) (s : State) (x : Step) (xs : List Step) (before : List Completion) (c c' : Completion) (rest : List Completion) →
+    completed_by x (next tables s x).outcome ≡ c' ∷ []
+    → ((before : List Completion) → completions xs (outcomes_of tables (next tables s x).state xs) ≡ before ++ c ∷ rest → At tables
+    (next tables s x).state xs before c)
     → c' ∷ completions xs (outcomes_of tables (next tables s x).state xs) ≡ before ++ c ∷ rest → At tables s (x ∷ xs) before c
 at-either tables s x xs [] c c' rest one there e = at-first tables s x xs c (one ∙ ap (λ d. d ∷ []) (same-first c' c _ rest e))
 at-either tables s x xs (b ∷ before) c c' rest one there e =
     let behind = at-behind tables s x xs before c (there before (same-others c' b _ (before ++ c ∷ rest) e)) in
     subst (λ bs. At tables s (x ∷ xs) bs c) (ap (λ cs. cs ++ before) one ∙ ap (λ d. d ∷ before) (same-first c' b _ (before ++ c ∷ rest) e)) behind
 
-completion-at : (tables : Tables) (s : State) (steps : List Step) (before : List Completion) (c : Completion) (rest : List Completion) → completions steps (outcomes_of tables s steps) ≡ before ++ c ∷ rest → At tables s steps before c
+completion-at : (tables : Tables) (s : State) (steps : List Step) (before : List Completion) (c : Completion) (rest : List Completion) →
+    completions steps (outcomes_of tables s steps) ≡ before ++ c ∷ rest → At tables s steps before c
 completion-at tables s [] before c rest e = absurd (nothing-there before c rest e)
 completion-at tables s (x ∷ xs) before c rest e =
     let later = completions xs (outcomes_of tables (next tables s x).state xs) in
     elim (one-at-most x (next tables s x).outcome) [
       | inl none ↦ subst (λ bs. At tables s (x ∷ xs) bs c) (ap (λ cs. cs ++ before) none)
           (at-behind tables s x xs before c (completion-at tables (next tables s x).state xs before c rest (ap (λ cs. cs ++ later) (sym none) ∙ e)))
-      | inr one ↦ at-either tables s x xs before c one.0 rest one.1 (λ bs f. completion-at tables (next tables s x).state xs bs c rest f) (ap (λ cs. cs ++ later) (sym one.1) ∙ e)
+      | inr one ↦ at-either tables s x xs before c one.0 rest one.1 (λ bs f. completion-at tables (next tables s x).state xs bs c rest f)
+          (ap (λ cs. cs ++ later) (sym one.1) ∙ e)
     ]
 
 -- ---- without a violation the steps are safe
 
 abbrev NoneSeen : Extent → Tables → List ℕ → List Step → Type 0
-NoneSeen shape tables opening steps = (front : List Step) (step : Step) (later : List Step) → steps ≡ front ++ step ∷ later → HasNone (scene_after shape tables opening front step)
+NoneSeen shape tables opening steps =
+    (front : List Step) (step : Step) (later : List Step) → steps ≡ front ++ step ∷ later → HasNone (scene_after shape tables opening front step)
 
-none-seen : (shape : Extent) (tables : Tables) (opening : List ℕ) (steps : List Step) → HasNoViolation shape tables opening steps → NoneSeen shape tables opening steps
+none-seen : (shape : Extent) (tables : Tables) (opening : List ℕ) (steps : List Step) → HasNoViolation shape tables opening steps →
+    NoneSeen shape tables opening steps
 none-seen shape tables opening steps none front step later e =
     subst (λ fs. HasNone (scene_after shape tables opening fs step)) (ap (take (length front)) e ∙ take-mid front (step ∷ later))
     (none (length front) step (ap (λ ss. slice_get ss (length front)) e ∙ get-mid front step later))
 
-single-from : (shape : Extent) (tables : Tables) (opening : List ℕ) (steps : List Step) → NoneSeen shape tables opening steps → (done more rest : List Step) → steps ≡ done ++ (more ++ rest)
-    → ((block : ℕ) → SingleAt (state_after tables (opened shape opening) done) block) → (block : ℕ) → SingleAt (state_after tables (opened shape opening) (done ++ more)) block
-single-from shape tables opening steps none done [] rest e single block = subst (λ fs. SingleAt (state_after tables (opened shape opening) fs) block) (sym (append-nil done)) (single block)
+single-from : (shape : Extent) (tables : Tables) (opening : List ℕ) (steps : List Step) → NoneSeen shape tables opening steps →
+    (done more rest : List Step) → steps ≡ done ++ (more ++ rest)
+    → ((block : ℕ) → SingleAt (state_after tables (opened shape opening) done) block) → (block : ℕ) → SingleAt
+    (state_after tables (opened shape opening) (done ++ more)) block
+single-from shape tables opening steps none done [] rest e single block =
+    subst (λ fs. SingleAt (state_after tables (opened shape opening) fs) block) (sym (append-nil done)) (single block)
 single-from shape tables opening steps none done (x ∷ more) rest e single block =
     subst (λ fs. SingleAt (state_after tables (opened shape opening) fs) block) (append_assoc done (x ∷ []) more)
     (single-from shape tables opening steps none (done ++ x ∷ []) more rest (e ∙ sym (append_assoc done (x ∷ []) (more ++ rest)))
     (λ k. subst (λ t. SingleAt t k) (sym (state-more tables (opened shape opening) done x))
-    (single-next tables (state_after tables (opened shape opening) done) x (due opening (completions_of shape tables opening done) (block_of x)) (none done x (more ++ rest) e) single k))
+    (single-next tables (state_after tables (opened shape opening) done) x (due opening (completions_of shape tables opening done) (block_of x))
+    (none done x (more ++ rest) e) single k))
     block)
 
 some-place : (o : Option Place) → IsSome o → (p : Place) × (o ≡ Some p)
 some-place None h = absurd (cc h)
 some-place (Some p) h = (p, refl)
 
-unmet-from : (shape : Extent) (tables : Tables) (opening : List ℕ) (steps : List Step) → ((s : State) (step : Step) → (next tables s step).outcome ≡ outcome.Blank → IsSome (place_at (next tables s step).state step))
-    → NoneSeen shape tables opening steps → (front rest : List Step) (step : Step) → steps ≡ front ++ step ∷ rest → ¬ Met tables (state_after tables (opened shape opening) front) step
+unmet-from : (shape : Extent) (tables : Tables) (opening : List ℕ) (steps : List Step) →
+    ((s : State) (step : Step) → (next tables s step).outcome ≡ outcome.Blank → IsSome (place_at (next tables s step).state step))
+    → NoneSeen shape tables opening steps → (front rest : List Step) (step : Step) → steps ≡ front ++ step ∷ rest → ¬ Met tables
+    (state_after tables (opened shape opening) front) step
 unmet-from shape tables opening steps known none front rest step e met =
     let place = some-place _ (known (state_after tables (opened shape opening) front) step met) in
     none front step rest e (Blank place.0 (record { 0 = block_of step })) (refl, record { was_blank = met; went_to = place.1 })
@@ -168,7 +186,15 @@ record Loaded (step : Step) (o : Outcome) (c : Completion) : Type 0 where
   same_block : c.block ≡ block_of step
 
 load-done : (step : Step) (o : Outcome) (c : Completion) → completed_by step o ≡ c ∷ [] → c.access ≡ load → Loaded step o c
-load-done step (outcome.Load cache value) c e l = let e' = sym (same-first _ c [] [] e) in record { value = value; is_load = refl; same_value = ap (λ (d : Completion). d.value) e'; same_block = ap (λ (d : Completion). d.block) e' }
+load-done step (outcome.Load cache value) c e l =
+    let e' =
+    sym (same-first _ c [] [] e) in record {
+      value = value;
+      is_load = refl;
+      same_value = ap (λ (d : Completion). d.value) e';
+      same_block = ap
+          (λ (d : Completion). d.block) e';
+    }
 load-done step (outcome.Store cache value) c e l = let e' = same-first _ c [] [] e in absurd (cc (ap (λ (d : Completion). d.access) e' ∙ l))
 load-done step outcome.Sent c e l = absurd (cc e)
 load-done step outcome.Moved c e l = absurd (cc e)
@@ -179,11 +205,13 @@ load-done step outcome.Blank c e l = absurd (cc e)
 load-done step outcome.Broken c e l = absurd (cc e)
 
 -- the block of a load is there
-at-load : (tables : Tables) (s : State) (step : Step) (found : Option BlockState) (value : ℕ) → IsLoadOf value (next_at tables s step found).outcome → (b : BlockState) × (found ≡ Some b)
+at-load : (tables : Tables) (s : State) (step : Step) (found : Option BlockState) (value : ℕ) → IsLoadOf value (next_at tables s step found).outcome →
+    (b : BlockState) × (found ≡ Some b)
 at-load tables s step None value l = absurd l
 at-load tables s step (Some b) value l = (b, refl)
 
-load-there : (tables : Tables) (s : State) (step : Step) (value : ℕ) → IsLoadOf value (next tables s step).outcome → (b : BlockState) × (slice_get s.blocks (block_of step) ≡ Some b)
+load-there : (tables : Tables) (s : State) (step : Step) (value : ℕ) → IsLoadOf value (next tables s step).outcome →
+    (b : BlockState) × (slice_get s.blocks (block_of step) ≡ Some b)
 load-there tables s step value l =
     let broken : Next = record { state = s; outcome = outcome.Broken } in
     let made : Next = next_at tables s step (slice_get s.blocks (block_of step)) in
@@ -222,39 +250,49 @@ same-place (z ∷ xs) (y ∷ ys) (suc i) x n e = same-place xs ys i x (omega (ar
 due-there : (opening : List ℕ) (done : List Completion) (block value : ℕ) → slice_get opening block ≡ Some value → (d : ℕ) × (due opening done block ≡ Some d)
 due-there opening done block value e = (_, ap (option_map (λ o. last_of o (stored_to block done))) e)
 
-explained-from : (shape : Extent) (tables : Tables) (opening : List ℕ) (steps : List Step) → NoneSeen shape tables opening steps → Explained opening (completions_of shape tables opening steps)
+explained-from : (shape : Extent) (tables : Tables) (opening : List ℕ) (steps : List Step) → NoneSeen shape tables opening steps →
+    Explained opening (completions_of shape tables opening steps)
 explained-from shape tables opening steps none before rest c e l =
     let at = completion-at tables (opened shape opening) steps before c rest e in
     let s = state_after tables (opened shape opening) at.front in
     let loaded = load-done at.step (next tables s at.step).outcome c at.done l in
     let there = load-there tables s at.step loaded.value loaded.is_load in
-    let opens = same-place s.blocks opening (block_of at.step) there.0 (after-length tables (opened shape opening) at.front ∙ map-length (opened_block shape.caches) opening) there.1 in
+    let opens =
+    same-place s.blocks opening (block_of at.step) there.0
+    (after-length tables (opened shape opening) at.front ∙ map-length (opened_block shape.caches) opening) there.1 in
     let was_due = due-there opening (completions_of shape tables opening at.front) (block_of at.step) opens.0 opens.1 in
-    let here : due opening before c.block ≡ Some was_due.0 = ap (λ cs. due opening cs c.block) at.earlier ∙ (ap (due opening (completions_of shape tables opening at.front)) loaded.same_block ∙ was_due.1) in
+    let here : due opening before c.block ≡ Some was_due.0 =
+    ap (λ cs. due opening cs c.block) at.earlier ∙ (ap (due opening (completions_of shape tables opening at.front)) loaded.same_block ∙ was_due.1) in
     elim (cases_eq loaded.value was_due.0) [
       | inl same ↦ here ∙ ap Some (sym (loaded.same_value ∙ same))
-      | inr differs ↦ absurd (none at.front at.step at.later at.split (StaleLoad (record { 0 = block_of at.step }) loaded.value was_due.0) (refl, record { loaded = loaded.is_load; was_due = was_due.1; differs = differs }))
+      | inr differs ↦ absurd
+          (none at.front at.step at.later at.split (StaleLoad (record { 0 = block_of at.step }) loaded.value was_due.0)
+          (refl, record { loaded = loaded.is_load; was_due = was_due.1; differs = differs }))
     ]
 
-pub none-safe : (shape : Extent) (tables : Tables) (opening : List ℕ) (steps : List Step) → ((s : State) (step : Step) → (next tables s step).outcome ≡ outcome.Blank → IsSome (place_at (next tables s step).state step))
+pub none-safe : (shape : Extent) (tables : Tables) (opening : List ℕ) (steps : List Step) →
+    ((s : State) (step : Step) → (next tables s step).outcome ≡ outcome.Blank → IsSome (place_at (next tables s step).state step))
     → HasNoViolation shape tables opening steps → Safe shape tables opening steps
 none-safe shape tables opening steps known none =
     let seen = none-seen shape tables opening steps none in
     record {
-      single = λ front rest e writer reader block. single-from shape tables opening steps seen [] front rest e (single-at-first shape opening) block writer reader;
+      single =
+          λ front rest e writer reader block. single-from shape tables opening steps seen [] front rest e (single-at-first shape opening) block writer reader;
       unmet = unmet-from shape tables opening steps known seen;
       explained = explained-from shape tables opening steps seen;
     }
 
 -- ---- safe steps show no violation
 
-safe-shows : (shape : Extent) (tables : Tables) (opening : List ℕ) (steps : List Step) → Safe shape tables opening steps → (front : List Step) (step : Step) (later : List Step) → steps ≡ front ++ step ∷ later
+safe-shows : (shape : Extent) (tables : Tables) (opening : List ℕ) (steps : List Step) → Safe shape tables opening steps →
+    (front : List Step) (step : Step) (later : List Step) → steps ≡ front ++ step ∷ later
     → Single (next tables (state_after tables (opened shape opening) front) step).state
 safe-shows shape tables opening steps safe front step later e =
     subst Single (state-more tables (opened shape opening) front step) (safe.single (front ++ step ∷ []) later (e ∙ sym (append_assoc front (step ∷ []) later)))
 
 -- what a load that completes is
-load-completes : (step : Step) (o : Outcome) (got : ℕ) → IsLoadOf got o → (c : Completion) × (completed_by step o ≡ c ∷ []) × (c.access ≡ load) × (c.value ≡ got) × (c.block ≡ block_of step)
+load-completes : (step : Step) (o : Outcome) (got : ℕ) → IsLoadOf got o →
+    (c : Completion) × (completed_by step o ≡ c ∷ []) × (c.access ≡ load) × (c.value ≡ got) × (c.block ≡ block_of step)
 load-completes step (outcome.Load cache value) got l = (_, refl, refl, sym l, refl)
 load-completes step (outcome.Store cache value) got l = absurd l
 load-completes step outcome.Sent got l = absurd l
@@ -268,17 +306,21 @@ load-completes step outcome.Broken got l = absurd l
 same-some : (m n : ℕ) → Some m ≡ Some n → m ≡ n
 same-some m n e = cc e
 
-safe-none-at : (shape : Extent) (tables : Tables) (opening : List ℕ) (steps : List Step) → Safe shape tables opening steps → (front : List Step) (step : Step) (later : List Step) → steps ≡ front ++ step ∷ later
+safe-none-at : (shape : Extent) (tables : Tables) (opening : List ℕ) (steps : List Step) → Safe shape tables opening steps →
+    (front : List Step) (step : Step) (later : List Step) → steps ≡ front ++ step ∷ later
     → HasNone (scene_after shape tables opening front step)
 safe-none-at shape tables opening steps safe front step later e (Blank at block) shows = safe.unmet front later step e shows.1.was_blank
 safe-none-at shape tables opening steps safe front step later e (SecondWriter block first second) shows =
     let made = (next tables (state_after tables (opened shape opening) front) step).state in
     let two = shows.1 in
-    let same = safe-shows shape tables opening steps safe front step later e first.0 second.0 (block_of step) two.least.holds (writes-reads made second.0 (block_of step) two.next.holds.1) in
+    let same =
+    safe-shows shape tables opening steps safe front step later e first.0 second.0 (block_of step) two.least.holds
+    (writes-reads made second.0 (block_of step) two.next.holds.1) in
     absurd (omega (arith, same, two.next.holds.0))
 safe-none-at shape tables opening steps safe front step later e (WriterBesideReader block writer reader) shows =
     let beside = shows.1 in
-    beside.beside.holds.0 (sym (safe-shows shape tables opening steps safe front step later e writer.0 reader.0 (block_of step) beside.writes.holds beside.beside.holds.1))
+    beside.beside.holds.0
+    (sym (safe-shows shape tables opening steps safe front step later e writer.0 reader.0 (block_of step) beside.writes.holds beside.beside.holds.1))
 safe-none-at shape tables opening steps safe front step later e (StaleLoad block got due') shows =
     let stale = shows.1 in
     let s = state_after tables (opened shape opening) front in
@@ -286,37 +328,45 @@ safe-none-at shape tables opening steps safe front step later e (StaleLoad block
     let split = completions-split tables (opened shape opening) front step later in
     let whole : completions_of shape tables opening steps ≡ completions_of shape tables opening front ++ done.0 ∷ split.0 =
     ap (completions_of shape tables opening) e ∙ (split.1 ∙ ap (λ cs. completions_of shape tables opening front ++ (cs ++ split.0)) done.1) in
-    let was : due opening (completions_of shape tables opening front) done.0.block ≡ Some done.0.value = safe.explained (completions_of shape tables opening front) split.0 done.0 whole done.2 in
+    let was : due opening (completions_of shape tables opening front) done.0.block ≡ Some done.0.value =
+    safe.explained (completions_of shape tables opening front) split.0 done.0 whole done.2 in
     let here : Some done.0.value ≡ Some due' = sym was ∙ (ap (due opening (completions_of shape tables opening front)) done.4 ∙ stale.was_due) in
     stale.differs (sym done.3 ∙ same-some done.0.value due' here)
 
-pub safe-none : (shape : Extent) (tables : Tables) (opening : List ℕ) (steps : List Step) → Safe shape tables opening steps → HasNoViolation shape tables opening steps
-safe-none shape tables opening steps safe number step there = safe-none-at shape tables opening steps safe (take number steps) step (drop (suc number) steps) (split-at steps number step there)
+pub safe-none : (shape : Extent) (tables : Tables) (opening : List ℕ) (steps : List Step) → Safe shape tables opening steps →
+    HasNoViolation shape tables opening steps
+safe-none shape tables opening steps safe number step there =
+    safe-none-at shape tables opening steps safe (take number steps) step (drop (suc number) steps) (split-at steps number step there)
 
 -- ---- the first violation
 
-get-front : {X : Type 0} (xs : List X) (n i : ℕ) (x : X) → slice_get (take n xs) i ≡ Some x → (i < n) × (slice_get xs i ≡ Some x) × (take i (take n xs) ≡ take i xs)
+get-front : {X : Type 0} (xs : List X) (n i : ℕ) (x : X) → slice_get (take n xs) i ≡ Some x →
+    (i < n) × (slice_get xs i ≡ Some x) × (take i (take n xs) ≡ take i xs)
 get-front [] zero i x e = absurd (cc e)
 get-front [] (suc n) i x e = absurd (cc e)
 get-front (y ∷ ys) zero i x e = absurd (cc e)
 get-front (y ∷ ys) (suc n) zero x e = (omega arith, e, refl)
 get-front (y ∷ ys) (suc n) (suc i) x e = let more = get-front ys n i x e in (omega (arith, more.0), more.1, ap (λ zs. y ∷ zs) more.2)
 
-get-within : {X : Type 0} (xs : List X) (i : ℕ) (x : X) → slice_get xs i ≡ Some x → (slice_get (take (suc i) xs) i ≡ Some x) × (take i (take (suc i) xs) ≡ take i xs)
+get-within : {X : Type 0} (xs : List X) (i : ℕ) (x : X) → slice_get xs i ≡ Some x →
+    (slice_get (take (suc i) xs) i ≡ Some x) × (take i (take (suc i) xs) ≡ take i xs)
 get-within [] i x e = absurd (cc e)
 get-within (y ∷ ys) zero x e = (e, refl)
 get-within (y ∷ ys) (suc i) x e = let more = get-within ys i x e in (more.0, ap (λ zs. y ∷ zs) more.1)
 
-pub first-before : (shape : Extent) (tables : Tables) (opening : List ℕ) (steps : List Step) (number : ℕ) (violation : Violation) → IsFirstViolation shape tables opening steps number violation → HasNoViolation shape tables opening (take number steps)
+pub first-before : (shape : Extent) (tables : Tables) (opening : List ℕ) (steps : List Step) (number : ℕ) (violation : Violation) →
+    IsFirstViolation shape tables opening steps number violation → HasNoViolation shape tables opening (take number steps)
 first-before shape tables opening steps number violation first k step there =
     let at = get-front steps number k step there in
     subst (λ fs. HasNone (scene_after shape tables opening fs step)) (sym at.2) (first.first k step at.0 at.1)
 
-pub first-behind : (shape : Extent) (tables : Tables) (opening : List ℕ) (steps : List Step) (number : ℕ) (violation : Violation) → IsFirstViolation shape tables opening steps number violation → ¬ HasNoViolation shape tables opening (take (number + 1) steps)
+pub first-behind : (shape : Extent) (tables : Tables) (opening : List ℕ) (steps : List Step) (number : ℕ) (violation : Violation) →
+    IsFirstViolation shape tables opening steps number violation → ¬ HasNoViolation shape tables opening (take (number + 1) steps)
 first-behind shape tables opening steps number violation first none =
     let shown = first.shown in
     let at = get-within steps number shown.step shown.there in
-    let none' : HasNoViolation shape tables opening (take (suc number) steps) = subst (λ n. HasNoViolation shape tables opening (take n steps)) (add-one number) none in
+    let none' : HasNoViolation shape tables opening (take (suc number) steps) =
+    subst (λ n. HasNoViolation shape tables opening (take n steps)) (add-one number) none in
     subst (λ fs. HasNone (scene_after shape tables opening fs shown.step)) at.1 (none' number shown.step at.0) violation shown.shown.shown
 
 -- ---- the answer of whoever looked for the first violation

@@ -21,7 +21,8 @@ pub record IsViolationOf (shape : Extent) (tables : Tables) (opening : List ℕ)
 -- the step of this number is the first that shows a violation, and shows this one
 pub record IsFirstViolation (shape : Extent) (tables : Tables) (opening : List ℕ) (steps : List Step) (number : ℕ) (violation : Violation) : Type 0 where
   pub shown : IsViolationOf shape tables opening steps number violation
-  pub first : (earlier : ℕ) (step : Step) → earlier < number → slice_get steps earlier ≡ Some step → HasNone (scene_after shape tables opening (take earlier steps) step)
+  pub first : (earlier : ℕ) (step : Step) → earlier < number → slice_get steps earlier ≡ Some step →
+      HasNone (scene_after shape tables opening (take earlier steps) step)
 
 -- an answer is exactly the first violation of these steps with the number of its step, or that there is none
 abbrev pub AnswersFirst : Extent → Tables → List ℕ → List Step → Option (ℕ × Violation) → Type 0

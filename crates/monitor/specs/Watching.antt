@@ -44,8 +44,12 @@ LeadTo opening before step outcome world = made_after world.shape world.tables o
 
 -- whatever history the watch has seen, if this step is the next then the answer is exactly its violation in that history
 abbrev pub AnswersHistory : View → List ℕ → Step → Outcome → Option Violation → Type 0
-AnswersHistory world values step outcome answer = (opening : List ℕ) (before : List Step) → HasSeen world opening before values → LeadTo opening before step outcome world → Answers (scene_after world.shape world.tables opening before step) answer
+AnswersHistory world values step outcome answer =
+    (opening : List ℕ) (before : List Step) → HasSeen world opening before values → LeadTo opening before step outcome world →
+    Answers (scene_after world.shape world.tables opening before step) answer
 
 -- whatever history the watch has seen, if this step is the next then it has seen it too
 abbrev pub SeesNext : View → List ℕ → Step → Outcome → List ℕ → Type 0
-SeesNext world old step outcome new = (opening : List ℕ) (before : List Step) → HasSeen world opening before old → LeadTo opening before step outcome world → HasSeen world opening (before ++ step ∷ []) new
+SeesNext world old step outcome new =
+    (opening : List ℕ) (before : List Step) → HasSeen world opening before old → LeadTo opening before step outcome world →
+    HasSeen world opening (before ++ step ∷ []) new

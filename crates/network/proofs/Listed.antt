@@ -24,7 +24,8 @@ room-more listed i d old new lt before kept here k some =
     elim (cases_eq k (get_or listed i d).0) [
       | inl e ↦ rw e here
       | inr ne ↦
-          let more : times k (take (i + 1) listed) ≡ times k (take i listed) + one_if ((get_or listed i d).0 == k) = ap (λ l. times k l) (take_more listed i d lt) ∙ times-append k (take i listed) (get_or listed i d) in
+          let more : times k (take (i + 1) listed) ≡ times k (take i listed) + one_if ((get_or listed i d).0 == k) =
+          ap (λ l. times k l) (take_more listed i d lt) ∙ times-append k (take i listed) (get_or listed i d) in
           let none : one_if ((get_or listed i d).0 == k) ≡ 0 = ap one_if (ne_eqb (get_or listed i d).0 k (λ e. ne (sym e))) in
           omega (arith, kept.links k, before k (omega (arith, more, none, some)))
     ]

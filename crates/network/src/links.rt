@@ -1,4 +1,5 @@
-ghost use Rattle.std.specs.Prelude.{◌≡◌, ◌+◌, ◌<◌, ◌≤◌, ◌∷◌, ◌++◌, [], IsOk, IfOk, OnOk, OnErr, IfErr, IfNone, OnSome, length, remove, replicate, slice_get, slice_index, slice_index_or, slice_set};
+ghost use Rattle.std.specs.Prelude.{◌≡◌, ◌+◌, ◌<◌, ◌≤◌, ◌∷◌, ◌++◌, [], IsOk, IfOk, OnOk, OnErr, IfErr, IfNone, OnSome, length, remove, replicate};
+ghost use Rattle.std.specs.Prelude.{slice_get, slice_index, slice_index_or, slice_set};
 ghost use Rattle.network.specs.Traffic.{all_nil};
 ghost use Rattle.network.specs.Links.{KeepsRoom, UsesOnePlace, forwards_on};
 

@@ -9,7 +9,8 @@ use Rattle.record.specs.Cells.{cell_at, cell_words}
 use Rattle.record.specs.Text.{line, is_changed, changed}
 use Rattle.record.specs.inner.Pieces.{cell_piece}
 
-pub changed-cons : (tables : Tables) (spot : Spot) (spots : List Spot) (b : Bool) → is_changed tables spot ≡ b → changed tables (spot ∷ spots) ≡ cond b (cell_at tables spot ∷ changed tables spots) (changed tables spots)
+pub changed-cons : (tables : Tables) (spot : Spot) (spots : List Spot) (b : Bool) → is_changed tables spot ≡ b →
+    changed tables (spot ∷ spots) ≡ cond b (cell_at tables spot ∷ changed tables spots) (changed tables spots)
 changed-cons tables spot spots true e = ap (λ t. map (cell_at tables) (cond t (spot ∷ filter (is_changed tables) spots) (filter (is_changed tables) spots))) e
 changed-cons tables spot spots false e = ap (λ t. map (cell_at tables) (cond t (spot ∷ filter (is_changed tables) spots) (filter (is_changed tables) spots))) e
 
@@ -17,15 +18,19 @@ changed-cons tables spot spots false e = ap (λ t. map (cell_at tables) (cond t 
 pub changed-append : (tables : Tables) (front rest : List Spot) → changed tables (front ++ rest) ≡ changed tables front ++ changed tables rest
 changed-append tables [] rest = refl
 changed-append tables (spot ∷ front) rest =
-    elim (is_changed tables spot) as (λ b. map (cell_at tables) (cond b (spot ∷ filter (is_changed tables) (front ++ rest)) (filter (is_changed tables) (front ++ rest))) ≡ map (cell_at tables) (cond b (spot ∷ filter (is_changed tables) front) (filter (is_changed tables) front)) ++ changed tables rest) [
+    elim (is_changed tables spot) as
+    (λ b. map (cell_at tables) (cond b (spot ∷ filter (is_changed tables) (front ++ rest)) (filter (is_changed tables) (front ++ rest))) ≡ map
+    (cell_at tables) (cond b (spot ∷ filter (is_changed tables) front) (filter (is_changed tables) front)) ++ changed tables rest) [
       | true ↦ ap (λ l. cell_at tables spot ∷ l) (changed-append tables front rest)
       | false ↦ changed-append tables front rest
     ]
 
 -- how many cells differ, one place further
-pub count-more : (tables : Tables) (spots : List Spot) (k : ℕ) (d : Spot) (b : Bool) → k < length spots → is_changed tables (get_or spots k d) ≡ b → length (changed tables (take (k + 1) spots)) ≡ length (changed tables (take k spots)) + cond b 1 0
+pub count-more : (tables : Tables) (spots : List Spot) (k : ℕ) (d : Spot) (b : Bool) → k < length spots → is_changed tables (get_or spots k d) ≡ b →
+    length (changed tables (take (k + 1) spots)) ≡ length (changed tables (take k spots)) + cond b 1 0
 count-more tables spots k d b low e =
-    ap (λ l. length (changed tables l)) (take_more spots k d low) ∙ ap length (changed-append tables (take k spots) (get_or spots k d ∷ [])) ∙ length-append (changed tables (take k spots)) (changed tables (get_or spots k d ∷ []))
+    ap (λ l. length (changed tables l)) (take_more spots k d low) ∙ ap length (changed-append tables (take k spots) (get_or spots k d ∷ []))
+    ∙ length-append (changed tables (take k spots)) (changed tables (get_or spots k d ∷ []))
     ∙ ap (λ n. length (changed tables (take k spots)) + n) (one b e)
   where
     one : (b : Bool) → is_changed tables (get_or spots k d) ≡ b → length (changed tables (get_or spots k d ∷ [])) ≡ cond b 1 0
@@ -36,7 +41,9 @@ count-more tables spots k d b low e =
 pub changed-lines : (tables : Tables) (spots : List Spot) → flat_map (cell_piece tables) spots ≡ flat_map line (map cell_words (changed tables spots))
 changed-lines tables [] = refl
 changed-lines tables (spot ∷ spots) =
-    elim (is_changed tables spot) as (λ b. cond b (line (cell_words (cell_at tables spot))) [] ++ flat_map (cell_piece tables) spots ≡ flat_map line (map cell_words (map (cell_at tables) (cond b (spot ∷ filter (is_changed tables) spots) (filter (is_changed tables) spots))))) [
+    elim (is_changed tables spot) as
+    (λ b. cond b (line (cell_words (cell_at tables spot))) [] ++ flat_map (cell_piece tables) spots ≡ flat_map line
+    (map cell_words (map (cell_at tables) (cond b (spot ∷ filter (is_changed tables) spots) (filter (is_changed tables) spots))))) [
       | true ↦ ap (λ l. line (cell_words (cell_at tables spot)) ++ l) (changed-lines tables spots)
       | false ↦ changed-lines tables spots
     ]

@@ -1,5 +1,6 @@
 -- Well formed bytes are the text of a recording.
-use Rattle.std.proofs.Common.{◌≡◌, ◌≢◌, ◌≤◌, ◌<◌, ◌+◌, ◌-◌, ℕ, zero, suc, List, [], ◌∷◌, ◌++◌, Some, length, map, take, get_or, refl, ap, sym, subst, ◌∙◌, arith, append-nil, append_assoc}
+use Rattle.std.proofs.Common.{◌≡◌, ◌≢◌, ◌≤◌, ◌<◌, ◌+◌, ◌-◌, ℕ, zero, suc, List, [], ◌∷◌, ◌++◌, Some, length, map, take, get_or, refl, ap, sym, subst}
+use Rattle.std.proofs.Common.{◌∙◌, arith, append-nil, append_assoc}
 use Rattle.std.specs.List.{AllByRecursion, flat_map}
 use Rattle.std.proofs.lemmas.List.{get_or-set_same}
 use Rattle.std.proofs.lemmas.List.Elements.{All-from_recursion}
@@ -22,7 +23,8 @@ use Rattle.record.specs.declared.recording.Entry.{Entry}
 use Rattle.record.specs.Cells.{all_spots, cell_at, cell_words, spot_number, spot_of, FitsCell}
 use Rattle.record.specs.Kept.{Kept}
 use Rattle.record.specs.Text.{text, line, header_words, shape_words, opening_words, cells_words, entries_words, entry_words, end_words, changed, changed_cells}
-use Rattle.record.specs.Grammar.{Due, header, shape_line, opening_line, cell_count, cell_line, entry_count, entry_line, end_line, nothing, cells_due, entries_due, FitsEntry, Leads, Follow}
+use Rattle.record.specs.Grammar.{Due, header, shape_line, opening_line, cell_count, cell_line, entry_count, entry_line, end_line, nothing, cells_due}
+use Rattle.record.specs.Grammar.{entries_due, FitsEntry, Leads, Follow}
 use Rattle.record.specs.Recordable.{AreWhole, IsRecordable}
 use Rattle.record.specs.Refused.{ended, IsWellFormed}
 use Rattle.record.proofs.Following.{AreListed}
@@ -43,22 +45,29 @@ put-here t (cell.Cache s e x) h =
     let j : ℕ = cache_table.event_number e in
     let low : i < length t.cache = omega (arith, cache_changes.state_number-small s, h.cache.rows) in
     let below : j < length (get_or t.cache i []) = omega (arith, cache_changes.event_number-small e, cache_whole.row-length t.cache i h.cache.columns low) in
-    ap (cell.Cache s e) (ap (λ r. get_or r j cache_entry.Blank) (get_or-set_same t.cache i _ [] low) ∙ get_or-set_same (get_or t.cache i []) j x cache_entry.Blank below)
+    ap (cell.Cache s e)
+    (ap (λ r. get_or r j cache_entry.Blank) (get_or-set_same t.cache i _ [] low) ∙ get_or-set_same (get_or t.cache i []) j x cache_entry.Blank below)
 put-here t (cell.Directory s e x) h =
     let i : ℕ = directory_table.state_number s in
     let j : ℕ = directory_table.event_number e in
     let low : i < length t.directory = omega (arith, directory_changes.state_number-small s, h.directory.rows) in
-    let below : j < length (get_or t.directory i []) = omega (arith, directory_changes.event_number-small e, directory_whole.row-length t.directory i h.directory.columns low) in
-    ap (cell.Directory s e) (ap (λ r. get_or r j directory_entry.Blank) (get_or-set_same t.directory i _ [] low) ∙ get_or-set_same (get_or t.directory i []) j x directory_entry.Blank below)
+    let below : j < length (get_or t.directory i []) =
+    omega (arith, directory_changes.event_number-small e, directory_whole.row-length t.directory i h.directory.columns low) in
+    ap (cell.Directory s e)
+    (ap (λ r. get_or r j directory_entry.Blank) (get_or-set_same t.directory i _ [] low) ∙ get_or-set_same
+    (get_or t.directory i []) j x directory_entry.Blank below)
 
 put-others : (t : Tables) (c : Cell) → AreWhole t → (s : Spot) → s ≢ spot_of c → cell_at (put t c) s ≡ cell_at t s
 unfolding put
 put-others t (cell.Cache s e x) h (spot.Cache u f) other =
-    ap (cell.Cache u f) (cache_changes.cell-with_cell_other t.cache s e x u f h.cache (λ both. other (ap (λ z. spot.Cache z f) both.0 ∙ ap (spot.Cache s) both.1)))
+    ap (cell.Cache u f)
+    (cache_changes.cell-with_cell_other t.cache s e x u f h.cache (λ both. other (ap (λ z. spot.Cache z f) both.0 ∙ ap (spot.Cache s) both.1)))
 put-others t (cell.Cache s e x) h (spot.Directory u f) other = refl
 put-others t (cell.Directory s e x) h (spot.Cache u f) other = refl
 put-others t (cell.Directory s e x) h (spot.Directory u f) other =
-    ap (cell.Directory u f) (directory_changes.cell-with_cell_other t.directory s e x u f h.directory (λ both. other (ap (λ z. spot.Directory z f) both.0 ∙ ap (spot.Directory s) both.1)))
+    ap (cell.Directory u f)
+    (directory_changes.cell-with_cell_other t.directory s e x u f h.directory
+    (λ both. other (ap (λ z. spot.Directory z f) both.0 ∙ ap (spot.Directory s) both.1)))
 
 put-cache : (t : Tables) (c : Cell) → AreWhole t → cache_table.IsWhole (put t c).cache
 unfolding put
@@ -79,13 +88,17 @@ record Made (cells : List Cell) : Type 0 where
   whole : AreWhole tables
   just : changed_cells tables ≡ cells
 
-made-from : (t : Tables) (from : ℕ) (cs : List Cell) → AreWhole t → from ≤ 160 → IsBaselineFrom from t → AreListed from cs → Made (changed t (take from all_spots) ++ cs)
-made-from t from [] h low plain listed = record { tables = t; whole = h; just = sym (listed-all t from low plain) ∙ sym (append-nil (changed t (take from all_spots))) }
+made-from : (t : Tables) (from : ℕ) (cs : List Cell) → AreWhole t → from ≤ 160 → IsBaselineFrom from t → AreListed from cs →
+    Made (changed t (take from all_spots) ++ cs)
+made-from t from [] h low plain listed =
+    record { tables = t; whole = h; just = sym (listed-all t from low plain) ∙ sym (append-nil (changed t (take from all_spots))) }
 made-from t from (c ∷ cs) h low plain listed =
     let own = at-own (spot_of c) in
     let others = put-others t c h in
     let more = listed-more t (put t c) from c plain listed.0 (put-here t c h) others in
-    let rest = made-from (put t c) (spot_number (spot_of c) + 1) cs (put-whole t c h listed.0.fits) (omega (arith, own.1)) (plain-more t (put t c) from c plain listed.0.in_order others) listed.1 in
+    let rest =
+    made-from (put t c) (spot_number (spot_of c) + 1) cs (put-whole t c h listed.0.fits) (omega (arith, own.1))
+    (plain-more t (put t c) from c plain listed.0.in_order others) listed.1 in
     subst Made (ap (λ l. l ++ cs) more ∙ append_assoc (changed t (take from all_spots)) (c ∷ []) cs) rest
 
 made-of : (cs : List Cell) → AreListed 0 cs → Made cs
@@ -132,14 +145,18 @@ cells-of (suc n) from ls f =
     let b = begins-of (cell_line (suc n) from) ls nothing (λ e. cc) f in
     let c : Cell = b.leads.0 in
     let left : suc n - 1 ≡ n = omega arith in
-    let more = cells-of n (spot_number (spot_of c) + 1) b.rest (turned b.next _ b.rest nothing (b.leads.3 ∙ ap (λ k. cells_due k (spot_number (spot_of c) + 1)) left) b.follow) in
+    let more =
+    cells-of n (spot_number (spot_of c) + 1) b.rest
+    (turned b.next _ b.rest nothing (b.leads.3 ∙ ap (λ k. cells_due k (spot_number (spot_of c) + 1)) left) b.follow) in
     record {
       cells = c ∷ more.cells;
       rest = more.rest;
       listed = (b.leads.1, more.listed);
       many = ap suc more.many;
       follow = more.follow;
-      bytes = one-line ls b.rest b.first (cell_words c) b.is b.leads.2 ∙ ap (λ l. line (cell_words c) ++ l) more.bytes ∙ sym (append_assoc (line (cell_words c)) (flat_map line (map cell_words more.cells)) (flat_map ended more.rest));
+      bytes =
+          one-line ls b.rest b.first (cell_words c) b.is b.leads.2 ∙ ap (λ l. line (cell_words c) ++ l) more.bytes
+          ∙ sym (append_assoc (line (cell_words c)) (flat_map line (map cell_words more.cells)) (flat_map ended more.rest));
     }
 
 -- the lines of so many entries, and the last one
@@ -178,13 +195,18 @@ abbrev IsTextOf : List ℕ → Kept → Type 0
 IsTextOf bytes r = IsRecordable r × (bytes ≡ text r)
 
 tail_text : List Cell → List Entry → List ℕ
-tail_text cs es = line (cells_words (length cs)) ++ (flat_map line (map cell_words cs) ++ (line (entries_words (length es)) ++ flat_map line (map entry_words es ++ end_words ∷ [])))
+tail_text cs es =
+    line (cells_words (length cs)) ++
+    (flat_map line (map cell_words cs) ++ (line (entries_words (length es)) ++ flat_map line (map entry_words es ++ end_words ∷ [])))
 
-tail-is : (cs : List Cell) (es : List Entry) → flat_map line (cells_words (length cs) ∷ map cell_words cs ++ (entries_words (length es) ∷ map entry_words es ++ end_words ∷ [])) ≡ tail_text cs es
+tail-is : (cs : List Cell) (es : List Entry) →
+    flat_map line (cells_words (length cs) ∷ map cell_words cs ++ (entries_words (length es) ∷ map entry_words es ++ end_words ∷ [])) ≡ tail_text cs es
 unfolding tail_text
-tail-is cs es = ap (λ l. line (cells_words (length cs)) ++ l) (flat_map-append line (map cell_words cs) (entries_words (length es) ∷ map entry_words es ++ end_words ∷ []))
+tail-is cs es =
+    ap (λ l. line (cells_words (length cs)) ++ l) (flat_map-append line (map cell_words cs) (entries_words (length es) ∷ map entry_words es ++ end_words ∷ []))
 
-tail-of : (ls : List (List ℕ)) → Follow cell_count ls nothing → (cs : List Cell) × (es : List Entry) × AreListed 0 cs × (length es ≤ 1000000) × AllByRecursion FitsEntry es × (flat_map ended ls ≡ tail_text cs es)
+tail-of : (ls : List (List ℕ)) → Follow cell_count ls nothing →
+    (cs : List Cell) × (es : List Entry) × AreListed 0 cs × (length es ≤ 1000000) × AllByRecursion FitsEntry es × (flat_map ended ls ≡ tail_text cs es)
 unfolding tail_text
 tail-of ls f =
     let b = begins-of cell_count ls nothing (λ e. cc) f in
@@ -198,7 +220,8 @@ tail-of ls f =
       e.fit,
       one-line ls b.rest b.first (cells_words (length c.cells)) b.is (b.leads.2 ∙ ap cells_words (sym c.many))
           ∙ ap (λ l. line (cells_words (length c.cells)) ++ l) (c.bytes
-          ∙ ap (λ l. flat_map line (map cell_words c.cells) ++ l) (one-line c.rest d.rest d.first (entries_words (length e.entries)) d.is (d.leads.2 ∙ ap entries_words (sym e.many))
+          ∙ ap (λ l. flat_map line (map cell_words c.cells) ++ l)
+          (one-line c.rest d.rest d.first (entries_words (length e.entries)) d.is (d.leads.2 ∙ ap entries_words (sym e.many))
           ∙ ap (λ l. line (entries_words (length e.entries)) ++ l) e.bytes)),
     )
 

@@ -106,7 +106,8 @@ one-fault_of_line due line Device other h k = absurd h
 -- ---- one fault
 
 long-line : (due : Due) (bytes : List ℕ) (kind : ReadKind) → IsTooLong bytes → BeginsFaulty due bytes kind → ⊥
-long-line due bytes kind h k = let short : length k.line < 90001 = omega (arith, k.short) in line-ends_within 90001 k.line k.behind bytes k.stands short h.no_end
+long-line due bytes kind h k =
+    let short : length k.line < 90001 = omega (arith, k.short) in line-ends_within 90001 k.line k.behind bytes k.stands short h.no_end
 
 ends-line : (due : Due) (bytes : List ℕ) (kind : ReadKind) → IsUnfinished bytes → BeginsFaulty due bytes kind → ⊥
 ends-line due bytes kind h k = line-ends_in k.line k.behind bytes k.stands h.no_end
@@ -129,7 +130,8 @@ one-line due bytes one other h k =
     let same = one-line_first h.line k.line h.behind k.behind h.no_end k.no_end (sym h.stands ∙ k.stands) in
     one-fault_of_line due (words k.line) one other (subst (λ l. IsFaultOfLine due (words l) one) same.0 h.fault) k.fault
 
-one-fault : (due : Due) (bytes : List ℕ) (one other : ReadKind) → ¬ IsOutside one → ¬ IsOutside other → Fault due bytes one → Fault due bytes other → one ≡ other
+one-fault : (due : Due) (bytes : List ℕ) (one other : ReadKind) → ¬ IsOutside one → ¬ IsOutside other → Fault due bytes one → Fault due bytes other →
+    one ≡ other
 one-fault due bytes one other p q (outside h) k = absurd (p h)
 one-fault due bytes one other p q (ends a x h) (outside k) = absurd (q k)
 one-fault due bytes one other p q (ends a x h) (ends b y k) = a ∙ sym b
@@ -152,22 +154,29 @@ one-fault due bytes one other p q (behind a x h) (long b y k) = absurd (y x)
 one-fault due bytes one other p q (behind a x h) (begins k) = a ∙ sym (nothing-fault due (words k.line) other x k.fault)
 one-fault due bytes one other p q (behind a x h) (behind b y k) = a ∙ sym b
 
-one-place : (due last final : Due) (xs ys : List (List ℕ)) (bytes others : List ℕ) (one other : ReadKind) → IsDue due → Follow due xs last → Follow due ys final → flat_map ended xs ++ bytes ≡ flat_map ended ys ++ others
+one-place : (due last final : Due) (xs ys : List (List ℕ)) (bytes others : List ℕ) (one other : ReadKind) → IsDue due → Follow due xs last →
+    Follow due ys final → flat_map ended xs ++ bytes ≡ flat_map ended ys ++ others
     → ¬ IsOutside one → ¬ IsOutside other → Fault last bytes one → Fault final others other → (length xs ≡ length ys) × (one ≡ other)
 one-place due last final [] [] bytes others one other is f g e p q h k =
     (refl, one-fault final others one other p q (subst (λ d. Fault d others one) (sym f ∙ g) (subst (λ b. Fault last b one) e h)) k)
 one-place due last final [] (y ∷ ys) bytes others one other is f g e p q h k =
-    absurd (p (good-outside due g.0 y (flat_map ended ys ++ others) bytes one is g.1 (e ∙ append_assoc (ended y) (flat_map ended ys) others) (subst (λ d. Fault d bytes one) (sym f) h)))
+    absurd
+    (p (good-outside due g.0 y (flat_map ended ys ++ others) bytes one is g.1 (e ∙ append_assoc (ended y) (flat_map ended ys) others) (subst (λ d. Fault d bytes one) (sym f) h)))
 one-place due last final (x ∷ xs) [] bytes others one other is f g e p q h k =
-    absurd (q (good-outside due f.0 x (flat_map ended xs ++ bytes) others other is f.1 (sym e ∙ append_assoc (ended x) (flat_map ended xs) bytes) (subst (λ d. Fault d others other) (sym g) k)))
+    absurd
+    (q (good-outside due f.0 x (flat_map ended xs ++ bytes) others other is f.1 (sym e ∙ append_assoc (ended x) (flat_map ended xs) bytes) (subst (λ d. Fault d others other) (sym g) k)))
 one-place due last final (x ∷ xs) (y ∷ ys) bytes others one other is f g e p q h k =
-    let same = one-line_first x y (flat_map ended xs ++ bytes) (flat_map ended ys ++ others) (good-open due x f.0 is f.1) (good-open due y g.0 is g.1) (sym (append_assoc (ended x) (flat_map ended xs) bytes) ∙ e ∙ append_assoc (ended y) (flat_map ended ys) others) in
+    let same =
+    one-line_first x y (flat_map ended xs ++ bytes) (flat_map ended ys ++ others) (good-open due x f.0 is f.1) (good-open due y g.0 is g.1)
+    (sym (append_assoc (ended x) (flat_map ended xs) bytes) ∙ e ∙ append_assoc (ended y) (flat_map ended ys) others) in
     let next : g.0 ≡ f.0 = leads-one due (words x) g.0 f.0 (subst (λ l. Leads due (words l) g.0) (sym same.0) g.1) f.1 in
-    let rest = one-place f.0 last final xs ys bytes others one other (leads-due due (words x) f.0 f.1) f.2 (subst (λ d. Follow d ys final) next g.2) same.1 p q h k in
+    let rest =
+    one-place f.0 last final xs ys bytes others one other (leads-due due (words x) f.0 f.1) f.2 (subst (λ d. Follow d ys final) next g.2) same.1 p q h k in
     (ap suc rest.0, rest.1)
 
 -- two refusals of the same bytes are one, where the bytes are at fault
-pub one-refusal : (bytes : List ℕ) (end finish : Option (List ℕ)) (line place : ℕ) (one other : ReadKind) → IsRefused (Some bytes) end 0 header line one → IsRefused (Some bytes) finish 0 header place other
+pub one-refusal : (bytes : List ℕ) (end finish : Option (List ℕ)) (line place : ℕ) (one other : ReadKind) →
+    IsRefused (Some bytes) end 0 header line one → IsRefused (Some bytes) finish 0 header place other
     → ¬ IsOutside one → ¬ IsOutside other → (line ≡ place) × (one ≡ other)
 one-refusal bytes None finish line place one other r s p q = absurd r.read
 one-refusal bytes (Some more) None line place one other r s p q = absurd s.read

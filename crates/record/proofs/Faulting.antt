@@ -23,10 +23,13 @@ abbrev IsNoSign : List ℕ → Type 0
 IsNoSign word = word ≢ codes "="
 
 digits : (n : ℕ) → n < 2 ^ 64 → AllByRecursion (λ b. b ≤ 57) (decimal n)
-digits n low = decimal_by_steps (λ k ds. AllByRecursion (λ b. b ≤ 57) ds) (λ k h. (omega (arith, h), tt)) (λ k ds h more. all-append (λ b. b ≤ 57) ds _ more (omega arith, tt)) n low
+digits n low =
+    decimal_by_steps (λ k ds. AllByRecursion (λ b. b ≤ 57) ds) (λ k h. (omega (arith, h), tt))
+    (λ k ds h more. all-append (λ b. b ≤ 57) ds _ more (omega arith, tt)) n low
 
 number-no_sign : (n : ℕ) → n < 2 ^ 64 → IsNoSign (decimal n)
-number-no_sign n low e = let high : AllByRecursion (λ b. b ≤ 57) (codes "=") = subst (AllByRecursion (λ b. b ≤ 57)) e (digits n low) in absurd (omega (arith, high.0))
+number-no_sign n low e =
+    let high : AllByRecursion (λ b. b ≤ 57) (codes "=") = subst (AllByRecursion (λ b. b ≤ 57)) e (digits n low) in absurd (omega (arith, high.0))
 
 ask-no_sign : (a : Ask) → FitsAsk a → AllByRecursion IsNoSign (ask_words a)
 ask-no_sign Load f = (λ e. cc, tt)
@@ -39,7 +42,8 @@ step-no_sign (step.Request b i) f = (λ e. cc, (number-no_sign b.0 (omega (arith
 step-no_sign (step.Forward b c) f = (λ e. cc, (number-no_sign b.0 (omega (arith, f.0)), (number-no_sign c.0 (omega (arith, f.1)), tt)))
 step-no_sign (step.Response b i) f = (λ e. cc, (number-no_sign b.0 (omega (arith, f.0)), (number-no_sign i f.1, tt)))
 
-behind-sign : (xs ys us vs : List (List ℕ)) → AllByRecursion IsNoSign xs → AllByRecursion IsNoSign ys → xs ++ codes "=" ∷ us ≡ ys ++ codes "=" ∷ vs → (xs ≡ ys) × (us ≡ vs)
+behind-sign : (xs ys us vs : List (List ℕ)) → AllByRecursion IsNoSign xs → AllByRecursion IsNoSign ys → xs ++ codes "=" ∷ us ≡ ys ++ codes "=" ∷ vs →
+    (xs ≡ ys) × (us ≡ vs)
 behind-sign [] [] us vs h k e = (refl, cc)
 behind-sign [] (y ∷ ys) us vs h k e = let is : y ≡ codes "=" = cc in absurd (k.0 is)
 behind-sign (x ∷ xs) [] us vs h k e = let is : x ≡ codes "=" = cc in absurd (h.0 is)
@@ -50,7 +54,8 @@ behind-sign (x ∷ xs) (y ∷ ys) us vs h k e =
     (ap (λ w. w ∷ xs) first ∙ ap (λ l. y ∷ l) both.0, both.1)
 
 -- a line has one step before its equals sign, and one outcome behind it
-pub same-halves : (s t : Step) (us vs : List (List ℕ)) → FitsStep s → FitsStep t → step_words s ++ codes "=" ∷ us ≡ step_words t ++ codes "=" ∷ vs → (step_words s ≡ step_words t) × (us ≡ vs)
+pub same-halves : (s t : Step) (us vs : List (List ℕ)) → FitsStep s → FitsStep t → step_words s ++ codes "=" ∷ us ≡ step_words t ++ codes "=" ∷ vs →
+    (step_words s ≡ step_words t) × (us ≡ vs)
 same-halves s t us vs f g e = behind-sign (step_words s) (step_words t) us vs (step-no_sign s f) (step-no_sign t g) e
 
 -- an entry has more than one word
@@ -65,7 +70,8 @@ over-not_good shape_line line next l h = h.outside l.0 l.1 l.2
 over-not_good (opening_line shape) line next l h = h
 over-not_good cell_count line next l h = let same : codes "cells" ∷ h.count ∷ [] ≡ codes "cells" ∷ decimal l.0 ∷ [] = sym h.spelled ∙ l.2 in h.higher l.0 l.1 cc
 over-not_good (cell_line left from) line next l h = h
-over-not_good entry_count line next l h = let same : codes "entries" ∷ h.count ∷ [] ≡ codes "entries" ∷ decimal l.0 ∷ [] = sym h.spelled ∙ l.2 in h.higher l.0 l.1 cc
+over-not_good entry_count line next l h =
+    let same : codes "entries" ∷ h.count ∷ [] ≡ codes "entries" ∷ decimal l.0 ∷ [] = sym h.spelled ∙ l.2 in h.higher l.0 l.1 cc
 over-not_good (entry_line left) line next l h = h
 over-not_good end_line line next l h = h
 over-not_good nothing line next l h = h

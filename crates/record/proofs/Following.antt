@@ -1,5 +1,6 @@
 -- The lines of a recording follow one another, each as it is due.
-use Rattle.std.proofs.Common.{◌≡◌, ◌≤◌, ◌+◌, ◌-◌, ℕ, zero, suc, Bool, true, false, not, List, [], ◌∷◌, ◌++◌, Some, length, map, refl, ap, sym, subst, ◌∙◌, arith, append-nil}
+use Rattle.std.proofs.Common.{◌≡◌, ◌≤◌, ◌+◌, ◌-◌, ℕ, zero, suc, Bool, true, false, not, List, [], ◌∷◌, ◌++◌, Some, length, map, refl, ap, sym, subst}
+use Rattle.std.proofs.Common.{◌∙◌, arith, append-nil}
 use Rattle.std.specs.List.{All, AllByRecursion, range_with_len}
 use Rattle.std.proofs.lemmas.List.Elements.{All-from_recursion, recursion_from_All}
 use Rattle.machine.specs.Tables.{Tables, baseline}
@@ -11,7 +12,8 @@ use Rattle.record.specs.Cells.{all_spots, cell_at, cell_words, spot_of, spot_num
 use Rattle.record.specs.Kept.{Kept}
 use Rattle.base.specs.Spelling.{joined}
 use Rattle.record.specs.Text.{text, lines, entries_words, entry_words, end_words, is_same, is_changed, changed, changed_cells}
-use Rattle.record.specs.Grammar.{Due, header, shape_line, opening_line, cell_count, entry_count, nothing, cells_due, entries_due, IsListed, FitsEntry, Leads, Follow}
+use Rattle.record.specs.Grammar.{Due, header, shape_line, opening_line, cell_count, entry_count, nothing, cells_due, entries_due, IsListed, FitsEntry}
+use Rattle.record.specs.Grammar.{Leads, Follow}
 use Rattle.record.specs.Refused.{ended, IsWellFormed}
 use Rattle.record.specs.Recordable.{AreWhole, IsRecordable}
 use Rattle.record.proofs.Changed.{changed-cons}
@@ -56,7 +58,8 @@ not-true false e = refl
 pub changed-differs : (t : Tables) (s : Spot) → is_changed t s ≡ true → is_same (cell_at t s) (cell_at baseline (spot_of (cell_at t s))) ≡ false
 changed-differs t s e = ap (λ p. is_same (cell_at t s) (cell_at baseline p)) (spot-own t s) ∙ not-true (is_same (cell_at t s) (cell_at baseline s)) e
 
-listed-one : (t : Tables) (s : Spot) (ss : List Spot) (a : ℕ) (b : Bool) → AreWhole t → is_changed t s ≡ b → spot_number s ≡ a → AreListed (a + 1) (changed t ss) → AreListed a (changed t (s ∷ ss))
+listed-one : (t : Tables) (s : Spot) (ss : List Spot) (a : ℕ) (b : Bool) → AreWhole t → is_changed t s ≡ b → spot_number s ≡ a →
+    AreListed (a + 1) (changed t ss) → AreListed a (changed t (s ∷ ss))
 listed-one t s ss a true whole e here rest =
     let place : spot_number (spot_of (cell_at t s)) ≡ a = ap spot_number (spot-own t s) ∙ here in
     let first : IsListed a (cell_at t s) = record { fits = whole.fits s; in_order = omega (arith, place); differs = changed-differs t s e } in
@@ -72,7 +75,8 @@ listed-from t whole (s ∷ ss) a (suc n) e =
     let rest : map spot_number ss ≡ range_with_len (a + 1) n = cc in
     listed-one t s ss a (is_changed t s) whole refl here (listed-from t whole ss (a + 1) n rest)
 
-fewer : (t : Tables) (s : Spot) (ss : List Spot) (b : Bool) → is_changed t s ≡ b → length (changed t ss) ≤ length ss → length (changed t (s ∷ ss)) ≤ length (s ∷ ss)
+fewer : (t : Tables) (s : Spot) (ss : List Spot) (b : Bool) → is_changed t s ≡ b → length (changed t ss) ≤ length ss →
+    length (changed t (s ∷ ss)) ≤ length (s ∷ ss)
 fewer t s ss true e few = omega (arith, ap length (changed-cons t s ss true e), few)
 fewer t s ss false e few = omega (arith, ap length (changed-cons t s ss false e), few)
 
@@ -83,7 +87,8 @@ few-changed t (s ∷ ss) = fewer t s ss (is_changed t s) refl (few-changed t ss)
 pub few-cells : (t : Tables) → length (changed_cells t) ≤ 160
 few-cells t = let n : length all_spots ≡ 160 = refl in omega (arith, few-changed t all_spots, n)
 
-cells-followed : (cs : List Cell) (from : ℕ) (rest : List (List (List ℕ))) → AreListed from cs → Followed entry_count rest nothing → Followed (cells_due (length cs) from) (map cell_words cs ++ rest) nothing
+cells-followed : (cs : List Cell) (from : ℕ) (rest : List (List (List ℕ))) → AreListed from cs → Followed entry_count rest nothing →
+    Followed (cells_due (length cs) from) (map cell_words cs ++ rest) nothing
 cells-followed [] from rest h f = f
 cells-followed (c ∷ cs) from rest h f =
     let n : ℕ = spot_number (spot_of c) + 1 in

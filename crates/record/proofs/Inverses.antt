@@ -1,5 +1,6 @@
 -- A text is the text of one recording.
-use Rattle.std.proofs.Common.{◌≡◌, ◌<◌, ◌+◌, ◌^◌, ℕ, zero, suc, Bool, true, false, not, List, [], ◌∷◌, ◌++◌, Option, None, Some, length, map, get_or, refl, ap, sym, subst, ◌∙◌, arith, append-nil, codes}
+use Rattle.std.proofs.Common.{◌≡◌, ◌<◌, ◌+◌, ◌^◌, ℕ, zero, suc, Bool, true, false, not, List, [], ◌∷◌, ◌++◌, Option, None, Some, length, map, get_or}
+use Rattle.std.proofs.Common.{refl, ap, sym, subst, ◌∙◌, arith, append-nil, codes}
 use Rattle.std.specs.List.{AllByRecursion, flat_map, range_with_len}
 use Rattle.std.specs.Fmt.{decimal}
 use Rattle.std.proofs.lemmas.Fmt.{decimal_injective}
@@ -24,7 +25,8 @@ use Rattle.record.specs.declared.recording.Entry.{Entry}
 use Rattle.record.specs.Cells.{all_spots, cache_entry_words, directory_entry_words, cell_at, cell_words, spot_number}
 use Rattle.record.specs.Kept.{Kept}
 use Rattle.base.specs.Spelling.{joined}
-use Rattle.record.specs.Text.{text, line, lines, shape_words, opening_words, cells_words, entries_words, entry_words, end_words, is_same, is_changed, changed, changed_cells}
+use Rattle.record.specs.Text.{text, line, lines, shape_words, opening_words, cells_words, entries_words, entry_words, end_words, is_same, is_changed}
+use Rattle.record.specs.Text.{changed, changed_cells}
 use Rattle.record.specs.Grammar.{FitsEntry, header}
 use Rattle.record.specs.declared.fault.ReadKind.{ReadKind}
 use Rattle.record.specs.Refused.{IsOutside, IsRefused}
@@ -73,9 +75,11 @@ directory_entry-same : (x y : DirectoryEntry) → directory_entry_words x ≡ di
 directory_entry-same (directory_entry.Act s xs) (directory_entry.Act t ys) e = cc (directory_state-same s t cc, directory_actions-same xs ys cc)
 directory_entry-same (directory_entry.Act s xs) other e = absurd (cc)
 directory_entry-same directory_entry.Blank directory_entry.Blank e = refl
-directory_entry-same directory_entry.Blank directory_entry.Stall e = let first : 98 ≡ 115 = ap (λ l. get_or (get_or l 0 []) 0 0) e in absurd (omega (arith, first))
+directory_entry-same directory_entry.Blank directory_entry.Stall e =
+    let first : 98 ≡ 115 = ap (λ l. get_or (get_or l 0 []) 0 0) e in absurd (omega (arith, first))
 directory_entry-same directory_entry.Blank (directory_entry.Act t ys) e = absurd (cc)
-directory_entry-same directory_entry.Stall directory_entry.Blank e = let first : 115 ≡ 98 = ap (λ l. get_or (get_or l 0 []) 0 0) e in absurd (omega (arith, first))
+directory_entry-same directory_entry.Stall directory_entry.Blank e =
+    let first : 115 ≡ 98 = ap (λ l. get_or (get_or l 0 []) 0 0) e in absurd (omega (arith, first))
 directory_entry-same directory_entry.Stall directory_entry.Stall e = refl
 directory_entry-same directory_entry.Stall (directory_entry.Act t ys) e = absurd (cc)
 
@@ -126,13 +130,15 @@ entry-same e f h k is =
 
 -- ---- lists of them
 
-values-same : (vs ws : List ℕ) → AllByRecursion (λ value. value < 2 ^ 64) vs → AllByRecursion (λ value. value < 2 ^ 64) ws → map decimal vs ≡ map decimal ws → vs ≡ ws
+values-same : (vs ws : List ℕ) → AllByRecursion (λ value. value < 2 ^ 64) vs → AllByRecursion (λ value. value < 2 ^ 64) ws →
+    map decimal vs ≡ map decimal ws → vs ≡ ws
 values-same [] [] h k e = refl
 values-same [] (w ∷ ws) h k e = absurd (cc)
 values-same (v ∷ vs) [] h k e = absurd (cc)
 values-same (v ∷ vs) (w ∷ ws) h k e = cc (decimal_injective v w h.0 k.0 cc, values-same vs ws h.1 k.1 cc)
 
-cells-same : (cs ds : List Cell) (us vs : List (List (List ℕ))) → length cs ≡ length ds → map cell_words cs ++ us ≡ map cell_words ds ++ vs → (cs ≡ ds) × (us ≡ vs)
+cells-same : (cs ds : List Cell) (us vs : List (List (List ℕ))) → length cs ≡ length ds → map cell_words cs ++ us ≡ map cell_words ds ++ vs →
+    (cs ≡ ds) × (us ≡ vs)
 cells-same [] [] us vs n e = (refl, e)
 cells-same [] (d ∷ ds) us vs n e = absurd (omega (arith, n))
 cells-same (c ∷ cs) [] us vs n e = absurd (omega (arith, n))
@@ -142,7 +148,8 @@ cells-same (c ∷ cs) (d ∷ ds) us vs n e =
     let both = cells-same cs ds us vs (omega (arith, n)) rest in
     (ap (λ x. x ∷ cs) (cell-same c d first) ∙ ap (λ l. d ∷ l) both.0, both.1)
 
-entries-same : (es fs : List Entry) (us vs : List (List (List ℕ))) → length es ≡ length fs → AllByRecursion FitsEntry es → AllByRecursion FitsEntry fs → map entry_words es ++ us ≡ map entry_words fs ++ vs → es ≡ fs
+entries-same : (es fs : List Entry) (us vs : List (List (List ℕ))) → length es ≡ length fs → AllByRecursion FitsEntry es →
+    AllByRecursion FitsEntry fs → map entry_words es ++ us ≡ map entry_words fs ++ vs → es ≡ fs
 entries-same [] [] us vs n h k e = refl
 entries-same [] (y ∷ fs) us vs n h k e = absurd (omega (arith, n))
 entries-same (x ∷ es) [] us vs n h k e = absurd (omega (arith, n))
@@ -158,7 +165,9 @@ plain-same : (t u : Tables) (s : Spot) → AreWhole t → AreWhole u → is_chan
 plain-same t u s h k e f =
     let left : line (cell_words (cell_at t s)) ≡ line (cell_words (cell_at baseline s)) = as-baseline (cell_at t s) e in
     let right : line (cell_words (cell_at u s)) ≡ line (cell_words (cell_at baseline s)) = as-baseline (cell_at u s) f in
-    let same = line-same (cell_words (cell_at t s)) (cell_words (cell_at u s)) [] [] (cell-line _ (h.fits s)) (cell-line _ (k.fits s)) (ap (λ l. l ++ []) (left ∙ sym right)) in
+    let same =
+    line-same (cell_words (cell_at t s)) (cell_words (cell_at u s)) [] [] (cell-line _ (h.fits s)) (cell-line _ (k.fits s))
+    (ap (λ l. l ++ []) (left ∙ sym right)) in
     cell-same (cell_at t s) (cell_at u s) same.0
   where
     not-false : (b : Bool) → not b ≡ false → b ≡ true
@@ -169,12 +178,14 @@ plain-same t u s h k e f =
     as-baseline c e = (bytes_eq-Decides (line (cell_words c)) (line (cell_words (cell_at baseline s)))).0 (not-false (is_same c (cell_at baseline s)) e)
 
 -- a cell isn't among those of later places
-later : (t u : Tables) (s : Spot) (ss : List Spot) (a : ℕ) → AreListed (a + 1) (changed u ss) → spot_number s ≡ a → cell_at t s ∷ changed t ss ≡ changed u ss → ⊥
+later : (t u : Tables) (s : Spot) (ss : List Spot) (a : ℕ) → AreListed (a + 1) (changed u ss) → spot_number s ≡ a →
+    cell_at t s ∷ changed t ss ≡ changed u ss → ⊥
 later t u s ss a listed here e =
     let first = (subst (AreListed (a + 1)) (sym e) listed).0.in_order in
     absurd (omega (arith, first, ap spot_number (spot-own t s), here))
 
-one-more : (t u : Tables) (s : Spot) (ss : List Spot) (a : ℕ) (b c : Bool) → AreWhole t → AreWhole u → is_changed t s ≡ b → is_changed u s ≡ c → spot_number s ≡ a → AreListed (a + 1) (changed t ss) → AreListed (a + 1) (changed u ss)
+one-more : (t u : Tables) (s : Spot) (ss : List Spot) (a : ℕ) (b c : Bool) → AreWhole t → AreWhole u → is_changed t s ≡ b → is_changed u s ≡ c →
+    spot_number s ≡ a → AreListed (a + 1) (changed t ss) → AreListed (a + 1) (changed u ss)
     → changed t (s ∷ ss) ≡ changed u (s ∷ ss) → (cell_at t s ≡ cell_at u s) × (changed t ss ≡ changed u ss)
 one-more t u s ss a true true h k x y here lt lu e =
     let both : cell_at t s ∷ changed t ss ≡ cell_at u s ∷ changed u ss = sym (changed-cons t s ss true x) ∙ e ∙ changed-cons u s ss true y in (cc, cc)
@@ -183,13 +194,15 @@ one-more t u s ss a false false h k x y here lt lu e =
 one-more t u s ss a true false h k x y here lt lu e = absurd (later t u s ss a lu here (sym (changed-cons t s ss true x) ∙ e ∙ changed-cons u s ss false y))
 one-more t u s ss a false true h k x y here lt lu e = absurd (later u t s ss a lt here (sym (changed-cons u s ss true y) ∙ sym e ∙ changed-cons t s ss false x))
 
-spots-same : (t u : Tables) → AreWhole t → AreWhole u → (spots : List Spot) (a n : ℕ) → map spot_number spots ≡ range_with_len a n → changed t spots ≡ changed u spots → AllByRecursion (λ s. cell_at t s ≡ cell_at u s) spots
+spots-same : (t u : Tables) → AreWhole t → AreWhole u → (spots : List Spot) (a n : ℕ) → map spot_number spots ≡ range_with_len a n →
+    changed t spots ≡ changed u spots → AllByRecursion (λ s. cell_at t s ≡ cell_at u s) spots
 spots-same t u h k [] a n e same = tt
 spots-same t u h k (s ∷ ss) a zero e same = absurd (cc)
 spots-same t u h k (s ∷ ss) a (suc n) e same =
     let here : spot_number s ≡ a = cc in
     let rest : map spot_number ss ≡ range_with_len (a + 1) n = cc in
-    let both = one-more t u s ss a (is_changed t s) (is_changed u s) h k refl refl here (listed-from t h ss (a + 1) n rest) (listed-from u k ss (a + 1) n rest) same in
+    let both =
+    one-more t u s ss a (is_changed t s) (is_changed u s) h k refl refl here (listed-from t h ss (a + 1) n rest) (listed-from u k ss (a + 1) n rest) same in
     (both.0, spots-same t u h k ss (a + 1) n rest both.1)
 
 at-index : {X : Type 0} (P : X → Type 0) (xs : List X) (i : ℕ) (d : X) → i < length xs → AllByRecursion P xs → P (get_or xs i d)
@@ -201,7 +214,8 @@ cells-agree : (t u : Tables) → AreWhole t → AreWhole u → changed_cells t �
 cells-agree t u h k e s =
     let own = at-own s in
     let n : length all_spots ≡ 160 = refl in
-    subst (λ p. cell_at t p ≡ cell_at u p) own.0 (at-index (λ p. cell_at t p ≡ cell_at u p) all_spots (spot_number s) some_spot (omega (arith, n, own.1)) (spots-same t u h k all_spots 0 160 numbers e))
+    subst (λ p. cell_at t p ≡ cell_at u p) own.0
+    (at-index (λ p. cell_at t p ≡ cell_at u p) all_spots (spot_number s) some_spot (omega (arith, n, own.1)) (spots-same t u h k all_spots 0 160 numbers e))
 
 -- ---- recordings
 
@@ -211,7 +225,8 @@ kept shape tables opening entries = record { shape = shape; tables = tables; ope
 parts-same : (r s : Kept) → r.shape ≡ s.shape → r.tables ≡ s.tables → r.opening ≡ s.opening → r.entries ≡ s.entries → r ≡ s
 unfolding kept
 parts-same r s a b c d =
-    ap (λ x. kept x r.tables r.opening r.entries) a ∙ ap (λ x. kept s.shape x r.opening r.entries) b ∙ ap (λ x. kept s.shape s.tables x r.entries) c ∙ ap (λ x. kept s.shape s.tables s.opening x) d
+    ap (λ x. kept x r.tables r.opening r.entries) a ∙ ap (λ x. kept s.shape x r.opening r.entries) b ∙ ap (λ x. kept s.shape s.tables x r.entries) c
+    ∙ ap (λ x. kept s.shape s.tables s.opening x) d
 
 rest_of : Kept → List (List (List ℕ))
 rest_of r = map cell_words (changed_cells r.tables) ++ (entries_words (length r.entries) ∷ map entry_words r.entries ++ end_words ∷ [])
@@ -225,7 +240,9 @@ recording-one r s h k e =
     let opening : opening_words r.opening ≡ opening_words s.opening = ap (λ l. get_or l 2 []) all in
     let count : cells_words (length (changed_cells r.tables)) ≡ cells_words (length (changed_cells s.tables)) = ap (λ l. get_or l 3 []) all in
     let rest : rest_of r ≡ rest_of s = ap (λ l. behind_four l) all in
-    let n = count-same (codes "cells") (length (changed_cells r.tables)) (length (changed_cells s.tables)) (omega (arith, few-cells r.tables)) (omega (arith, few-cells s.tables)) count in
+    let n =
+    count-same (codes "cells") (length (changed_cells r.tables)) (length (changed_cells s.tables)) (omega (arith, few-cells r.tables))
+    (omega (arith, few-cells s.tables)) count in
     let cells = cells-same (changed_cells r.tables) (changed_cells s.tables) _ _ n rest in
     let entry_count : entries_words (length r.entries) ≡ entries_words (length s.entries) = ap (λ l. get_or l 0 []) cells.1 in
     let m = count-same (codes "entries") (length r.entries) (length s.entries) h.few k.few entry_count in
@@ -234,7 +251,8 @@ recording-one r s h k e =
     (shape-same r.shape s.shape h.shape k.shape shape)
     (tables-same r.tables s.tables h.tables k.tables (cells-agree r.tables s.tables h.tables k.tables cells.0))
     (values-same r.opening s.opening (recursion_from_All _ r.opening h.opening.small) (recursion_from_All _ s.opening k.opening.small) (ap behind_one opening))
-    (entries-same r.entries s.entries (end_words ∷ []) (end_words ∷ []) m (recursion_from_All FitsEntry r.entries h.fits) (recursion_from_All FitsEntry s.entries k.fits) entries)
+    (entries-same r.entries s.entries (end_words ∷ []) (end_words ∷ []) m (recursion_from_All FitsEntry r.entries h.fits)
+    (recursion_from_All FitsEntry s.entries k.fits) entries)
   where
     behind_one : {X : Type 0} → List X → List X
     behind_one [] = []
@@ -250,7 +268,8 @@ recording-alone r s more h k e =
     (recording-one r s h k (e ∙ ap (λ l. text s ++ l) none ∙ append-nil (text s)), none)
 
 -- what was read of a recording's text is that recording
-pub read-back : (before after : Option (List ℕ)) (r s : Kept) → IsRecordable r → IsRecordable s → before ≡ Some (text r) → Consumes before after (text s) → s ≡ r
+pub read-back : (before after : Option (List ℕ)) (r s : Kept) → IsRecordable r → IsRecordable s → before ≡ Some (text r) →
+    Consumes before after (text s) → s ≡ r
 read-back before after r s h k is read = read-text after (subst (λ b. Consumes b after (text s)) is read)
   where
     read-text : (after : Option (List ℕ)) → Consumes (Some (text r)) after (text s) → s ≡ r
@@ -258,5 +277,7 @@ read-back before after r s h k is read = read-text after (subst (λ b. Consumes 
     read-text (Some left) read = sym (recording-alone r s left h k read).0
 
 -- and it is refused only for want of memory or by a device
-pub refused-outside : (before end : Option (List ℕ)) (line : ℕ) (kind : ReadKind) (r : Kept) → IsRecordable r → before ≡ Some (text r) → IsRefused before end 0 header line kind → IsOutside kind
-refused-outside before end line kind r h is refused = whole-refused (text r) (Some []) end line kind (text-whole r h) (subst (λ b. IsRefused b end 0 header line kind) is refused)
+pub refused-outside : (before end : Option (List ℕ)) (line : ℕ) (kind : ReadKind) (r : Kept) → IsRecordable r → before ≡ Some (text r) →
+    IsRefused before end 0 header line kind → IsOutside kind
+refused-outside before end line kind r h is refused =
+    whole-refused (text r) (Some []) end line kind (text-whole r h) (subst (λ b. IsRefused b end 0 header line kind) is refused)

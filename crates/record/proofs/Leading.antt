@@ -24,7 +24,8 @@ use Rattle.record.specs.declared.cells.Cell.TheVariants as cell
 use Rattle.record.specs.declared.recording.Entry.{Entry}
 use Rattle.record.specs.Cells.{cache_entry_words, directory_entry_words, cell_words, spot_number, FitsCell, FitsCacheEntry, FitsDirectoryEntry}
 use Rattle.record.specs.Text.{shape_words, opening_words, entry_words}
-use Rattle.record.specs.Grammar.{Due, header, shape_line, opening_line, cell_count, cell_line, entry_count, entry_line, end_line, nothing, cells_due, entries_due, AreValues, FitsEntry, Leads}
+use Rattle.record.specs.Grammar.{Due, header, shape_line, opening_line, cell_count, cell_line, entry_count, entry_line, end_line, nothing, cells_due}
+use Rattle.record.specs.Grammar.{entries_due, AreValues, FitsEntry, Leads}
 use Rattle.record.proofs.Alike.{same-spot}
 use Rattle.record.proofs.Legible.{IsWord, IsLine, all-append, text-word, number-word}
 use Rattle.record.proofs.Naming.{cache_state-word, cache_event-word, cache_actions-words, directory_state-word, directory_event-word, directory_actions-words}
@@ -44,7 +45,8 @@ step-line (step.Ask c b a) f =
     let asked = ask-line a f.2 in
     ((text-word _ refl (omega arith), (number-word c.0 (narrow c.0 f.0), (number-word b.0 (narrow b.0 f.1), asked.0))), omega arith, omega (arith, asked.1))
 step-line (step.Request b i) f = ((text-word _ refl (omega arith), (number-word b.0 (narrow b.0 f.0), (number-word i f.1, tt))), omega arith, omega arith)
-step-line (step.Forward b c) f = ((text-word _ refl (omega arith), (number-word b.0 (narrow b.0 f.0), (number-word c.0 (narrow c.0 f.1), tt))), omega arith, omega arith)
+step-line (step.Forward b c) f =
+    ((text-word _ refl (omega arith), (number-word b.0 (narrow b.0 f.0), (number-word c.0 (narrow c.0 f.1), tt))), omega arith, omega arith)
 step-line (step.Response b i) f = ((text-word _ refl (omega arith), (number-word b.0 (narrow b.0 f.0), (number-word i f.1, tt))), omega arith, omega arith)
 
 outcome-line : (o : Outcome) → FitsOutcome o → AllByRecursion IsWord (outcome_words o) × (length (outcome_words o) ≤ 3)
@@ -78,8 +80,11 @@ cache_entry-line (cache_entry.Act next actions) f =
 directory_entry-line : (x : DirectoryEntry) → FitsDirectoryEntry x → AllByRecursion IsWord (directory_entry_words x) × (length (directory_entry_words x) ≤ 10)
 directory_entry-line directory_entry.Blank f = ((text-word _ refl (omega arith), tt), omega arith)
 directory_entry-line directory_entry.Stall f = ((text-word _ refl (omega arith), tt), omega arith)
-directory_entry-line (directory_entry.Act next actions) f =
-    ((text-word _ refl (omega arith), (directory_state-word next, directory_actions-words actions)), omega (arith, length-map actions directory_names.action_name, f))
+directory_entry-line (directory_entry.Act next actions) f = (
+  (text-word _ refl (omega arith), (directory_state-word next, directory_actions-words actions)),
+  omega
+      (arith, length-map actions directory_names.action_name, f),
+)
 
 pub cell-line : (c : Cell) → FitsCell c → IsLine (cell_words c)
 cell-line (cell.Cache s e x) f =
@@ -103,7 +108,10 @@ count-line name n word low = record { each = (word, (number-word n low, tt)); so
 
 shape-line : (shape : Extent) → IsWithinLimits shape → IsLine (shape_words shape)
 shape-line shape within = record {
-  each = (text-word _ refl (omega arith), (number-word shape.caches (omega (arith, within.few_caches)), (number-word shape.blocks (omega (arith, within.few_blocks)), tt)));
+  each = (
+    text-word _ refl (omega arith),
+    (number-word shape.caches (omega (arith, within.few_caches)), (number-word shape.blocks (omega (arith, within.few_blocks)), tt)),
+  );
   some = omega arith;
   few = omega arith;
 }
@@ -128,7 +136,8 @@ IsDue other = Unit {0}
 
 -- a line that is well formed where it is due is a line of words
 pub leads-line : (due : Due) (line : List (List ℕ)) (next : Due) → IsDue due → Leads due line next → IsLine line
-leads-line header line next h l = subst IsLine (sym l.0) (record { each = (text-word _ refl (omega arith), (text-word _ refl (omega arith), tt)); some = omega arith; few = omega arith })
+leads-line header line next h l =
+    subst IsLine (sym l.0) (record { each = (text-word _ refl (omega arith), (text-word _ refl (omega arith), tt)); some = omega arith; few = omega arith })
 leads-line shape_line line next h l = subst IsLine (sym l.2) (shape-line l.0 l.1)
 leads-line (opening_line shape) line next h l = subst IsLine (sym l.2) (opening-line shape l.0 h l.1)
 leads-line cell_count line next h l = subst IsLine (sym l.2) (count-line (codes "cells") l.0 (text-word _ refl (omega arith)) (omega (arith, l.1)))
@@ -163,7 +172,8 @@ pub shape-same : (s t : Extent) → IsWithinLimits s → IsWithinLimits t → sh
 shape-same s t h k e =
     let caches : s.caches ≡ t.caches = decimal_injective s.caches t.caches (omega (arith, h.few_caches)) (omega (arith, k.few_caches)) cc in
     let blocks : s.blocks ≡ t.blocks = decimal_injective s.blocks t.blocks (omega (arith, h.few_blocks)) (omega (arith, k.few_blocks)) cc in
-    ap (λ n. let x : Extent = record { caches = n; blocks = s.blocks } in x) caches ∙ ap (λ n. let x : Extent = record { caches = t.caches; blocks = n } in x) blocks
+    ap (λ n. let x : Extent = record { caches = n; blocks = s.blocks } in x) caches
+    ∙ ap (λ n. let x : Extent = record { caches = t.caches; blocks = n } in x) blocks
 
 pub count-same : (name : List ℕ) (m n : ℕ) → m ≤ 1000000 → n ≤ 1000000 → name ∷ decimal m ∷ [] ≡ name ∷ decimal n ∷ [] → m ≡ n
 count-same name m n h k e = decimal_injective m n (omega (arith, h)) (omega (arith, k)) cc
@@ -172,7 +182,8 @@ pub leads-one : (due : Due) (line : List (List ℕ)) (a b : Due) → Leads due l
 leads-one header line a b l m = l.1 ∙ sym m.1
 leads-one shape_line line a b l m = l.3 ∙ ap opening_line (shape-same l.0 m.0 l.1 m.1 (sym l.2 ∙ m.2)) ∙ sym m.3
 leads-one (opening_line shape) line a b l m = l.3 ∙ sym m.3
-leads-one cell_count line a b l m = l.3 ∙ ap (λ n. cells_due n 0) (count-same (codes "cells") l.0 m.0 (omega (arith, l.1)) (omega (arith, m.1)) (sym l.2 ∙ m.2)) ∙ sym m.3
+leads-one cell_count line a b l m =
+    l.3 ∙ ap (λ n. cells_due n 0) (count-same (codes "cells") l.0 m.0 (omega (arith, l.1)) (omega (arith, m.1)) (sym l.2 ∙ m.2)) ∙ sym m.3
 leads-one (cell_line left from) line a b l m = l.3 ∙ ap (λ s. cells_due (left - 1) (spot_number s + 1)) (same-spot l.0 m.0 (sym l.2 ∙ m.2)) ∙ sym m.3
 leads-one entry_count line a b l m = l.3 ∙ ap entries_due (count-same (codes "entries") l.0 m.0 l.1 m.1 (sym l.2 ∙ m.2)) ∙ sym m.3
 leads-one (entry_line left) line a b l m = l.3 ∙ sym m.3

@@ -1,5 +1,6 @@
 -- Words of a line: short, and with no blank and no end of a line in them. So a line's words are found in its bytes again.
-use Rattle.std.proofs.Common.{◌≡◌, ◌≢◌, ◌≤◌, ◌<◌, ◌+◌, ◌*◌, ◌%◌, ◌^◌, ℕ, Bool, true, false, cond, ltb, eqb, List, [], ◌∷◌, ◌++◌, length, refl, ap, ◌∙◌, arith, length-append, append-nil}
+use Rattle.std.proofs.Common.{◌≡◌, ◌≢◌, ◌≤◌, ◌<◌, ◌+◌, ◌*◌, ◌%◌, ◌^◌, ℕ, Bool, true, false, cond, ltb, eqb, List, [], ◌∷◌, ◌++◌, length, refl, ap}
+use Rattle.std.proofs.Common.{◌∙◌, arith, length-append, append-nil}
 use Rattle.std.specs.List.{All, AllByRecursion}
 use Rattle.std.specs.Fmt.{decimal}
 use Rattle.std.proofs.lemmas.Bool.Decides.{nat_tests}
@@ -45,7 +46,9 @@ text-word w dark short = record { dark = dark-of w dark; short = short }
 -- a number
 pub number-word : (n : ℕ) → n < 2 ^ 64 → IsWord (decimal n)
 number-word n low = record {
-  dark = decimal_by_steps (λ k ds. AllByRecursion (λ b. 32 < b) ds) (λ k h. (omega arith, tt)) (λ k ds h more. all-append (λ b. 32 < b) ds ((48 + k % 10) ∷ []) more (omega arith, tt)) n low;
+  dark =
+      decimal_by_steps (λ k ds. AllByRecursion (λ b. 32 < b) ds) (λ k h. (omega arith, tt))
+      (λ k ds h more. all-append (λ b. 32 < b) ds ((48 + k % 10) ∷ []) more (omega arith, tt)) n low;
   short = length-decimal-le 20 n (omega arith) (omega (arith, low)) low;
 }
 

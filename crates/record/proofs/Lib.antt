@@ -25,6 +25,5 @@ pub mod Standing
 pub mod Steps
 pub mod Streams
 pub mod Tabled
-pub mod Texts
 pub mod Whole
 pub mod Words

@@ -1,5 +1,6 @@
 -- The cells that have been read are those that the tables change.
-use Rattle.std.proofs.Common.{◌≡◌, ◌≢◌, ℕ, zero, suc, ◌+◌, ◌-◌, ◌*◌, ◌/◌, ◌%◌, ◌<◌, ◌≤◌, true, false, cond, not, List, [], ◌∷◌, ◌++◌, length, take, map, get_or, refl, sym, ap, ◌∙◌, subst, arith, append_assoc, Option}
+use Rattle.std.proofs.Common.{◌≡◌, ◌≢◌, ℕ, zero, suc, ◌+◌, ◌-◌, ◌*◌, ◌/◌, ◌%◌, ◌<◌, ◌≤◌, true, false, cond, not, List, [], ◌∷◌, ◌++◌, length, take}
+use Rattle.std.proofs.Common.{map, get_or, refl, sym, ap, ◌∙◌, subst, arith, append_assoc, Option}
 use Rattle.std.specs.List.{All, flat_map, range_with_len}
 use Rattle.std.proofs.lemmas.List.Elements.{All-push}
 use Rattle.std.specs.Str.{bytes_eq}
@@ -27,7 +28,8 @@ use Rattle.record.specs.declared.cells.Spot.{Spot}
 use Rattle.record.specs.declared.cells.Spot.TheVariants as spot
 use Rattle.record.specs.declared.cells.Cell.{Cell}
 use Rattle.record.specs.Cells.{all_spots, cell_at, cell_words, spot_number, spot_of}
-use Rattle.record.specs.Text.{cells_words, changed, changed_cells, end_words, entries_words, entry_words, header_words, is_changed, is_same, line, opening_words, shape_words, text}
+use Rattle.record.specs.Text.{cells_words, changed, changed_cells, end_words, entries_words, entry_words, header_words, is_changed, is_same, line}
+use Rattle.record.specs.Text.{opening_words, shape_words, text}
 use Rattle.record.specs.Kept.{Kept}
 use Rattle.record.specs.declared.recording.Entry.{Entry}
 use Rattle.record.specs.Grammar.{FitsEntry, IsListed}
@@ -47,9 +49,11 @@ pub taken-line : (b a : _) (old new : Held) (ws : List (List ℕ)) → HasNextLi
 taken-line b a old new ws next is = subst (Consumes b a) (ended-line new.line ws is) next.taken
 
 -- lines, and one more
-pub line-more : (b m a : _) (xs : List (List (List ℕ))) (ws : List (List ℕ)) → Consumes b m (flat_map line xs) → Consumes m a (line ws) → Consumes b a (flat_map line (xs ++ ws ∷ []))
+pub line-more : (b m a : _) (xs : List (List (List ℕ))) (ws : List (List ℕ)) → Consumes b m (flat_map line xs) → Consumes m a (line ws) →
+    Consumes b a (flat_map line (xs ++ ws ∷ []))
 line-more b m a xs ws first second =
-    subst (Consumes b a) (sym (flat_map-append line xs (ws ∷ []) ∙ ap (λ l. flat_map line xs ++ l) (append-nil (line ws)))) (Consumes-trans b m a (flat_map line xs) (line ws) first second)
+    subst (Consumes b a) (sym (flat_map-append line xs (ws ∷ []) ∙ ap (λ l. flat_map line xs ++ l) (append-nil (line ws))))
+    (Consumes-trans b m a (flat_map line xs) (line ws) first second)
 
 -- ---- the places by their numbers
 
@@ -94,13 +98,15 @@ cache-event-at cache_event.DataOwner = (refl, omega arith)
 cache-event-at cache_event.InvAck = (refl, omega arith)
 cache-event-at cache_event.LastInvAck = (refl, omega arith)
 
-pub directory-state-at : (s : DirectoryState) → (get_or directory_baseline.all_states (directory_table.state_number s) directory_state.I ≡ s) × (directory_table.state_number s < 4)
+pub directory-state-at : (s : DirectoryState) →
+    (get_or directory_baseline.all_states (directory_table.state_number s) directory_state.I ≡ s) × (directory_table.state_number s < 4)
 directory-state-at directory_state.I = (refl, omega arith)
 directory-state-at directory_state.S = (refl, omega arith)
 directory-state-at directory_state.M = (refl, omega arith)
 directory-state-at directory_state.SD = (refl, omega arith)
 
-directory-event-at : (e : DirectoryEvent) → (get_or directory_baseline.all_events (directory_table.event_number e) directory_event.GetS ≡ e) × (directory_table.event_number e < 7)
+directory-event-at : (e : DirectoryEvent) →
+    (get_or directory_baseline.all_events (directory_table.event_number e) directory_event.GetS ≡ e) × (directory_table.event_number e < 7)
 directory-event-at directory_event.GetS = (refl, omega arith)
 directory-event-at directory_event.GetM = (refl, omega arith)
 directory-event-at directory_event.PutSNotLast = (refl, omega arith)
@@ -117,8 +123,17 @@ at-own (spot.Cache s e) =
     let n : ℕ = cache_table.state_number s * 12 + cache_table.event_number e in
     let low : n < 132 = omega (arith, state.1, event.1) in
     let row : n / 12 ≡ cache_table.state_number s = omega (arith, event.1) in
-    let column : n % 12 ≡ cache_table.event_number e = omega (arith, event.1) in
-    (at-cache n some_spot low ∙ (ap (λ k. spot.Cache (get_or cache_baseline.all_states k cache_state.I) (get_or cache_baseline.all_events (n % 12) cache_event.Load)) row ∙ (ap (λ k. spot.Cache (get_or cache_baseline.all_states (cache_table.state_number s) cache_state.I) (get_or cache_baseline.all_events k cache_event.Load)) column ∙ (ap (λ x. spot.Cache x (get_or cache_baseline.all_events (cache_table.event_number e) cache_event.Load)) state.0 ∙ ap (spot.Cache s) event.0))), omega (arith, low))
+    let column : n % 12 ≡ cache_table.event_number e = omega (arith, event.1) in (
+      at-cache n some_spot low ∙
+          (ap (λ k. spot.Cache (get_or cache_baseline.all_states k cache_state.I) (get_or cache_baseline.all_events (n % 12) cache_event.Load)) row ∙
+          (ap
+          (λ k. spot.Cache (get_or cache_baseline.all_states (cache_table.state_number s) cache_state.I)
+          (get_or cache_baseline.all_events k cache_event.Load)) column ∙
+          (ap (λ x. spot.Cache x (get_or cache_baseline.all_events (cache_table.event_number e) cache_event.Load)) state.0 ∙ ap
+          (spot.Cache s) event.0))),
+      omega
+          (arith, low),
+    )
 at-own (spot.Directory s e) =
     let state = directory-state-at s in
     let event = directory-event-at e in
@@ -126,8 +141,18 @@ at-own (spot.Directory s e) =
     let high : 132 ≤ n = omega arith in
     let low : n < 160 = omega (arith, state.1, event.1) in
     let row : (n - 132) / 7 ≡ directory_table.state_number s = omega (arith, event.1) in
-    let column : (n - 132) % 7 ≡ directory_table.event_number e = omega (arith, event.1) in
-    (at-directory n some_spot high low ∙ (ap (λ k. spot.Directory (get_or directory_baseline.all_states k directory_state.I) (get_or directory_baseline.all_events ((n - 132) % 7) directory_event.GetS)) row ∙ (ap (λ k. spot.Directory (get_or directory_baseline.all_states (directory_table.state_number s) directory_state.I) (get_or directory_baseline.all_events k directory_event.GetS)) column ∙ (ap (λ x. spot.Directory x (get_or directory_baseline.all_events (directory_table.event_number e) directory_event.GetS)) state.0 ∙ ap (spot.Directory s) event.0))), low)
+    let column : (n - 132) % 7 ≡ directory_table.event_number e = omega (arith, event.1) in (
+      at-directory n some_spot high low ∙
+          (ap
+          (λ k. spot.Directory (get_or directory_baseline.all_states k directory_state.I)
+          (get_or directory_baseline.all_events ((n - 132) % 7) directory_event.GetS)) row ∙
+          (ap
+          (λ k. spot.Directory (get_or directory_baseline.all_states (directory_table.state_number s) directory_state.I)
+          (get_or directory_baseline.all_events k directory_event.GetS)) column ∙
+          (ap (λ x. spot.Directory x (get_or directory_baseline.all_events (directory_table.event_number e) directory_event.GetS)) state.0 ∙ ap
+          (spot.Directory s) event.0))),
+      low,
+    )
 
 number-at : (n : ℕ) → n < 160 → spot_number (at n) ≡ n
 number-at n low = sym (get_or-mapped spot_number all_spots n some_spot) ∙ (ap (λ l. get_or l n (spot_number some_spot)) numbers ∙ listed)
@@ -161,15 +186,20 @@ kept-one : (c d : Cell) → is_same c d ≡ false → kept_if c d ≡ c ∷ []
 unfolding kept_if
 kept-one c d e = rw e refl
 
-more : (t : Tables) (k : ℕ) → k < 160 → changed t (take (k + 1) all_spots) ≡ changed t (take k all_spots) ++ kept_if (cell_at t (at k)) (cell_at baseline (at k))
-more t k low = ap (changed t) (take_more all_spots k some_spot low) ∙ (changed-append t (take k all_spots) (at k ∷ []) ∙ ap (λ cs. changed t (take k all_spots) ++ cs) (changed-one t (at k)))
+more : (t : Tables) (k : ℕ) → k < 160 →
+    changed t (take (k + 1) all_spots) ≡ changed t (take k all_spots) ++ kept_if (cell_at t (at k)) (cell_at baseline (at k))
+more t k low =
+    ap (changed t) (take_more all_spots k some_spot low)
+    ∙ (changed-append t (take k all_spots) (at k ∷ []) ∙ ap (λ cs. changed t (take k all_spots) ++ cs) (changed-one t (at k)))
 
 -- from a place on the cells are the baseline's
 abbrev pub IsBaselineFrom : ℕ → Tables → Type 0
 IsBaselineFrom from t = (s : Spot) → from ≤ spot_number s → cell_at t s ≡ cell_at baseline s
 
 -- places that are as in the baseline add nothing
-skipped : (t : Tables) (from d : ℕ) → from + d ≤ 160 → ((s : Spot) → from ≤ spot_number s → spot_number s < from + d → cell_at t s ≡ cell_at baseline s) → changed t (take (from + d) all_spots) ≡ changed t (take from all_spots)
+skipped : (t : Tables) (from d : ℕ) → from + d ≤ 160 →
+    ((s : Spot) → from ≤ spot_number s → spot_number s < from + d → cell_at t s ≡ cell_at baseline s) →
+    changed t (take (from + d) all_spots) ≡ changed t (take from all_spots)
 skipped t from zero low same = ap (λ n. changed t (take n all_spots)) (omega arith)
 skipped t from (suc d) low same =
     let k : ℕ = from + d in
@@ -183,7 +213,8 @@ skipped t from (suc d) low same =
     ∙ (append-nil (changed t (take k all_spots)) ∙ skipped t from d (omega (arith, low)) (λ s high below. same s high (omega (arith, below)))))))
 
 -- places before a changed one stay
-stayed : (t u : Tables) (n : ℕ) → n ≤ 160 → ((s : Spot) → spot_number s < n → cell_at u s ≡ cell_at t s) → changed u (take n all_spots) ≡ changed t (take n all_spots)
+stayed : (t u : Tables) (n : ℕ) → n ≤ 160 → ((s : Spot) → spot_number s < n → cell_at u s ≡ cell_at t s) →
+    changed u (take n all_spots) ≡ changed t (take n all_spots)
 stayed t u zero low same = refl
 stayed t u (suc k) low same =
     let here = number-at k (omega (arith, low)) in
@@ -199,24 +230,30 @@ other-number : (s c : Spot) → spot_number s ≢ spot_number c → s ≢ c
 other-number s c ne e = ne (ap spot_number e)
 
 -- one cell more
-pub listed-more : (t u : Tables) (from : ℕ) (cell : Cell) → IsBaselineFrom from t → IsListed from cell → cell_at u (spot_of cell) ≡ cell → ((s : Spot) → s ≢ spot_of cell → cell_at u s ≡ cell_at t s)
+pub listed-more : (t u : Tables) (from : ℕ) (cell : Cell) → IsBaselineFrom from t → IsListed from cell → cell_at u (spot_of cell) ≡ cell →
+    ((s : Spot) → s ≢ spot_of cell → cell_at u s ≡ cell_at t s)
     → changed u (take (spot_number (spot_of cell) + 1) all_spots) ≡ changed t (take from all_spots) ++ cell ∷ []
 listed-more t u from cell plain listed here others =
     let own = at-own (spot_of cell) in
     let n : ℕ = spot_number (spot_of cell) in
     let d : ℕ = n - from in
     let reach : from + d ≡ n = omega (arith, listed.in_order) in
-    let before : (s : Spot) → spot_number s < n → cell_at u s ≡ cell_at t s = λ s below. others s (other-number s (spot_of cell) (λ e. absurd (omega (arith, below, e)))) in
+    let before : (s : Spot) → spot_number s < n → cell_at u s ≡ cell_at t s =
+    λ s below. others s (other-number s (spot_of cell) (λ e. absurd (omega (arith, below, e)))) in
     let skip = skipped u from d (omega (arith, reach, own.1)) (λ s high below. before s (omega (arith, below, reach)) ∙ plain s high) in
     let cell_here : cell_at u (at n) ≡ cell = ap (cell_at u) own.0 ∙ here in
     more u n own.1
     ∙ (ap (λ c. changed u (take n all_spots) ++ kept_if c (cell_at baseline (at n))) cell_here
     ∙ (ap (λ s. changed u (take n all_spots) ++ kept_if cell (cell_at baseline s)) own.0
     ∙ (ap (λ cs. changed u (take n all_spots) ++ cs) (kept-one cell (cell_at baseline (spot_of cell)) listed.differs)
-    ∙ ap (λ cs. cs ++ cell ∷ []) (ap (λ m. changed u (take m all_spots)) (sym reach) ∙ (skip ∙ stayed t u from (omega (arith, own.1, listed.in_order)) (λ s below. before s (omega (arith, below, listed.in_order))))))))
+    ∙ ap (λ cs. cs ++ cell ∷ [])
+    (ap (λ m. changed u (take m all_spots)) (sym reach) ∙
+    (skip ∙ stayed t u from (omega (arith, own.1, listed.in_order)) (λ s below. before s (omega (arith, below, listed.in_order))))))))
 
-pub plain-more : (t u : Tables) (from : ℕ) (cell : Cell) → IsBaselineFrom from t → from ≤ spot_number (spot_of cell) → ((s : Spot) → s ≢ spot_of cell → cell_at u s ≡ cell_at t s) → IsBaselineFrom (spot_number (spot_of cell) + 1) u
-plain-more t u from cell plain order others s high = others s (other-number s (spot_of cell) (λ e. absurd (omega (arith, high, e)))) ∙ plain s (omega (arith, high, order))
+pub plain-more : (t u : Tables) (from : ℕ) (cell : Cell) → IsBaselineFrom from t → from ≤ spot_number (spot_of cell) →
+    ((s : Spot) → s ≢ spot_of cell → cell_at u s ≡ cell_at t s) → IsBaselineFrom (spot_number (spot_of cell) + 1) u
+plain-more t u from cell plain order others s high =
+    others s (other-number s (spot_of cell) (λ e. absurd (omega (arith, high, e)))) ∙ plain s (omega (arith, high, order))
 
 -- at the end nothing more differs
 pub listed-all : (t : Tables) (from : ℕ) → from ≤ 160 → IsBaselineFrom from t → changed t (take from all_spots) ≡ changed_cells t
@@ -227,22 +264,29 @@ listed-all t from low plain =
 
 -- ---- texts part by part
 
-pub cells-text : (b a : Option (List ℕ)) (cs ds : List Cell) → cs ≡ ds → Consumes b a (flat_map line (map cell_words cs)) → Consumes b a (flat_map line (map cell_words ds))
+pub cells-text : (b a : Option (List ℕ)) (cs ds : List Cell) → cs ≡ ds → Consumes b a (flat_map line (map cell_words cs)) →
+    Consumes b a (flat_map line (map cell_words ds))
 cells-text b a cs ds e h = subst (λ xs. Consumes b a (flat_map line (map cell_words xs))) e h
 
-pub cells-more : (b m a : Option (List ℕ)) (cs ds : List Cell) (cell : Cell) → ds ≡ cs ++ cell ∷ [] → Consumes b m (flat_map line (map cell_words cs)) → Consumes m a (line (cell_words cell)) → Consumes b a (flat_map line (map cell_words ds))
+pub cells-more : (b m a : Option (List ℕ)) (cs ds : List Cell) (cell : Cell) → ds ≡ cs ++ cell ∷ [] →
+    Consumes b m (flat_map line (map cell_words cs)) → Consumes m a (line (cell_words cell)) → Consumes b a (flat_map line (map cell_words ds))
 cells-more b m a cs ds cell e first second =
     cells-text b a (cs ++ cell ∷ []) ds (sym e)
-    (subst (λ xs. Consumes b a (flat_map line xs)) (sym (map-append cell_words cs (cell ∷ []))) (line-more b m a (map cell_words cs) (cell_words cell) first second))
+    (subst (λ xs. Consumes b a (flat_map line xs)) (sym (map-append cell_words cs (cell ∷ [])))
+    (line-more b m a (map cell_words cs) (cell_words cell) first second))
 
 -- a line that counts, and what it counts
-pub counted : (b m a : Option (List ℕ)) (named : ℕ → List (List ℕ)) (n k : ℕ) (rest : List ℕ) → n ≡ k → Consumes b m (line (named k)) → Consumes m a rest → Consumes b a (line (named n) ++ rest)
-counted b m a named n k rest e first second = subst (λ i. Consumes b a (line (named i) ++ rest)) (sym e) (Consumes-trans b m a (line (named k)) rest first second)
+pub counted : (b m a : Option (List ℕ)) (named : ℕ → List (List ℕ)) (n k : ℕ) (rest : List ℕ) → n ≡ k → Consumes b m (line (named k)) →
+    Consumes m a rest → Consumes b a (line (named n) ++ rest)
+counted b m a named n k rest e first second =
+    subst (λ i. Consumes b a (line (named i) ++ rest)) (sym e) (Consumes-trans b m a (line (named k)) rest first second)
 
-pub entries-more : (b m a : Option (List ℕ)) (old new : List Entry) (e : Entry) → new ≡ old ++ e ∷ [] → Consumes b m (flat_map line (map entry_words old)) → Consumes m a (line (entry_words e)) → Consumes b a (flat_map line (map entry_words new))
+pub entries-more : (b m a : Option (List ℕ)) (old new : List Entry) (e : Entry) → new ≡ old ++ e ∷ [] →
+    Consumes b m (flat_map line (map entry_words old)) → Consumes m a (line (entry_words e)) → Consumes b a (flat_map line (map entry_words new))
 entries-more b m a old new e is first second =
     subst (λ es. Consumes b a (flat_map line (map entry_words es))) (sym is)
-    (subst (λ xs. Consumes b a (flat_map line xs)) (sym (map-append entry_words old (e ∷ []))) (line-more b m a (map entry_words old) (entry_words e) first second))
+    (subst (λ xs. Consumes b a (flat_map line xs)) (sym (map-append entry_words old (e ∷ [])))
+    (line-more b m a (map entry_words old) (entry_words e) first second))
 
 pub many-more : (old new : List Entry) (e : Entry) (n : ℕ) → new ≡ old ++ e ∷ [] → length old ≡ n → length new ≡ n + 1
 many-more old new e n is many = ap length is ∙ omega (arith, length_push old e, many)
@@ -264,22 +308,29 @@ parts-text r =
     let entries : List (List (List ℕ)) = map entry_words r.entries in
     let count : List ℕ = line (entries_words (length r.entries)) in
     let last : (count ++ flat_map line entries) ++ line end_words ≡ flat_map line (entries_words (length r.entries) ∷ entries ++ end_words ∷ []) =
-    append_assoc count (flat_map line entries) (line end_words) ∙ ap (λ l. count ++ l) (ap (λ l. flat_map line entries ++ l) (sym (append-nil (line end_words))) ∙ sym (flat_map-append line entries (end_words ∷ []))) in
+    append_assoc count (flat_map line entries) (line end_words)
+    ∙ ap (λ l. count ++ l)
+    (ap (λ l. flat_map line entries ++ l) (sym (append-nil (line end_words))) ∙ sym (flat_map-append line entries (end_words ∷ []))) in
     let middle : (line (cells_words (length (changed_cells r.tables))) ++ flat_map line cells) ++ ((count ++ flat_map line entries) ++ line end_words)
     ≡ line (cells_words (length (changed_cells r.tables))) ++ flat_map line (cells ++ (entries_words (length r.entries) ∷ entries ++ end_words ∷ [])) =
     append_assoc (line (cells_words (length (changed_cells r.tables)))) (flat_map line cells) _
-    ∙ ap (λ l. line (cells_words (length (changed_cells r.tables))) ++ l) (ap (λ l. flat_map line cells ++ l) last ∙ sym (flat_map-append line cells (entries_words (length r.entries) ∷ entries ++ end_words ∷ []))) in
+    ∙ ap (λ l. line (cells_words (length (changed_cells r.tables))) ++ l)
+    (ap (λ l. flat_map line cells ++ l) last ∙ sym (flat_map-append line cells (entries_words (length r.entries) ∷ entries ++ end_words ∷ []))) in
     ap (λ l. line header_words ++ (line (shape_words r.shape) ++ (line (opening_words r.opening) ++ l))) middle
 
 -- all parts have been read
-pub text-read : (a b c d e f g : Option (List ℕ)) (r : Kept) → Consumes a b (line header_words) → Consumes b c (line (shape_words r.shape)) → Consumes c d (line (opening_words r.opening))
+pub text-read : (a b c d e f g : Option (List ℕ)) (r : Kept) → Consumes a b (line header_words) → Consumes b c (line (shape_words r.shape)) →
+    Consumes c d (line (opening_words r.opening))
     → Consumes d e (line (cells_words (length (changed_cells r.tables))) ++ flat_map line (map cell_words (changed_cells r.tables)))
-    → Consumes e f (line (entries_words (length r.entries)) ++ flat_map line (map entry_words r.entries)) → Consumes f g (line end_words) → Consumes a g (text r)
+    → Consumes e f (line (entries_words (length r.entries)) ++ flat_map line (map entry_words r.entries)) → Consumes f g
+    (line end_words) → Consumes a g (text r)
 unfolding parts
 text-read a b c d e f g r header shape opening cells entries end =
     subst (Consumes a g) (parts-text r)
-    (Consumes-trans a b g _ _ header (Consumes-trans b c g _ _ shape (Consumes-trans c d g _ _ opening (Consumes-trans d e g _ _ cells (Consumes-trans e f g _ _ entries end)))))
+    (Consumes-trans a b g _ _ header
+    (Consumes-trans b c g _ _ shape (Consumes-trans c d g _ _ opening (Consumes-trans d e g _ _ cells (Consumes-trans e f g _ _ entries end)))))
 
 -- at the start no bytes are held
-pub start-read : (l : Held) (a b : Option (List ℕ)) (bytes : List ℕ) → l ≡ record { bytes = []; line = []; number = 0 } → Consumes (stream l a) b bytes → Consumes a b bytes
+pub start-read : (l : Held) (a b : Option (List ℕ)) (bytes : List ℕ) → l ≡ record { bytes = []; line = []; number = 0 } →
+    Consumes (stream l a) b bytes → Consumes a b bytes
 start-read l a b bytes none h = subst (λ x. Consumes x b bytes) (ap (λ (k : Held). stream k a) none ∙ none-held a) h

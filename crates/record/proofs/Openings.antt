@@ -1,5 +1,6 @@
 -- Lines of opening values.
-use Rattle.std.proofs.Common.{◌≡◌, ◌≢◌, ◌<◌, ◌^◌, ◌+◌, suc, ℕ, List, [], ◌∷◌, ◌++◌, Option, Some, None, length, map, get_or, ap, sym, ◌∙◌, arith, eqb, length-append, append_assoc, codes}
+use Rattle.std.proofs.Common.{◌≡◌, ◌≢◌, ◌<◌, ◌^◌, ◌+◌, suc, ℕ, List, [], ◌∷◌, ◌++◌, Option, Some, None, length, map, get_or, ap, sym, ◌∙◌, arith, eqb}
+use Rattle.std.proofs.Common.{length-append, append_assoc, codes}
 use Rattle.std.specs.Prelude.{MatchOption}
 use Rattle.std.specs.Borrow.{Bor}
 use Rattle.std.specs.Fmt.{decimal}
@@ -12,7 +13,8 @@ use Rattle.record.specs.declared.fault.ReadKind.TheVariants.{BadLine}
 use Rattle.record.specs.inner.Reading.{IsBadOpening, words_behind}
 
 -- the first word, and those behind its blank
-pub cut-words : (o : Option (Bor (List ℕ))) (ws : List (List ℕ)) (w : List ℕ) → MatchOption o (ws ≡ w ∷ []) (λ rest. ws ≡ w ∷ words rest.now) → ws ≡ w ∷ words_behind o
+pub cut-words : (o : Option (Bor (List ℕ))) (ws : List (List ℕ)) (w : List ℕ) → MatchOption o (ws ≡ w ∷ []) (λ rest. ws ≡ w ∷ words rest.now) →
+    ws ≡ w ∷ words_behind o
 cut-words None ws w h = h
 cut-words (Some rest) ws w h = h
 
@@ -22,21 +24,39 @@ few-values blocks line values is low others count small spelled =
     omega (arith, ap length (sym is ∙ spelled), length-map values decimal, length-map others decimal, count, low)
 
 -- too many values
-pub many-values : (blocks : ℕ) (line : List (List ℕ)) (values rest : List ℕ) → line ≡ opening_words values ++ words rest → length values ≡ blocks → IsBadOpening blocks line BadLine
+pub many-values : (blocks : ℕ) (line : List (List ℕ)) (values rest : List ℕ) → line ≡ opening_words values ++ words rest → length values ≡ blocks →
+    IsBadOpening blocks line BadLine
 many-values blocks line values rest is full others count small spelled =
-    omega (arith, ap length (sym is ∙ spelled), length-append (opening_words values) (words rest), length-slice_split (λ b. eqb b 32) rest, length-map values decimal, length-map others decimal, count, full)
+    omega (
+      arith,
+      ap length (sym is ∙ spelled),
+      length-append (opening_words values) (words rest),
+      length-slice_split
+          (λ b. eqb b 32) rest,
+      length-map values decimal,
+      length-map others decimal,
+      count,
+      full,
+    )
 
 -- a word that is no value
-pub no-value : (blocks : ℕ) (line : List (List ℕ)) (values word : List ℕ) (behind : List (List ℕ)) → line ≡ opening_words values ++ word ∷ behind → length values < blocks → ((n : ℕ) → n < 2 ^ 64 → word ≢ decimal n) → IsBadOpening blocks line BadLine
+pub no-value : (blocks : ℕ) (line : List (List ℕ)) (values word : List ℕ) (behind : List (List ℕ)) → line ≡ opening_words values ++ word ∷ behind →
+    length values < blocks → ((n : ℕ) → n < 2 ^ 64 → word ≢ decimal n) → IsBadOpening blocks line BadLine
 no-value blocks line values word behind is low none others count small spelled =
     let k : ℕ = length values in
     let n : length (map decimal values) ≡ k = length-map values decimal in
-    let here : word ≡ get_or (opening_words values ++ word ∷ behind) (k + 1) [] = sym (get_or_at (opening_words values) word behind [] (k + 1) (omega (arith, n))) in
-    let there : get_or (opening_words others) (k + 1) [] ≡ decimal (get_or others k 0) = ap (λ i. get_or (opening_words others) i []) (let e : k + 1 ≡ suc k = omega arith in e) ∙ get_or-map decimal others k 0 [] (omega (arith, count, low)) in
-    none (get_or others k 0) (All-get_or (λ value. value < 2 ^ 64) others k 0 (omega (arith, count, low)) small) (here ∙ ap (λ l. get_or l (k + 1) []) (sym is ∙ spelled) ∙ there)
+    let here : word ≡ get_or (opening_words values ++ word ∷ behind) (k + 1) [] =
+    sym (get_or_at (opening_words values) word behind [] (k + 1) (omega (arith, n))) in
+    let there : get_or (opening_words others) (k + 1) [] ≡ decimal (get_or others k 0) =
+    ap (λ i. get_or (opening_words others) i []) (let e : k + 1 ≡ suc k = omega arith in e)
+    ∙ get_or-map decimal others k 0 [] (omega (arith, count, low)) in
+    none (get_or others k 0) (All-get_or (λ value. value < 2 ^ 64) others k 0 (omega (arith, count, low)) small)
+    (here ∙ ap (λ l. get_or l (k + 1) []) (sym is ∙ spelled) ∙ there)
 
 -- one value more
-pub value-more : (line : List (List ℕ)) (values : List ℕ) (value : ℕ) (word : List ℕ) (rest : List (List ℕ)) → line ≡ opening_words values ++ word ∷ rest → word ≡ decimal value → line ≡ opening_words (values ++ value ∷ []) ++ rest
+pub value-more : (line : List (List ℕ)) (values : List ℕ) (value : ℕ) (word : List ℕ) (rest : List (List ℕ)) →
+    line ≡ opening_words values ++ word ∷ rest → word ≡ decimal value → line ≡ opening_words (values ++ value ∷ []) ++ rest
 value-more line values value word rest is spelled =
     is ∙ ap (λ w. opening_words values ++ w ∷ rest) spelled
-    ∙ ap (λ l. (codes "opening" ∷ []) ++ l) (sym (append_assoc (map decimal values) (decimal value ∷ []) rest) ∙ ap (λ l. l ++ rest) (sym (map_push decimal values value)))
+    ∙ ap (λ l. (codes "opening" ∷ []) ++ l)
+    (sym (append_assoc (map decimal values) (decimal value ∷ []) rest) ∙ ap (λ l. l ++ rest) (sym (map_push decimal values value)))

@@ -1,5 +1,6 @@
 -- Texts that go out part by part.
-use Rattle.std.proofs.Common.{◌≡◌, ℕ, ◌+◌, ◌<◌, List, [], ◌∷◌, ◌++◌, Option, length, take, drop, get_or, ap, sym, ◌∙◌, subst, arith, suc, length-append, take-append-drop}
+use Rattle.std.proofs.Common.{◌≡◌, ℕ, ◌+◌, ◌<◌, List, [], ◌∷◌, ◌++◌, Option, length, take, drop, get_or, ap, sym, ◌∙◌, subst, arith, suc}
+use Rattle.std.proofs.Common.{length-append, take-append-drop}
 use Rattle.std.proofs.lemmas.List.{take_more, append-nil, drop_more, take-append-le}
 use Rattle.std.proofs.lemmas.Grind.{flat_map-append}
 use Rattle.std.specs.List.{flat_map}
@@ -36,24 +37,32 @@ cut-more b n s u a to cut = record {
   front = subst (Appends b n) (sym (take-append-le cut.count s u (omega (arith, cut.short)))) cut.front;
 }
 
-flat_map-one : {X : Type 0} (f : X → List ℕ) (xs : List X) (i : ℕ) (d : X) → i < length xs → flat_map f (take (i + 1) xs) ≡ flat_map f (take i xs) ++ f (get_or xs i d)
+flat_map-one : {X : Type 0} (f : X → List ℕ) (xs : List X) (i : ℕ) (d : X) → i < length xs →
+    flat_map f (take (i + 1) xs) ≡ flat_map f (take i xs) ++ f (get_or xs i d)
 flat_map-one f xs i d low =
-    ap (flat_map f) (take_more xs i d low) ∙ flat_map-append f (take i xs) (get_or xs i d ∷ []) ∙ ap (λ l. flat_map f (take i xs) ++ l) (append-nil (f (get_or xs i d)))
+    ap (flat_map f) (take_more xs i d low) ∙ flat_map-append f (take i xs) (get_or xs i d ∷ [])
+    ∙ ap (λ l. flat_map f (take i xs) ++ l) (append-nil (f (get_or xs i d)))
 
-flat_map-parts : {X : Type 0} (f : X → List ℕ) (xs : List X) (i : ℕ) (d : X) → i < length xs → flat_map f xs ≡ flat_map f (take i xs) ++ (f (get_or xs i d) ++ flat_map f (drop (i + 1) xs))
+flat_map-parts : {X : Type 0} (f : X → List ℕ) (xs : List X) (i : ℕ) (d : X) → i < length xs →
+    flat_map f xs ≡ flat_map f (take i xs) ++ (f (get_or xs i d) ++ flat_map f (drop (i + 1) xs))
 flat_map-parts f xs i d low =
-    ap (flat_map f) (sym (take-append-drop i xs)) ∙ flat_map-append f (take i xs) (drop i xs) ∙ ap (λ l. flat_map f (take i xs) ++ flat_map f l) (drop_more xs i d low)
+    ap (flat_map f) (sym (take-append-drop i xs)) ∙ flat_map-append f (take i xs) (drop i xs)
+    ∙ ap (λ l. flat_map f (take i xs) ++ flat_map f l) (drop_more xs i d low)
 
 -- the texts of one more element
-pub out-more : {X : Type 0} (f : X → List ℕ) (xs : List X) (i : ℕ) (d : X) (b m n : Option (List ℕ)) (a t to : ℕ) (piece : List ℕ) → i < length xs → piece ≡ f (get_or xs i d) → IsOut b m (flat_map f (take i xs)) a t → IsOut m n piece t to → IsOut b n (flat_map f (take (i + 1) xs)) a to
+pub out-more : {X : Type 0} (f : X → List ℕ) (xs : List X) (i : ℕ) (d : X) (b m n : Option (List ℕ)) (a t to : ℕ) (piece : List ℕ) → i < length xs →
+    piece ≡ f (get_or xs i d) → IsOut b m (flat_map f (take i xs)) a t → IsOut m n piece t to → IsOut b n (flat_map f (take (i + 1) xs)) a to
 out-more f xs i d b m n a t to piece low is first second =
-    subst (λ (l : List ℕ). IsOut b n l a to) (ap (λ l. flat_map f (take i xs) ++ l) is ∙ sym (flat_map-one f xs i d low)) (out-then b m n (flat_map f (take i xs)) piece a t to first second)
+    subst (λ (l : List ℕ). IsOut b n l a to) (ap (λ l. flat_map f (take i xs) ++ l) is ∙ sym (flat_map-one f xs i d low))
+    (out-then b m n (flat_map f (take i xs)) piece a t to first second)
 
 -- a front of the text of one element, behind those of the elements before it
-pub cut-at : {X : Type 0} (f : X → List ℕ) (xs : List X) (i : ℕ) (d : X) (b m n : Option (List ℕ)) (a t to : ℕ) (piece : List ℕ) → i < length xs → piece ≡ f (get_or xs i d) → IsOut b m (flat_map f (take i xs)) a t → IsCutOff m n piece t to → IsCutOff b n (flat_map f xs) a to
+pub cut-at : {X : Type 0} (f : X → List ℕ) (xs : List X) (i : ℕ) (d : X) (b m n : Option (List ℕ)) (a t to : ℕ) (piece : List ℕ) → i < length xs →
+    piece ≡ f (get_or xs i d) → IsOut b m (flat_map f (take i xs)) a t → IsCutOff m n piece t to → IsCutOff b n (flat_map f xs) a to
 cut-at f xs i d b m n a t to piece low is first second =
     subst (λ (l : List ℕ). IsCutOff b n l a to) (ap (λ l. flat_map f (take i xs) ++ (l ++ flat_map f (drop (i + 1) xs))) is ∙ sym (flat_map-parts f xs i d low))
-    (cut-then b m n (flat_map f (take i xs)) (piece ++ flat_map f (drop (i + 1) xs)) a t to first (cut-more m n piece (flat_map f (drop (i + 1) xs)) t to second))
+    (cut-then b m n (flat_map f (take i xs)) (piece ++ flat_map f (drop (i + 1) xs)) a t to first
+    (cut-more m n piece (flat_map f (drop (i + 1) xs)) t to second))
 
 -- under an equal text
 pub cut-same : (b n : Option (List ℕ)) (s u : List ℕ) (a to : ℕ) → s ≡ u → IsCutOff b n s a to → IsCutOff b n u a to

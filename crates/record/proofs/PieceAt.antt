@@ -32,7 +32,8 @@ behind_cells r = entries_piece (length r.entries) ∷ map entry_piece r.entries 
 abbrev behind_values : Kept → List (List ℕ)
 behind_values r = map (cell_piece r.tables) all_spots ++ behind_cells r
 
-next : (r : Kept) (n i : ℕ) → n ≡ i + 1 → get_or (pieces r) n [] ≡ get_or (map value_piece r.opening ++ cells_piece (length (changed_cells r.tables)) ∷ behind_values r) i []
+next : (r : Kept) (n i : ℕ) → n ≡ i + 1 →
+    get_or (pieces r) n [] ≡ get_or (map value_piece r.opening ++ cells_piece (length (changed_cells r.tables)) ∷ behind_values r) i []
 next r n i e = let is : n ≡ suc i = omega (arith, e) in ap (λ k. get_or (pieces r) k []) is
 
 past-values : (r : Kept) (n i : ℕ) → n ≡ length r.opening + 2 + i → get_or (pieces r) n [] ≡ get_or (behind_values r) i []
@@ -45,7 +46,8 @@ past-cells : (r : Kept) (n i : ℕ) → n ≡ length r.opening + 163 + i → get
 past-cells r n i e =
     let count = length-map all_spots (cell_piece r.tables) in
     past-values r n (161 + i) (omega (arith, e))
-    ∙ past (map (cell_piece r.tables) all_spots) (entries_piece (length r.entries)) (map entry_piece r.entries ++ end_piece ∷ []) (161 + i) i [] (omega (arith, count))
+    ∙ past (map (cell_piece r.tables) all_spots) (entries_piece (length r.entries)) (map entry_piece r.entries ++ end_piece ∷ []) (161 + i) i []
+    (omega (arith, count))
 
 pub value-at : (r : Kept) (n i : ℕ) (d : ℕ) → n ≡ i + 1 → i < length r.opening → get_or (pieces r) n [] ≡ value_piece (get_or r.opening i d)
 value-at r n i d e low = next r n i e ∙ among value_piece r.opening _ i d low

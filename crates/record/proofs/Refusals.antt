@@ -1,5 +1,6 @@
 -- Texts that are refused: where, and as what.
-use Rattle.std.proofs.Common.{◌≡◌, ◌≢◌, inl, inr, ◌≤◌, ℕ, List, [], ◌∷◌, ◌++◌, Option, Some, None, length, refl, ap, sym, subst, ◌∙◌, arith, length-append, append_assoc, append-nil}
+use Rattle.std.proofs.Common.{◌≡◌, ◌≢◌, inl, inr, ◌≤◌, ℕ, List, [], ◌∷◌, ◌++◌, Option, Some, None, length, refl, ap, sym, subst, ◌∙◌, arith}
+use Rattle.std.proofs.Common.{length-append, append_assoc, append-nil}
 use Rattle.std.specs.List.{flat_map}
 use Rattle.std.proofs.lemmas.List.{take-append-le}
 use Rattle.base.specs.Spelling.{words}
@@ -61,7 +62,8 @@ good-open due l next is leads = subst HasNoEnd (sym (spelled-text l (words l) re
 good-short : (due : Due) (l : List ℕ) (next : Due) → IsDue due → Leads due (words l) next → length l ≤ 90000
 good-short due l next is leads = omega (arith, ap length (spelled-text l (words l) refl), joined-short (words l) (leads-line due (words l) next is leads))
 
-pub good-outside : (due next : Due) (l more bytes : List ℕ) (kind : ReadKind) → IsDue due → Leads due (words l) next → bytes ≡ ended l ++ more → Fault due bytes kind → IsOutside kind
+pub good-outside : (due next : Due) (l more bytes : List ℕ) (kind : ReadKind) → IsDue due → Leads due (words l) next → bytes ≡ ended l ++ more →
+    Fault due bytes kind → IsOutside kind
 good-outside due next l more bytes kind is leads begin (ends k some h) = absurd (line-ends_in l more bytes begin h.no_end)
 good-outside due next l more bytes kind is leads begin (long k some h) =
     let short = good-short due l next is leads in
@@ -83,32 +85,40 @@ empty-outside due bytes kind none empty (outside h) = h
 
 -- ---- whole texts
 
-whole-outside : (due last : Due) (xs ys : List (List ℕ)) (bytes : List ℕ) (kind : ReadKind) → IsDue due → Follow due xs nothing → Follow due ys last → flat_map ended xs ≡ flat_map ended ys ++ bytes → Fault last bytes kind → IsOutside kind
+whole-outside : (due last : Due) (xs ys : List (List ℕ)) (bytes : List ℕ) (kind : ReadKind) → IsDue due → Follow due xs nothing → Follow due ys last →
+    flat_map ended xs ≡ flat_map ended ys ++ bytes → Fault last bytes kind → IsOutside kind
 whole-outside due last [] [] bytes kind is f g e h = empty-outside last bytes kind (sym g ∙ f) (sym e) h
 whole-outside due last [] (y ∷ ys) bytes kind is f g e h = absurd (subst (λ d. Leads d (words y) g.0) f g.1)
 whole-outside due last (x ∷ xs) [] bytes kind is f g e h =
     good-outside due f.0 x (flat_map ended xs) bytes kind is f.1 (sym e) (subst (λ d. Fault d bytes kind) (sym g) h)
 whole-outside due last (x ∷ xs) (y ∷ ys) bytes kind is f g e h =
-    let same = one-line_first x y (flat_map ended xs) (flat_map ended ys ++ bytes) (good-open due x f.0 is f.1) (good-open due y g.0 is g.1) (e ∙ append_assoc (ended y) (flat_map ended ys) bytes) in
+    let same =
+    one-line_first x y (flat_map ended xs) (flat_map ended ys ++ bytes) (good-open due x f.0 is f.1) (good-open due y g.0 is g.1)
+    (e ∙ append_assoc (ended y) (flat_map ended ys) bytes) in
     let next : g.0 ≡ f.0 = leads-one due (words x) g.0 f.0 (subst (λ l. Leads due (words l) g.0) (sym same.0) g.1) f.1 in
     whole-outside f.0 last xs ys bytes kind (leads-due due (words x) f.0 f.1) f.2 (subst (λ d. Follow d ys last) next g.2) same.1 h
 
 -- a whole text is refused only for want of memory or by a device
-pub whole-refused : (bytes : List ℕ) (after end : Option (List ℕ)) (line : ℕ) (kind : ReadKind) → IsWellFormed (Some bytes) after → IsRefused (Some bytes) end 0 header line kind → IsOutside kind
+pub whole-refused : (bytes : List ℕ) (after end : Option (List ℕ)) (line : ℕ) (kind : ReadKind) → IsWellFormed (Some bytes) after →
+    IsRefused (Some bytes) end 0 header line kind → IsOutside kind
 whole-refused bytes None end line kind w r = absurd w.read
 whole-refused bytes (Some left) None line kind w r = absurd r.read
 whole-refused bytes (Some left) (Some more) line kind w r =
     let all : bytes ≡ flat_map ended w.lines = w.read ∙ ap (λ l. flat_map ended w.lines ++ l) w.end ∙ append-nil (flat_map ended w.lines) in
-    whole-outside header r.last w.lines r.lines (r.rest ++ more) kind tt w.follow r.follow (sym all ∙ r.read ∙ append_assoc (flat_map ended r.lines) r.rest more) (fault-of r.last r.rest more kind r.fault)
+    whole-outside header r.last w.lines r.lines (r.rest ++ more) kind tt w.follow r.follow
+    (sym all ∙ r.read ∙ append_assoc (flat_map ended r.lines) r.rest more) (fault-of r.last r.rest more kind r.fault)
 
 -- ---- no whole text stands before other bytes
 
-alone : (due : Due) (xs ys : List (List ℕ)) (more : List ℕ) → IsDue due → Follow due xs nothing → Follow due ys nothing → flat_map ended xs ≡ flat_map ended ys ++ more → more ≡ []
+alone : (due : Due) (xs ys : List (List ℕ)) (more : List ℕ) → IsDue due → Follow due xs nothing → Follow due ys nothing →
+    flat_map ended xs ≡ flat_map ended ys ++ more → more ≡ []
 alone due [] [] more is f g e = sym e
 alone due [] (y ∷ ys) more is f g e = absurd (subst (λ d. Leads d (words y) g.0) f g.1)
 alone due (x ∷ xs) [] more is f g e = absurd (subst (λ d. Leads d (words x) f.0) g f.1)
 alone due (x ∷ xs) (y ∷ ys) more is f g e =
-    let same = one-line_first x y (flat_map ended xs) (flat_map ended ys ++ more) (good-open due x f.0 is f.1) (good-open due y g.0 is g.1) (e ∙ append_assoc (ended y) (flat_map ended ys) more) in
+    let same =
+    one-line_first x y (flat_map ended xs) (flat_map ended ys ++ more) (good-open due x f.0 is f.1) (good-open due y g.0 is g.1)
+    (e ∙ append_assoc (ended y) (flat_map ended ys) more) in
     let next : g.0 ≡ f.0 = leads-one due (words x) g.0 f.0 (subst (λ l. Leads due (words l) g.0) (sym same.0) g.1) f.1 in
     alone f.0 xs ys more (leads-due due (words x) f.0 f.1) f.2 (subst (λ d. Follow d ys nothing) next g.2) same.1
 

@@ -1,5 +1,6 @@
 -- What a replay keeps, entry by entry.
-use Rattle.std.proofs.Common.{◌≡◌, ◌≢◌, ◌<◌, ◌+◌, ℕ, zero, suc, List, [], ◌∷◌, ◌++◌, Option, Some, length, take, map, slice_get, get_or, refl, ap, sym, subst, ◌∙◌, arith}
+use Rattle.std.proofs.Common.{◌≡◌, ◌≢◌, ◌<◌, ◌+◌, ℕ, zero, suc, List, [], ◌∷◌, ◌++◌, Option, Some, length, take, map, slice_get, get_or, refl, ap}
+use Rattle.std.proofs.Common.{sym, subst, ◌∙◌, arith}
 use Rattle.std.proofs.lemmas.List.{take_more, map_push, take-map, length-map, length-take-le}
 use Rattle.base.specs.Extent.{Extent}
 use Rattle.base.specs.declared.step.Step.{Step}
@@ -18,7 +19,8 @@ use Rattle.monitor.specs.Violations.{AnswersFirst}
 use Rattle.monitor.proofs.FirstViolations.{first_seen, first-push}
 use Rattle.record.specs.inner.SoFar.{IsSoFar, steps_in}
 
-outcome-at : (tables : Tables) (s : State) (steps : List Step) (k : ℕ) (step : Step) → slice_get steps k ≡ Some step → slice_get (outcomes_of tables s steps) k ≡ Some (next tables (state_after tables s (take k steps)) step).outcome
+outcome-at : (tables : Tables) (s : State) (steps : List Step) (k : ℕ) (step : Step) → slice_get steps k ≡ Some step →
+    slice_get (outcomes_of tables s steps) k ≡ Some (next tables (state_after tables s (take k steps)) step).outcome
 outcome-at tables s [] k step e = absurd (cc)
 outcome-at tables s (x ∷ xs) zero step e = let same : x ≡ step = cc in ap (λ (t : Step). Some (next tables s t).outcome) same
 outcome-at tables s (x ∷ xs) (suc k) step e = outcome-at tables (next tables s x).state xs k step e
@@ -34,12 +36,20 @@ get-map f (x ∷ xs) zero d low = refl
 get-map f (x ∷ xs) (suc k) d low = get-map f xs k d (omega (arith, low))
 
 -- the outcome that a step has behind those so far
-found-here : (r : Kept) (done : List Entry) (world new : View) (watch : List ℕ) (entries : List Entry) (violation : Option (ℕ × Violation)) (step : Step) (what : Outcome) → IsSoFar r done world watch entries violation → next world.tables world.state step ≡ stepped new.state what → next r.tables (state_after r.tables (opened r.shape r.opening) (steps_in done)) step ≡ stepped new.state what
+found-here : (r : Kept) (done : List Entry) (world new : View) (watch : List ℕ) (entries : List Entry) (violation : Option (ℕ × Violation))
+    (step : Step) (what : Outcome) →
+    IsSoFar r done world watch entries violation → next world.tables world.state step ≡ stepped new.state what →
+    next r.tables (state_after r.tables (opened r.shape r.opening) (steps_in done)) step ≡ stepped new.state what
 found-here r done world new watch entries violation step what h made =
-    ap (λ (t : Tables). next t (state_after r.tables (opened r.shape r.opening) (steps_in done)) step) (sym h.tables) ∙ ap (λ (s : State). next world.tables s step) (sym h.state) ∙ made
+    ap (λ (t : Tables). next t (state_after r.tables (opened r.shape r.opening) (steps_in done)) step) (sym h.tables)
+    ∙ ap (λ (s : State). next world.tables s step) (sym h.state) ∙ made
 
 -- the first entry that differs
-pub differs-here : (r : Kept) (k : ℕ) (d : Entry) (world new : View) (watch : List ℕ) (entries : List Entry) (violation : Option (ℕ × Violation)) (what : Outcome) → k < length r.entries → IsSoFar r (take k r.entries) world watch entries violation → next world.tables world.state (get_or r.entries k d).step ≡ stepped new.state what → what ≢ (get_or r.entries k d).outcome → IsFirstToDiffer r k (get_or r.entries k d).outcome what
+pub differs-here : (r : Kept) (k : ℕ) (d : Entry) (world new : View) (watch : List ℕ) (entries : List Entry) (violation : Option (ℕ × Violation))
+    (what : Outcome) →
+    k < length r.entries → IsSoFar r (take k r.entries) world watch entries violation →
+    next world.tables world.state (get_or r.entries k d).step ≡ stepped new.state what → what ≢ (get_or r.entries k d).outcome →
+    IsFirstToDiffer r k (get_or r.entries k d).outcome what
 differs-here r k d world new watch entries violation what low h made other =
     let s : State = opened r.shape r.opening in
     let front : take k (steps_of r) ≡ steps_in (take k r.entries) = take-map (λ (e : Entry). e.step) k r.entries in
@@ -49,19 +59,23 @@ differs-here r k d world new watch entries violation what low h made other =
           ∙ ap (λ (steps : List Step). Some (next r.tables (state_after r.tables s steps) (get_or r.entries k d).step).outcome) front
           ∙ ap (λ (n : Next). Some n.outcome) (found-here r (take k r.entries) world new watch entries violation (get_or r.entries k d).step what h made);
       differs = λ same. other (sym same);
-      first = take-map (λ (e : Entry). e.outcome) k r.entries ∙ h.legal ∙ ap (outcomes_of r.tables s) (sym front) ∙ sym (outcomes-take r.tables s (steps_of r) k);
+      first =
+          take-map (λ (e : Entry). e.outcome) k r.entries ∙ h.legal ∙ ap (outcomes_of r.tables s) (sym front) ∙ sym (outcomes-take r.tables s (steps_of r) k);
     }
 
-state-push : (tables : Tables) (s : State) (xs : List Step) (step : Step) → state_after tables s (xs ++ step ∷ []) ≡ (next tables (state_after tables s xs) step).state
+state-push : (tables : Tables) (s : State) (xs : List Step) (step : Step) →
+    state_after tables s (xs ++ step ∷ []) ≡ (next tables (state_after tables s xs) step).state
 state-push tables s [] step = refl
 state-push tables s (x ∷ xs) step = state-push tables (next tables s x).state xs step
 
-outcomes-push : (tables : Tables) (s : State) (xs : List Step) (step : Step) → outcomes_of tables s (xs ++ step ∷ []) ≡ outcomes_of tables s xs ++ (next tables (state_after tables s xs) step).outcome ∷ []
+outcomes-push : (tables : Tables) (s : State) (xs : List Step) (step : Step) →
+    outcomes_of tables s (xs ++ step ∷ []) ≡ outcomes_of tables s xs ++ (next tables (state_after tables s xs) step).outcome ∷ []
 outcomes-push tables s [] step = refl
 outcomes-push tables s (x ∷ xs) step = ap (λ os. (next tables s x).outcome ∷ os) (outcomes-push tables (next tables s x).state xs step)
 
 -- one entry more, whose outcome is as told
-pub push-so-far : (r : Kept) (done : List Entry) (e : Entry) (world new : View) (old_watch watch : List ℕ) (entries : List Entry) (violation : Option (ℕ × Violation)) (seen : Option Violation) (what : Outcome) (n : ℕ) →
+pub push-so-far : (r : Kept) (done : List Entry) (e : Entry) (world new : View) (old_watch watch : List ℕ) (entries : List Entry)
+    (violation : Option (ℕ × Violation)) (seen : Option Violation) (what : Outcome) (n : ℕ) →
     n ≡ length done → IsSoFar r done world old_watch entries violation → next world.tables world.state e.step ≡ stepped new.state what → new.shape ≡ world.shape → new.tables ≡ world.tables → what ≡ e.outcome →
     AnswersHistory new old_watch e.step what seen → SeesNext new old_watch e.step what watch →
     IsSoFar r (done ++ e ∷ []) new watch (entries ++ record { step = e.step; outcome = what } ∷ []) (first_seen violation n seen)
@@ -75,43 +89,74 @@ push-so-far r done e world new old_watch watch entries violation seen what n is 
     subst (λ (x : Extent). AreDue r.opening (completions_of x new.tables r.opening (steps_in done)) old_watch) (sym shape)
     (subst (λ (t : Tables). AreDue r.opening (completions_of world.shape t r.opening (steps_in done)) old_watch) (sym tables) h.seen) in
     let leads : LeadTo r.opening (steps_in done) e.step what new =
-    ap (λ (x : Extent). made_after x new.tables r.opening (steps_in done) e.step) new_shape ∙ ap (λ (t : Tables). made_after r.shape t r.opening (steps_in done) e.step) new_tables ∙ here in
+    ap (λ (x : Extent). made_after x new.tables r.opening (steps_in done) e.step) new_shape
+    ∙ ap (λ (t : Tables). made_after r.shape t r.opening (steps_in done) e.step) new_tables ∙ here in
     let scene : Answers (scene_after r.shape r.tables r.opening (steps_in done) e.step) seen =
     subst (λ (x : Extent). Answers (scene_after x r.tables r.opening (steps_in done) e.step) seen) new_shape
-    (subst (λ (t : Tables). Answers (scene_after new.shape t r.opening (steps_in done) e.step) seen) new_tables (answers r.opening (steps_in done) has_seen leads)) in
+    (subst (λ (t : Tables). Answers (scene_after new.shape t r.opening (steps_in done) e.step) seen) new_tables
+    (answers r.opening (steps_in done) has_seen leads)) in
     record {
       shape = new_shape;
       tables = new_tables;
       state = ap (λ (n : Next). n.state) (sym here) ∙ sym (state-push r.tables s (steps_in done) e.step) ∙ ap (state_after r.tables s) (sym steps);
       seen = subst (λ (l : List Step). HasSeen new r.opening l watch) (sym steps) (sees r.opening (steps_in done) has_seen leads);
-      same = ap (λ l. l ++ record { step = e.step; outcome = what } ∷ []) h.same ∙ ap (λ o. let x : Entry = record { step = e.step; outcome = o } in done ++ x ∷ []) told;
-      legal = map_push (λ (e : Entry). e.outcome) done e ∙ ap (λ os. os ++ e.outcome ∷ []) h.legal ∙ ap (λ o. outcomes_of r.tables s (steps_in done) ++ o ∷ []) (sym told ∙ ap (λ (n : Next). n.outcome) (sym here))
+      same =
+          ap (λ l. l ++ record { step = e.step; outcome = what } ∷ []) h.same
+          ∙ ap (λ o. let x : Entry = record { step = e.step; outcome = o } in done ++ x ∷ []) told;
+      legal =
+          map_push (λ (e : Entry). e.outcome) done e ∙ ap (λ os. os ++ e.outcome ∷ []) h.legal
+          ∙ ap (λ o. outcomes_of r.tables s (steps_in done) ++ o ∷ []) (sym told ∙ ap (λ (n : Next). n.outcome) (sym here))
           ∙ sym (outcomes-push r.tables s (steps_in done) e.step) ∙ ap (outcomes_of r.tables s) (sym steps);
       first = subst (λ (l : List Step). AnswersFirst r.shape r.tables r.opening l (first_seen violation n seen)) (sym steps)
           (first-push r.shape r.tables r.opening (steps_in done) e.step n violation seen (is ∙ sym (length-map done (λ (e : Entry). e.step))) h.first scene);
     }
 
-pub one-more : (r : Kept) (k : ℕ) (d : Entry) (world new : View) (old_watch watch : List ℕ) (entries : List Entry) (violation : Option (ℕ × Violation)) (seen : Option Violation) (what : Outcome) →
-    k < length r.entries → IsSoFar r (take k r.entries) world old_watch entries violation → next world.tables world.state (get_or r.entries k d).step ≡ stepped new.state what → new.shape ≡ world.shape → new.tables ≡ world.tables → what ≡ (get_or r.entries k d).outcome →
+pub one-more : (r : Kept) (k : ℕ) (d : Entry) (world new : View) (old_watch watch : List ℕ) (entries : List Entry)
+    (violation : Option (ℕ × Violation)) (seen : Option Violation) (what : Outcome) →
+    k < length r.entries → IsSoFar r (take k r.entries) world old_watch entries violation → next world.tables world.state
+    (get_or r.entries k d).step ≡ stepped new.state what → new.shape ≡ world.shape → new.tables ≡ world.tables → what ≡
+    (get_or r.entries k d).outcome →
     AnswersHistory new old_watch (get_or r.entries k d).step what seen → SeesNext new old_watch (get_or r.entries k d).step what watch →
     IsSoFar r (take (k + 1) r.entries) new watch (entries ++ record { step = (get_or r.entries k d).step; outcome = what } ∷ []) (first_seen violation k seen)
 one-more r k d world new old_watch watch entries violation seen what low h made shape tables told answers sees =
-    subst (λ (done : List Entry). IsSoFar r done new watch (entries ++ record { step = (get_or r.entries k d).step; outcome = what } ∷ []) (first_seen violation k seen)) (sym (take_more r.entries k d low))
-    (push-so-far r (take k r.entries) (get_or r.entries k d) world new old_watch watch entries violation seen what k (sym (length-take-le k r.entries (omega (arith, low)))) h made shape tables told answers sees)
+    subst
+    (λ (done : List Entry). IsSoFar r done new watch (entries ++ record { step = (get_or r.entries k d).step; outcome = what } ∷ [])
+    (first_seen violation k seen))
+    (sym (take_more r.entries k d low))
+    (push-so-far r (take k r.entries) (get_or r.entries k d) world new old_watch watch entries violation seen what k
+    (sym (length-take-le k r.entries (omega (arith, low)))) h made shape tables told answers sees)
 
 -- the same, of equal entries
-pub differs-told : (r : Kept) (told : List Entry) → told ≡ r.entries → (k : ℕ) (d : Entry) (world new : View) (watch : List ℕ) (entries : List Entry) (violation : Option (ℕ × Violation)) (what : Outcome) → k < length told → IsSoFar r (take k told) world watch entries violation → next world.tables world.state (get_or told k d).step ≡ stepped new.state what → what ≢ (get_or told k d).outcome → IsFirstToDiffer r k (get_or told k d).outcome what
-differs-told r told is = subst (λ (told : List Entry). (k : ℕ) (d : Entry) (world new : View) (watch : List ℕ) (entries : List Entry) (violation : Option (ℕ × Violation)) (what : Outcome) → k < length told → IsSoFar r (take k told) world watch entries violation → next world.tables world.state (get_or told k d).step ≡ stepped new.state what → what ≢ (get_or told k d).outcome → IsFirstToDiffer r k (get_or told k d).outcome what) (sym is) (differs-here r)
+pub differs-told : (r : Kept) (told : List Entry) → told ≡ r.entries →
+    (k : ℕ) (d : Entry) (world new : View) (watch : List ℕ) (entries : List Entry) (violation : Option (ℕ × Violation)) (what : Outcome) →
+    k < length told → IsSoFar r (take k told) world watch entries violation →
+    next world.tables world.state (get_or told k d).step ≡ stepped new.state what → what ≢ (get_or told k d).outcome →
+    IsFirstToDiffer r k (get_or told k d).outcome what
+differs-told r told is =
+    subst
+    (λ (told : List Entry). (k : ℕ) (d : Entry) (world new : View) (watch : List ℕ) (entries : List Entry) (violation : Option (ℕ × Violation))
+    (what : Outcome) → k < length told → IsSoFar r (take k told) world watch entries violation → next world.tables world.state
+    (get_or told k d).step ≡ stepped new.state what → what ≢ (get_or told k d).outcome → IsFirstToDiffer r k (get_or told k d).outcome what)
+    (sym is) (differs-here r)
 
-pub one-more-told : (r : Kept) (told : List Entry) → told ≡ r.entries → (k : ℕ) (d : Entry) (world new : View) (old_watch watch : List ℕ) (entries : List Entry) (violation : Option (ℕ × Violation)) (seen : Option Violation) (what : Outcome) →
-    k < length told → IsSoFar r (take k told) world old_watch entries violation → next world.tables world.state (get_or told k d).step ≡ stepped new.state what → new.shape ≡ world.shape → new.tables ≡ world.tables → what ≡ (get_or told k d).outcome →
+pub one-more-told : (r : Kept) (told : List Entry) → told ≡ r.entries →
+    (k : ℕ) (d : Entry) (world new : View) (old_watch watch : List ℕ) (entries : List Entry) (violation : Option (ℕ × Violation))
+    (seen : Option Violation) (what : Outcome) →
+    k < length told → IsSoFar r (take k told) world old_watch entries violation → next world.tables world.state
+    (get_or told k d).step ≡ stepped new.state what → new.shape ≡ world.shape → new.tables ≡ world.tables → what ≡ (get_or told k d).outcome →
     AnswersHistory new old_watch (get_or told k d).step what seen → SeesNext new old_watch (get_or told k d).step what watch →
     IsSoFar r (take (k + 1) told) new watch (entries ++ record { step = (get_or told k d).step; outcome = what } ∷ []) (first_seen violation k seen)
-one-more-told r told is = subst (λ (told : List Entry). (k : ℕ) (d : Entry) (world new : View) (old_watch watch : List ℕ) (entries : List Entry) (violation : Option (ℕ × Violation)) (seen : Option Violation) (what : Outcome) →
-    k < length told → IsSoFar r (take k told) world old_watch entries violation → next world.tables world.state (get_or told k d).step ≡ stepped new.state what → new.shape ≡ world.shape → new.tables ≡ world.tables → what ≡ (get_or told k d).outcome →
+one-more-told r told is =
+    subst
+    (λ (told : List Entry). (k : ℕ) (d : Entry) (world new : View) (old_watch watch : List ℕ) (entries : List Entry)
+    (violation : Option (ℕ × Violation)) (seen : Option Violation) (what : Outcome) →
+    k < length told → IsSoFar r (take k told) world old_watch entries violation → next world.tables world.state
+    (get_or told k d).step ≡ stepped new.state what → new.shape ≡ world.shape → new.tables ≡ world.tables → what ≡ (get_or told k d).outcome →
     AnswersHistory new old_watch (get_or told k d).step what seen → SeesNext new old_watch (get_or told k d).step what watch →
-    IsSoFar r (take (k + 1) told) new watch (entries ++ record { step = (get_or told k d).step; outcome = what } ∷ []) (first_seen violation k seen)) (sym is) (one-more r)
+    IsSoFar r (take (k + 1) told) new watch (entries ++ record { step = (get_or told k d).step; outcome = what } ∷ [])
+    (first_seen violation k seen)) (sym is) (one-more r)
 
-pub same-so-far : (r : Kept) (done : List Entry) (world : View) (watch : List ℕ) (entries es : List Entry) (violation v : Option (ℕ × Violation)) → es ≡ entries → v ≡ violation → IsSoFar r done world watch entries violation → IsSoFar r done world watch es v
+pub same-so-far : (r : Kept) (done : List Entry) (world : View) (watch : List ℕ) (entries es : List Entry) (violation v : Option (ℕ × Violation)) →
+    es ≡ entries → v ≡ violation → IsSoFar r done world watch entries violation → IsSoFar r done world watch es v
 same-so-far r done world watch entries es violation v e f h =
     subst (λ (x : List Entry). IsSoFar r done world watch x v) (sym e) (subst (λ (x : Option (ℕ × Violation)). IsSoFar r done world watch entries x) (sym f) h)

@@ -18,7 +18,8 @@ abbrev cache_spot : ℕ → Spot
 cache_spot n = spot.Cache (get_or cache_baseline.all_states (n / 12) cache_state.I) (get_or cache_baseline.all_events (n % 12) cache_event.Load)
 
 abbrev directory_spot : ℕ → Spot
-directory_spot n = spot.Directory (get_or directory_baseline.all_states (n / 7) directory_state.I) (get_or directory_baseline.all_events (n % 7) directory_event.GetS)
+directory_spot n =
+    spot.Directory (get_or directory_baseline.all_states (n / 7) directory_state.I) (get_or directory_baseline.all_events (n % 7) directory_event.GetS)
 
 abbrev spot_of_number : ℕ → Spot
 spot_of_number n = cond (ltb n 132) (cache_spot n) (directory_spot (n - 132))

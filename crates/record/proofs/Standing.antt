@@ -1,5 +1,6 @@
 -- Places whose cells fit, each in a whole table.
-use Rattle.std.proofs.Common.{◌≡◌, ◌≢◌, ◌⊎◌, inl, inr, ◌<◌, ◌+◌, ℕ, zero, suc, Bool, true, false, cond, leb, List, [], ◌∷◌, length, get_or, refl, ap, sym, subst, ◌∙◌, arith, rules, below_more}
+use Rattle.std.proofs.Common.{◌≡◌, ◌≢◌, ◌⊎◌, inl, inr, ◌<◌, ◌+◌, ℕ, zero, suc, Bool, true, false, cond, leb, List, [], ◌∷◌, length, get_or, refl, ap}
+use Rattle.std.proofs.Common.{sym, subst, ◌∙◌, arith, rules, below_more}
 use Rattle.std.proofs.lemmas.List.{get_or_default}
 use Rattle.std.proofs.lemmas.Bool.Decides.{nat_tests}
 use Rattle.cache_table.specs.Table as cache_table
@@ -31,7 +32,8 @@ Stands t s = FitsCell (cell_at t s) × IsInWhole t s
 abbrev pub StandBefore : ℕ → Tables → Type 0
 StandBefore n t = (k : ℕ) → k < n → Stands t (at k)
 
-pub stand-more : (t : Tables) (n : ℕ) (s : Spot) → n < 160 → s ≡ get_or all_spots n s → FitsCell (cell_at t s) → IsInWhole t s → StandBefore n t → StandBefore (n + 1) t
+pub stand-more : (t : Tables) (n : ℕ) (s : Spot) → n < 160 → s ≡ get_or all_spots n s → FitsCell (cell_at t s) → IsInWhole t s → StandBefore n t →
+    StandBefore (n + 1) t
 stand-more t n s low is fits whole before =
     let count : length all_spots ≡ 160 = refl in
     let same : s ≡ at n = is ∙ get_or_default all_spots n s some_spot (omega (arith, low, count)) in
@@ -46,26 +48,31 @@ all-stand t h = record {
 
 -- ---- with another cell in one place
 
-fits-at : (t u : Tables) (c : Cell) (s : Spot) → cell_at u (spot_of c) ≡ c → (s ≢ spot_of c → cell_at u s ≡ cell_at t s) → FitsCell (cell_at t s) → FitsCell c → (spot_number s ≡ spot_number (spot_of c)) ⊎ (spot_number s ≢ spot_number (spot_of c)) → FitsCell (cell_at u s)
+fits-at : (t u : Tables) (c : Cell) (s : Spot) → cell_at u (spot_of c) ≡ c → (s ≢ spot_of c → cell_at u s ≡ cell_at t s) → FitsCell (cell_at t s) →
+    FitsCell c → (spot_number s ≡ spot_number (spot_of c)) ⊎ (spot_number s ≢ spot_number (spot_of c)) → FitsCell (cell_at u s)
 fits-at t u c s here other old new (inl e) =
     let same : spot_of c ≡ s = sym (at-own (spot_of c)).0 ∙ ap at (sym e) ∙ (at-own s).0 in
     subst (λ p. FitsCell (cell_at u p)) same (subst FitsCell (sym here) new)
 fits-at t u c s here other old new (inr ne) = subst FitsCell (sym (other (λ e. ne (ap spot_number e)))) old
 
-pub whole-more : (t u : Tables) (c : Cell) → cell_at u (spot_of c) ≡ c → ((s : Spot) → s ≢ spot_of c → cell_at u s ≡ cell_at t s) → cache_table.IsWhole u.cache → directory_table.IsWhole u.directory → AreWhole t → FitsCell c → AreWhole u
+pub whole-more : (t u : Tables) (c : Cell) → cell_at u (spot_of c) ≡ c → ((s : Spot) → s ≢ spot_of c → cell_at u s ≡ cell_at t s) →
+    cache_table.IsWhole u.cache → directory_table.IsWhole u.directory → AreWhole t → FitsCell c → AreWhole u
 whole-more t u c here others cache directory whole fits = record {
   cache = cache;
   directory = directory;
   fits = λ s. fits-at t u c s here (others s) (whole.fits s) fits (cases_eq (spot_number s) (spot_number (spot_of c)));
 }
 
-pub cache-more : (cells new : cache_table.Cells) (s : CacheState) (e : CacheEvent) (x : CacheEntry) → new ≡ cache_table.with_cell cells s e x → cache_table.IsWhole cells → cache_table.IsWhole new
+pub cache-more : (cells new : cache_table.Cells) (s : CacheState) (e : CacheEvent) (x : CacheEntry) → new ≡ cache_table.with_cell cells s e x →
+    cache_table.IsWhole cells → cache_table.IsWhole new
 cache-more cells new s e x is whole =
     subst cache_table.IsWhole (sym is) (cache_whole.IsWhole-set cells (cache_table.state_number s) (cache_table.event_number e) x whole (cache-state-at s).1)
 
-pub directory-more : (cells new : directory_table.Cells) (s : DirectoryState) (e : DirectoryEvent) (x : DirectoryEntry) → new ≡ directory_table.with_cell cells s e x → directory_table.IsWhole cells → directory_table.IsWhole new
+pub directory-more : (cells new : directory_table.Cells) (s : DirectoryState) (e : DirectoryEvent) (x : DirectoryEntry) →
+    new ≡ directory_table.with_cell cells s e x → directory_table.IsWhole cells → directory_table.IsWhole new
 directory-more cells new s e x is whole =
-    subst directory_table.IsWhole (sym is) (directory_whole.IsWhole-set cells (directory_table.state_number s) (directory_table.event_number e) x whole (directory-state-at s).1)
+    subst directory_table.IsWhole (sym is)
+    (directory_whole.IsWhole-set cells (directory_table.state_number s) (directory_table.event_number e) x whole (directory-state-at s).1)
 
 -- ---- the protocol's own tables
 
@@ -116,5 +123,8 @@ baseline-whole =
     record {
       cache = record { rows = refl; columns = search rules };
       directory = record { rows = refl; columns = search rules };
-      fits = λ s. let own = at-own s in subst (λ p. FitsCell (cell_at baseline p)) own.0 (few-fits _ (few-at all_spots (spot_number s) some_spot (omega (arith, count, own.1)) all));
+      fits =
+          λ s. let own =
+          at-own s in subst (λ p. FitsCell (cell_at baseline p)) own.0
+          (few-fits _ (few-at all_spots (spot_number s) some_spot (omega (arith, count, own.1)) all));
     }

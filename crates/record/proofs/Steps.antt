@@ -1,5 +1,6 @@
 -- Lines that are read one after the other.
-use Rattle.std.proofs.Common.{◌≡◌, ◌≢◌, ◌<◌, ◌≤◌, ◌+◌, ◌-◌, length, rules, zero, suc, ℕ, List, [], ◌∷◌, ◌++◌, Option, refl, ap, sym, subst, ◌∙◌, inl, inr, arith, codes, append_assoc, length-append}
+use Rattle.std.proofs.Common.{◌≡◌, ◌≢◌, ◌<◌, ◌≤◌, ◌+◌, ◌-◌, length, rules, zero, suc, ℕ, List, [], ◌∷◌, ◌++◌, Option, refl, ap, sym, subst, ◌∙◌, inl}
+use Rattle.std.proofs.Common.{inr, arith, codes, append_assoc, length-append}
 use Rattle.std.proofs.lemmas.List.{append-nil}
 use Rattle.std.proofs.lemmas.Grind.{flat_map-append}
 use Rattle.std.proofs.KnownBytes.{Consumes-trans, Consumes-nil}
@@ -14,13 +15,15 @@ use Rattle.record.specs.declared.cells.Cell.{Cell}
 use Rattle.record.specs.declared.recording.Entry.{Entry}
 use Rattle.record.specs.Cells.{cell_words, spot_of, spot_number}
 use Rattle.record.specs.Text.{entry_words}
-use Rattle.record.specs.Grammar.{cells_due, entries_due, IsListed, FitsEntry, Due, header, shape_line, opening_line, cell_count, cell_line, entry_count, entry_line, end_line, nothing, Leads, Follow}
+use Rattle.record.specs.Grammar.{cells_due, entries_due, IsListed, FitsEntry, Due, header, shape_line, opening_line, cell_count, cell_line}
+use Rattle.record.specs.Grammar.{entry_count, entry_line, end_line, nothing, Leads, Follow}
 use Rattle.record.specs.Refused.{ended, BeginsFaulty, IsFaultOfLine, IsFaultOfRest, IsRefused}
 use Rattle.record.specs.inner.Reading.{Held, HasNextLine, HasRead, IsStop, Stops, IsBadShape, IsBadOpening, IsBadCount, stream}
 use Rattle.record.proofs.Streams.{let-go, none-held}
 
 -- one line
-pub one-line : (b a : Option (List ℕ)) (old new : Held) (due next : Due) → HasNextLine b a old new → Leads due (words new.line) next → HasRead b a old.number new.number due next
+pub one-line : (b a : Option (List ℕ)) (old new : Held) (due next : Due) → HasNextLine b a old new → Leads due (words new.line) next →
+    HasRead b a old.number new.number due next
 one-line b a old new due next h leads = record {
   lines = new.line ∷ [];
   follow = (next, leads, refl);
@@ -46,14 +49,18 @@ then-read b m a f k t due mid next first second = record {
 }
 
 -- lines, and then a fault
-pub then-refused : (b m end : Option (List ℕ)) (f k line : ℕ) (due mid : Due) (kind : ReadKind) → HasRead b m f k due mid → IsRefused m end k mid line kind → IsRefused b end f due line kind
+pub then-refused : (b m end : Option (List ℕ)) (f k line : ℕ) (due mid : Due) (kind : ReadKind) → HasRead b m f k due mid →
+    IsRefused m end k mid line kind → IsRefused b end f due line kind
 then-refused b m end f k line due mid kind first second = record {
   lines = first.lines ++ second.lines;
   last = second.last;
   rest = second.rest;
   follow = follow-append due mid second.last first.lines second.lines first.follow second.follow;
   number = omega (arith, first.count, second.number, length-append first.lines second.lines);
-  read = subst (Consumes b end) (sym (append_assoc (flat_map ended first.lines) (flat_map ended second.lines) second.rest) ∙ ap (λ l. l ++ second.rest) (sym (flat_map-append ended first.lines second.lines)))
+  read =
+      subst (Consumes b end)
+      (sym (append_assoc (flat_map ended first.lines) (flat_map ended second.lines) second.rest) ∙ ap (λ l. l ++ second.rest)
+      (sym (flat_map-append ended first.lines second.lines)))
       (Consumes-trans b m end _ _ first.taken second.read);
   fault = second.fault;
 }
@@ -69,7 +76,8 @@ stopped due rest end CountDiffers more stop = absurd stop
 stopped due rest end BadOutcome more stop = absurd stop
 
 -- a line that doesn't come to its end
-pub stop-refused : (b end : Option (List ℕ)) (n line : ℕ) (due : Due) (kind : ReadKind) → due ≢ nothing → line ≡ n + 1 → Stops b end kind → IsRefused b end n due line kind
+pub stop-refused : (b end : Option (List ℕ)) (n line : ℕ) (due : Due) (kind : ReadKind) → due ≢ nothing → line ≡ n + 1 → Stops b end kind →
+    IsRefused b end n due line kind
 stop-refused b end n line due kind more is stops = record {
   lines = [];
   last = due;
@@ -91,7 +99,8 @@ faulty due rest end CountDiffers h = h
 faulty due rest end BadOutcome h = h
 
 -- a whole line with a fault
-pub line-refused : (b left : Option (List ℕ)) (old new : Held) (line : ℕ) (due : Due) (kind : ReadKind) → HasNextLine b (stream new left) old new → line ≡ new.number → IsFaultOfLine due (words new.line) kind → IsRefused b left old.number due line kind
+pub line-refused : (b left : Option (List ℕ)) (old new : Held) (line : ℕ) (due : Due) (kind : ReadKind) → HasNextLine b (stream new left) old new →
+    line ≡ new.number → IsFaultOfLine due (words new.line) kind → IsRefused b left old.number due line kind
 line-refused b left old new line due kind h is fault = record {
   lines = [];
   last = due;
@@ -103,7 +112,8 @@ line-refused b left old new line due kind h is fault = record {
 }
 
 -- want of memory before a line is taken
-pub room-refused : (left : Option (List ℕ)) (l : Held) (line : ℕ) (due : Due) → due ≢ nothing → length l.bytes ≤ 4096 → line ≡ l.number + 1 → IsRefused (stream l left) left l.number due line NoMemory
+pub room-refused : (left : Option (List ℕ)) (l : Held) (line : ℕ) (due : Due) → due ≢ nothing → length l.bytes ≤ 4096 → line ≡ l.number + 1 →
+    IsRefused (stream l left) left l.number due line NoMemory
 room-refused left l line due more few is = record {
   lines = [];
   last = due;
@@ -115,7 +125,8 @@ room-refused left l line due more few is = record {
 }
 
 -- the same, of a fault that was made so
-pub refused-same : (b end : Option (List ℕ)) (n : ℕ) (due : Due) (fault : ReadFault) (line : ℕ) (kind : ReadKind) → fault ≡ record { line = line; kind = kind } → IsRefused b end n due line kind → IsRefused b end n due fault.line fault.kind
+pub refused-same : (b end : Option (List ℕ)) (n : ℕ) (due : Due) (fault : ReadFault) (line : ℕ) (kind : ReadKind) →
+    fault ≡ record { line = line; kind = kind } → IsRefused b end n due line kind → IsRefused b end n due fault.line fault.kind
 refused-same b end n due fault line kind is h = subst (λ (f : ReadFault). IsRefused b end n due f.line f.kind) (sym is) h
 
 pub header-more : header ≢ nothing
@@ -169,8 +180,11 @@ opening-fault shape line h = record {
 }
 
 -- what is wrong with the line of the opening values
-pub opening-refused : (b left : Option (List ℕ)) (old new : Held) (line : ℕ) (shape : Extent) (kind : ReadKind) → HasNextLine b (stream new left) old new → line ≡ new.number → IsBadOpening shape.blocks (words new.line) kind → IsRefused b left old.number (opening_line shape) line kind
-opening-refused b left old new line shape BadLine h is bad = line-refused b left old new line (opening_line shape) BadLine h is (opening-fault shape (words new.line) bad)
+pub opening-refused : (b left : Option (List ℕ)) (old new : Held) (line : ℕ) (shape : Extent) (kind : ReadKind) →
+    HasNextLine b (stream new left) old new → line ≡ new.number → IsBadOpening shape.blocks (words new.line) kind →
+    IsRefused b left old.number (opening_line shape) line kind
+opening-refused b left old new line shape BadLine h is bad =
+    line-refused b left old new line (opening_line shape) BadLine h is (opening-fault shape (words new.line) bad)
 opening-refused b left old new line shape NoMemory h is bad = absurd bad
 opening-refused b left old new line shape OverLimit h is bad = absurd bad
 opening-refused b left old new line shape BadHeader h is bad = absurd bad
@@ -227,7 +241,8 @@ pub entry-due : (n : ℕ) → 0 < n → entries_due n ≡ entry_line n
 entry-due zero more = absurd (omega (arith, more))
 entry-due (suc n) more = refl
 
-pub none-listed : (left from : ℕ) (line : List (List ℕ)) → ((cell : Cell) → IsListed from cell → line ≢ cell_words cell) → IsFaultOfLine (cell_line left from) line BadLine
+pub none-listed : (left from : ℕ) (line : List (List ℕ)) → ((cell : Cell) → IsListed from cell → line ≢ cell_words cell) →
+    IsFaultOfLine (cell_line left from) line BadLine
 none-listed left from line none = record {
   behind_header = λ e. cc;
   other = λ next leads. none leads.0 leads.1 leads.2;
@@ -237,22 +252,30 @@ none-listed left from line none = record {
 }
 
 -- one cell more of so many
-pub cell-read : (b m a : Option (List ℕ)) (f k : ℕ) (old new : Held) (count index from : ℕ) (cell : Cell) → index < count → k ≡ old.number → HasRead b m f k (cells_due count 0) (cells_due (count - index) from) → HasNextLine m a old new → IsListed from cell → words new.line ≡ cell_words cell →
+pub cell-read : (b m a : Option (List ℕ)) (f k : ℕ) (old new : Held) (count index from : ℕ) (cell : Cell) → index < count → k ≡ old.number →
+    HasRead b m f k (cells_due count 0) (cells_due (count - index) from) → HasNextLine m a old new → IsListed from cell →
+    words new.line ≡ cell_words cell →
     HasRead b a f new.number (cells_due count 0) (cells_due (count - (index + 1)) (spot_number (spot_of cell) + 1))
 cell-read b m a f k old new count index from cell low is before next listed spelled =
     let due : cells_due (count - index) from ≡ cell_line (count - index) from = cell-due (count - index) from (omega arith) in
     let left : count - index - 1 ≡ count - (index + 1) = omega arith in
     then-read b m a f old.number new.number (cells_due count 0) (cell_line (count - index) from) _
-    (subst (λ (d : Due). HasRead b m f old.number (cells_due count 0) d) due (subst (λ (n : ℕ). HasRead b m f n (cells_due count 0) (cells_due (count - index) from)) is before))
+    (subst (λ (d : Due). HasRead b m f old.number (cells_due count 0) d) due
+    (subst (λ (n : ℕ). HasRead b m f n (cells_due count 0) (cells_due (count - index) from)) is before))
     (one-line m a old new (cell_line (count - index) from) _ next (cell, listed, spelled, ap (λ n. cells_due n (spot_number (spot_of cell) + 1)) (sym left)))
 
 -- a fault at one of so many cells
-pub cell-refused : (b m end : Option (List ℕ)) (f k line : ℕ) (count index from : ℕ) (kind : ReadKind) → index < count → HasRead b m f k (cells_due count 0) (cells_due (count - index) from) → IsRefused m end k (cell_line (count - index) from) line kind → IsRefused b end f (cells_due count 0) line kind
+pub cell-refused : (b m end : Option (List ℕ)) (f k line : ℕ) (count index from : ℕ) (kind : ReadKind) → index < count →
+    HasRead b m f k (cells_due count 0) (cells_due (count - index) from) → IsRefused m end k (cell_line (count - index) from) line kind →
+    IsRefused b end f (cells_due count 0) line kind
 cell-refused b m end f k line count index from kind low before fault =
-    then-refused b m end f k line (cells_due count 0) (cell_line (count - index) from) kind (subst (λ (d : Due). HasRead b m f k (cells_due count 0) d) (cell-due (count - index) from (omega arith)) before) fault
+    then-refused b m end f k line (cells_due count 0) (cell_line (count - index) from) kind
+    (subst (λ (d : Due). HasRead b m f k (cells_due count 0) d) (cell-due (count - index) from (omega arith)) before) fault
 
 -- one entry more of so many
-pub entry-read : (b m a : Option (List ℕ)) (f : ℕ) (old new : Held) (count index : ℕ) (e : Entry) → index < count → HasRead b m f old.number (entries_due count) (entries_due (count - index)) → HasNextLine m a old new → FitsEntry e → words new.line ≡ entry_words e →
+pub entry-read : (b m a : Option (List ℕ)) (f : ℕ) (old new : Held) (count index : ℕ) (e : Entry) → index < count →
+    HasRead b m f old.number (entries_due count) (entries_due (count - index)) → HasNextLine m a old new → FitsEntry e →
+    words new.line ≡ entry_words e →
     HasRead b a f new.number (entries_due count) (entries_due (count - (index + 1)))
 entry-read b m a f old new count index e low before next fits spelled =
     let due : entries_due (count - index) ≡ entry_line (count - index) = entry-due (count - index) (omega arith) in
@@ -261,12 +284,16 @@ entry-read b m a f old new count index e low before next fits spelled =
     (subst (λ (d : Due). HasRead b m f old.number (entries_due count) d) due before)
     (one-line m a old new (entry_line (count - index)) _ next (e, fits, spelled, ap entries_due (sym left)))
 
-pub entry-refused : (b m end : Option (List ℕ)) (f k line : ℕ) (count index : ℕ) (kind : ReadKind) → index < count → HasRead b m f k (entries_due count) (entries_due (count - index)) → IsRefused m end k (entry_line (count - index)) line kind → IsRefused b end f (entries_due count) line kind
+pub entry-refused : (b m end : Option (List ℕ)) (f k line : ℕ) (count index : ℕ) (kind : ReadKind) → index < count →
+    HasRead b m f k (entries_due count) (entries_due (count - index)) → IsRefused m end k (entry_line (count - index)) line kind →
+    IsRefused b end f (entries_due count) line kind
 entry-refused b m end f k line count index kind low before fault =
-    then-refused b m end f k line (entries_due count) (entry_line (count - index)) kind (subst (λ (d : Due). HasRead b m f k (entries_due count) d) (entry-due (count - index) (omega arith)) before) fault
+    then-refused b m end f k line (entries_due count) (entry_line (count - index)) kind
+    (subst (λ (d : Due). HasRead b m f k (entries_due count) d) (entry-due (count - index) (omega arith)) before) fault
 
 -- a byte behind the end, or a device that fails there
-pub byte-behind : (m left : Option (List ℕ)) (n line : ℕ) (x : ℕ) (held : List ℕ) → line ≡ n + 1 → Consumes m (prepend_known held left) (x ∷ []) → IsRefused m left n nothing line BadLine
+pub byte-behind : (m left : Option (List ℕ)) (n line : ℕ) (x : ℕ) (held : List ℕ) → line ≡ n + 1 → Consumes m (prepend_known held left) (x ∷ []) →
+    IsRefused m left n nothing line BadLine
 byte-behind m left n line x held is read = record {
   lines = [];
   last = nothing;
@@ -304,10 +331,13 @@ pub nothing-read : (m a : Option (List ℕ)) (n k : ℕ) → k ≡ n → Consume
 nothing-read m a n k is read = record { lines = []; follow = refl; count = omega (arith, is); taken = read }
 
 -- where nothing was held, the lines are those of the source
-pub from-start : (l : Held) (a m : Option (List ℕ)) (k : ℕ) (due next : Due) → l ≡ record { bytes = []; line = []; number = 0 } → HasRead (stream l a) m l.number k due next → HasRead a m 0 k due next
+pub from-start : (l : Held) (a m : Option (List ℕ)) (k : ℕ) (due next : Due) → l ≡ record { bytes = []; line = []; number = 0 } →
+    HasRead (stream l a) m l.number k due next → HasRead a m 0 k due next
 from-start l a m k due next is h =
     subst (λ (b : Option (List ℕ)). HasRead b m 0 k due next) (none-held a) (subst (λ (l : Held). HasRead (stream l a) m l.number k due next) is h)
 
-pub start-refused : (l : Held) (a end : Option (List ℕ)) (line : ℕ) (due : Due) (kind : ReadKind) → l ≡ record { bytes = []; line = []; number = 0 } → IsRefused (stream l a) end l.number due line kind → IsRefused a end 0 due line kind
+pub start-refused : (l : Held) (a end : Option (List ℕ)) (line : ℕ) (due : Due) (kind : ReadKind) → l ≡ record { bytes = []; line = []; number = 0 } →
+    IsRefused (stream l a) end l.number due line kind → IsRefused a end 0 due line kind
 start-refused l a end line due kind is h =
-    subst (λ (b : Option (List ℕ)). IsRefused b end 0 due line kind) (none-held a) (subst (λ (l : Held). IsRefused (stream l a) end l.number due line kind) is h)
+    subst (λ (b : Option (List ℕ)). IsRefused b end 0 due line kind) (none-held a)
+    (subst (λ (l : Held). IsRefused (stream l a) end l.number due line kind) is h)

@@ -1,5 +1,6 @@
 -- Bytes that come from a source, with those that are held.
-use Rattle.std.proofs.Common.{◌≡◌, ◌≢◌, ℕ, ◌+◌, ◌-◌, ◌<◌, ◌≤◌, List, [], ◌∷◌, ◌++◌, Option, Some, None, length, take, drop, get_or, suc, refl, ap, sym, ◌∙◌, subst, arith, append_assoc, length-append}
+use Rattle.std.proofs.Common.{◌≡◌, ◌≢◌, ℕ, ◌+◌, ◌-◌, ◌<◌, ◌≤◌, List, [], ◌∷◌, ◌++◌, Option, Some, None, length, take, drop, get_or, suc, refl, ap}
+use Rattle.std.proofs.Common.{sym, ◌∙◌, subst, arith, append_assoc, length-append}
 use Rattle.std.proofs.lemmas.List.{drop_more, append-nil, length_push, take-append-le, take_all}
 use Rattle.std.proofs.lemmas.List.Elements.{All-push}
 use Rattle.record.specs.declared.fault.ReadKind.TheVariants.{Truncated, OverLimit, NoMemory, Device}
@@ -33,7 +34,8 @@ none-held None = refl
 none-held (Some x) = refl
 
 -- the first of the bytes that are held
-pub first-held : (buffer : List ℕ) (at end : ℕ) → at < end → end ≤ length buffer → take (end - at) (drop at buffer) ≡ get_or buffer at 0 ∷ take (end - (at + 1)) (drop (at + 1) buffer)
+pub first-held : (buffer : List ℕ) (at end : ℕ) → at < end → end ≤ length buffer →
+    take (end - at) (drop at buffer) ≡ get_or buffer at 0 ∷ take (end - (at + 1)) (drop (at + 1) buffer)
 first-held buffer at end low fits =
     let n : end - at ≡ (end - (at + 1)) + 1 = omega arith in
     rw (n, drop_more buffer at 0 (omega arith)) (taken (end - (at + 1)) (get_or buffer at 0) (drop (at + 1) buffer))
@@ -49,7 +51,8 @@ pub more-open : (line : List ℕ) (x : ℕ) → HasNoEnd line → x ≢ 10 → H
 more-open line x none other = All-push (λ b. b ≢ 10) line x none other
 
 -- the end of the input in a line, or a device that fails there
-pub stop-truncated : (a b c : Option (List ℕ)) (line : List ℕ) → Consumes a b line → Consumes b c [] → IsAtEnd c → HasNoEnd line → length line ≤ 90000 → Stops a c Truncated
+pub stop-truncated : (a b c : Option (List ℕ)) (line : List ℕ) → Consumes a b line → Consumes b c [] → IsAtEnd c → HasNoEnd line →
+    length line ≤ 90000 → Stops a c Truncated
 stop-truncated a b c line first second end none short = record {
   rest = line;
   read = subst (Consumes a c) (append-nil line) (Consumes-trans a b c line [] first second);
@@ -63,14 +66,16 @@ stop-device a b c line first second none short = record {
   stop = record { no_end = none; short = short };
 }
 
-pub stop-memory : (a b left : Option (List ℕ)) (line held : List ℕ) (x : ℕ) → Consumes a b line → Consumes b (prepend_known held left) (x ∷ []) → HasNoEnd line → length line ≤ 90000 → length held < 4096 → Stops a left NoMemory
+pub stop-memory : (a b left : Option (List ℕ)) (line held : List ℕ) (x : ℕ) → Consumes a b line → Consumes b (prepend_known held left) (x ∷ []) →
+    HasNoEnd line → length line ≤ 90000 → length held < 4096 → Stops a left NoMemory
 stop-memory a b left line held x first second none short few = record {
   rest = (line ++ x ∷ []) ++ held;
   read = let-go a left (line ++ x ∷ []) held (more-taken a b (prepend_known held left) line x first second);
   stop = (line, x ∷ held, append_assoc line (x ∷ []) held, record { no_end = none; short = short }, omega (arith, few));
 }
 
-pub stop-long : (a b left : Option (List ℕ)) (line held : List ℕ) (x : ℕ) → Consumes a b line → Consumes b (prepend_known held left) (x ∷ []) → HasNoEnd line → length line ≡ 90000 → x ≢ 10 → Stops a left OverLimit
+pub stop-long : (a b left : Option (List ℕ)) (line held : List ℕ) (x : ℕ) → Consumes a b line → Consumes b (prepend_known held left) (x ∷ []) →
+    HasNoEnd line → length line ≡ 90000 → x ≢ 10 → Stops a left OverLimit
 stop-long a b left line held x first second none long other =
     let n : length (line ++ x ∷ []) ≡ 90001 = omega (arith, length_push line x, long) in
     record {
@@ -78,7 +83,12 @@ stop-long a b left line held x first second none long other =
       read = let-go a left (line ++ x ∷ []) held (more-taken a b (prepend_known held left) line x first second);
       stop = record {
         long = omega (arith, n, length-append (line ++ x ∷ []) held);
-        no_end = subst HasNoEnd (sym (ap (λ k. take k ((line ++ x ∷ []) ++ held)) (sym n) ∙ take-append-le (length (line ++ x ∷ [])) (line ++ x ∷ []) held (omega arith) ∙ take_all (length (line ++ x ∷ [])) (line ++ x ∷ []) (omega arith))) (more-open line x none other);
+        no_end =
+            subst HasNoEnd
+            (sym
+            (ap (λ k. take k ((line ++ x ∷ []) ++ held)) (sym n) ∙ take-append-le (length (line ++ x ∷ [])) (line ++ x ∷ []) held
+            (omega arith) ∙ take_all (length (line ++ x ∷ [])) (line ++ x ∷ []) (omega arith)))
+            (more-open line x none other);
       };
     }
 

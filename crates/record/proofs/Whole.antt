@@ -1,5 +1,6 @@
 -- The text of a recording, piece by piece.
-use Rattle.std.proofs.Common.{◌≡◌, ◌<◌, ◌+◌, ℕ, List, [], ◌∷◌, ◌++◌, Option, length, take, map, refl, ap, sym, ◌∙◌, subst, codes, arith, append_assoc, length-append}
+use Rattle.std.proofs.Common.{◌≡◌, ◌<◌, ◌+◌, ℕ, List, [], ◌∷◌, ◌++◌, Option, length, take, map, refl, ap, sym, ◌∙◌, subst, codes, arith, append_assoc}
+use Rattle.std.proofs.Common.{length-append}
 use Rattle.std.specs.Io.KnownBytes.{Appends}
 use Rattle.std.proofs.lemmas.List.{append-nil, length-map}
 use Rattle.std.proofs.lemmas.Grind.{flat_map-append}
@@ -43,11 +44,20 @@ whole-text r =
     ∙ ap (λ l. flat_map (cell_piece r.tables) all_spots ++ (entries_piece (length r.entries) ++ l)) (flat-then entry_piece r.entries (end_piece ∷ []))))
     ∙ regroup (line header_words) (line (shape_words r.shape)) (codes "opening") (flat_map value_piece r.opening) (line (cells_words count))
     (flat_map (cell_piece r.tables) all_spots) (line (entries_words (length r.entries))) (flat_map entry_piece r.entries) (line end_words)
-    ∙ ap (λ os. line header_words ++ (line (shape_words r.shape) ++ (((codes "opening" ++ os) ++ 10 ∷ []) ++ (line (cells_words (length (changed_cells r.tables))) ++ (flat_map (cell_piece r.tables) all_spots ++ (line (entries_words (length r.entries)) ++ (flat_map entry_piece r.entries ++ (line end_words ++ []))))))))
+    ∙ ap
+    (λ os. line header_words ++
+    (line (shape_words r.shape) ++
+    (((codes "opening" ++ os) ++ 10 ∷ []) ++
+    (line (cells_words (length (changed_cells r.tables))) ++
+    (flat_map (cell_piece r.tables) all_spots ++
+    (line (entries_words (length r.entries)) ++ (flat_map entry_piece r.entries ++ (line end_words ++ []))))))))
     (sym (flat_map-map (λ word. 32 ∷ word) decimal r.opening))
-    ∙ ap (λ rest. line header_words ++ (line (shape_words r.shape) ++ (line (opening_words r.opening) ++ (line (cells_words (length (changed_cells r.tables))) ++ rest))))
+    ∙ ap
+    (λ rest. line header_words ++
+    (line (shape_words r.shape) ++ (line (opening_words r.opening) ++ (line (cells_words (length (changed_cells r.tables))) ++ rest))))
     (ap (λ cs. cs ++ (line (entries_words (length r.entries)) ++ (flat_map entry_piece r.entries ++ (line end_words ++ [])))) (changed-lines r.tables all_spots)
-    ∙ ap (λ es. flat_map line cells ++ (line (entries_words (length r.entries)) ++ (es ++ (line end_words ++ [])))) (sym (flat_map-map line entry_words r.entries))
+    ∙ ap (λ es. flat_map line cells ++ (line (entries_words (length r.entries)) ++ (es ++ (line end_words ++ []))))
+    (sym (flat_map-map line entry_words r.entries))
     ∙ ap (λ es. flat_map line cells ++ (line (entries_words (length r.entries)) ++ es)) (sym (flat_map-append line entries (end_words ∷ [])))
     ∙ sym (flat_map-append line cells (entries_words (length r.entries) ∷ entries ++ end_words ∷ [])))
 

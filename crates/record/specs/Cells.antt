@@ -59,7 +59,8 @@ directory_entry_words (directory_entry.Act next actions) = codes "act" ∷ direc
 -- the words that spell a cell
 abbrev pub cell_words : Cell → List (List ℕ)
 cell_words (cell.Cache state event entry) = codes "cell" ∷ codes "cache" ∷ cache_names.state_name state ∷ cache_names.event_name event ∷ cache_entry_words entry
-cell_words (cell.Directory state event entry) = codes "cell" ∷ codes "directory" ∷ directory_names.state_name state ∷ directory_names.event_name event ∷ directory_entry_words entry
+cell_words (cell.Directory state event entry) =
+    codes "cell" ∷ codes "directory" ∷ directory_names.state_name state ∷ directory_names.event_name event ∷ directory_entry_words entry
 
 -- what a cache does has at most eight actions
 abbrev pub FitsCacheEntry : CacheEntry → Type 0

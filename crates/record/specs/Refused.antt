@@ -106,7 +106,8 @@ pub record IsUnfinished (rest : List ℕ) : Type 0 where
   pub no_end : HasNoEnd rest
   pub short : length rest ≤ 90000
 
--- where this is due and these bytes have been read, this is the first fault: a device or memory fails only in a line that isn't whole yet, and where it is memory at most 4,096 bytes have been read ahead
+-- where this is due and these bytes have been read, this is the first fault: a device or memory fails only in a line that isn't whole yet, and where
+-- it is memory at most 4,096 bytes have been read ahead
 abbrev pub IsFaultOfRest : Due → List ℕ → Option (List ℕ) → ReadKind → Type 0
 IsFaultOfRest due rest end Truncated = (due ≢ nothing) × IsUnfinished rest × IsAtEnd end
 IsFaultOfRest due rest end OverLimit = ((due ≢ nothing) × IsTooLong rest) ⊎ BeginsFaulty due rest OverLimit

@@ -16,60 +16,6 @@ use directory_table::{
     DirectoryAction, DirectoryActions, DirectoryEntry, DirectoryEvent, DirectoryState,
 };
 
-fn cache_state_of(word: &[u8]) -> Option<CacheState>
-    ensures { MatchOption result (cache_names.IsNoState word.now) (λ state. word.now ≡ cache_names.state_name state) }
-{
-    let Ok(text) = str::from_utf8(word) else {
-        return None;
-    };
-    CacheState::named(text)
-}
-
-fn cache_event_of(word: &[u8]) -> Option<CacheEvent>
-    ensures { MatchOption result (cache_names.IsNoEvent word.now) (λ event. word.now ≡ cache_names.event_name event) }
-{
-    let Ok(text) = str::from_utf8(word) else {
-        return None;
-    };
-    CacheEvent::named(text)
-}
-
-fn cache_action_of(word: &[u8]) -> Option<CacheAction>
-    ensures { MatchOption result (cache_names.IsNoAction word.now) (λ action. word.now ≡ cache_names.action_name action) }
-{
-    let Ok(text) = str::from_utf8(word) else {
-        return None;
-    };
-    CacheAction::named(text)
-}
-
-fn directory_state_of(word: &[u8]) -> Option<DirectoryState>
-    ensures { MatchOption result (directory_names.IsNoState word.now) (λ state. word.now ≡ directory_names.state_name state) }
-{
-    let Ok(text) = str::from_utf8(word) else {
-        return None;
-    };
-    DirectoryState::named(text)
-}
-
-fn directory_event_of(word: &[u8]) -> Option<DirectoryEvent>
-    ensures { MatchOption result (directory_names.IsNoEvent word.now) (λ event. word.now ≡ directory_names.event_name event) }
-{
-    let Ok(text) = str::from_utf8(word) else {
-        return None;
-    };
-    DirectoryEvent::named(text)
-}
-
-fn directory_action_of(word: &[u8]) -> Option<DirectoryAction>
-    ensures { MatchOption result (directory_names.IsNoAction word.now) (λ action. word.now ≡ directory_names.action_name action) }
-{
-    let Ok(text) = str::from_utf8(word) else {
-        return None;
-    };
-    DirectoryAction::named(text)
-}
-
 /// What a cache does, in these words.
 #[tactic(auto, using(crate::proofs::Words::not_one))]
 fn cache_entry_of(line: &[u8]) -> Option<CacheEntry>
@@ -84,7 +30,7 @@ fn cache_entry_of(line: &[u8]) -> Option<CacheEntry>
         return None;
     }
     let (next, rest) = cut(rest);
-    match (cache_state_of(next), cache_actions_of(rest)) {
+    match (CacheState::named(next), cache_actions_of(rest)) {
         (Some(next), Some(actions)) => Some(CacheEntry::Act { next, actions }),
         _ => None,
     }
@@ -118,7 +64,7 @@ fn cache_actions_of(rest: Option<&[u8]>) -> Option<CacheActions>
             return Some(actions);
         };
         let (word, more) = cut(text);
-        let Some(action) = cache_action_of(word) else {
+        let Some(action) = CacheAction::named(word) else {
             return None;
         };
         actions = actions.with(action);
@@ -144,7 +90,7 @@ fn directory_entry_of(line: &[u8]) -> Option<DirectoryEntry>
         return None;
     }
     let (next, rest) = cut(rest);
-    match (directory_state_of(next), directory_actions_of(rest)) {
+    match (DirectoryState::named(next), directory_actions_of(rest)) {
         (Some(next), Some(actions)) => Some(DirectoryEntry::Act { next, actions }),
         _ => None,
     }
@@ -178,7 +124,7 @@ fn directory_actions_of(rest: Option<&[u8]>) -> Option<DirectoryActions>
             return Some(actions);
         };
         let (word, more) = cut(text);
-        let Some(action) = directory_action_of(word) else {
+        let Some(action) = DirectoryAction::named(word) else {
             return None;
         };
         actions = actions.with(action);
@@ -224,8 +170,8 @@ fn cache_cell_of(line: &[u8]) -> Option<Cell>
         return None;
     };
     match (
-        cache_state_of(state),
-        cache_event_of(event),
+        CacheState::named(state),
+        CacheEvent::named(event),
         cache_entry_of(rest),
     ) {
         (Some(state), Some(event), Some(entry)) => Some(Cell::Cache {
@@ -249,8 +195,8 @@ fn directory_cell_of(line: &[u8]) -> Option<Cell>
         return None;
     };
     match (
-        directory_state_of(state),
-        directory_event_of(event),
+        DirectoryState::named(state),
+        DirectoryEvent::named(event),
         directory_entry_of(rest),
     ) {
         (Some(state), Some(event), Some(entry)) => Some(Cell::Directory {

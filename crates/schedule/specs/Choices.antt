@@ -24,7 +24,8 @@ can_be_put tables state cores ask = is_free cores ask.core.0 && not (is_held (ne
 -- the offers that can be put, of those from a number on
 abbrev pub offers_from : Tables → State → List Core → ℕ → List CoreAsk → List Choice
 offers_from tables state cores i [] = []
-offers_from tables state cores i (ask ∷ asks) = (if can_be_put tables state cores ask then Offer i ask ∷ [] else []) ++ offers_from tables state cores (i + 1) asks
+offers_from tables state cores i (ask ∷ asks) =
+    (if can_be_put tables state cores ask then Offer i ask ∷ [] else []) ++ offers_from tables state cores (i + 1) asks
 
 -- the choices: the offers that can be put, in their order, and then the deliveries that wouldn't be held, in theirs. A broken world has none.
 abbrev pub choices_of : Tables → State → List Core → Tree → List Choice

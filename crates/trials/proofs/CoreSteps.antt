@@ -49,11 +49,14 @@ waits-tells cores n a e = ap is_none e
 pub after-none : (cores : List Core) (put : List CoreAsk) (done : List Completion) → put ≡ [] → done ≡ [] → with_finished done (with_issued put cores) ≡ cores
 after-none cores put done p d = ap (λ x. with_finished x (with_issued put cores)) d ∙ ap (λ x. with_issued x cores) p
 
-pub after-put : (cores : List Core) (put : List CoreAsk) (done : List Completion) (a : CoreAsk) → put ≡ a ∷ [] → done ≡ [] → with_finished done (with_issued put cores) ≡ with_core cores a.core.0 (issuing a.ask)
+pub after-put : (cores : List Core) (put : List CoreAsk) (done : List Completion) (a : CoreAsk) → put ≡ a ∷ [] → done ≡ [] →
+    with_finished done (with_issued put cores) ≡ with_core cores a.core.0 (issuing a.ask)
 after-put cores put done a p d = ap (λ x. with_finished x (with_issued put cores)) d ∙ ap (λ x. with_issued x cores) p
 
-pub after-done : (cores : List Core) (put : List CoreAsk) (done : List Completion) (c : Completion) → put ≡ [] → done ≡ c ∷ [] → with_finished done (with_issued put cores) ≡ with_core cores c.cache.0 finishing
+pub after-done : (cores : List Core) (put : List CoreAsk) (done : List Completion) (c : Completion) → put ≡ [] → done ≡ c ∷ [] →
+    with_finished done (with_issued put cores) ≡ with_core cores c.cache.0 finishing
 after-done cores put done c p d = ap (λ x. with_finished x (with_issued put cores)) d ∙ ap (λ x. with_core (with_issued x cores) c.cache.0 finishing) p
 
-pub after-both : (cores : List Core) (put : List CoreAsk) (done : List Completion) (a : CoreAsk) (c : Completion) → put ≡ a ∷ [] → done ≡ c ∷ [] → with_finished done (with_issued put cores) ≡ with_core (with_core cores a.core.0 (issuing a.ask)) c.cache.0 finishing
+pub after-both : (cores : List Core) (put : List CoreAsk) (done : List Completion) (a : CoreAsk) (c : Completion) → put ≡ a ∷ [] → done ≡ c ∷ [] →
+    with_finished done (with_issued put cores) ≡ with_core (with_core cores a.core.0 (issuing a.ask)) c.cache.0 finishing
 after-both cores put done a c p d = ap (λ x. with_finished x (with_issued put cores)) d ∙ ap (λ x. with_core (with_issued x cores) c.cache.0 finishing) p

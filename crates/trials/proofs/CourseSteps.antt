@@ -38,9 +38,11 @@ NoneMore = (shape : Extent) (tables : Tables) (opening : List ℕ) (steps : List
 
 abbrev pub FirstMore : Type 0
 FirstMore = (shape : Extent) (tables : Tables) (opening : List ℕ) (steps : List Step) (step : Step) (violation : Violation) →
-    HasNoViolation shape tables opening steps → IsViolation (scene_after shape tables opening steps step) violation → IsFirstViolation shape tables opening (steps ++ step ∷ []) (length steps) violation
+    HasNoViolation shape tables opening steps → IsViolation
+    (scene_after shape tables opening steps step) violation → IsFirstViolation shape tables opening (steps ++ step ∷ []) (length steps) violation
 
-state-push : (tables : Tables) (s : State) (xs : List Step) (step : Step) → state_after tables s (xs ++ step ∷ []) ≡ (next tables (state_after tables s xs) step).state
+state-push : (tables : Tables) (s : State) (xs : List Step) (step : Step) →
+    state_after tables s (xs ++ step ∷ []) ≡ (next tables (state_after tables s xs) step).state
 state-push tables s [] step = refl
 state-push tables s (x ∷ xs) step = state-push tables (next tables s x).state xs step
 
@@ -53,10 +55,12 @@ abbrev rolled : Course → Course
 rolled c = record c { dice = lcg.next 64 multiplier_64 c.dice }
 
 -- what the step comes to at the last moment
-made-there : (terms : Terms) (tree : Tree) (number : ℕ) (c made : Course) (choice : Choice) (violation : Option Violation) (g : IsGoing terms tree number c) (m : Makes (rolled c) choice made violation) →
+made-there : (terms : Terms) (tree : Tree) (number : ℕ) (c made : Course) (choice : Choice) (violation : Option Violation)
+    (g : IsGoing terms tree number c) (m : Makes (rolled c) choice made violation) →
     next terms.tables g.last.state (chosen_step choice) ≡ stepped made.world.state m.outcome
 made-there terms tree number c made choice violation g m =
-    ap (λ (t : Tables). next t g.last.state (chosen_step choice)) (sym g.tables.0) ∙ ap (λ (s : State). next c.world.tables s (chosen_step choice)) (sym g.state) ∙ m.made
+    ap (λ (t : Tables). next t g.last.state (chosen_step choice)) (sym g.tables.0)
+    ∙ ap (λ (s : State). next c.world.tables s (chosen_step choice)) (sym g.state) ∙ m.made
 
 abbrev entry_made : (c made : Course) (choice : Choice) (violation : Option Violation) → Makes (rolled c) choice made violation → Entry
 entry_made c made choice violation m = record { step = chosen_step choice; outcome = m.outcome }
@@ -64,27 +68,34 @@ entry_made c made choice violation m = record { step = chosen_step choice; outco
 abbrev moment_made : Terms → Moment → Choice → Moment
 moment_made terms last choice = moment_behind last (chosen_step choice) (next terms.tables last.state (chosen_step choice)) (rest_after choice last.rest)
 
-is-next : SameChoices → (terms : Terms) (tree : Tree) (number : ℕ) (c made : Course) (choice : Choice) (violation : Option Violation) (g : IsGoing terms tree number c) (m : Makes (rolled c) choice made violation) →
+is-next : SameChoices →
+    (terms : Terms) (tree : Tree) (number : ℕ) (c made : Course) (choice : Choice) (violation : Option Violation) (g : IsGoing terms tree number c)
+    (m : Makes (rolled c) choice made violation) →
     slice_get (choices_on c) (word_of c.dice % length (choices_on c)) ≡ Some choice →
     IsNext terms.tables (word terms.seed number (length c.recording.entries)) g.last (entry_made c made choice violation m) (moment_made terms g.last choice)
 is-next same terms tree number c made choice violation g m taken = record {
   choice = choice;
-  taken = subst (λ (cs : List Choice). slice_get cs (word terms.seed number (length c.recording.entries) % length cs) ≡ Some choice) (same-choices same terms tree number c g)
+  taken =
+      subst (λ (cs : List Choice). slice_get cs (word terms.seed number (length c.recording.entries) % length cs) ≡ Some choice)
+      (same-choices same terms tree number c g)
       (subst (λ (d : Lcg). slice_get (choices_on c) (word_of d % length (choices_on c)) ≡ Some choice) g.drawn taken);
   made = ap (λ (n : Next). entry_of (chosen_step choice) n) (sym (made-there terms tree number c made choice violation g m));
   leads = refl;
 }
 
-steps-made : (c made : Course) (choice : Choice) (violation : Option Violation) → Makes (rolled c) choice made violation → steps_of made.recording ≡ steps_of c.recording ++ chosen_step choice ∷ []
+steps-made : (c made : Course) (choice : Choice) (violation : Option Violation) → Makes (rolled c) choice made violation →
+    steps_of made.recording ≡ steps_of c.recording ++ chosen_step choice ∷ []
 steps-made c made choice violation m = ap steps_of m.recorded ∙ map_push (λ (e : Entry). e.step) c.recording.entries (entry_made c made choice violation m)
 
-has-seen : (terms : Terms) (tree : Tree) (number : ℕ) (c made : Course) (choice : Choice) (violation : Option Violation) → IsGoing terms tree number c → Makes (rolled c) choice made violation →
+has-seen : (terms : Terms) (tree : Tree) (number : ℕ) (c made : Course) (choice : Choice) (violation : Option Violation) →
+    IsGoing terms tree number c → Makes (rolled c) choice made violation →
     HasSeen made.world terms.opening (steps_of c.recording) c.watch
 has-seen terms tree number c made choice violation g m =
     subst (λ (x : Extent). AreDue terms.opening (completions_of x made.world.tables terms.opening (steps_of c.recording)) c.watch) (sym m.shape)
     (subst (λ (t : Tables). AreDue terms.opening (completions_of c.world.shape t terms.opening (steps_of c.recording)) c.watch) (sym m.tables) g.seen)
 
-leads-to : (terms : Terms) (tree : Tree) (number : ℕ) (c made : Course) (choice : Choice) (violation : Option Violation) → IsGoing terms tree number c → (m : Makes (rolled c) choice made violation) →
+leads-to : (terms : Terms) (tree : Tree) (number : ℕ) (c made : Course) (choice : Choice) (violation : Option Violation) →
+    IsGoing terms tree number c → (m : Makes (rolled c) choice made violation) →
     LeadTo terms.opening (steps_of c.recording) (chosen_step choice) m.outcome made.world
 leads-to terms tree number c made choice violation g m =
     ap (λ (x : Extent). made_after x made.world.tables terms.opening (steps_of c.recording) (chosen_step choice)) (m.shape ∙ g.shape.0)
@@ -92,31 +103,40 @@ leads-to terms tree number c made choice violation g m =
     ∙ ap (λ (s : State). next terms.tables s (chosen_step choice)) (sym g.led ∙ g.state) ∙ made-there terms tree number c made choice violation g m
 
 -- what the step shows
-scene-made : (terms : Terms) (tree : Tree) (number : ℕ) (c made : Course) (choice : Choice) (violation : Option Violation) → IsGoing terms tree number c → Makes (rolled c) choice made violation →
+scene-made : (terms : Terms) (tree : Tree) (number : ℕ) (c made : Course) (choice : Choice) (violation : Option Violation) →
+    IsGoing terms tree number c → Makes (rolled c) choice made violation →
     Answers (scene_after terms.shape terms.tables terms.opening (steps_of c.recording) (chosen_step choice)) violation
 scene-made terms tree number c made choice violation g m =
     subst (λ (x : Extent). Answers (scene_after x terms.tables terms.opening (steps_of c.recording) (chosen_step choice)) violation) (m.shape ∙ g.shape.0)
-    (subst (λ (t : Tables). Answers (scene_after made.world.shape t terms.opening (steps_of c.recording) (chosen_step choice)) violation) (m.tables ∙ g.tables.0)
-    (m.answer terms.opening (steps_of c.recording) (has-seen terms tree number c made choice violation g m) (leads-to terms tree number c made choice violation g m)))
+    (subst (λ (t : Tables). Answers (scene_after made.world.shape t terms.opening (steps_of c.recording) (chosen_step choice)) violation)
+    (m.tables ∙ g.tables.0)
+    (m.answer terms.opening (steps_of c.recording) (has-seen terms tree number c made choice violation g m)
+    (leads-to terms tree number c made choice violation g m)))
 
 -- the path goes on to the moment behind the step
-path-made : SameChoices → (terms : Terms) (tree : Tree) (number : ℕ) (c made : Course) (choice : Choice) (violation : Option Violation) (g : IsGoing terms tree number c) (m : Makes (rolled c) choice made violation) →
-    slice_get (choices_on c) (word_of c.dice % length (choices_on c)) ≡ Some choice → IsPath terms tree number (g.moments ++ moment_made terms g.last choice ∷ []) made.recording.entries
+path-made : SameChoices →
+    (terms : Terms) (tree : Tree) (number : ℕ) (c made : Course) (choice : Choice) (violation : Option Violation) (g : IsGoing terms tree number c)
+    (m : Makes (rolled c) choice made violation) →
+    slice_get (choices_on c) (word_of c.dice % length (choices_on c)) ≡ Some choice → IsPath terms tree number
+    (g.moments ++ moment_made terms g.last choice ∷ []) made.recording.entries
 path-made same terms tree number c made choice violation g m taken =
     subst (λ (es : List Entry). IsPath terms tree number (g.moments ++ moment_made terms g.last choice ∷ []) es) (sym (ap (λ (r : Kept). r.entries) m.recorded))
     (path-more terms tree number g.moments c.recording.entries g.last (moment_made terms g.last choice) (entry_made c made choice violation m) g.path g.at_last
     (is-next same terms tree number c made choice violation g m taken))
 
-at-made : (terms : Terms) (tree : Tree) (number : ℕ) (c made : Course) (choice : Choice) (violation : Option Violation) (g : IsGoing terms tree number c) → Makes (rolled c) choice made violation →
+at-made : (terms : Terms) (tree : Tree) (number : ℕ) (c made : Course) (choice : Choice) (violation : Option Violation) (g : IsGoing terms tree number c) →
+    Makes (rolled c) choice made violation →
     slice_get (g.moments ++ moment_made terms g.last choice ∷ []) (length made.recording.entries) ≡ Some (moment_made terms g.last choice)
 at-made terms tree number c made choice violation g m =
     ap (λ (r : Kept). slice_get (g.moments ++ moment_made terms g.last choice ∷ []) (length r.entries)) m.recorded
     ∙ path-at g.moments c.recording.entries (moment_made terms g.last choice) (entry_made c made choice violation m) g.path.count
 
-many-made : (c made : Course) (choice : Choice) (violation : Option Violation) → Makes (rolled c) choice made violation → length made.recording.entries ≡ length c.recording.entries + 1
+many-made : (c made : Course) (choice : Choice) (violation : Option Violation) → Makes (rolled c) choice made violation →
+    length made.recording.entries ≡ length c.recording.entries + 1
 many-made c made choice violation m = ap (λ (r : Kept). length r.entries) m.recorded ∙ length-push c.recording.entries (entry_made c made choice violation m)
 
-goes-on-clean : NextWord → SameLeft → SameChoices → (terms : Terms) (tree : Tree) (number : ℕ) (c made : Course) (choice : Choice) (violation : Option Violation) → IsGoing terms tree number c →
+goes-on-clean : NextWord → SameLeft → SameChoices →
+    (terms : Terms) (tree : Tree) (number : ℕ) (c made : Course) (choice : Choice) (violation : Option Violation) → IsGoing terms tree number c →
     slice_get (choices_on c) (word_of c.dice % length (choices_on c)) ≡ Some choice → Makes (rolled c) choice made violation →
     HasNoViolation terms.shape terms.tables terms.opening (steps_of c.recording ++ chosen_step choice ∷ []) → IsGoing terms tree number made
 goes-on-clean more left same terms tree number c made choice violation g taken m clean =
@@ -133,24 +153,32 @@ goes-on-clean more left same terms tree number c made choice violation g taken m
       at_last = at-made terms tree number c made choice violation g m;
       state = ap (λ (n : Next). n.state) (sym here);
       cores = m.cores ∙ ap (λ (cs : List Core). cores_after step m.outcome cs) g.cores ∙ ap (λ (n : Next). cores_after step n.outcome g.last.cores) (sym here);
-      alike = λ path. m.rest path ∙ rest-alike left choice c.rest g.last.rest (choice-offered c.world.tables c.world.state c.cores c.rest _ choice taken) g.alike path;
+      alike =
+          λ path. m.rest path
+          ∙ rest-alike left choice c.rest g.last.rest (choice-offered c.world.tables c.world.state c.cores c.rest _ choice taken) g.alike path;
       drawn = m.dice ∙ ap (λ (d : Lcg). lcg.next 64 multiplier_64 d) g.drawn ∙ more terms.seed number (length c.recording.entries)
           ∙ ap (dice_after terms.seed number) (sym (many-made c made choice violation m));
       led = ap (λ (n : Next). n.state) (sym here) ∙ ap (λ (s : State). (next terms.tables s step).state) (sym g.state ∙ g.led)
-          ∙ sym (state-push terms.tables (opened terms.shape terms.opening) (steps_of c.recording) step) ∙ ap (state_after terms.tables (opened terms.shape terms.opening)) (sym steps);
+          ∙ sym (state-push terms.tables (opened terms.shape terms.opening) (steps_of c.recording) step)
+          ∙ ap (state_after terms.tables (opened terms.shape terms.opening)) (sym steps);
       seen = subst (λ (ss : List Step). HasSeen made.world terms.opening ss made.watch) (sym steps)
-          (m.seen terms.opening (steps_of c.recording) (has-seen terms tree number c made choice violation g m) (leads-to terms tree number c made choice violation g m));
+          (m.seen terms.opening (steps_of c.recording) (has-seen terms tree number c made choice violation g m)
+          (leads-to terms tree number c made choice violation g m));
       clean = subst (HasNoViolation terms.shape terms.tables terms.opening) (sym steps) clean;
     }
 
-goes-on-rolled : NoneMore → FirstMore → NextWord → SameLeft → SameChoices → (terms : Terms) (tree : Tree) (number : ℕ) (c made : Course) (choice : Choice) (violation : Option Violation) → IsGoing terms tree number c →
-    length c.recording.entries < terms.limit → slice_get (choices_on c) (word_of c.dice % length (choices_on c)) ≡ Some choice → Makes (rolled c) choice made violation → GoesOn terms tree number made violation
+goes-on-rolled : NoneMore → FirstMore → NextWord → SameLeft → SameChoices →
+    (terms : Terms) (tree : Tree) (number : ℕ) (c made : Course) (choice : Choice) (violation : Option Violation) → IsGoing terms tree number c →
+    length c.recording.entries < terms.limit → slice_get (choices_on c) (word_of c.dice % length (choices_on c)) ≡ Some choice → Makes
+    (rolled c) choice made violation → GoesOn terms tree number made violation
 goes-on-rolled none first more left same terms tree number c made choice None g low taken m =
     goes-on-clean more left same terms tree number c made choice None g taken m
     (none terms.shape terms.tables terms.opening (steps_of c.recording) (chosen_step choice) g.clean (scene-made terms tree number c made choice None g m))
 goes-on-rolled none first more left same terms tree number c made choice (Some violation) g low taken m =
     let steps = steps-made c made choice (Some violation) m in
-    let shown = first terms.shape terms.tables terms.opening (steps_of c.recording) (chosen_step choice) violation g.clean (scene-made terms tree number c made choice (Some violation) g m) in
+    let shown =
+    first terms.shape terms.tables terms.opening (steps_of c.recording) (chosen_step choice) violation g.clean
+    (scene-made terms tree number c made choice (Some violation) g m) in
     record {
       shape = ap (λ (r : Kept). r.shape) m.recorded ∙ g.shape.1;
       tables = ap (λ (r : Kept). r.tables) m.recorded ∙ g.tables.1;
@@ -168,7 +196,10 @@ goes-on-rolled none first more left same terms tree number c made choice (Some v
     }
 
 -- a choice that is made leads on, or ends the trial with the violation that its step shows
-pub goes-on : NoneMore → FirstMore → NextWord → SameLeft → SameChoices → (terms : Terms) (tree : Tree) (number : ℕ) (c chosen made : Course) (choice : Choice) (violation : Option Violation) → IsGoing terms tree number c →
+pub goes-on : NoneMore → FirstMore → NextWord → SameLeft → SameChoices →
+    (terms : Terms) (tree : Tree) (number : ℕ) (c chosen made : Course) (choice : Choice) (violation : Option Violation) →
+    IsGoing terms tree number c →
     length c.recording.entries < terms.limit → Chooses c (Some choice) chosen → Makes chosen choice made violation → GoesOn terms tree number made violation
 goes-on none first more left same terms tree number c chosen made choice violation g low taken m =
-    goes-on-rolled none first more left same terms tree number c made choice violation g low taken.0 (subst (λ (x : Course). Makes x choice made violation) taken.1 m)
+    goes-on-rolled none first more left same terms tree number c made choice violation g low taken.0
+    (subst (λ (x : Course). Makes x choice made violation) taken.1 m)

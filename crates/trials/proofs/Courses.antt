@@ -72,7 +72,8 @@ starts none terms tree number c s =
 
 -- ---- what there is to choose
 
-pub same-choices : SameChoices → (terms : Terms) (tree : Tree) (number : ℕ) (c : Course) (g : IsGoing terms tree number c) → choices_on c ≡ choices_at terms.tables g.last
+pub same-choices : SameChoices → (terms : Terms) (tree : Tree) (number : ℕ) (c : Course) (g : IsGoing terms tree number c) →
+    choices_on c ≡ choices_at terms.tables g.last
 same-choices same terms tree number c g =
     same c.world.tables c.world.state c.cores c.rest g.last.rest g.alike
     ∙ ap (λ (t : Tables). choices_of t c.world.state c.cores g.last.rest) g.tables.0
@@ -85,11 +86,14 @@ tracked terms tree number c g =
     (subst (λ (cs : List Core). IsTracked g.last.state cs) (sym g.cores)
     (path-tracked terms tree number g.moments c.recording.entries g.path (length c.recording.entries) g.last g.at_last))
 
-pub can-be-made : (terms : Terms) (tree : Tree) (number : ℕ) (c chosen : Course) (choice : Choice) → IsGoing terms tree number c → Chooses c (Some choice) chosen → CanBeMade choice chosen
+pub can-be-made : (terms : Terms) (tree : Tree) (number : ℕ) (c chosen : Course) (choice : Choice) → IsGoing terms tree number c →
+    Chooses c (Some choice) chosen → CanBeMade choice chosen
 can-be-made terms tree number c chosen choice g taken =
     let made : CanBeMade choice c = record {
       offered = choice-offered c.world.tables c.world.state c.cores c.rest _ choice taken.0;
-      notable = choice-notable c.world.tables c.world.state c.cores choice (tracked terms tree number c g) (choice-fair c.world.tables c.world.state c.cores c.rest _ choice taken.0);
+      notable =
+          choice-notable c.world.tables c.world.state c.cores choice (tracked terms tree number c g)
+          (choice-fair c.world.tables c.world.state c.cores c.rest _ choice taken.0);
     } in
     subst (CanBeMade choice) (sym taken.1) (record { offered = made.offered; notable = made.notable })
 
@@ -98,21 +102,25 @@ can-be-made terms tree number c chosen choice g taken =
 abbrev pub SameOffers : Type 0
 SameOffers = (s t : Tree) → Alike s t → offers s ≡ offers t
 
-at-rest-there : SameOffers → (c : Course) (last : Moment) → c.world.state ≡ last.state → c.cores ≡ last.cores → Alike c.rest last.rest → IsAtRest (moment_of c) → IsAtRest last
+at-rest-there : SameOffers → (c : Course) (last : Moment) → c.world.state ≡ last.state → c.cores ≡ last.cores → Alike c.rest last.rest →
+    IsAtRest (moment_of c) → IsAtRest last
 at-rest-there same c last state cores alike rest = record {
   nothing_offered = sym (same c.rest last.rest alike) ∙ rest.nothing_offered;
   quiet = ap (λ (s : State). all_quiet s.blocks) (sym state) ∙ rest.quiet;
   free = λ core. ap (λ (cs : List Core). is_free cs core) (sym cores) ∙ rest.free core;
 }
 
-at-rest-here : SameOffers → (c : Course) (last : Moment) → c.world.state ≡ last.state → c.cores ≡ last.cores → Alike c.rest last.rest → IsAtRest last → IsAtRest (moment_of c)
+at-rest-here : SameOffers → (c : Course) (last : Moment) → c.world.state ≡ last.state → c.cores ≡ last.cores → Alike c.rest last.rest →
+    IsAtRest last → IsAtRest (moment_of c)
 at-rest-here same c last state cores alike rest = record {
   nothing_offered = same c.rest last.rest alike ∙ rest.nothing_offered;
   quiet = ap (λ (s : State). all_quiet s.blocks) state ∙ rest.quiet;
   free = λ core. ap (λ (cs : List Core). is_free cs core) cores ∙ rest.free core;
 }
 
-verdict-at-rest : SameOffers → SameChoices → (terms : Terms) (tree : Tree) (number : ℕ) (c : Course) (verdict : Verdict) (g : IsGoing terms tree number c) → choices_on c ≡ [] → IsVerdictAtRest c verdict → IsVerdict terms (steps_of c.recording) g.last verdict
+verdict-at-rest : SameOffers → SameChoices →
+    (terms : Terms) (tree : Tree) (number : ℕ) (c : Course) (verdict : Verdict) (g : IsGoing terms tree number c) → choices_on c ≡ [] →
+    IsVerdictAtRest c verdict → IsVerdict terms (steps_of c.recording) g.last verdict
 verdict-at-rest offered same terms tree number c Quiet g none rest =
     (g.clean, sym (same-choices same terms tree number c g) ∙ none, at-rest-there offered c g.last g.state g.cores g.alike rest)
 verdict-at-rest offered same terms tree number c Stuck g none rest =

@@ -40,7 +40,8 @@ use Rattle.machine.specs.declared.decision.Origin.{Origin}
 use Rattle.machine.specs.declared.decision.Origin.TheVariants as origin
 use Rattle.machine.specs.Tables.{Tables}
 use Rattle.machine.specs.Block.{BlockState}
-use Rattle.machine.specs.Transition.{by_line_entry, at_line, at_ask, by_home_entry, at_home, at_request, at_forward, at_response, is_idle, carried_out, outcome_of, plain_outcome}
+use Rattle.machine.specs.Transition.{by_line_entry, at_line, at_ask, by_home_entry, at_home, at_request, at_forward, at_response, is_idle}
+use Rattle.machine.specs.Transition.{carried_out, outcome_of, plain_outcome}
 use Rattle.machine.specs.Machine.{State, Next, IsRefusal, next, next_at, with_transition}
 use Rattle.machine.specs.Completions as completions
 use Rattle.machine.specs.Completions.{completed_by}
@@ -49,7 +50,8 @@ use Rattle.cores.specs.Cores.{Completes}
 use Rattle.trials.specs.Moments.{put_by}
 use Rattle.trials.specs.Answering.{answered}
 use Rattle.schedule.specs.Choices.{step_of}
-use Rattle.trials.proofs.Pending.{Same, Sets, pending_at, settled_ask, settles-completes, AskDoes, ask-does, MessageDoes, forward-does, response-does, same-lines, one-line, sets-same}
+use Rattle.trials.proofs.Pending.{Same, Sets, pending_at, settled_ask, settles-completes, AskDoes, ask-does, MessageDoes, forward-does, response-does}
+use Rattle.trials.proofs.Pending.{same-lines, one-line, sets-same}
 
 -- nothing is put, nothing completes, and the lines wait for the same
 pub record Stays (before : State) (s : Step) (made : Next) : Type 0 where
@@ -149,7 +151,8 @@ refused-stays before s b what here r = inl (record {
   same = same-lines before _ (block_of s) b b here.there refl;
 })
 
-home-stays : (before : State) (s : Step) (b : BlockState) (entry : DirectoryEntry) (input : HomeInput) (from : Origin) → Here before s b → IsDelivery s → Does before s b (by_home_entry entry input from)
+home-stays : (before : State) (s : Step) (b : BlockState) (entry : DirectoryEntry) (input : HomeInput) (from : Origin) → Here before s b →
+    IsDelivery s → Does before s b (by_home_entry entry input from)
 home-stays before s b home_entry.Stall input from here d = refused-stays before s b outcome.Held here tt
 home-stays before s b home_entry.Blank input from here d = refused-stays before s b outcome.Blank here tt
 home-stays before s b (home_entry.Act state actions) input from here d = inl (record {
@@ -172,19 +175,27 @@ abbrev of_line : CacheId → ℕ → LineCompletion → completions.Completion
 of_line cache block (done.Load value) = record { cache = cache; block = block; access = completions.load; value = value }
 of_line cache block (done.Store value) = record { cache = cache; block = block; access = completions.store; value = value }
 
-done-here : (cache : CacheId) (s : Step) (from : Origin) (c : LineCompletion) → completed_by s (outcome_of cache from (Some c)) ≡ of_line cache (block_of s) c ∷ []
+done-here : (cache : CacheId) (s : Step) (from : Origin) (c : LineCompletion) →
+    completed_by s (outcome_of cache from (Some c)) ≡ of_line cache (block_of s) c ∷ []
 done-here cache s from (done.Load value) = refl
 done-here cache s from (done.Store value) = refl
 
-settles-at : (before : State) (s : Step) (made : Next) (cache : CacheId) (c : LineCompletion) → IsDelivery s → completed_by s made.outcome ≡ of_line cache (block_of s) c ∷ []
+settles-at : (before : State) (s : Step) (made : Next) (cache : CacheId) (c : LineCompletion) → IsDelivery s →
+    completed_by s made.outcome ≡ of_line cache (block_of s) c ∷ []
     → Sets before made.state cache.0 (block_of s) (Some (settled_ask c)) None → Settles before s made
-settles-at before s made cache (done.Load value) d is sets = record { completion = _; delivery = d; put = delivery-puts-none s made.outcome d; done = is; completes = tt; sets = sets }
-settles-at before s made cache (done.Store value) d is sets = record { completion = _; delivery = d; put = delivery-puts-none s made.outcome d; done = is; completes = tt; sets = sets }
+settles-at before s made cache (done.Load value) d is sets =
+    record { completion = _; delivery = d; put = delivery-puts-none s made.outcome d; done = is; completes = tt; sets = sets }
+settles-at before s made cache (done.Store value) d is sets =
+    record { completion = _; delivery = d; put = delivery-puts-none s made.outcome d; done = is; completes = tt; sets = sets }
 
-message-acts : (before : State) (s : Step) (b : BlockState) (cache : CacheId) (line : Line) (input : LineInput) (state : CacheState) (actions : List CacheAction) (from : Origin)
-    → Here before s b → IsDelivery s → IsWired from → slice_get b.lines cache.0 ≡ Some line → MessageDoes (line_completes input state line) line (line_after input state line) → Does before s b (AtLine cache line input state actions from)
+message-acts : (before : State) (s : Step) (b : BlockState) (cache : CacheId) (line : Line) (input : LineInput) (state : CacheState)
+    (actions : List CacheAction) (from : Origin)
+    → Here before s b → IsDelivery s → IsWired from → slice_get b.lines cache.0 ≡ Some line → MessageDoes (line_completes input state line) line
+    (line_after input state line) → Does before s b (AtLine cache line input state actions from)
 message-acts before s b cache line input state actions from here d wired found (inl h) =
-    let sets = one-line before _ (block_of s) cache.0 b (carried_out (AtLine cache line input state actions from) b).block line (line_after input state line) here.there found refl in
+    let sets =
+    one-line before _ (block_of s) cache.0 b (carried_out (AtLine cache line input state actions from) b).block line
+    (line_after input state line) here.there found refl in
     inl (record {
       put = delivery-puts-none s _ d;
       done = plain cache s from (line_completes input state line) wired h.none;
@@ -193,29 +204,39 @@ message-acts before s b cache line input state actions from here d wired found (
 message-acts before s b cache line input state actions from here d wired found (inr h) =
     let made : Next = with_transition before (block_of s) (carried_out (AtLine cache line input state actions from) b) in
     let sets : Sets before made.state cache.0 (block_of s) line.pending (line_after input state line).pending =
-    one-line before _ (block_of s) cache.0 b (carried_out (AtLine cache line input state actions from) b).block line (line_after input state line) here.there found refl in
+    one-line before _ (block_of s) cache.0 b (carried_out (AtLine cache line input state actions from) b).block line
+    (line_after input state line) here.there found refl in
     inr (inr (inr (settles-at before s made cache h.completion d
     (ap (λ x. completed_by s (outcome_of cache from x)) h.some ∙ done-here cache s from h.completion)
-    (subst (λ (p : Option Ask). Sets before made.state cache.0 (block_of s) p None) h.waited (subst (λ (p : Option Ask). Sets before made.state cache.0 (block_of s) line.pending p) h.free sets)))))
+    (subst (λ (p : Option Ask). Sets before made.state cache.0 (block_of s) p None) h.waited
+    (subst (λ (p : Option Ask). Sets before made.state cache.0 (block_of s) line.pending p) h.free sets)))))
 
 message-at-entry : (before : State) (s : Step) (b : BlockState) (entry : CacheEntry) (cache : CacheId) (line : Line) (input : LineInput) (from : Origin)
-    → Here before s b → IsDelivery s → IsWired from → slice_get b.lines cache.0 ≡ Some line → ((state : CacheState) → MessageDoes (line_completes input state line) line (line_after input state line)) → Does before s b (by_line_entry entry cache line input from)
+    → Here before s b → IsDelivery s → IsWired from → slice_get b.lines cache.0 ≡ Some line →
+    ((state : CacheState) → MessageDoes (line_completes input state line) line (line_after input state line)) → Does before s b
+    (by_line_entry entry cache line input from)
 message-at-entry before s b line_entry.Stall cache line input from here d wired found does = refused-stays before s b outcome.Held here tt
 message-at-entry before s b line_entry.Blank cache line input from here d wired found does = refused-stays before s b outcome.Blank here tt
-message-at-entry before s b (line_entry.Act state actions) cache line input from here d wired found does = message-acts before s b cache line input state actions from here d wired found (does state)
+message-at-entry before s b (line_entry.Act state actions) cache line input from here d wired found does =
+    message-acts before s b cache line input state actions from here d wired found (does state)
 
-message-at-line : (before : State) (s : Step) (b : BlockState) (cells : cache_table.Cells) (cache : CacheId) (input : LineInput) (from : Origin) (found : Option Line)
-    → Here before s b → IsDelivery s → IsWired from → slice_get b.lines cache.0 ≡ found → ((state : CacheState) (line : Line) → MessageDoes (line_completes input state line) line (line_after input state line)) → Does before s b (at_line cells cache input from found)
+message-at-line : (before : State) (s : Step) (b : BlockState) (cells : cache_table.Cells) (cache : CacheId) (input : LineInput) (from : Origin)
+    (found : Option Line)
+    → Here before s b → IsDelivery s → IsWired from → slice_get b.lines cache.0 ≡ found →
+    ((state : CacheState) (line : Line) → MessageDoes (line_completes input state line) line (line_after input state line)) → Does before s b
+    (at_line cells cache input from found)
 message-at-line before s b cells cache input from None here d wired found does = refused-stays before s b outcome.Absent here tt
 message-at-line before s b cells cache input from (Some line) here d wired found does =
-    message-at-entry before s b (cache_table.cell cells line.state (event_at_line line.acks input)) cache line input from here d wired found (λ state. does state line)
+    message-at-entry before s b (cache_table.cell cells line.state (event_at_line line.acks input)) cache line input from here d wired found
+    (λ state. does state line)
 
 -- ---- an ask
 
 abbrev asked : CacheId → BlockId → Ask → CoreAsk
 asked cache block a = record { core = cache; block = block; ask = a }
 
-ask-put : (cache : CacheId) (block : BlockId) (a : Ask) (c : Option LineCompletion) → Completes a → put_by (step.Ask cache block a) (outcome_of cache origin.Core c) ≡ asked cache block a ∷ []
+ask-put : (cache : CacheId) (block : BlockId) (a : Ask) (c : Option LineCompletion) → Completes a →
+    put_by (step.Ask cache block a) (outcome_of cache origin.Core c) ≡ asked cache block a ∷ []
 ask-put cache block Load None e = refl
 ask-put cache block Load (Some (done.Load v)) e = refl
 ask-put cache block Load (Some (done.Store v)) e = refl
@@ -229,12 +250,15 @@ answers-ask cache block (done.Load v) = refl
 answers-ask cache block (done.Store v) = refl
 
 ask-acts : (before : State) (cache : CacheId) (block : BlockId) (a : Ask) (b : BlockState) (line : Line) (state : CacheState) (actions : List CacheAction)
-    → Here before (step.Ask cache block a) b → slice_get b.lines cache.0 ≡ Some line → AskDoes a (line_completes (line_input.Ask a) state line) line (line_after (line_input.Ask a) state line)
+    → Here before (step.Ask cache block a) b → slice_get b.lines cache.0 ≡ Some line → AskDoes a (line_completes (line_input.Ask a) state line) line
+    (line_after (line_input.Ask a) state line)
     → Does before (step.Ask cache block a) b (AtLine cache line (line_input.Ask a) state actions origin.Core)
 ask-acts before cache block a b line state actions here found (inl h) =
     let s : Step = step.Ask cache block a in
     let made : Next = with_transition before block.0 (carried_out (AtLine cache line (line_input.Ask a) state actions origin.Core) b) in
-    let sets : Sets before made.state cache.0 block.0 line.pending (line_after (line_input.Ask a) state line).pending = one-line before _ block.0 cache.0 b (carried_out (AtLine cache line (line_input.Ask a) state actions origin.Core) b).block line (line_after (line_input.Ask a) state line) here.there found refl in
+    let sets : Sets before made.state cache.0 block.0 line.pending (line_after (line_input.Ask a) state line).pending =
+    one-line before _ block.0 cache.0 b (carried_out (AtLine cache line (line_input.Ask a) state actions origin.Core) b).block line
+    (line_after (line_input.Ask a) state line) here.there found refl in
     inr (inl (record {
       ask = asked cache block a;
       is = refl;
@@ -247,7 +271,9 @@ ask-acts before cache block a b line state actions here found (inl h) =
 ask-acts before cache block a b line state actions here found (inr (inl h)) =
     let s : Step = step.Ask cache block a in
     let made : Next = with_transition before block.0 (carried_out (AtLine cache line (line_input.Ask a) state actions origin.Core) b) in
-    let sets : Sets before made.state cache.0 block.0 line.pending (line_after (line_input.Ask a) state line).pending = one-line before _ block.0 cache.0 b (carried_out (AtLine cache line (line_input.Ask a) state actions origin.Core) b).block line (line_after (line_input.Ask a) state line) here.there found refl in
+    let sets : Sets before made.state cache.0 block.0 line.pending (line_after (line_input.Ask a) state line).pending =
+    one-line before _ block.0 cache.0 b (carried_out (AtLine cache line (line_input.Ask a) state actions origin.Core) b).block line
+    (line_after (line_input.Ask a) state line) here.there found refl in
     inr (inr (inl (record {
       ask = asked cache block a;
       completion = of_line cache block.0 h.completion;
@@ -262,24 +288,30 @@ ask-acts before cache block a b line state actions here found (inr (inl h)) =
 ask-acts before cache block a b line state actions here found (inr (inr h)) =
     let s : Step = step.Ask cache block a in
     let made : Next = with_transition before block.0 (carried_out (AtLine cache line (line_input.Ask a) state actions origin.Core) b) in
-    let sets : Sets before made.state cache.0 block.0 line.pending (line_after (line_input.Ask a) state line).pending = one-line before _ block.0 cache.0 b (carried_out (AtLine cache line (line_input.Ask a) state actions origin.Core) b).block line (line_after (line_input.Ask a) state line) here.there found refl in
+    let sets : Sets before made.state cache.0 block.0 line.pending (line_after (line_input.Ask a) state line).pending =
+    one-line before _ block.0 cache.0 b (carried_out (AtLine cache line (line_input.Ask a) state actions origin.Core) b).block line
+    (line_after (line_input.Ask a) state line) here.there found refl in
     inl (record {
       put = ap (λ (x : Ask). put_by (step.Ask cache block x) made.outcome) h.replaces;
       done = ap (λ x. completed_by s (outcome_of cache origin.Core x)) h.none;
       same = sets-same before _ cache.0 block.0 line.pending (line_after (line_input.Ask a) state line).pending sets h.kept;
     })
 
-ask-at-entry : (before : State) (cache : CacheId) (block : BlockId) (a : Ask) (b : BlockState) (line : Line) (entry : CacheEntry) → Here before (step.Ask cache block a) b → slice_get b.lines cache.0 ≡ Some line
+ask-at-entry : (before : State) (cache : CacheId) (block : BlockId) (a : Ask) (b : BlockState) (line : Line) (entry : CacheEntry) →
+    Here before (step.Ask cache block a) b → slice_get b.lines cache.0 ≡ Some line
     → Does before (step.Ask cache block a) b (by_line_entry entry cache line (line_input.Ask a) origin.Core)
 ask-at-entry before cache block a b line line_entry.Stall here found = refused-stays before (step.Ask cache block a) b outcome.Held here tt
 ask-at-entry before cache block a b line line_entry.Blank here found = refused-stays before (step.Ask cache block a) b outcome.Blank here tt
-ask-at-entry before cache block a b line (line_entry.Act state actions) here found = ask-acts before cache block a b line state actions here found (ask-does a state line)
+ask-at-entry before cache block a b line (line_entry.Act state actions) here found =
+    ask-acts before cache block a b line state actions here found (ask-does a state line)
 
-ask-at-line : (before : State) (cells : cache_table.Cells) (cache : CacheId) (block : BlockId) (a : Ask) (b : BlockState) (found : Option Line) → Here before (step.Ask cache block a) b → slice_get b.lines cache.0 ≡ found
+ask-at-line : (before : State) (cells : cache_table.Cells) (cache : CacheId) (block : BlockId) (a : Ask) (b : BlockState) (found : Option Line) →
+    Here before (step.Ask cache block a) b → slice_get b.lines cache.0 ≡ found
     → Does before (step.Ask cache block a) b (at_ask cells cache a found)
 ask-at-line before cells cache block a b None here found = refused-stays before (step.Ask cache block a) b outcome.Absent here tt
 ask-at-line before cells cache block a b (Some line) here found =
-    elim (is_idle a line.state) as (λ t. Does before (step.Ask cache block a) b (if t then Refused outcome.Idle else at_line cells cache (line_input.Ask a) origin.Core (Some line))) [
+    elim (is_idle a line.state) as
+    (λ t. Does before (step.Ask cache block a) b (if t then Refused outcome.Idle else at_line cells cache (line_input.Ask a) origin.Core (Some line))) [
       | true ↦ refused-stays before (step.Ask cache block a) b outcome.Idle here tt
       | false ↦ ask-at-entry before cache block a b line (cache_table.cell cells line.state (event_at_line line.acks (line_input.Ask a))) here found
     ]
@@ -292,25 +324,34 @@ wired-head cache = record { moves = refl }
 wired-response : (i : ℕ) → IsWired (origin.Response i)
 wired-response i = record { moves = refl }
 
-at-home : (before : State) (s : Step) (b : BlockState) (cells : directory_table.Cells) (input : HomeInput) (from : Origin) → Here before s b → IsDelivery s → Does before s b (at_home cells input from b.home)
-at-home before s b cells input from here d = home-stays before s b (directory_table.cell cells b.home.state (event_at_home b.home.owner b.home.sharers input)) input from here d
+at-home : (before : State) (s : Step) (b : BlockState) (cells : directory_table.Cells) (input : HomeInput) (from : Origin) → Here before s b →
+    IsDelivery s → Does before s b (at_home cells input from b.home)
+at-home before s b cells input from here d =
+    home-stays before s b (directory_table.cell cells b.home.state (event_at_home b.home.owner b.home.sharers input)) input from here d
 
-by-request : (before : State) (tables : Tables) (block : BlockId) (i : ℕ) (b : BlockState) (found : Option Request) → Here before (step.Request block i) b → Does before (step.Request block i) b (at_request tables.directory i b.home found)
+by-request : (before : State) (tables : Tables) (block : BlockId) (i : ℕ) (b : BlockState) (found : Option Request) →
+    Here before (step.Request block i) b → Does before (step.Request block i) b (at_request tables.directory i b.home found)
 by-request before tables block i b None here = refused-stays before (step.Request block i) b outcome.Absent here tt
 by-request before tables block i b (Some r) here = at-home before (step.Request block i) b tables.directory (home_input.Request r) (origin.Request i) here tt
 
-by-forward : (before : State) (tables : Tables) (block : BlockId) (cache : CacheId) (b : BlockState) (found : Option Forward) → Here before (step.Forward block cache) b → Does before (step.Forward block cache) b (at_forward tables.cache cache b.lines found)
+by-forward : (before : State) (tables : Tables) (block : BlockId) (cache : CacheId) (b : BlockState) (found : Option Forward) →
+    Here before (step.Forward block cache) b → Does before (step.Forward block cache) b (at_forward tables.cache cache b.lines found)
 by-forward before tables block cache b None here = refused-stays before (step.Forward block cache) b outcome.Absent here tt
 by-forward before tables block cache b (Some f) here =
-    message-at-line before (step.Forward block cache) b tables.cache cache (line_input.Forward f) (origin.Head cache) (slice_get b.lines cache.0) here tt (wired-head cache) refl (forward-does f)
+    message-at-line before (step.Forward block cache) b tables.cache cache (line_input.Forward f) (origin.Head cache)
+    (slice_get b.lines cache.0) here tt (wired-head cache) refl (forward-does f)
 
-by-response : (before : State) (tables : Tables) (block : BlockId) (i : ℕ) (b : BlockState) (found : Option Response) → Here before (step.Response block i) b → Does before (step.Response block i) b (at_response tables i b found)
+by-response : (before : State) (tables : Tables) (block : BlockId) (i : ℕ) (b : BlockState) (found : Option Response) →
+    Here before (step.Response block i) b → Does before (step.Response block i) b (at_response tables i b found)
 by-response before tables block i b None here = refused-stays before (step.Response block i) b outcome.Absent here tt
-by-response before tables block i b (Some (Data from Dir value acks)) here = at-home before (step.Response block i) b tables.directory (home_input.Data value) (origin.Response i) here tt
+by-response before tables block i b (Some (Data from Dir value acks)) here =
+    at-home before (step.Response block i) b tables.directory (home_input.Data value) (origin.Response i) here tt
 by-response before tables block i b (Some (Data from (Cache to) value acks)) here =
-    message-at-line before (step.Response block i) b tables.cache to (line_input.Response (Data from (Cache to) value acks)) (origin.Response i) (slice_get b.lines to.0) here tt (wired-response i) refl (response-does (Data from (Cache to) value acks))
+    message-at-line before (step.Response block i) b tables.cache to (line_input.Response (Data from (Cache to) value acks)) (origin.Response i)
+    (slice_get b.lines to.0) here tt (wired-response i) refl (response-does (Data from (Cache to) value acks))
 by-response before tables block i b (Some (InvAck from to)) here =
-    message-at-line before (step.Response block i) b tables.cache to (line_input.Response (InvAck from to)) (origin.Response i) (slice_get b.lines to.0) here tt (wired-response i) refl (response-does (InvAck from to))
+    message-at-line before (step.Response block i) b tables.cache to (line_input.Response (InvAck from to)) (origin.Response i)
+    (slice_get b.lines to.0) here tt (wired-response i) refl (response-does (InvAck from to))
 
 at-block : (tables : Tables) (before : State) (s : Step) (b : BlockState) → Here before s b → Effect before s (next_at tables before s (Some b))
 at-block tables before (step.Ask cache block a) b here = ask-at-line before tables.cache cache block a b (slice_get b.lines cache.0) here refl
@@ -321,7 +362,8 @@ at-block tables before (step.Response block i) b here = by-response before table
 all-stays : (before : State) (s : Step) (what : Outcome) → IsRefusal what → Effect before s (record { state = before; outcome = what })
 all-stays before s what r = inl (record { put = none-put s what r; done = none-done s what r; same = record { each = λ c b. refl } })
 
-at-found : (tables : Tables) (before : State) (s : Step) (found : Option BlockState) → slice_get before.blocks (block_of s) ≡ found → Effect before s (next_at tables before s found)
+at-found : (tables : Tables) (before : State) (s : Step) (found : Option BlockState) → slice_get before.blocks (block_of s) ≡ found →
+    Effect before s (next_at tables before s found)
 at-found tables before s None there = all-stays before s outcome.Absent tt
 at-found tables before s (Some b) there = at-block tables before s b (record { there = there })
 

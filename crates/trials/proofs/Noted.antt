@@ -24,7 +24,8 @@ all-one P x h (suc k) d low = absurd (omega (arith, low))
 
 -- a core that has just issued an ask waits
 issued-waits : (cores : List Core) (a : CoreAsk) → a.core.0 < length cores → is_free (with_issued (a ∷ []) cores) a.core.0 ≡ false
-issued-waits cores a low = waits-tells (with_core cores a.core.0 (issuing a.ask)) a.core.0 a.ask (ap (λ (c : Core). c.outstanding) (with-here cores a.core.0 (issuing a.ask) low))
+issued-waits cores a low =
+    waits-tells (with_core cores a.core.0 (issuing a.ask)) a.core.0 a.ask (ap (λ (c : Core). c.outstanding) (with-here cores a.core.0 (issuing a.ask) low))
 
 free-none : (cores : List Core) (put : List CoreAsk) → put ≡ [] → AreFree put cores
 free-none cores put p = subst (λ (x : List CoreAsk). AreFree x cores) (sym p) (all-none (λ a. is_free cores a.core.0 ≡ true))
@@ -38,7 +39,8 @@ busy-none cores done d = subst (λ (x : List Completion). AreBusy x cores) (sym 
 busy-one : (cores : List Core) (done : List Completion) (c : Completion) → done ≡ c ∷ [] → is_free cores c.cache.0 ≡ false → AreBusy done cores
 busy-one cores done c d h = subst (λ (x : List Completion). AreBusy x cores) (sym d) (all-one (λ (c : Completion). is_free cores c.cache.0 ≡ false) c h)
 
-noted-by : (tables : Tables) (state : State) (cores : List Core) (s : Step) → IsTracked state cores → PutsWhereFree s (next tables state s) cores → Effect state s (next tables state s) → CanBeNoted s (next tables state s).outcome cores
+noted-by : (tables : Tables) (state : State) (cores : List Core) (s : Step) → IsTracked state cores → PutsWhereFree s (next tables state s) cores →
+    Effect state s (next tables state s) → CanBeNoted s (next tables state s).outcome cores
 noted-by tables state cores s tracked free (inl h) = record {
   asks = free-none cores _ h.put;
   completes = busy-none _ _ h.done;
@@ -53,7 +55,9 @@ noted-by tables state cores s tracked free (inr (inr (inl h))) =
     ap (λ x. is_free (with_issued x cores) h.ask.core.0) h.put ∙ issued-waits cores h.ask low in
     record {
       asks = free-one cores _ h.ask h.put (free h.ask h.put);
-      completes = busy-one _ _ h.completion h.done (ap (λ (a : CoreAsk). is_free (with_issued (put_by s (next tables state s).outcome) cores) a.core.0) h.answers ∙ waits);
+      completes =
+          busy-one _ _ h.completion h.done
+          (ap (λ (a : CoreAsk). is_free (with_issued (put_by s (next tables state s).outcome) cores) a.core.0) h.answers ∙ waits);
     }
 noted-by tables state cores s tracked free (inr (inr (inr h))) =
     let waits = delivered-to-waiting tables state s cores h.completion tracked h.delivery h.done in
@@ -62,5 +66,7 @@ noted-by tables state cores s tracked free (inr (inr (inr h))) =
       completes = busy-one _ _ h.completion h.done (ap (λ x. is_free (with_issued x cores) h.completion.cache.0) h.put ∙ waits.0);
     }
 
-pub choice-notable : (tables : Tables) (state : State) (cores : List Core) (c : Choice) → IsTracked state cores → IsFair tables state cores c → CanBeNoted (chosen_step c) (next tables state (chosen_step c)).outcome cores
-choice-notable tables state cores c tracked fair = noted-by tables state cores (chosen_step c) tracked (fair-puts tables state cores c fair) (effect tables state (chosen_step c))
+pub choice-notable : (tables : Tables) (state : State) (cores : List Core) (c : Choice) → IsTracked state cores → IsFair tables state cores c →
+    CanBeNoted (chosen_step c) (next tables state (chosen_step c)).outcome cores
+choice-notable tables state cores c tracked fair =
+    noted-by tables state cores (chosen_step c) tracked (fair-puts tables state cores c fair) (effect tables state (chosen_step c))

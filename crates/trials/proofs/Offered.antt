@@ -36,7 +36,8 @@ below-offer : (n i : ℕ) (ask : CoreAsk) (t : Bool) → i < n → AreBelow n (i
 below-offer n i ask true low = (low, tt)
 below-offer n i ask false low = tt
 
-below-offers : (tables : Tables) (state : State) (cores : List Core) (n i : ℕ) (asks : List CoreAsk) → i + length asks ≤ n → AreBelow n (offers_from tables state cores i asks)
+below-offers : (tables : Tables) (state : State) (cores : List Core) (n i : ℕ) (asks : List CoreAsk) → i + length asks ≤ n →
+    AreBelow n (offers_from tables state cores i asks)
 below-offers tables state cores n i [] low = tt
 below-offers tables state cores n i (ask ∷ asks) low =
     below-both n (if can_be_put tables state cores ask then Offer i ask ∷ [] else []) (offers_from tables state cores (i + 1) asks)
@@ -44,10 +45,13 @@ below-offers tables state cores n i (ask ∷ asks) low =
 
 below-choices : (tables : Tables) (state : State) (cores : List Core) (tree : Tree) → AreBelow (length (offers tree)) (choices_of tables state cores tree)
 below-choices tables state cores tree =
-    elim state.broken as (λ t. AreBelow (length (offers tree)) (if t then [] else (offers_from tables state cores 0 (offers tree) ++ map Deliver (enabled_steps tables state)))) [
+    elim state.broken as
+    (λ t. AreBelow (length (offers tree))
+    (if t then [] else (offers_from tables state cores 0 (offers tree) ++ map Deliver (enabled_steps tables state)))) [
       | true ↦ tt
       | false ↦ below-both (length (offers tree)) (offers_from tables state cores 0 (offers tree)) (map Deliver (enabled_steps tables state))
-          (below-offers tables state cores (length (offers tree)) 0 (offers tree) (omega arith)) (below-deliveries (length (offers tree)) (enabled_steps tables state))
+          (below-offers tables state cores (length (offers tree)) 0 (offers tree) (omega arith))
+          (below-deliveries (length (offers tree)) (enabled_steps tables state))
     ]
 
 below-at : (n : ℕ) (xs : List Choice) (k : ℕ) (c : Choice) → AreBelow n xs → slice_get xs k ≡ Some c → IsBelow n c
@@ -56,6 +60,8 @@ below-at n (x ∷ xs) zero c h e = subst (IsBelow n) (same-some x c e) h.0
 below-at n (x ∷ xs) (suc k) c h e = below-at n xs k c h.1 e
 
 -- a choice that is an offer is one of the tree's
-pub choice-offered : (tables : Tables) (state : State) (cores : List Core) (tree : Tree) (k : ℕ) (c : Choice) → slice_get (choices_of tables state cores tree) k ≡ Some c → IsOffered c tree
-choice-offered tables state cores tree k (Offer i ask) e = below-at (length (offers tree)) (choices_of tables state cores tree) k (Offer i ask) (below-choices tables state cores tree) e
+pub choice-offered : (tables : Tables) (state : State) (cores : List Core) (tree : Tree) (k : ℕ) (c : Choice) →
+    slice_get (choices_of tables state cores tree) k ≡ Some c → IsOffered c tree
+choice-offered tables state cores tree k (Offer i ask) e =
+    below-at (length (offers tree)) (choices_of tables state cores tree) k (Offer i ask) (below-choices tables state cores tree) e
 choice-offered tables state cores tree k (Deliver s) e = tt

@@ -18,7 +18,8 @@ path-starts terms tree number = record {
 
 -- the path of a trial that has made one step more
 pub path-more : (terms : Terms) (tree : Tree) (number : ℕ) (moments : List Moment) (entries : List Entry) (last behind : Moment) (entry : Entry) →
-    IsPath terms tree number moments entries → slice_get moments (length entries) ≡ Some last → IsNext terms.tables (word terms.seed number (length entries)) last entry behind →
+    IsPath terms tree number moments entries → slice_get moments (length entries) ≡ Some last → IsNext terms.tables
+    (word terms.seed number (length entries)) last entry behind →
     IsPath terms tree number (moments ++ behind ∷ []) (entries ++ entry ∷ [])
 path-more terms tree number moments entries last behind entry path at next = record {
   count = length-push moments behind ∙ ap (λ n. n + 1) (path.count ∙ sym (length-push entries entry));
@@ -35,8 +36,12 @@ path-more terms tree number moments entries last behind entry path at next = rec
         | inr here ↦
             let many = path.count in
             let same_k : k ≡ length entries = here.0 in
-            let same_b : last ≡ b = same-some last b (sym at ∙ sym (get-before moments behind (length entries) (omega (arith, many))) ∙ ap (slice_get (moments ++ behind ∷ [])) (sym same_k) ∙ is_b) in
-            let same_h : behind ≡ h = same-some behind h (sym (get-pushed moments behind) ∙ ap (slice_get (moments ++ behind ∷ [])) (many ∙ ap (λ n. n + 1) (sym same_k)) ∙ is_h) in
+            let same_b : last ≡ b =
+            same-some last b
+            (sym at ∙ sym (get-before moments behind (length entries) (omega (arith, many))) ∙ ap (slice_get (moments ++ behind ∷ []))
+            (sym same_k) ∙ is_b) in
+            let same_h : behind ≡ h =
+            same-some behind h (sym (get-pushed moments behind) ∙ ap (slice_get (moments ++ behind ∷ [])) (many ∙ ap (λ n. n + 1) (sym same_k)) ∙ is_h) in
             subst (λ (n : ℕ). IsNext terms.tables (word terms.seed number n) b e h) (sym same_k)
             (subst (λ (x : Moment). IsNext terms.tables (word terms.seed number (length entries)) x e h) same_b
             (subst (λ (x : Moment). IsNext terms.tables (word terms.seed number (length entries)) last e x) same_h
@@ -45,5 +50,6 @@ path-more terms tree number moments entries last behind entry path at next = rec
 }
 
 -- and the moment that it has come to
-pub path-at : (moments : List Moment) (entries : List Entry) (behind : Moment) (entry : Entry) → length moments ≡ length entries + 1 → slice_get (moments ++ behind ∷ []) (length (entries ++ entry ∷ [])) ≡ Some behind
+pub path-at : (moments : List Moment) (entries : List Entry) (behind : Moment) (entry : Entry) → length moments ≡ length entries + 1 →
+    slice_get (moments ++ behind ∷ []) (length (entries ++ entry ∷ [])) ≡ Some behind
 path-at moments entries behind entry many = ap (slice_get (moments ++ behind ∷ [])) (length-push entries entry ∙ sym many) ∙ get-pushed moments behind

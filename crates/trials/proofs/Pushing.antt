@@ -3,7 +3,8 @@ use Rattle.std.proofs.Common.{◌≡◌, ◌⊎◌, ◌<◌, ◌+◌, ℕ, zero,
 use Rattle.std.proofs.lemmas.List.{length-append}
 
 -- an element of a list with one more is one of the list, or that one
-pub get-push : {X : Type 0} (xs : List X) (x y : X) (k : ℕ) → slice_get (xs ++ x ∷ []) k ≡ Some y → ((slice_get xs k ≡ Some y) × (k < length xs)) ⊎ ((k ≡ length xs) × (x ≡ y))
+pub get-push : {X : Type 0} (xs : List X) (x y : X) (k : ℕ) → slice_get (xs ++ x ∷ []) k ≡ Some y →
+    ((slice_get xs k ≡ Some y) × (k < length xs)) ⊎ ((k ≡ length xs) × (x ≡ y))
 get-push [] x y zero e = inr (refl, cc)
 get-push [] x y (suc k) e = absurd (cc)
 get-push (z ∷ xs) x y zero e = inl (e, omega arith)

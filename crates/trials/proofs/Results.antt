@@ -6,7 +6,8 @@ use Rattle.trials.specs.Terms.{Terms}
 use Rattle.trials.specs.Trial.{IsResult, IsSound, AreResults, AreSound}
 use Rattle.trials.proofs.Pushing.{get-push, length-push}
 
-pub results-more : (terms : Terms) (tree : Tree) (n : ℕ) (old new : List TrialResult) (result : TrialResult) → AreResults terms tree n old → IsResult terms tree n result → new ≡ old ++ result ∷ [] → AreResults terms tree (n + 1) new
+pub results-more : (terms : Terms) (tree : Tree) (n : ℕ) (old new : List TrialResult) (result : TrialResult) → AreResults terms tree n old →
+    IsResult terms tree n result → new ≡ old ++ result ∷ [] → AreResults terms tree (n + 1) new
 results-more terms tree n old new result are is pushed = subst (AreResults terms tree (n + 1)) (sym pushed) (record {
   count = length-push old result ∙ ap (λ k. k + 1) are.count;
   each = λ number x e. elim (get-push old result x number e) [

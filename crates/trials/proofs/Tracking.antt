@@ -1,5 +1,6 @@
 -- What each core waits for is what its lines wait for.
-use Rattle.std.proofs.Common.{◌≡◌, ◌≢◌, ◌<◌, inl, inr, ℕ, zero, suc, List, [], ◌∷◌, length, map, replicate, Option, Some, None, true, false, slice_get, refl, sym, ap, ◌∙◌, subst, arith}
+use Rattle.std.proofs.Common.{◌≡◌, ◌≢◌, ◌<◌, inl, inr, ℕ, zero, suc, List, [], ◌∷◌, length, map, replicate, Option, Some, None, true, false}
+use Rattle.std.proofs.Common.{slice_get, refl, sym, ap, ◌∙◌, subst, arith}
 use Rattle.std.proofs.lemmas.Bool.{cases_eq}
 use Rattle.std.specs.Option.{option_map, option_and_then}
 use Rattle.base.specs.declared.ids.CacheId.{CacheId}
@@ -21,12 +22,15 @@ use Rattle.trials.specs.Moments.{put_by, cores_after}
 use Rattle.trials.proofs.Places.{same-some, same-head}
 use Rattle.trials.proofs.Pending.{Same, Sets, pending_at}
 use Rattle.trials.proofs.Effects.{Effect, Puts, PutsDone, Settles, effect, delivery-puts-none}
-use Rattle.trials.proofs.CoreSteps.{outstanding, with-length, with-here, with-other, idle-free, free-told, waits-tells, after-none, after-put, after-done, after-both}
+use Rattle.trials.proofs.CoreSteps.{outstanding, with-length, with-here, with-other, idle-free, free-told, waits-tells, after-none, after-put}
+use Rattle.trials.proofs.CoreSteps.{after-done, after-both}
 
 -- what a core waits for is pending at one line of its cache, and nothing else is pending at its lines
 abbrev pub Waits : State → ℕ → Option Ask → Type 0
 Waits state cache None = (block : ℕ) (p : Option Ask) → pending_at state cache block ≡ Some p → p ≡ None
-Waits state cache (Some a) = (at : ℕ) × (pending_at state cache at ≡ Some (Some a)) × Completes a × ((block : ℕ) (p : Option Ask) → block ≢ at → pending_at state cache block ≡ Some p → p ≡ None)
+Waits state cache (Some a) =
+    (at : ℕ) × (pending_at state cache at ≡ Some (Some a)) × Completes a × ((block : ℕ) (p : Option Ask) → block ≢ at →
+    pending_at state cache block ≡ Some p → p ≡ None)
 
 -- so does each core, and there is a core for each line
 pub record IsTracked (state : State) (cores : List Core) : Type 0 where
@@ -35,12 +39,15 @@ pub record IsTracked (state : State) (cores : List Core) : Type 0 where
 
 -- ---- a world at first
 
-replicate-none : (caches cache : ℕ) (p : Option Ask) → option_map (λ line. line.pending) (slice_get (replicate caches opened_line) cache) ≡ Some p → (p ≡ None) × (cache < caches)
+replicate-none : (caches cache : ℕ) (p : Option Ask) → option_map (λ line. line.pending) (slice_get (replicate caches opened_line) cache) ≡ Some p →
+    (p ≡ None) × (cache < caches)
 replicate-none zero cache p e = absurd (cc e)
 replicate-none (suc caches) zero p e = (same-some p None (sym e), omega arith)
 replicate-none (suc caches) (suc cache) p e = let h = replicate-none caches cache p e in (h.0, omega (arith, h.1))
 
-none-first : (caches : ℕ) (opening : List ℕ) (cache block : ℕ) (p : Option Ask) → option_map (λ line. line.pending) (option_and_then (λ b. slice_get b.lines cache) (slice_get (map (opened_block caches) opening) block)) ≡ Some p → (p ≡ None) × (cache < caches)
+none-first : (caches : ℕ) (opening : List ℕ) (cache block : ℕ) (p : Option Ask) →
+    option_map (λ line. line.pending) (option_and_then (λ b. slice_get b.lines cache) (slice_get (map (opened_block caches) opening) block)) ≡ Some p →
+    (p ≡ None) × (cache < caches)
 none-first caches [] cache block p e = absurd (cc e)
 none-first caches (v ∷ vs) cache zero p e = replicate-none caches cache p e
 none-first caches (v ∷ vs) cache (suc block) p e = none-first caches vs cache block p e
@@ -60,11 +67,13 @@ tracked-first caches blocks opening =
 -- ---- a step
 
 -- a cache whose lines wait for the same
-waits-same : (before behind : State) (cache : ℕ) (o : Option Ask) → ((block : ℕ) → pending_at behind cache block ≡ pending_at before cache block) → Waits before cache o → Waits behind cache o
+waits-same : (before behind : State) (cache : ℕ) (o : Option Ask) → ((block : ℕ) → pending_at behind cache block ≡ pending_at before cache block) →
+    Waits before cache o → Waits behind cache o
 waits-same before behind cache None same h = λ block p e. h block p (sym (same block) ∙ e)
 waits-same before behind cache (Some a) same h = (h.0, same h.0 ∙ h.1, h.2, λ block p ne e. h.3 block p ne (sym (same block) ∙ e))
 
-waits-set : (before behind : State) (cache block : ℕ) (was : Option Ask) (a : Ask) → Sets before behind cache block was (Some a) → Completes a → Waits before cache None → Waits behind cache (Some a)
+waits-set : (before behind : State) (cache block : ℕ) (was : Option Ask) (a : Ask) → Sets before behind cache block was (Some a) → Completes a →
+    Waits before cache None → Waits behind cache (Some a)
 waits-set before behind cache block was a sets completes h = (block, sets.set, completes, λ b p ne e. h b p (sym (sets.blocks cache b ne) ∙ e))
 
 -- what is pending is what the core waits for
@@ -76,7 +85,8 @@ pending-here state cache block (Some x) a h e = elim (cases_eq block h.0) [
   | inl is ↦ (same-some (Some x) (Some a) (sym h.1 ∙ sym (ap (pending_at state cache) is) ∙ e), λ b p ne f. h.3 b p (λ g. ne (g ∙ sym is)) f)
 ]
 
-waits-cleared : (before behind : State) (cache block : ℕ) (o : Option Ask) (a : Ask) → Sets before behind cache block (Some a) None → Waits before cache o → Waits behind cache None
+waits-cleared : (before behind : State) (cache block : ℕ) (o : Option Ask) (a : Ask) → Sets before behind cache block (Some a) None →
+    Waits before cache o → Waits behind cache None
 waits-cleared before behind cache block o a sets h =
     let old = pending-here before cache block o a h sets.there in
     λ b p e. elim (cases_eq b block) [
@@ -89,7 +99,8 @@ abbrev pub PutsWhereFree : Step → Next → List Core → Type 0
 PutsWhereFree s made cores = (ask : CoreAsk) → put_by s made.outcome ≡ ask ∷ [] → is_free cores ask.core.0 ≡ true
 
 -- a line that is there behind was there before
-was-there : (before behind : State) (cache block : ℕ) (was now : Option Ask) → Sets before behind cache block was now → (c b : ℕ) (p : Option Ask) → pending_at behind c b ≡ Some p → (q : Option Ask) × (pending_at before c b ≡ Some q)
+was-there : (before behind : State) (cache block : ℕ) (was now : Option Ask) → Sets before behind cache block was now → (c b : ℕ) (p : Option Ask) →
+    pending_at behind c b ≡ Some p → (q : Option Ask) × (pending_at before c b ≡ Some q)
 was-there before behind cache block was now sets c b p e = elim (cases_eq c cache) [
   | inr ne ↦ (p, sym (sets.caches c b ne) ∙ e)
   | inl is ↦ elim (cases_eq b block) [
@@ -108,8 +119,10 @@ tracked-same before behind cores same h = record {
 }
 
 -- a core that changes alone
-one-core : (behind : State) (cores : List Core) (n : ℕ) (f : Core → Core) (now : Option Ask) → (n < length cores) → (outstanding (with_core cores n f) n ≡ now) → Waits behind n now
-    → ((c : ℕ) → c ≢ n → Waits behind c (outstanding cores c)) → ((cache block : ℕ) (p : Option Ask) → pending_at behind cache block ≡ Some p → cache < length cores) → IsTracked behind (with_core cores n f)
+one-core : (behind : State) (cores : List Core) (n : ℕ) (f : Core → Core) (now : Option Ask) → (n < length cores) →
+    (outstanding (with_core cores n f) n ≡ now) → Waits behind n now
+    → ((c : ℕ) → c ≢ n → Waits behind c (outstanding cores c)) →
+    ((cache block : ℕ) (p : Option Ask) → pending_at behind cache block ≡ Some p → cache < length cores) → IsTracked behind (with_core cores n f)
 one-core behind cores n f now low is here others few = record {
   waits = λ c. elim (cases_eq c n) [
     | inl e ↦ subst (λ x. Waits behind x (outstanding (with_core cores n f) x)) (sym e) (subst (Waits behind n) (sym is) here)
@@ -118,18 +131,22 @@ one-core behind cores n f now low is here others few = record {
   few = λ cache block p e. subst (λ l. cache < l) (sym (with-length cores n f)) (few cache block p e);
 }
 
-tracked-put : (before : State) (s : Step) (made : Next) (cores : List Core) → Puts before s made → PutsWhereFree s made cores → IsTracked before cores → IsTracked made.state (cores_after s made.outcome cores)
+tracked-put : (before : State) (s : Step) (made : Next) (cores : List Core) → Puts before s made → PutsWhereFree s made cores →
+    IsTracked before cores → IsTracked made.state (cores_after s made.outcome cores)
 tracked-put before s made cores h free tracked =
     let n : ℕ = h.ask.core.0 in
     let low : n < length cores = tracked.few n h.ask.block.0 h.was h.sets.there in
-    tracked-of made.state (with_core cores n (issuing h.ask.ask)) (cores_after s made.outcome cores) (after-put cores (put_by s made.outcome) (completed_by s made.outcome) h.ask h.put h.done)
+    tracked-of made.state (with_core cores n (issuing h.ask.ask)) (cores_after s made.outcome cores)
+    (after-put cores (put_by s made.outcome) (completed_by s made.outcome) h.ask h.put h.done)
     (one-core made.state cores n (issuing h.ask.ask) (Some h.ask.ask) low
     (ap (λ (core : Core). core.outstanding) (with-here cores n (issuing h.ask.ask) low))
-    (waits-set before made.state n h.ask.block.0 h.was h.ask.ask h.sets h.completes (subst (Waits before n) (free-told cores n (free h.ask h.put)) (tracked.waits n)))
+    (waits-set before made.state n h.ask.block.0 h.was h.ask.ask h.sets h.completes
+    (subst (Waits before n) (free-told cores n (free h.ask h.put)) (tracked.waits n)))
     (λ c ne. waits-same before made.state c (outstanding cores c) (λ b. h.sets.caches c b ne) (tracked.waits c))
     (λ c b p e. let old = was-there before made.state n h.ask.block.0 h.was (Some h.ask.ask) h.sets c b p e in tracked.few c b old.0 old.1))
 
-tracked-put-done : (before : State) (s : Step) (made : Next) (cores : List Core) → PutsDone before s made → PutsWhereFree s made cores → IsTracked before cores → IsTracked made.state (cores_after s made.outcome cores)
+tracked-put-done : (before : State) (s : Step) (made : Next) (cores : List Core) → PutsDone before s made → PutsWhereFree s made cores →
+    IsTracked before cores → IsTracked made.state (cores_after s made.outcome cores)
 tracked-put-done before s made cores h free tracked =
     let n : ℕ = h.ask.core.0 in
     let m : ℕ = h.completion.cache.0 in
@@ -145,21 +162,25 @@ tracked-put-done before s made cores h free tracked =
     (λ c ne. subst (Waits made.state c) (sym (ap (λ (core : Core). core.outstanding) (with-other cores n c (issuing h.ask.ask) ne))) (behind.waits c))
     (λ c b p e. subst (λ l. c < l) (sym (with-length cores n (issuing h.ask.ask))) (behind.few c b p e)))
 
-tracked-settled : (before : State) (s : Step) (made : Next) (cores : List Core) → Settles before s made → IsTracked before cores → IsTracked made.state (cores_after s made.outcome cores)
+tracked-settled : (before : State) (s : Step) (made : Next) (cores : List Core) → Settles before s made → IsTracked before cores →
+    IsTracked made.state (cores_after s made.outcome cores)
 tracked-settled before s made cores h tracked =
     let n : ℕ = h.completion.cache.0 in
     let block : ℕ = h.completion.block in
     let a : Ask = (answered h.completion).ask in
     let low : n < length cores = tracked.few n block (Some a) h.sets.there in
-    tracked-of made.state (with_core cores n finishing) (cores_after s made.outcome cores) (after-done cores (put_by s made.outcome) (completed_by s made.outcome) h.completion h.put h.done)
+    tracked-of made.state (with_core cores n finishing) (cores_after s made.outcome cores)
+    (after-done cores (put_by s made.outcome) (completed_by s made.outcome) h.completion h.put h.done)
     (one-core made.state cores n finishing None low (ap (λ (core : Core). core.outstanding) (with-here cores n finishing low))
     (waits-cleared before made.state n block (outstanding cores n) a h.sets (tracked.waits n))
     (λ c ne. waits-same before made.state c (outstanding cores c) (λ b. h.sets.caches c b ne) (tracked.waits c))
     (λ c b p e. let old = was-there before made.state n block (Some a) None h.sets c b p e in tracked.few c b old.0 old.1))
 
-tracked-by : (before : State) (s : Step) (made : Next) (cores : List Core) → Effect before s made → PutsWhereFree s made cores → IsTracked before cores → IsTracked made.state (cores_after s made.outcome cores)
+tracked-by : (before : State) (s : Step) (made : Next) (cores : List Core) → Effect before s made → PutsWhereFree s made cores →
+    IsTracked before cores → IsTracked made.state (cores_after s made.outcome cores)
 tracked-by before s made cores (inl h) free tracked =
-    tracked-of made.state cores (cores_after s made.outcome cores) (after-none cores (put_by s made.outcome) (completed_by s made.outcome) h.put h.done) (tracked-same before made.state cores h.same tracked)
+    tracked-of made.state cores (cores_after s made.outcome cores)
+    (after-none cores (put_by s made.outcome) (completed_by s made.outcome) h.put h.done) (tracked-same before made.state cores h.same tracked)
 tracked-by before s made cores (inr (inl h)) free tracked = tracked-put before s made cores h free tracked
 tracked-by before s made cores (inr (inr (inl h))) free tracked = tracked-put-done before s made cores h free tracked
 tracked-by before s made cores (inr (inr (inr h))) free tracked = tracked-settled before s made cores h tracked
@@ -172,7 +193,8 @@ tracked-next tables before s cores free tracked = tracked-by before s (next tabl
 -- ---- who waits, and who is there
 
 -- the core of a delivery's completion waits
-pub delivered-to-waiting : (tables : Tables) (state : State) (s : Step) (cores : List Core) (c : Completion) → IsTracked state cores → IsDelivery s → completed_by s (next tables state s).outcome ≡ c ∷ []
+pub delivered-to-waiting : (tables : Tables) (state : State) (s : Step) (cores : List Core) (c : Completion) → IsTracked state cores → IsDelivery s →
+    completed_by s (next tables state s).outcome ≡ c ∷ []
     → (is_free cores c.cache.0 ≡ false) × (c.cache.0 < length cores)
 delivered-to-waiting tables state s cores c tracked delivery is = of (effect tables state s)
   where
@@ -185,24 +207,30 @@ delivered-to-waiting tables state s cores c tracked delivery is = of (effect tab
         let n : ℕ = h.completion.cache.0 in
         let a : Ask = (answered h.completion).ask in
         let here = pending-here state n h.completion.block (outstanding cores n) a (tracked.waits n) h.sets.there in
-        subst (λ (x : Completion). (is_free cores x.cache.0 ≡ false) × (x.cache.0 < length cores)) e (waits-tells cores n a here.0, tracked.few n h.completion.block (Some a) h.sets.there)
+        subst (λ (x : Completion). (is_free cores x.cache.0 ≡ false) × (x.cache.0 < length cores)) e
+        (waits-tells cores n a here.0, tracked.few n h.completion.block (Some a) h.sets.there)
 
-pub load-delivered : (tables : Tables) (state : State) (s : Step) (cores : List Core) (cache : CacheId) (value : ℕ) → IsTracked state cores → IsDelivery s → (next tables state s).outcome ≡ outcome.Load cache value
+pub load-delivered : (tables : Tables) (state : State) (s : Step) (cores : List Core) (cache : CacheId) (value : ℕ) → IsTracked state cores →
+    IsDelivery s → (next tables state s).outcome ≡ outcome.Load cache value
     → (is_free cores cache.0 ≡ false) × (cache.0 < length cores)
 load-delivered tables state s cores cache value tracked delivery is = delivered-to-waiting tables state s cores _ tracked delivery (ap (completed_by s) is)
 
-pub store-delivered : (tables : Tables) (state : State) (s : Step) (cores : List Core) (cache : CacheId) (value : ℕ) → IsTracked state cores → IsDelivery s → (next tables state s).outcome ≡ outcome.Store cache value
+pub store-delivered : (tables : Tables) (state : State) (s : Step) (cores : List Core) (cache : CacheId) (value : ℕ) → IsTracked state cores →
+    IsDelivery s → (next tables state s).outcome ≡ outcome.Store cache value
     → (is_free cores cache.0 ≡ false) × (cache.0 < length cores)
 store-delivered tables state s cores cache value tracked delivery is = delivered-to-waiting tables state s cores _ tracked delivery (ap (completed_by s) is)
 
 -- whoever puts something is there
-pub put-is-there : (tables : Tables) (state : State) (s : Step) (cores : List Core) (a : CoreAsk) → IsTracked state cores → put_by s (next tables state s).outcome ≡ a ∷ [] → a.core.0 < length cores
+pub put-is-there : (tables : Tables) (state : State) (s : Step) (cores : List Core) (a : CoreAsk) → IsTracked state cores →
+    put_by s (next tables state s).outcome ≡ a ∷ [] → a.core.0 < length cores
 put-is-there tables state s cores a tracked is = of (effect tables state s)
   where
     of : Effect state s (next tables state s) → a.core.0 < length cores
     of (inl h) = let e = sym is ∙ h.put in absurd (cc e)
-    of (inr (inl h)) = subst (λ (x : CoreAsk). x.core.0 < length cores) (same-head h.ask a [] [] (sym h.put ∙ is)) (tracked.few h.ask.core.0 h.ask.block.0 h.was h.sets.there)
-    of (inr (inr (inl h))) = subst (λ (x : CoreAsk). x.core.0 < length cores) (same-head h.ask a [] [] (sym h.put ∙ is)) (tracked.few h.ask.core.0 h.ask.block.0 h.was h.there)
+    of (inr (inl h)) =
+        subst (λ (x : CoreAsk). x.core.0 < length cores) (same-head h.ask a [] [] (sym h.put ∙ is)) (tracked.few h.ask.core.0 h.ask.block.0 h.was h.sets.there)
+    of (inr (inr (inl h))) =
+        subst (λ (x : CoreAsk). x.core.0 < length cores) (same-head h.ask a [] [] (sym h.put ∙ is)) (tracked.few h.ask.core.0 h.ask.block.0 h.was h.there)
     of (inr (inr (inr h))) = let e = sym is ∙ h.put in absurd (cc e)
 
 asks-complete : (access : Access) (value : ℕ) → Completes (ask_of access value)
@@ -216,7 +244,8 @@ same-ask : (a b : CoreAsk) → step_of a ≡ step_of b → a.ask ≡ b.ask
 same-ask a b e = cc e
 
 -- an ask that completes at once is a load or a store, of its own core
-pub put-done : (tables : Tables) (state : State) (cores : List Core) (ask : CoreAsk) (c : Completion) → IsTracked state cores → completed_by (step_of ask) (next tables state (step_of ask)).outcome ≡ c ∷ []
+pub put-done : (tables : Tables) (state : State) (cores : List Core) (ask : CoreAsk) (c : Completion) → IsTracked state cores →
+    completed_by (step_of ask) (next tables state (step_of ask)).outcome ≡ c ∷ []
     → (c.cache ≡ ask.core) × (ask.ask ≢ Replace) × (ask.core.0 < length cores)
 put-done tables state cores ask c tracked is = of (effect tables state (step_of ask))
   where
@@ -227,21 +256,25 @@ put-done tables state cores ask c tracked is = of (effect tables state (step_of 
         let e : h.completion ≡ c = same-head h.completion c [] [] (sym h.done ∙ is) in
         let core : h.ask.core ≡ ask.core = sym (same-core ask h.ask h.is) in (
           ap (λ (x : Completion). x.cache) (sym e) ∙ ap (λ (x : CoreAsk). x.core) h.answers ∙ core,
-          λ f. subst Completes (ap (λ (x : CoreAsk). x.ask) h.answers ∙ sym (same-ask ask h.ask h.is) ∙ f) (asks-complete h.completion.access h.completion.value),
+          λ f. subst Completes (ap (λ (x : CoreAsk). x.ask) h.answers ∙ sym (same-ask ask h.ask h.is) ∙ f)
+              (asks-complete h.completion.access h.completion.value),
           subst (λ (x : CacheId). x.0 < length cores) core (tracked.few h.ask.core.0 h.ask.block.0 h.was h.there),
         )
     of (inr (inr (inr h))) = absurd h.delivery
 
-pub load-put : (tables : Tables) (state : State) (cores : List Core) (ask : CoreAsk) (at : CacheId) (value : ℕ) → IsTracked state cores → (next tables state (step_of ask)).outcome ≡ outcome.Load at value
+pub load-put : (tables : Tables) (state : State) (cores : List Core) (ask : CoreAsk) (at : CacheId) (value : ℕ) → IsTracked state cores →
+    (next tables state (step_of ask)).outcome ≡ outcome.Load at value
     → (at ≡ ask.core) × (ask.ask ≢ Replace) × (ask.core.0 < length cores)
 load-put tables state cores ask at value tracked is = put-done tables state cores ask _ tracked (ap (completed_by (step_of ask)) is)
 
-pub store-put : (tables : Tables) (state : State) (cores : List Core) (ask : CoreAsk) (at : CacheId) (value : ℕ) → IsTracked state cores → (next tables state (step_of ask)).outcome ≡ outcome.Store at value
+pub store-put : (tables : Tables) (state : State) (cores : List Core) (ask : CoreAsk) (at : CacheId) (value : ℕ) → IsTracked state cores →
+    (next tables state (step_of ask)).outcome ≡ outcome.Store at value
     → (at ≡ ask.core) × (ask.ask ≢ Replace) × (ask.core.0 < length cores)
 store-put tables state cores ask at value tracked is = put-done tables state cores ask _ tracked (ap (completed_by (step_of ask)) is)
 
 -- the core of an ask is the one that puts it
-pub put-by-core : (tables : Tables) (state : State) (ask a : CoreAsk) → put_by (step_of ask) (next tables state (step_of ask)).outcome ≡ a ∷ [] → a.core ≡ ask.core
+pub put-by-core : (tables : Tables) (state : State) (ask a : CoreAsk) → put_by (step_of ask) (next tables state (step_of ask)).outcome ≡ a ∷ [] →
+    a.core ≡ ask.core
 put-by-core tables state ask a is = of (effect tables state (step_of ask))
   where
     of : Effect state (step_of ask) (next tables state (step_of ask)) → a.core ≡ ask.core

@@ -19,16 +19,24 @@ use Rattle.trials.specs.declared.verdict.Verdict.TheVariants.{Quiet, Cut, Stuck,
 use Rattle.trials.proofs.Walks.{Walks, path-walks, walk-outcomes, walk-state}
 
 -- a trial's entries lead from the first moment to its last
-pub trial-walks : (terms : Terms) (tree : Tree) (number : ℕ) (recording : Kept) (verdict : Verdict) (trial : IsTrial terms tree number recording verdict) → Walks terms.tables (λ k. word terms.seed number k) (first_moment terms tree) recording.entries trial.last
+pub trial-walks : (terms : Terms) (tree : Tree) (number : ℕ) (recording : Kept) (verdict : Verdict) (trial : IsTrial terms tree number recording verdict) →
+    Walks terms.tables (λ k. word terms.seed number k) (first_moment terms tree) recording.entries trial.last
 trial-walks terms tree number recording verdict trial = path-walks terms tree number trial.moments recording.entries trial.last trial.path trial.at_last
 
-pub trial-told : (terms : Terms) (tree : Tree) (number : ℕ) (recording : Kept) (verdict : Verdict) → IsTrial terms tree number recording verdict → told_by recording ≡ outcomes_of terms.tables (opened terms.shape terms.opening) (steps_of recording)
-trial-told terms tree number recording verdict trial = walk-outcomes terms.tables (λ k. word terms.seed number k) (first_moment terms tree) trial.last recording.entries (trial-walks terms tree number recording verdict trial)
+pub trial-told : (terms : Terms) (tree : Tree) (number : ℕ) (recording : Kept) (verdict : Verdict) → IsTrial terms tree number recording verdict →
+    told_by recording ≡ outcomes_of terms.tables (opened terms.shape terms.opening) (steps_of recording)
+trial-told terms tree number recording verdict trial =
+    walk-outcomes terms.tables (λ k. word terms.seed number k) (first_moment terms tree) trial.last recording.entries
+    (trial-walks terms tree number recording verdict trial)
 
-pub trial-state : (terms : Terms) (tree : Tree) (number : ℕ) (recording : Kept) (verdict : Verdict) (trial : IsTrial terms tree number recording verdict) → trial.last.state ≡ state_after terms.tables (opened terms.shape terms.opening) (steps_of recording)
-trial-state terms tree number recording verdict trial = walk-state terms.tables (λ k. word terms.seed number k) (first_moment terms tree) trial.last recording.entries (trial-walks terms tree number recording verdict trial)
+pub trial-state : (terms : Terms) (tree : Tree) (number : ℕ) (recording : Kept) (verdict : Verdict) (trial : IsTrial terms tree number recording verdict) →
+    trial.last.state ≡ state_after terms.tables (opened terms.shape terms.opening) (steps_of recording)
+trial-state terms tree number recording verdict trial =
+    walk-state terms.tables (λ k. word terms.seed number k) (first_moment terms tree) trial.last recording.entries
+    (trial-walks terms tree number recording verdict trial)
 
-pub trial-legal : (terms : Terms) (tree : Tree) (number : ℕ) (recording : Kept) (verdict : Verdict) → IsTrial terms tree number recording verdict → IsLegal recording
+pub trial-legal : (terms : Terms) (tree : Tree) (number : ℕ) (recording : Kept) (verdict : Verdict) → IsTrial terms tree number recording verdict →
+    IsLegal recording
 trial-legal terms tree number recording verdict trial =
     trial-told terms tree number recording verdict trial
     ∙ ap (λ (t : Tables). outcomes_of t (opened terms.shape terms.opening) (steps_of recording)) (sym trial.tables)
@@ -37,10 +45,12 @@ trial-legal terms tree number recording verdict trial =
 
 -- a trial that broke isn't safe
 pub broke-unsafe : (terms : Terms) (steps : List Step) (last : Moment) (violation : Violation)
-    → ((number : ℕ) → IsFirstViolation terms.shape terms.tables terms.opening steps number violation → ¬ Safe terms.shape terms.tables terms.opening (take (number + 1) steps))
+    → ((number : ℕ) → IsFirstViolation terms.shape terms.tables terms.opening steps number violation → ¬ Safe terms.shape terms.tables terms.opening
+    (take (number + 1) steps))
     → IsVerdict terms steps last (Broke violation) → ¬ Safe terms.shape terms.tables terms.opening steps
 broke-unsafe terms steps last violation behind h safe =
-    behind h.0 h.2 (subst (λ (l : List Step). Safe terms.shape terms.tables terms.opening l) (sym (take_all (h.0 + 1) steps (let e = h.1 in omega (arith, e)))) safe)
+    behind h.0 h.2
+    (subst (λ (l : List Step). Safe terms.shape terms.tables terms.opening l) (sym (take_all (h.0 + 1) steps (let e = h.1 in omega (arith, e)))) safe)
 
 -- which violation it is
 pub broken-by : (verdict : Verdict) → HasBroken verdict → (violation : Violation) × (verdict ≡ Broke violation)
@@ -50,7 +60,8 @@ broken-by Stuck h = absurd h
 broken-by Cut h = absurd h
 
 -- one that isn't safe broke
-pub unsafe-broke : (terms : Terms) (steps : List Step) (last : Moment) (verdict : Verdict) → (AreClean terms steps → Safe terms.shape terms.tables terms.opening steps)
+pub unsafe-broke : (terms : Terms) (steps : List Step) (last : Moment) (verdict : Verdict) →
+    (AreClean terms steps → Safe terms.shape terms.tables terms.opening steps)
     → IsVerdict terms steps last verdict → ¬ Safe terms.shape terms.tables terms.opening steps → HasBroken verdict
 unsafe-broke terms steps last (Broke violation) safe h not = tt
 unsafe-broke terms steps last Quiet safe h not = absurd (not (safe h.0))

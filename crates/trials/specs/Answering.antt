@@ -30,12 +30,14 @@ put_in entries = flat_map (λ e. put_by e.step e.outcome) entries
 abbrev pub of_core : ℕ → List CoreAsk → List CoreAsk
 of_core core asks = filter (λ a. a.core.0 == core) asks
 
--- each core's completions answer the loads and stores that it put, in its order: the same block, a load or a store of the same value. One at most still waits, the last.
+-- each core's completions answer the loads and stores that it put, in its order: the same block, a load or a store of the same value. One at most
+-- still waits, the last.
 abbrev pub AnswersInTurn : List Entry → Type 0
 AnswersInTurn entries = (core : ℕ) → (waiting : List CoreAsk) ×
     (of_core core (put_in entries) ≡ of_core core (map answered (completed_in entries)) ++ waiting) × (length waiting ≤ 1)
 
--- the completions are sequentially consistent: their one order keeps that of each core, and in it each load returns the value of the last store to its block, or the opening value
+-- the completions are sequentially consistent: their one order keeps that of each core, and in it each load returns the value of the last store to
+-- its block, or the opening value
 pub record AreSequential (opening : List ℕ) (entries : List Entry) : Type 0 where
   pub in_turn : AnswersInTurn entries
   pub latest : Explained opening (completed_in entries)

@@ -135,4 +135,5 @@ GoesOn terms tree number c (Some violation) = IsTrial terms tree number c.record
 
 -- the recording and the verdict are those of the trial that started so
 abbrev pub Ends : Course → ℕ → Course → Verdict → Type 0
-Ends old limit new verdict = (terms : Terms) (tree : Tree) (number : ℕ) → terms.limit ≡ limit → Starts terms tree number old → IsTrial terms tree number new.recording verdict
+Ends old limit new verdict =
+    (terms : Terms) (tree : Tree) (number : ℕ) → terms.limit ≡ limit → Starts terms tree number old → IsTrial terms tree number new.recording verdict

@@ -25,7 +25,8 @@ AreClean terms steps = HasNoViolation terms.shape terms.tables terms.opening ste
 
 -- the verdict on these steps, where they led to this moment: the last step broke; or there is no choice, at rest or not; or the limit is reached
 abbrev pub IsVerdict : Terms → List Step → Moment → Verdict → Type 0
-IsVerdict terms steps last (Broke violation) = (number : ℕ) × (length steps ≡ number + 1) × IsFirstViolation terms.shape terms.tables terms.opening steps number violation
+IsVerdict terms steps last (Broke violation) =
+    (number : ℕ) × (length steps ≡ number + 1) × IsFirstViolation terms.shape terms.tables terms.opening steps number violation
 IsVerdict terms steps last Quiet = AreClean terms steps × (choices_at terms.tables last ≡ []) × IsAtRest last
 IsVerdict terms steps last Stuck = AreClean terms steps × (choices_at terms.tables last ≡ []) × ¬ IsAtRest last
 IsVerdict terms steps last Cut = AreClean terms steps × (choices_at terms.tables last ≢ []) × (length steps ≡ terms.limit)

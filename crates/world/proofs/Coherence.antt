@@ -17,5 +17,6 @@ been-safe shape tables state within opening steps own history = rw own (safe sha
 pub not-stuck : (shape : Extent) (tables : Tables) (state : State) → IsWithinLimits shape →
     (opening : List ℕ) (steps : List Step) → tables ≡ baseline → IsHistory shape tables opening steps state → Unstuck tables state
 not-stuck shape tables state within opening steps own history =
-    let leads : (after baseline (opened shape opening) steps).state ≡ state = ap (λ t. (after t (opened shape opening) steps).state) (sym own) ∙ history.leads in
+    let leads : (after baseline (opened shape opening) steps).state ≡ state =
+    ap (λ t. (after t (opened shape opening) steps).state) (sym own) ∙ history.leads in
     rw (own, ← leads) (unstuck shape opening steps within)

@@ -10,7 +10,9 @@ state_after-append tables s [] ys = refl
 state_after-append tables s (x ∷ xs) ys = state_after-append tables (next tables s x).state xs ys
 
 -- a history goes on by the steps that a world makes
-pub history-append : (old new : View) (opening : List ℕ) (before steps : List Step) → IsHistory old.shape old.tables opening before old.state → new.shape ≡ old.shape → new.tables ≡ old.tables → new.state ≡ state_after old.tables old.state steps → IsHistory new.shape new.tables opening (before ++ steps) new.state
+pub history-append : (old new : View) (opening : List ℕ) (before steps : List Step) → IsHistory old.shape old.tables opening before old.state →
+    new.shape ≡ old.shape → new.tables ≡ old.tables → new.state ≡ state_after old.tables old.state steps →
+    IsHistory new.shape new.tables opening (before ++ steps) new.state
 history-append old new opening before steps h shape tables state =
     rw (shape, tables) (record {
       opens = h.opens;

@@ -1,4 +1,5 @@
-use Rattle.std.proofs.Common.{◌≡◌, ◌↔◌, ℕ, ◌<◌, List, [], ◌∷◌, length, get_or, map, refl, ap, sym, ◌∙◌, Some, IsSome, slice_get, slice_set, zero, suc, arith, Bool}
+use Rattle.std.proofs.Common.{◌≡◌, ◌↔◌, ℕ, ◌<◌, List, [], ◌∷◌, length, get_or, map, refl, ap, sym, ◌∙◌, Some, IsSome, slice_get, slice_set, zero, suc}
+use Rattle.std.proofs.Common.{arith, Bool}
 use Rattle.std.specs.Prelude.{option_and_then}
 use Rattle.base.specs.Extent.{Extent, IsWithinLimits}
 use Rattle.std.proofs.lemmas.List.{map-set, length-set, length-map, length-replicate, get_or-set_same}
@@ -35,7 +36,8 @@ states-set ks i k = map-set (λ k. k.state) ks i k
 pub states-set_same : (ks : List Kept) (i : ℕ) (old new : Kept) → old ≡ get_or ks i old → new.state ≡ old.state → states (slice_set ks i new) ≡ states ks
 states-set_same ks i old new e same = map-set_same (λ k. k.state) ks i new old (same ∙ ap (λ k. k.state) e)
 
-AllLined-set : (n : ℕ) (bs : List BlockState) (i : ℕ) (b new : BlockState) → AllLined n bs → slice_get bs i ≡ Some b → length new.lines ≡ length b.lines → AllLined n (slice_set bs i new)
+AllLined-set : (n : ℕ) (bs : List BlockState) (i : ℕ) (b new : BlockState) → AllLined n bs → slice_get bs i ≡ Some b →
+    length new.lines ≡ length b.lines → AllLined n (slice_set bs i new)
 AllLined-set n [] i b new h e same = tt
 AllLined-set n (x ∷ bs) zero b new h e same =
     let found : x ≡ b = cc in
@@ -43,7 +45,9 @@ AllLined-set n (x ∷ bs) zero b new h e same =
 AllLined-set n (x ∷ bs) (suc i) b new h e same = (h.0, AllLined-set n bs i b new h.1 e same)
 
 -- a step leaves the blocks and the lines of the shape
-pub shaped-stepped : (shape : Extent) (broken after : Bool) (tables : Tables) (step : Step) (number : ℕ) (old new : List BlockState) (what : Outcome) → IsShaped shape (record { blocks = old; broken = broken }) → StepsAt tables step number old new what → IsShaped shape (record { blocks = new; broken = after })
+pub shaped-stepped : (shape : Extent) (broken after : Bool) (tables : Tables) (step : Step) (number : ℕ) (old new : List BlockState) (what : Outcome) →
+    IsShaped shape (record { blocks = old; broken = broken }) → StepsAt tables step number old new what →
+    IsShaped shape (record { blocks = new; broken = after })
 shaped-stepped shape broken after tables step number old new what h made =
     let b : BlockState = made.made.0 in
     let moved : BlockState = (transition tables step b).block in
@@ -78,12 +82,14 @@ slice_get-below (x ∷ xs) zero h = omega arith
 slice_get-below (x ∷ xs) (suc i) h = omega (arith, slice_get-below xs i h)
 
 -- a line is there exactly where its cache and its block are
-line-there : (n : ℕ) (bs : List BlockState) (c k : ℕ) → AllLined n bs → k < length bs → c < n → IsSome (option_and_then (λ b. slice_get b.lines c) (slice_get bs k))
+line-there : (n : ℕ) (bs : List BlockState) (c k : ℕ) → AllLined n bs → k < length bs → c < n →
+    IsSome (option_and_then (λ b. slice_get b.lines c) (slice_get bs k))
 line-there n [] c k h lt l = absurd (omega arith)
 line-there n (b ∷ bs) c zero h lt l = slice_get-some b.lines c (omega (arith, h.0))
 line-there n (b ∷ bs) c (suc k) h lt l = line-there n bs c k h.1 (omega arith) l
 
-there-line : (n : ℕ) (bs : List BlockState) (c k : ℕ) → AllLined n bs → IsSome (option_and_then (λ b. slice_get b.lines c) (slice_get bs k)) → (c < n) × (k < length bs)
+there-line : (n : ℕ) (bs : List BlockState) (c k : ℕ) → AllLined n bs → IsSome (option_and_then (λ b. slice_get b.lines c) (slice_get bs k)) →
+    (c < n) × (k < length bs)
 there-line n [] c k h s = absurd (cc)
 there-line n (b ∷ bs) c zero h s = (omega (arith, h.0, slice_get-below b.lines c s), omega arith)
 there-line n (b ∷ bs) c (suc k) h s = let r : (c < n) × (k < length bs) = there-line n bs c k h.1 s in (r.0, omega (arith, r.1))

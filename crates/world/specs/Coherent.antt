@@ -10,9 +10,11 @@ use Rattle.world.specs.View.{View}
 -- under the protocol's own tables, each list of steps that may have led to a world was safe
 abbrev pub HasBeenSafe : View → Type 0
 HasBeenSafe world =
-    (opening : List ℕ) (steps : List Step) → world.tables ≡ baseline → IsHistory world.shape world.tables opening steps world.state → Safe world.shape world.tables opening steps
+    (opening : List ℕ) (steps : List Step) → world.tables ≡ baseline → IsHistory world.shape world.tables opening steps world.state →
+    Safe world.shape world.tables opening steps
 
 -- under the protocol's own tables, a world that any list of steps has led to isn't stuck
 abbrev pub IsUnstuck : View → Type 0
 IsUnstuck world =
-    (opening : List ℕ) (steps : List Step) → world.tables ≡ baseline → IsHistory world.shape world.tables opening steps world.state → Unstuck world.tables world.state
+    (opening : List ℕ) (steps : List Step) → world.tables ≡ baseline → IsHistory world.shape world.tables opening steps world.state →
+    Unstuck world.tables world.state

@@ -56,7 +56,8 @@ HasRoomToStep w step = HasRoomIn (sent_by w.tables w.state step) (slice_get w.ro
 
 -- the block of a number has made this step, and the others are as they were
 pub record StepsAt (tables : Tables) (step : Step) (number : ℕ) (old new : List BlockState) (what : Outcome) : Type 0 where
-  pub made : (b : BlockState) × (slice_get old number ≡ Some b) × (new ≡ slice_set old number (transition tables step b).block) × (what ≡ (transition tables step b).outcome)
+  pub made : (b : BlockState) × (slice_get old number ≡ Some b) × (new ≡ slice_set old number (transition tables step b).block)
+      × (what ≡ (transition tables step b).outcome)
 
 -- a step of the block of a number would have this outcome
 pub record ComesOfAt (tables : Tables) (step : Step) (number : ℕ) (blocks : List BlockState) (what : Outcome) : Type 0 where
@@ -64,7 +65,9 @@ pub record ComesOfAt (tables : Tables) (step : Step) (number : ℕ) (blocks : Li
 
 -- whatever led to the old world, followed by these steps, leads to the new one
 abbrev pub LeadsOn : View → List Step → View → Type 0
-LeadsOn old steps new = (opening : List ℕ) (before : List Step) → IsHistory old.shape old.tables opening before old.state → IsHistory new.shape new.tables opening (before ++ steps) new.state
+LeadsOn old steps new =
+    (opening : List ℕ) (before : List Step) → IsHistory old.shape old.tables opening before old.state →
+    IsHistory new.shape new.tables opening (before ++ steps) new.state
 
 -- state, owner and memory of a block's home, if the block is there
 abbrev pub home_at : State → ℕ → Option (DirectoryState × Option CacheId × ℕ)

@@ -1,5 +1,6 @@
 -- Overrides as they are written in JSON: their form, before any name in them is looked up.
-use Rattle.std.specs.Prelude.{ℕ, nat_le, List, Bool, true, false, ◌&&◌, ◌==◌, ◌+◌, if◌then◌else◌, Option, Some, None, is_some, option_map, option_and_then, codes}
+use Rattle.std.specs.Prelude.{ℕ, nat_le, List, Bool, true, false, ◌&&◌, ◌==◌, ◌+◌, if◌then◌else◌, Option, Some, None, is_some, option_map}
+use Rattle.std.specs.Prelude.{option_and_then, codes}
 use Rattle.std.specs.Str.{bytes_eq}
 use Rattle.serde_json.specs.Data.{Data, Items, no_items, item}
 use Rattle.serde_json.specs.Find.{get, as_str, as_array, as_object}

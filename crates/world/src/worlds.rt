@@ -215,7 +215,8 @@ fn step_at(
     requires { number < vec_len blocks.old }
     ensures ok { IfOk result (λ what. StepsAt tables.now step number (states blocks.old.items) (states blocks.new.items) what) }
     ensures err { OnErr result (states blocks.new.items ≡ states blocks.old.items) }
-    ensures succeeds { HasRoomIn (sent_at tables.now step (slice_get (states blocks.old.items) number)) (slice_get (rooms_of blocks.old.items) number) → IsOk result }
+    ensures succeeds { HasRoomIn (sent_at tables.now step (slice_get (states blocks.old.items) number)) (slice_get (rooms_of blocks.old.items) number) →
+        IsOk result }
 {
     blocks[number].step(tables, step)
 }
@@ -231,7 +232,8 @@ fn ready_at(
     ensures outcome { IfOk result (λ what. ComesOfAt tables.now step number (states blocks.old.items) what) }
     ensures room { OnOk result (HasRoomIn (sent_at tables.now step (slice_get (states blocks.new.items) number)) (slice_get (rooms_of blocks.new.items) number)) }
     ensures state { states blocks.new.items ≡ states blocks.old.items }
-    ensures succeeds { HasRoomIn (sent_at tables.now step (slice_get (states blocks.old.items) number)) (slice_get (rooms_of blocks.old.items) number) → IsOk result }
+    ensures succeeds { HasRoomIn (sent_at tables.now step (slice_get (states blocks.old.items) number)) (slice_get (rooms_of blocks.old.items) number) →
+        IsOk result }
 {
     blocks[number].ready(tables, step)
 }

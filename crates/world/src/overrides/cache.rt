@@ -47,13 +47,13 @@ fn cache_change(cell: WrittenCell<'_>) -> Result<CacheChange, TablesFault>
     ensures change { result ≡ cache_change (seen_cell cell.entry) }
     ensures json { IsErrOf result TablesFault.NotJson → ⊥ }
 {
-    let Some(state) = CacheState::named(cell.state) else {
+    let Some(state) = CacheState::named(cell.state.as_bytes()) else {
         return Err(TablesFault::UnknownState);
     };
     let Some(entry) = known_next(cell.entry) else {
         return Err(TablesFault::UnknownState);
     };
-    let Some(event) = CacheEvent::named(cell.event) else {
+    let Some(event) = CacheEvent::named(cell.event.as_bytes()) else {
         return Err(TablesFault::UnknownEvent);
     };
     let Some(entry) = cache_entry(entry) else {
@@ -74,7 +74,7 @@ fn known_next<'a>(written: WrittenEntry<'a, &'a str>) -> Option<WrittenEntry<'a,
         WrittenEntry::Blank => WrittenEntry::Blank,
         WrittenEntry::Stall => WrittenEntry::Stall,
         WrittenEntry::Act { next, actions } => WrittenEntry::Act {
-            next: CacheState::named(next)?,
+            next: CacheState::named(next.as_bytes())?,
             actions,
         },
     })
@@ -101,7 +101,7 @@ fn known_actions(values: &[Value]) -> Option<CacheActions>
 {
     let mut actions = CacheActions::none();
     for value in values {
-        actions = actions.with(CacheAction::named(value.as_str()?)?);
+        actions = actions.with(CacheAction::named(value.as_str()?.as_bytes())?);
     }
     Some(actions)
 }

@@ -53,13 +53,13 @@ fn directory_change(cell: WrittenCell<'_>) -> Result<DirectoryChange, TablesFaul
     ensures change { result ≡ directory_change (seen_cell cell.entry) }
     ensures json { IsErrOf result TablesFault.NotJson → ⊥ }
 {
-    let Some(state) = DirectoryState::named(cell.state) else {
+    let Some(state) = DirectoryState::named(cell.state.as_bytes()) else {
         return Err(TablesFault::UnknownState);
     };
     let Some(entry) = known_next(cell.entry) else {
         return Err(TablesFault::UnknownState);
     };
-    let Some(event) = DirectoryEvent::named(cell.event) else {
+    let Some(event) = DirectoryEvent::named(cell.event.as_bytes()) else {
         return Err(TablesFault::UnknownEvent);
     };
     let Some(entry) = directory_entry(entry) else {
@@ -80,7 +80,7 @@ fn known_next<'a>(written: WrittenEntry<'a, &'a str>) -> Option<WrittenEntry<'a,
         WrittenEntry::Blank => WrittenEntry::Blank,
         WrittenEntry::Stall => WrittenEntry::Stall,
         WrittenEntry::Act { next, actions } => WrittenEntry::Act {
-            next: DirectoryState::named(next)?,
+            next: DirectoryState::named(next.as_bytes())?,
             actions,
         },
     })
@@ -107,7 +107,7 @@ fn known_actions(values: &[Value]) -> Option<DirectoryActions>
 {
     let mut actions = DirectoryActions::none();
     for value in values {
-        actions = actions.with(DirectoryAction::named(value.as_str()?)?);
+        actions = actions.with(DirectoryAction::named(value.as_str()?.as_bytes())?);
     }
     Some(actions)
 }

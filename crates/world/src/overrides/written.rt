@@ -1,7 +1,8 @@
 ghost use Rattle.std.specs.Prelude.{◌≡◌, ◌≤◌, IfSome, option_and_then, option_map, codes, length};
 ghost use Rattle.serde_json.specs.Find.{as_array, get};
 ghost use Rattle.serde_json.specs.View.{view, items_view};
-ghost use Rattle.world.specs.Written.{are_texts, few_texts, has_keys, present, side_at, text_at, written_act, written_cell, written_entry, written_sides, written_word};
+ghost use Rattle.world.specs.Written.{are_texts, few_texts, has_keys, present, side_at, text_at, written_act, written_cell, written_entry};
+ghost use Rattle.world.specs.Written.{written_sides, written_word};
 ghost use Rattle.world.specs.inner.Seen.{HasFew, seen_cell, seen_entry, seen_sides, text};
 
 use serde_json::Value;

@@ -10,4 +10,5 @@ returns-clause-due c = noted_all-due
 
 pub returns-clause-history : goal.returns-clause-history
 returns-clause-history c shape tables opening before step =
-    ap (scene_of step (made_after shape tables opening before step)) (noted_all-due opening before (after tables (opened shape opening) before).outcomes (block_of step))
+    ap (scene_of step (made_after shape tables opening before step))
+    (noted_all-due opening before (after tables (opened shape opening) before).outcomes (block_of step))

@@ -3,7 +3,8 @@ use Rattle.monitor.proofs.Violations.{none-safe, safe-none, first-before, first-
 use Rattle.monitor.proofs.safety.violations_are_what_isnt_safe.Goals as goal
 
 pub returns-clause-none : goal.returns-clause-none
-returns-clause-none c shape tables opening steps = (none-safe shape tables opening steps (c.blank_has_a_place.ensures tables), safe-none shape tables opening steps)
+returns-clause-none c shape tables opening steps =
+    (none-safe shape tables opening steps (c.blank_has_a_place.ensures tables), safe-none shape tables opening steps)
 
 pub returns-clause-before : goal.returns-clause-before
 returns-clause-before c shape tables opening steps number violation first =

@@ -6,8 +6,8 @@ use Rattle.record.proofs.Openings.{cut-words}
 use Rattle.record.proofs.Actions.{no-name, more-words}
 use Rattle.record.proofs.cell_parsing.directory_actions_of.Goals as goal
 
-pub returns-in_default-directory_action_of-clause-actions : goal.returns-in_default-directory_action_of-clause-actions
-returns-in_default-directory_action_of-clause-actions c = λ others few is.
+pub returns-in_default-named-clause-actions : goal.returns-in_default-named-clause-actions
+returns-in_default-named-clause-actions c = λ others few is.
     let here : words_behind c.loop-rest.rest ≡ words c.in-Some.text.now = ap words_behind c.in-Some.is in
     let next = cut-words c.cut.result.1 (words c.in-Some.text.now) c.cut.result.0.now c.cut.ensures in
     no-name action_name c.loop-rest.actions others c.cut.result.0.now (words_behind c.cut.result.1) (search rules)

@@ -7,7 +7,9 @@ use Rattle.record.specs.inner.Reading.{words_behind}
 use Rattle.record.proofs.parsing.opening_of.Given as goal
 
 abbrev pub invariant-loop-rest : goal.invariant-loop-rest
-invariant-loop-rest l = (words l.line ≡ opening_words l.values.items ++ words_behind l.rest) × (length l.values.items ≤ l.blocks) × All (λ value. value < 2 ^ 64) l.values.items × (l.blocks ≤ vec_capacity l.values)
+invariant-loop-rest l =
+    (words l.line ≡ opening_words l.values.items ++ words_behind l.rest) × (length l.values.items ≤ l.blocks)
+    × All (λ value. value < 2 ^ 64) l.values.items × (l.blocks ≤ vec_capacity l.values)
 
 abbrev pub decreases-loop-rest : goal.decreases-loop-rest
 decreases-loop-rest l = l.blocks - length l.values.items

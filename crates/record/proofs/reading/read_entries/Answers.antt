@@ -21,20 +21,49 @@ returns-in-Err-clause-err g c =
     let name : c.as_slice.result.now ≡ codes "entries" = search rules in
     refused-same _ _ _ entry_count c.refused.result c.number.result c.in-Err.kind c.refused.ensures (
     line-refused _ _ c.args.lines.now c.next.new.self c.number.result entry_count c.in-Err.kind c.in_ok-next.ensures.ok c.number.ensures.number
-    (entries-count-fault (words c.next.new.self.line) c.in-Err.kind (subst (λ (n : List ℕ). IsBadCount n 1000000 (words c.next.new.self.line) c.in-Err.kind) name (subst (λ (l : List ℕ). IsBadCount c.as_slice.result.now 1000000 (words l) c.in-Err.kind) c.line.ensures c.in-Err.ensures.err))))
+    (entries-count-fault (words c.next.new.self.line) c.in-Err.kind
+    (subst (λ (n : List ℕ). IsBadCount n 1000000 (words c.next.new.self.line) c.in-Err.kind) name
+    (subst (λ (l : List ℕ). IsBadCount c.as_slice.result.now 1000000 (words l) c.in-Err.kind) c.line.ensures c.in-Err.ensures.err))))
 
 pub returns-in-Ok-clause-ok : goal.returns-in-Ok-clause-ok
 returns-in-Ok-clause-ok g c =
     let name : c.as_slice.result.now ≡ codes "entries" = search rules in
-    on_ok_weaker c.read_each.result (λ read. then-read _ (stream c.next.new.self (g.S.Source.left c.next.new.source)) _ _ c.next.new.self.number _ entry_count (entries_due c.in-Ok.count) end_line (one-line _ (stream c.next.new.self (g.S.Source.left c.next.new.source)) c.args.lines.now c.next.new.self entry_count (entries_due c.in-Ok.count) c.in_ok-next.ensures.ok (c.in-Ok.count, c.in-Ok.ensures.ok.0, ap words (sym c.line.ensures) ∙ c.in-Ok.ensures.ok.1 ∙ ap (λ (n : List ℕ). n ∷ decimal c.in-Ok.count ∷ []) name, refl)) read) c.read_each.ensures.ok
+    on_ok_weaker c.read_each.result
+    (λ read. then-read _ (stream c.next.new.self (g.S.Source.left c.next.new.source)) _ _ c.next.new.self.number _ entry_count
+    (entries_due c.in-Ok.count) end_line
+    (one-line _ (stream c.next.new.self (g.S.Source.left c.next.new.source)) c.args.lines.now c.next.new.self entry_count
+    (entries_due c.in-Ok.count) c.in_ok-next.ensures.ok (
+      c.in-Ok.count,
+      c.in-Ok.ensures.ok.0,
+      ap words (sym c.line.ensures) ∙ c.in-Ok.ensures.ok.1 ∙ ap
+          (λ (n : List ℕ). n ∷ decimal c.in-Ok.count ∷ []) name,
+      refl,
+    )) read) c.read_each.ensures.ok
 
 pub returns-in-Ok-clause-err : goal.returns-in-Ok-clause-err
 returns-in-Ok-clause-err g c =
     let name : c.as_slice.result.now ≡ codes "entries" = search rules in
-    IfErr-weaker c.read_each.result _ _ (λ fault stops. then-refused _ (stream c.next.new.self (g.S.Source.left c.next.new.source)) _ _ c.next.new.self.number fault.line entry_count (entries_due c.in-Ok.count) fault.kind (one-line _ (stream c.next.new.self (g.S.Source.left c.next.new.source)) c.args.lines.now c.next.new.self entry_count (entries_due c.in-Ok.count) c.in_ok-next.ensures.ok (c.in-Ok.count, c.in-Ok.ensures.ok.0, ap words (sym c.line.ensures) ∙ c.in-Ok.ensures.ok.1 ∙ ap (λ (n : List ℕ). n ∷ decimal c.in-Ok.count ∷ []) name, refl)) stops) c.read_each.ensures.err
+    IfErr-weaker c.read_each.result _ _
+    (λ fault stops. then-refused _ (stream c.next.new.self (g.S.Source.left c.next.new.source)) _ _ c.next.new.self.number fault.line entry_count
+    (entries_due c.in-Ok.count) fault.kind
+    (one-line _ (stream c.next.new.self (g.S.Source.left c.next.new.source)) c.args.lines.now c.next.new.self entry_count
+    (entries_due c.in-Ok.count) c.in_ok-next.ensures.ok (
+      c.in-Ok.count,
+      c.in-Ok.ensures.ok.0,
+      ap words (sym c.line.ensures) ∙ c.in-Ok.ensures.ok.1 ∙ ap
+          (λ (n : List ℕ). n ∷ decimal c.in-Ok.count ∷ []) name,
+      refl,
+    )) stops) c.read_each.ensures.err
 
 pub returns-in-Ok-clause-text : goal.returns-in-Ok-clause-text
 returns-in-Ok-clause-text g c =
     let name : c.as_slice.result.now ≡ codes "entries" = search rules in
-    let first = taken-line _ (stream c.next.new.self (g.S.Source.left c.next.new.source)) c.args.lines.now c.next.new.self (entries_words c.in-Ok.count) c.in_ok-next.ensures.ok (ap words (sym c.line.ensures) ∙ c.in-Ok.ensures.ok.1 ∙ ap (λ (n : List ℕ). n ∷ decimal c.in-Ok.count ∷ []) name) in
-    of-both c.read_each.result _ _ _ (λ entries many spelled. counted (stream c.args.lines.now (g.S.Source.left c.args.source.now)) (stream c.next.new.self (g.S.Source.left c.next.new.source)) (stream c.read_each.new.lines (g.S.Source.left c.read_each.new.source)) entries_words (length entries.items) c.in-Ok.count (flat_map line (map entry_words entries.items)) many first spelled) c.read_each.ensures.many c.read_each.ensures.text
+    let first =
+    taken-line _ (stream c.next.new.self (g.S.Source.left c.next.new.source)) c.args.lines.now c.next.new.self
+    (entries_words c.in-Ok.count) c.in_ok-next.ensures.ok
+    (ap words (sym c.line.ensures) ∙ c.in-Ok.ensures.ok.1 ∙ ap (λ (n : List ℕ). n ∷ decimal c.in-Ok.count ∷ []) name) in
+    of-both c.read_each.result _ _ _
+    (λ entries many spelled. counted (stream c.args.lines.now (g.S.Source.left c.args.source.now))
+    (stream c.next.new.self (g.S.Source.left c.next.new.source))
+    (stream c.read_each.new.lines (g.S.Source.left c.read_each.new.source)) entries_words (length entries.items) c.in-Ok.count
+    (flat_map line (map entry_words entries.items)) many first spelled) c.read_each.ensures.many c.read_each.ensures.text

@@ -14,7 +14,9 @@ returns-in_err-next-clause-err g c =
     stop-refused _ _ _ c.in_err-next.field-0.0.line shape_line c.in_err-next.field-0.0.kind shape-more c.in_err-next.ensures.place c.in_err-next.ensures.err)
 
 pub returns-in-Ok-clause-ok : goal.returns-in-Ok-clause-ok
-returns-in-Ok-clause-ok g c = one-line _ _ c.args.lines.now c.next.new.self shape_line (opening_line c.in-Ok.shape) c.in_ok-next.ensures.ok (c.in-Ok.shape, c.in-Ok.ensures.ok.0, ap words (sym c.line.ensures) ∙ c.in-Ok.ensures.ok.1, refl)
+returns-in-Ok-clause-ok g c =
+    one-line _ _ c.args.lines.now c.next.new.self shape_line (opening_line c.in-Ok.shape) c.in_ok-next.ensures.ok
+    (c.in-Ok.shape, c.in-Ok.ensures.ok.0, ap words (sym c.line.ensures) ∙ c.in-Ok.ensures.ok.1, refl)
 
 pub returns-in-Err-clause-err : goal.returns-in-Err-clause-err
 returns-in-Err-clause-err g c =
@@ -23,4 +25,5 @@ returns-in-Err-clause-err g c =
     (shape-fault (words c.next.new.self.line) c.in-Err.kind (subst (λ (l : List ℕ). IsBadShape (words l) c.in-Err.kind) c.line.ensures c.in-Err.ensures.err)))
 
 pub returns-in-Ok-clause-text : goal.returns-in-Ok-clause-text
-returns-in-Ok-clause-text g c = taken-line _ _ c.args.lines.now c.next.new.self (shape_words c.in-Ok.shape) c.in_ok-next.ensures.ok (ap words (sym c.line.ensures) ∙ c.in-Ok.ensures.ok.1)
+returns-in-Ok-clause-text g c =
+    taken-line _ _ c.args.lines.now c.next.new.self (shape_words c.in-Ok.shape) c.in_ok-next.ensures.ok (ap words (sym c.line.ensures) ∙ c.in-Ok.ensures.ok.1)

@@ -22,20 +22,49 @@ returns-in-Err-clause-err g c =
     let name : c.as_slice.result.now ≡ codes "cells" = search rules in
     refused-same _ _ _ cell_count c.refused.result c.number.result c.in-Err.kind c.refused.ensures (
     line-refused _ _ c.args.lines.now c.next.new.self c.number.result cell_count c.in-Err.kind c.in_ok-next.ensures.ok c.number.ensures.number
-    (cells-count-fault (words c.next.new.self.line) c.in-Err.kind (subst (λ (n : List ℕ). IsBadCount n 160 (words c.next.new.self.line) c.in-Err.kind) name (subst (λ (l : List ℕ). IsBadCount c.as_slice.result.now 160 (words l) c.in-Err.kind) c.line.ensures c.in-Err.ensures.err))))
+    (cells-count-fault (words c.next.new.self.line) c.in-Err.kind
+    (subst (λ (n : List ℕ). IsBadCount n 160 (words c.next.new.self.line) c.in-Err.kind) name
+    (subst (λ (l : List ℕ). IsBadCount c.as_slice.result.now 160 (words l) c.in-Err.kind) c.line.ensures c.in-Err.ensures.err))))
 
 pub returns-in-Ok-clause-ok : goal.returns-in-Ok-clause-ok
 returns-in-Ok-clause-ok g c =
     let name : c.as_slice.result.now ≡ codes "cells" = search rules in
-    on_ok_weaker c.read_cells.result (λ read. then-read _ (stream c.next.new.self (g.S.Source.left c.next.new.source)) _ _ c.next.new.self.number _ cell_count (cells_due c.in-Ok.count 0) entry_count (one-line _ (stream c.next.new.self (g.S.Source.left c.next.new.source)) c.args.lines.now c.next.new.self cell_count (cells_due c.in-Ok.count 0) c.in_ok-next.ensures.ok (c.in-Ok.count, c.in-Ok.ensures.ok.0, ap words (sym c.line.ensures) ∙ c.in-Ok.ensures.ok.1 ∙ ap (λ (n : List ℕ). n ∷ decimal c.in-Ok.count ∷ []) name, refl)) read) c.read_cells.ensures.ok
+    on_ok_weaker c.read_cells.result
+    (λ read. then-read _ (stream c.next.new.self (g.S.Source.left c.next.new.source)) _ _ c.next.new.self.number _ cell_count
+    (cells_due c.in-Ok.count 0) entry_count
+    (one-line _ (stream c.next.new.self (g.S.Source.left c.next.new.source)) c.args.lines.now c.next.new.self cell_count
+    (cells_due c.in-Ok.count 0) c.in_ok-next.ensures.ok (
+      c.in-Ok.count,
+      c.in-Ok.ensures.ok.0,
+      ap words (sym c.line.ensures) ∙ c.in-Ok.ensures.ok.1 ∙ ap
+          (λ (n : List ℕ). n ∷ decimal c.in-Ok.count ∷ []) name,
+      refl,
+    )) read) c.read_cells.ensures.ok
 
 pub returns-in-Ok-clause-err : goal.returns-in-Ok-clause-err
 returns-in-Ok-clause-err g c =
     let name : c.as_slice.result.now ≡ codes "cells" = search rules in
-    IfErr-weaker c.read_cells.result _ _ (λ fault stops. then-refused _ (stream c.next.new.self (g.S.Source.left c.next.new.source)) _ _ c.next.new.self.number fault.line cell_count (cells_due c.in-Ok.count 0) fault.kind (one-line _ (stream c.next.new.self (g.S.Source.left c.next.new.source)) c.args.lines.now c.next.new.self cell_count (cells_due c.in-Ok.count 0) c.in_ok-next.ensures.ok (c.in-Ok.count, c.in-Ok.ensures.ok.0, ap words (sym c.line.ensures) ∙ c.in-Ok.ensures.ok.1 ∙ ap (λ (n : List ℕ). n ∷ decimal c.in-Ok.count ∷ []) name, refl)) stops) c.read_cells.ensures.err
+    IfErr-weaker c.read_cells.result _ _
+    (λ fault stops. then-refused _ (stream c.next.new.self (g.S.Source.left c.next.new.source)) _ _ c.next.new.self.number fault.line cell_count
+    (cells_due c.in-Ok.count 0) fault.kind
+    (one-line _ (stream c.next.new.self (g.S.Source.left c.next.new.source)) c.args.lines.now c.next.new.self cell_count
+    (cells_due c.in-Ok.count 0) c.in_ok-next.ensures.ok (
+      c.in-Ok.count,
+      c.in-Ok.ensures.ok.0,
+      ap words (sym c.line.ensures) ∙ c.in-Ok.ensures.ok.1 ∙ ap
+          (λ (n : List ℕ). n ∷ decimal c.in-Ok.count ∷ []) name,
+      refl,
+    )) stops) c.read_cells.ensures.err
 
 pub returns-in-Ok-clause-text : goal.returns-in-Ok-clause-text
 returns-in-Ok-clause-text g c =
     let name : c.as_slice.result.now ≡ codes "cells" = search rules in
-    let first = taken-line _ (stream c.next.new.self (g.S.Source.left c.next.new.source)) c.args.lines.now c.next.new.self (cells_words c.in-Ok.count) c.in_ok-next.ensures.ok (ap words (sym c.line.ensures) ∙ c.in-Ok.ensures.ok.1 ∙ ap (λ (n : List ℕ). n ∷ decimal c.in-Ok.count ∷ []) name) in
-    of-both c.read_cells.result _ _ _ (λ tables many spelled. counted (stream c.args.lines.now (g.S.Source.left c.args.source.now)) (stream c.next.new.self (g.S.Source.left c.next.new.source)) (stream c.read_cells.new.lines (g.S.Source.left c.read_cells.new.source)) cells_words (length (changed_cells tables)) c.in-Ok.count (flat_map line (map cell_words (changed_cells tables))) many first spelled) c.read_cells.ensures.many c.read_cells.ensures.text
+    let first =
+    taken-line _ (stream c.next.new.self (g.S.Source.left c.next.new.source)) c.args.lines.now c.next.new.self
+    (cells_words c.in-Ok.count) c.in_ok-next.ensures.ok
+    (ap words (sym c.line.ensures) ∙ c.in-Ok.ensures.ok.1 ∙ ap (λ (n : List ℕ). n ∷ decimal c.in-Ok.count ∷ []) name) in
+    of-both c.read_cells.result _ _ _
+    (λ tables many spelled. counted (stream c.args.lines.now (g.S.Source.left c.args.source.now))
+    (stream c.next.new.self (g.S.Source.left c.next.new.source))
+    (stream c.read_cells.new.lines (g.S.Source.left c.read_cells.new.source)) cells_words (length (changed_cells tables)) c.in-Ok.count
+    (flat_map line (map cell_words (changed_cells tables))) many first spelled) c.read_cells.ensures.many c.read_cells.ensures.text

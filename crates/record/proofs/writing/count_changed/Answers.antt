@@ -9,10 +9,22 @@ use Rattle.record.proofs.writing.count_changed.Goals.{then-is_changed, else-is_c
 pub loop-number-preserved : goal.loop-number-preserved
 loop-number-preserved c =
     let at = ap (is_changed c.args.tables.now) (sym c.spot_at.ensures) ∙ sym c.is_changed.ensures.changed in
-    let stand = stand-more c.args.tables.now c.loop-number.number c.spot_at.result (omega arith) c.spot_at.ensures c.is_changed.ensures.fits c.is_changed.ensures.whole c.loop-number.invariant.2 in
+    let stand =
+    stand-more c.args.tables.now c.loop-number.number c.spot_at.result
+    (omega arith) c.spot_at.ensures c.is_changed.ensures.fits c.is_changed.ensures.whole c.loop-number.invariant.2 in
     elim c.if-is_changed.branch [
-      | then-is_changed w ↦ (let more = count-more c.args.tables.now all_spots c.loop-number.number c.spot_at.result true (omega arith) (at ∙ w.if-is_changed.true) in omega (arith, more, w.count-is, c.loop-number.invariant.0), omega (arith, w.count-is), stand)
-      | else-is_changed w ↦ (let more = count-more c.args.tables.now all_spots c.loop-number.number c.spot_at.result false (omega arith) (at ∙ w.if-is_changed.false) in omega (arith, more, w.count-is, c.loop-number.invariant.0), omega (arith, w.count-is), stand)
+      | then-is_changed w ↦ (
+        let more = count-more c.args.tables.now all_spots c.loop-number.number c.spot_at.result true (omega arith)
+            (at ∙ w.if-is_changed.true) in omega (arith, more, w.count-is, c.loop-number.invariant.0),
+        omega (arith, w.count-is),
+        stand,
+      )
+      | else-is_changed w ↦ (
+        let more = count-more c.args.tables.now all_spots c.loop-number.number c.spot_at.result false (omega arith)
+            (at ∙ w.if-is_changed.false) in omega (arith, more, w.count-is, c.loop-number.invariant.0),
+        omega (arith, w.count-is),
+        stand,
+      )
     ]
 
 pub returns-clause-whole : goal.returns-clause-whole

@@ -10,4 +10,5 @@ same_seen a b e = cc e
 
 pub returns : goal.returns
 returns c tables state cores s t alike =
-    ap (λ (a : Seen). if state.broken then [] else (offers_from tables state cores 0 a.offers ++ map Deliver (enabled_steps tables state))) (same_seen (seen s) (seen t) (alike []))
+    ap (λ (a : Seen). if state.broken then [] else (offers_from tables state cores 0 a.offers ++ map Deliver (enabled_steps tables state)))
+    (same_seen (seen s) (seen t) (alike []))

@@ -13,5 +13,6 @@ returns-clause-broke c terms tree number recording verdict trial = (
       broke-unsafe terms (steps_of recording) trial.last by.0
       (λ n. c.violations_are_what_isnt_safe.ensures.behind terms.shape terms.tables terms.opening (steps_of recording) n by.0)
       (subst (IsVerdict terms (steps_of recording) trial.last) by.1 trial.ends),
-  unsafe-broke terms (steps_of recording) trial.last verdict (c.violations_are_what_isnt_safe.ensures.none terms.shape terms.tables terms.opening (steps_of recording)).0 trial.ends,
+  unsafe-broke terms (steps_of recording) trial.last verdict
+      (c.violations_are_what_isnt_safe.ensures.none terms.shape terms.tables terms.opening (steps_of recording)).0 trial.ends,
 )

@@ -14,19 +14,29 @@ use Rattle.trials.proofs.laws.trials_under_the_own_tables.Goals as goal
 
 pub returns-clause-sound : goal.returns-clause-sound
 returns-clause-sound c terms tree number recording verdict own lawful trial =
-    let safe : Safe terms.shape terms.tables terms.opening (steps_of recording) = subst (λ (t : Tables). Safe terms.shape t terms.opening (steps_of recording)) (sym own) (c.safe.ensures terms.shape terms.opening (steps_of recording) lawful.within lawful.each) in
+    let safe : Safe terms.shape terms.tables terms.opening (steps_of recording) =
+    subst (λ (t : Tables). Safe terms.shape t terms.opening (steps_of recording)) (sym own)
+    (c.safe.ensures terms.shape terms.opening (steps_of recording) lawful.within lawful.each) in
     let unstuck : Unstuck terms.tables (state_after terms.tables (opened terms.shape terms.opening) (steps_of recording)) =
-    subst (λ (t : Tables). Unstuck t (state_after t (opened terms.shape terms.opening) (steps_of recording))) (sym own) (c.unstuck.ensures terms.shape terms.opening (steps_of recording) lawful.within lawful.each) in
+    subst (λ (t : Tables). Unstuck t (state_after t (opened terms.shape terms.opening) (steps_of recording))) (sym own)
+    (c.unstuck.ensures terms.shape terms.opening (steps_of recording) lawful.within lawful.each) in
     let state = trial-state terms tree number recording verdict trial in
     sound verdict (λ broke. (c.trials_break_where_they_arent_safe.ensures.broke terms tree number recording verdict trial).0 broke safe)
     (λ is. let ends = subst (IsVerdict terms (steps_of recording) trial.last) is trial.ends in
-    ends.2 (at-rest terms.tables trial.last (subst (Unstuck terms.tables) (sym state) unstuck) (path-tracked terms tree number trial.moments recording.entries trial.path _ trial.last trial.at_last)
-    (subst (λ (s : State). s.broken ≡ false) (sym state) (stays-whole terms.tables (opened terms.shape terms.opening) (steps_of recording) refl safe.unmet)) ends.1))
+    ends.2
+    (at-rest terms.tables trial.last (subst (Unstuck terms.tables) (sym state) unstuck)
+    (path-tracked terms tree number trial.moments recording.entries trial.path _ trial.last trial.at_last)
+    (subst (λ (s : State). s.broken ≡ false) (sym state)
+    (stays-whole terms.tables (opened terms.shape terms.opening) (steps_of recording) refl safe.unmet)) ends.1))
 
 pub returns-clause-sequential : goal.returns-clause-sequential
 returns-clause-sequential c terms tree number recording verdict own lawful trial =
-    let safe : Safe terms.shape terms.tables terms.opening (steps_of recording) = subst (λ (t : Tables). Safe terms.shape t terms.opening (steps_of recording)) (sym own) (c.safe.ensures terms.shape terms.opening (steps_of recording) lawful.within lawful.each) in
+    let safe : Safe terms.shape terms.tables terms.opening (steps_of recording) =
+    subst (λ (t : Tables). Safe terms.shape t terms.opening (steps_of recording)) (sym own)
+    (c.safe.ensures terms.shape terms.opening (steps_of recording) lawful.within lawful.each) in
     record {
       in_turn = c.cores_are_answered_in_turn.ensures terms tree number trial.moments recording.entries trial.path;
-      latest = subst (λ (told : List Outcome). Explained terms.opening (completions (steps_of recording) told)) (sym (trial-told terms tree number recording verdict trial)) safe.explained;
+      latest =
+          subst (λ (told : List Outcome). Explained terms.opening (completions (steps_of recording) told))
+          (sym (trial-told terms tree number recording verdict trial)) safe.explained;
     }

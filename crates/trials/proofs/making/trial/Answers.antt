@@ -10,18 +10,28 @@ returns-clause-trial g c =
     (c.in_ok-verdict.ensures c.args.setup.now (plain c.args.scenario.now) c.args.number (sym c.limit.ensures.value) c.in_ok-course.ensures)
 
 pub returns-clause-legal : goal.returns-clause-legal
-returns-clause-legal g c = c.trials_break_where_they_arent_safe.ensures.legal c.args.setup.now (plain c.args.scenario.now) c.args.number _ c.in_ok-verdict.verdict (returns-clause-trial g c)
+returns-clause-legal g c =
+    c.trials_break_where_they_arent_safe.ensures.legal c.args.setup.now (plain c.args.scenario.now) c.args.number _ c.in_ok-verdict.verdict
+    (returns-clause-trial g c)
 
 pub returns-clause-in_turn : goal.returns-clause-in_turn
 returns-clause-in_turn g c =
-    let trial : IsTrial c.args.setup.now (plain c.args.scenario.now) c.args.number c.into_recording-recording.result c.in_ok-verdict.verdict = returns-clause-trial g c in
-    c.cores_are_answered_in_turn.ensures c.args.setup.now (plain c.args.scenario.now) c.args.number trial.moments c.into_recording-recording.result.entries trial.path
+    let trial : IsTrial c.args.setup.now (plain c.args.scenario.now) c.args.number c.into_recording-recording.result c.in_ok-verdict.verdict =
+    returns-clause-trial g c in
+    c.cores_are_answered_in_turn.ensures c.args.setup.now
+    (plain c.args.scenario.now) c.args.number trial.moments c.into_recording-recording.result.entries trial.path
 
 pub returns-clause-broke : goal.returns-clause-broke
-returns-clause-broke g c = c.trials_break_where_they_arent_safe.ensures.broke c.args.setup.now (plain c.args.scenario.now) c.args.number _ c.in_ok-verdict.verdict (returns-clause-trial g c)
+returns-clause-broke g c =
+    c.trials_break_where_they_arent_safe.ensures.broke c.args.setup.now (plain c.args.scenario.now) c.args.number _ c.in_ok-verdict.verdict
+    (returns-clause-trial g c)
 
 pub returns-clause-sound : goal.returns-clause-sound
-returns-clause-sound g c own = c.trials_under_the_own_tables.ensures.sound c.args.setup.now (plain c.args.scenario.now) c.args.number _ c.in_ok-verdict.verdict own c.limit.ensures.lawful (returns-clause-trial g c)
+returns-clause-sound g c own =
+    c.trials_under_the_own_tables.ensures.sound c.args.setup.now
+    (plain c.args.scenario.now) c.args.number _ c.in_ok-verdict.verdict own c.limit.ensures.lawful (returns-clause-trial g c)
 
 pub returns-clause-sequential : goal.returns-clause-sequential
-returns-clause-sequential g c own = c.trials_under_the_own_tables.ensures.sequential c.args.setup.now (plain c.args.scenario.now) c.args.number _ c.in_ok-verdict.verdict own c.limit.ensures.lawful (returns-clause-trial g c)
+returns-clause-sequential g c own =
+    c.trials_under_the_own_tables.ensures.sequential c.args.setup.now
+    (plain c.args.scenario.now) c.args.number _ c.in_ok-verdict.verdict own c.limit.ensures.lawful (returns-clause-trial g c)

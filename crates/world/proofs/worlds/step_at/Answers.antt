@@ -7,7 +7,8 @@ use Rattle.world.proofs.worlds.step_at.Goals as goal
 
 pub returns-clause-err : goal.returns-clause-err
 returns-clause-err c =
-    on_err_weaker c.step.result (states-set_same c.args.blocks.now.items c.args.number c.index_mut.result.now c.step.new.self c.index_mut.ensures.value) c.step.ensures.err
+    on_err_weaker c.step.result
+    (states-set_same c.args.blocks.now.items c.args.number c.index_mut.result.now c.step.new.self c.index_mut.ensures.value) c.step.ensures.err
 
 pub returns-clause-succeeds : goal.returns-clause-succeeds
 returns-clause-succeeds c =

@@ -1,8 +1,11 @@
-use Rattle.std.proofs.Common.{rules, sym}
+use Rattle.std.proofs.Common.{◌≡◌, Option, subst, sym}
+use Rattle.std.specs.Prelude.{MatchOption}
+use Rattle.directory_table.specs.declared.event.DirectoryEvent.{DirectoryEvent}
 use Rattle.directory_table.specs.Names.{event_name, IsNoEvent}
-use Rattle.directory_table.specs.Baseline.{all_events}
-use Rattle.directory_table.proofs.Named.{find_none}
+use Rattle.directory_table.proofs.Named.{events_spelled}
 use Rattle.directory_table.proofs.event.DirectoryEvent.named.Goals as goal
 
-pub returns-in_default-clause-named : goal.returns-in_default-clause-named
-returns-in_default-clause-named c = let none : IsNoEvent c.args.text.now = search rules in sym (find_none event_name c.args.text.now all_events none)
+pub returns-clause-spelled : goal.returns-clause-spelled
+returns-clause-spelled c =
+    let text = c.args.name.now in
+    subst (λ (o : Option DirectoryEvent). MatchOption o (IsNoEvent text) (λ x. text ≡ event_name x)) (sym c.find_named.ensures) (events_spelled text)

@@ -5,4 +5,5 @@ use Rattle.monitor.proofs.watch.Watch.see.Goals as goal
 
 pub returns-clause-seen : goal.returns-clause-seen
 returns-clause-seen c opening before seen leads =
-    seen-more c.args.world.now opening c.args.self.now c.note.new.self before c.args.step c.args.outcome (c.note.ensures ∙ ap (λ b. noted c.args.self.now b c.args.outcome) c.block-block.ensures) seen leads
+    seen-more c.args.world.now opening c.args.self.now c.note.new.self before c.args.step c.args.outcome
+    (c.note.ensures ∙ ap (λ b. noted c.args.self.now b c.args.outcome) c.block-block.ensures) seen leads

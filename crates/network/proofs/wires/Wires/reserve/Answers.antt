@@ -19,6 +19,7 @@ loop-link-preserved c = record {
     responses = omega (arith, c.reserve_link.ensures.room.responses, c.loop-link.invariant.room.responses);
   };
   links =
-      room-more c.args.links.now c.loop-link.link-index (record { 0 = 0 }) c.loop-link.self.room c.reserve_link.new.self.room (omega arith) c.loop-link.invariant.links c.reserve_link.ensures.room
+      room-more c.args.links.now c.loop-link.link-index (record { 0 = 0 }) c.loop-link.self.room c.reserve_link.new.self.room
+      (omega arith) c.loop-link.invariant.links c.reserve_link.ensures.room
       (omega (arith, c.times_listed.ensures.count, c.in_ok-reserve_link.ensures.ok));
 }

@@ -11,7 +11,9 @@ returns-then-number-cells-clause-piece c =
     let values = ap length c.opening-opening.ensures.value in
     c.value.ensures.piece
     ∙ ap (λ (l : List ℕ). value_piece (get_or l (c.args.number - 1) 0)) c.opening-opening.ensures.value
-    ∙ sym (value-at c.args.self.now c.args.number (c.args.number - 1) 0 (omega (arith, c.if-number-eq0.false)) (omega (arith, values, c.if-number-eq0.false, c.if-number-cells.true)))
+    ∙ sym
+    (value-at c.args.self.now c.args.number (c.args.number - 1) 0 (omega (arith, c.if-number-eq0.false))
+    (omega (arith, values, c.if-number-eq0.false, c.if-number-cells.true)))
 
 pub returns-then-number-cells-2-clause-piece : goal.returns-then-number-cells-2-clause-piece
 returns-then-number-cells-2-clause-piece c =
@@ -61,5 +63,7 @@ returns-then-number-count-3-clause-fits c =
     let i = c.args.number - (length c.opening-opening.result.now + 1 + 160 + 1) - 1 in
     record {
       value = λ k d is low. absurd (omega (arith, is, low, values, c.if-number-cells.false));
-      entry = λ k d is low. fits-at r.entries c.entries-entries.result.now i k d c.entries-entries.ensures.value (omega (arith, is, values)) low c.entry_line.ensures.fits;
+      entry =
+          λ k d is low. fits-at r.entries c.entries-entries.result.now i k d c.entries-entries.ensures.value
+          (omega (arith, is, values)) low c.entry_line.ensures.fits;
     }

@@ -34,7 +34,8 @@ returns-clause-ok g c =
     let old = g.S.Sink.taken c.args.sink.now in
     let new = g.S.Sink.taken c.loop-number.sink in
     out-text r old new c.loop-number.written
-    (subst (λ l. IsOut old new (flat l) 0 c.loop-number.written) (take_all c.loop-number.number (pieces r) (omega (arith, count, c.loop-number-test.false))) c.loop-number.invariant.0)
+    (subst (λ l. IsOut old new (flat l) 0 c.loop-number.written)
+    (take_all c.loop-number.number (pieces r) (omega (arith, count, c.loop-number-test.false))) c.loop-number.invariant.0)
 
 pub returns-clause-recordable : goal.returns-clause-recordable
 returns-clause-recordable g c =
@@ -59,7 +60,9 @@ returns-in_err-written-clause-err g c =
     let low = c.loop-number-test.true in
     let count = c.count_of_pieces-number-end.ensures.count in
     handed-on c.from_residual.result _ _ _ c.from_residual.ensures.1 (
-    (cut-text c.args.self.now _ _ _ (cut-at (λ piece. piece) (pieces c.args.self.now) c.loop-number.number [] _ (g.S.Sink.taken c.loop-number.sink) _ 0 c.loop-number.written _ c.as_slice.result.now
+    (cut-text c.args.self.now _ _ _
+    (cut-at (λ piece. piece) (pieces c.args.self.now) c.loop-number.number [] _
+    (g.S.Sink.taken c.loop-number.sink) _ 0 c.loop-number.written _ c.as_slice.result.now
     (omega (arith, low, count)) (c.as_slice.ensures.text ∙ c.piece-piece.ensures.piece) c.loop-number.invariant.0 c.in_err-written.ensures.err)).0)
 
 pub returns-in_err-written-clause-short : goal.returns-in_err-written-clause-short
@@ -67,5 +70,7 @@ returns-in_err-written-clause-short g c =
     let low = c.loop-number-test.true in
     let count = c.count_of_pieces-number-end.ensures.count in
     handed-on c.from_residual.result _ _ _ c.from_residual.ensures.1 (
-    (cut-text c.args.self.now _ _ _ (cut-at (λ piece. piece) (pieces c.args.self.now) c.loop-number.number [] _ (g.S.Sink.taken c.loop-number.sink) _ 0 c.loop-number.written _ c.as_slice.result.now
+    (cut-text c.args.self.now _ _ _
+    (cut-at (λ piece. piece) (pieces c.args.self.now) c.loop-number.number [] _
+    (g.S.Sink.taken c.loop-number.sink) _ 0 c.loop-number.written _ c.as_slice.result.now
     (omega (arith, low, count)) (c.as_slice.ensures.text ∙ c.piece-piece.ensures.piece) c.loop-number.invariant.0 c.in_err-written.ensures.err)).1)

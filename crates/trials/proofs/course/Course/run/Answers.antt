@@ -12,22 +12,27 @@ returns-in_default c =
 
 pub make-requires-clause-choice : goal.make-requires-clause-choice
 make-requires-clause-choice c =
-    choice-made c.trials_go_on.ensures.can_be_made (parts_of c.args.self.now) (parts_of c.loop-made.self) (parts_of c.choose.new.self) c.args.limit _ c.in-Some.choice
+    choice-made c.trials_go_on.ensures.can_be_made (parts_of c.args.self.now) (parts_of c.loop-made.self)
+    (parts_of c.choose.new.self) c.args.limit _ c.in-Some.choice
     c.requires c.loop-made.invariant.0 c.in_ok-choice.ensures c.in-Some.is
 
 pub returns-in-Some-2 : goal.returns-in-Some-2
 returns-in-Some-2 c =
     let many = c.loop-made.invariant.1 in
     let low = c.loop-made-test.true in
-    step-goes c.trials_go_on.ensures.goes_on (parts_of c.args.self.now) (parts_of c.loop-made.self) (parts_of c.choose.new.self) (parts_of c.make.new.self) c.args.limit _ c.in-Some.choice _ _
+    step-goes c.trials_go_on.ensures.goes_on (parts_of c.args.self.now) (parts_of c.loop-made.self) (parts_of c.choose.new.self)
+    (parts_of c.make.new.self) c.args.limit _ c.in-Some.choice _ _
     c.loop-made.invariant.0 (omega (arith, many, low)) c.in_ok-choice.ensures c.in-Some.is c.in_ok-violation.ensures c.in-Some-2.is
 
 pub loop-made-preserved : goal.loop-made-preserved
 loop-made-preserved c =
     let many = c.loop-made.invariant.1 in
     let low = c.loop-made-test.true in
-    let more = one-more-entry (parts_of c.loop-made.self) (parts_of c.choose.new.self) (parts_of c.make.new.self) _ c.in-Some.choice _ c.in_ok-choice.ensures c.in-Some.is c.in_ok-violation.ensures in (
-      step-goes c.trials_go_on.ensures.goes_on (parts_of c.args.self.now) (parts_of c.loop-made.self) (parts_of c.choose.new.self) (parts_of c.make.new.self) c.args.limit _ c.in-Some.choice _ None
+    let more =
+    one-more-entry (parts_of c.loop-made.self) (parts_of c.choose.new.self)
+    (parts_of c.make.new.self) _ c.in-Some.choice _ c.in_ok-choice.ensures c.in-Some.is c.in_ok-violation.ensures in (
+      step-goes c.trials_go_on.ensures.goes_on (parts_of c.args.self.now) (parts_of c.loop-made.self) (parts_of c.choose.new.self)
+          (parts_of c.make.new.self) c.args.limit _ c.in-Some.choice _ None
           c.loop-made.invariant.0 (omega (arith, many, low)) c.in_ok-choice.ensures c.in-Some.is c.in_ok-violation.ensures c.in_default-2.is,
       omega (arith, many, more),
     )

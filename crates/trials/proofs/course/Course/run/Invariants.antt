@@ -6,5 +6,6 @@ use Rattle.trials.proofs.course.Course.run.Given as goal
 
 abbrev pub invariant-loop-made : goal.invariant-loop-made
 invariant-loop-made l =
-    ((terms : Terms) (tree : Tree) (number : ℕ) → terms.limit ≡ l.fn.limit → Starts terms tree number (parts_of l.fn.self) → IsGoing terms tree number (parts_of l.self))
+    ((terms : Terms) (tree : Tree) (number : ℕ) → terms.limit ≡ l.fn.limit → Starts terms tree number (parts_of l.fn.self) →
+    IsGoing terms tree number (parts_of l.self))
     × (length l.self.recording.entries ≡ l.made)

@@ -8,4 +8,5 @@ use Rattle.world.proofs.overrides.cache.known_actions.Given as goal
 abbrev pub invariant-loop-value : goal.invariant-loop-value
 invariant-loop-value l =
     (length l.actions ≡ l.value-index)
-    × (option_map (λ rest. l.actions ++ rest) (known_actions action_named (items_view (drop l.value-index l.values))) ≡ known_actions action_named (items_view l.values))
+    × (option_map (λ rest. l.actions ++ rest) (known_actions action_named (items_view (drop l.value-index l.values))) ≡ known_actions action_named
+    (items_view l.values))

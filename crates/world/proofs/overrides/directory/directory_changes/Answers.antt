@@ -12,27 +12,34 @@ use Rattle.world.proofs.overrides.directory.directory_changes.Goals as goal
 -- the cell is of one that was changed before
 pub returns-then-is_changed-clause-changes : goal.returns-then-is_changed-clause-changes
 returns-then-is_changed-clause-changes c =
-    let next : items_view (drop c.loop-value.value-index c.args.values.now) ≡ item (view c.value-item.result) (items_view (drop (c.loop-value.value-index + 1) c.args.values.now)) =
+    let next : items_view (drop c.loop-value.value-index c.args.values.now) ≡ item (view c.value-item.result)
+    (items_view (drop (c.loop-value.value-index + 1) c.args.values.now)) =
     items-next c.args.values.now c.loop-value.value-index c.value-item.result _ (omega arith) c.value-item.is in
     let form : written_cell (view c.value-item.result) ≡ Some (seen_cell c.in-Some.cell) = search rules in
     let known : directory_change (seen_cell c.in-Some.cell) ≡ Ok c.in_ok-change.change = search rules in
     let old : list_any (λ d. is_same_directory_cell d c.in_ok-change.change) c.loop-value.changes.items ≡ true =
-    ap (λ cs. list_any (λ d. is_same_directory_cell d c.in_ok-change.change) cs) (sym c.as_slice.ensures.value) ∙ sym c.is_changed.ensures ∙ c.if-is_changed.true in
+    ap (λ cs. list_any (λ d. is_same_directory_cell d c.in_ok-change.change) cs) (sym c.as_slice.ensures.value) ∙ sym c.is_changed.ensures
+    ∙ c.if-is_changed.true in
     sym c.loop-value.invariant ∙ ap (λ ds. changes_after directory_change is_same_directory_cell c.loop-value.changes.items ds) next
-    ∙ changes-twice directory_change is_same_directory_cell c.loop-value.changes.items (view c.value-item.result) (items_view (drop (c.loop-value.value-index + 1) c.args.values.now)) (seen_cell c.in-Some.cell) c.in_ok-change.change form known old
+    ∙ changes-twice directory_change is_same_directory_cell c.loop-value.changes.items (view c.value-item.result)
+    (items_view (drop (c.loop-value.value-index + 1) c.args.values.now)) (seen_cell c.in-Some.cell) c.in_ok-change.change form known old
 
 -- the change is one more
 pub loop-value-preserved : goal.loop-value-preserved
 loop-value-preserved c =
-    let next : items_view (drop c.loop-value.value-index c.args.values.now) ≡ item (view c.value-item.result) (items_view (drop (c.loop-value.value-index + 1) c.args.values.now)) =
+    let next : items_view (drop c.loop-value.value-index c.args.values.now) ≡ item (view c.value-item.result)
+    (items_view (drop (c.loop-value.value-index + 1) c.args.values.now)) =
     items-next c.args.values.now c.loop-value.value-index c.value-item.result _ (omega arith) c.value-item.is in
     let form : written_cell (view c.value-item.result) ≡ Some (seen_cell c.in-Some.cell) = search rules in
     let known : directory_change (seen_cell c.in-Some.cell) ≡ Ok c.in_ok-change.change = search rules in
     let new : list_any (λ d. is_same_directory_cell d c.in_ok-change.change) c.loop-value.changes.items ≡ false =
-    ap (λ cs. list_any (λ d. is_same_directory_cell d c.in_ok-change.change) cs) (sym c.as_slice.ensures.value) ∙ sym c.is_changed.ensures ∙ c.if-is_changed.false in
+    ap (λ cs. list_any (λ d. is_same_directory_cell d c.in_ok-change.change) cs) (sym c.as_slice.ensures.value) ∙ sym c.is_changed.ensures
+    ∙ c.if-is_changed.false in
     let pushed : c.push.new.self.items ≡ c.loop-value.changes.items ++ c.in_ok-change.change ∷ [] = search rules in
     ap (λ before. changes_after directory_change is_same_directory_cell before (items_view (drop (c.loop-value.value-index + 1) c.args.values.now))) pushed
-    ∙ sym (changes-more directory_change is_same_directory_cell c.loop-value.changes.items (view c.value-item.result) (items_view (drop (c.loop-value.value-index + 1) c.args.values.now)) (seen_cell c.in-Some.cell) c.in_ok-change.change form known new)
+    ∙ sym
+    (changes-more directory_change is_same_directory_cell c.loop-value.changes.items (view c.value-item.result)
+    (items_view (drop (c.loop-value.value-index + 1) c.args.values.now)) (seen_cell c.in-Some.cell) c.in_ok-change.change form known new)
     ∙ sym (ap (λ ds. changes_after directory_change is_same_directory_cell c.loop-value.changes.items ds) next) ∙ c.loop-value.invariant
 
 pub loop-value-init : goal.loop-value-init

@@ -6,7 +6,8 @@ use Rattle.world.proofs.worlds.World.step.Goals as goal
 
 pub returns-clause-history : goal.returns-clause-history
 returns-clause-history c opening before h =
-    history-append c.args.self.now c.advance.new.self opening before (c.args.step ∷ []) h c.in_ok-outcome.ensures.shape c.in_ok-outcome.ensures.tables (ap (λ (n : Next). n.state) (sym c.in_ok-outcome.ensures.ok))
+    history-append c.args.self.now c.advance.new.self opening before (c.args.step ∷ []) h c.in_ok-outcome.ensures.shape c.in_ok-outcome.ensures.tables
+    (ap (λ (n : Next). n.state) (sym c.in_ok-outcome.ensures.ok))
 
 pub returns-clause-safe : goal.returns-clause-safe
 returns-clause-safe c = been-safe _ _ _ c.advance.ensures.within

@@ -1,5 +1,0 @@
-use Rattle.record.proofs.Texts.{no-cache_action}
-use Rattle.record.proofs.cell_parsing.cache_action_of.Goals as goal
-
-pub returns-in_default : goal.returns-in_default
-returns-in_default c = no-cache_action c.args.word.now c.in_default.ensures.cases.0
