@@ -1,3 +1,4 @@
+pub mod Cells
 pub mod Naming
 pub mod Lines
 pub mod Spellings

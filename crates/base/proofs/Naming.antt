@@ -1,10 +1,11 @@
 -- Looking for a name in a list, one thing after the other.
 use Rattle.std.proofs.Common.{◌≡◌, ◌≢◌, ◌<◌, ◌+◌, ℕ, zero, suc, Bool, true, false, List, [], ◌∷◌, Option, None, Some, if◌then◌else◌}
 use Rattle.std.proofs.Common.{length, drop, get_or, refl, ap, sym, subst, ◌∙◌, arith}
-use Rattle.std.specs.Prelude.{MatchOption}
+use Rattle.std.specs.Prelude.{MatchOption, slice_get}
 use Rattle.std.specs.List.{find}
 use Rattle.std.specs.Str.{bytes_eq}
 use Rattle.std.proofs.lemmas.List.{drop_more}
+use Rattle.std.proofs.lemmas.Option.{slice_get_within, get_or_from_slice_get}
 use Rattle.std.proofs.lemmas.Slice.Eq.{bytes_eq-Decides}
 use Rattle.base.specs.Spelling.{named_in}
 
@@ -45,9 +46,10 @@ found-spelled {X} spelling text (x ∷ xs) = by-test (bytes_eq (spelling x) text
     by-test false differs rest =
         weaker (named_in spelling text xs) (HasNone xs) (HasNone (x ∷ xs)) (λ y. text ≡ spelling y) (none-more differs) rest
 
--- where the list has all things there are, each at a place of its own, nothing is found only where none of them has the name
-pub all-spelled : {X : Type 0} (spelling : X → List ℕ) (text : List ℕ) (xs : List X) (number : X → ℕ) → ((x : X) → number x < length xs) →
-    ((x : X) → get_or xs (number x) x ≡ x) → MatchOption (named_in spelling text xs) ((x : X) → text ≢ spelling x) (λ x. text ≡ spelling x)
-all-spelled spelling text xs number low there =
+-- where each thing there is stands in the list, nothing is found only where none has the name
+pub all-spelled : {X : Type 0} (spelling : X → List ℕ) (text : List ℕ) (xs : List X) (place : X → ℕ) →
+    ((x : X) → slice_get xs (place x) ≡ Some x) → MatchOption (named_in spelling text xs) ((x : X) → text ≢ spelling x) (λ x. text ≡ spelling x)
+all-spelled spelling text xs place stands =
     weaker (named_in spelling text xs) _ _ (λ x. text ≡ spelling x)
-    (λ none x is. none (number x) x (low x) (is ∙ ap spelling (sym (there x)))) (found-spelled spelling text xs)
+    (λ none x is. none (place x) x (slice_get_within xs (place x) x (stands x)) (is ∙ ap spelling (sym (get_or_from_slice_get xs (place x) x x (stands x)))))
+    (found-spelled spelling text xs)

@@ -1,4 +1,6 @@
 pub mod Ends
 pub mod Extent
 pub mod Spelling
+pub mod Cells
+pub mod inner
 pub mod Steps

@@ -28,6 +28,10 @@ joined (word ∷ words) = word ++ spaced words
 abbrev pub named_in : {X : Type 0} → (X → List ℕ) → List ℕ → List X → Option X
 named_in spelling text all = find (λ x. bytes_eq (spelling x) text) all
 
+-- no such thing is spelled so
+abbrev pub IsUnnamed : {X : Type 0} → (X → List ℕ) → List ℕ → Type 0
+IsUnnamed {X} spelling text = (x : X) → text ≢ spelling x
+
 -- the words that spell what a core asks
 abbrev pub ask_words : Ask → List (List ℕ)
 ask_words Load = codes "load" ∷ []

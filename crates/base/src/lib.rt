@@ -2,6 +2,7 @@
 //! from and go to.
 #![tactic(auto)]
 
+pub mod controller;
 mod ends;
 mod fault;
 mod ids;

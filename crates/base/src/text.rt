@@ -1,12 +1,10 @@
-//! Steps and outcomes as text, which is words with one blank between two, and things that have names in texts.
+//! Steps and outcomes as text, which is words with one blank between two.
 
-mod names;
 mod outcomes;
 mod short;
 mod steps;
 mod words;
 
-pub use names::{Named, find_named};
 pub use short::Text;
 pub use steps::spells_one_step;
 pub use words::{cut, number_of, small_number_of};

@@ -1,14 +1,13 @@
-use Rattle.std.proofs.Common.{◌≡◌, List, get_or, map, refl, ap, ◌∙◌}
+use Rattle.std.proofs.Common.{◌≡◌, List, [], get_or, map, refl, ap, ◌∙◌}
 use Rattle.cache_table.specs.declared.state.CacheState.{CacheState}
 use Rattle.cache_table.specs.declared.state.CacheState.TheVariants.{I, IsD, ImAd, ImA, S, SmAd, SmA, M, MiA, SiA, IiA}
 use Rattle.cache_table.specs.declared.event.CacheEvent.{CacheEvent}
 use Rattle.cache_table.specs.declared.event.CacheEvent.TheVariants as event
-use Rattle.cache_table.specs.declared.entry.CacheEntry.{CacheEntry}
-use Rattle.cache_table.specs.declared.entry.CacheEntry.TheVariants.{Blank}
-use Rattle.cache_table.specs.Table.{cell, row, event_number}
+use Rattle.base.specs.declared.controller.entry.Entry.TheVariants.{Blank}
+use Rattle.cache_table.specs.Table.{CacheEntry, cell, event_number, state_number}
 use Rattle.cache_table.specs.Baseline.{baseline_cells, baseline_entry, baseline_row, all_events}
 
-row-baseline : (state : CacheState) → row baseline_cells state ≡ baseline_row state
+row-baseline : (state : CacheState) → get_or baseline_cells (state_number state) [] ≡ baseline_row state
 row-baseline I = refl
 row-baseline IsD = refl
 row-baseline ImAd = refl

@@ -1,5 +1,1 @@
-pub mod Named
-pub mod Pushed
-pub mod Whole
 pub mod BaselineCells
-pub mod Changes

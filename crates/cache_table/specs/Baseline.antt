@@ -1,11 +1,10 @@
 use Rattle.std.specs.Prelude.{List, [], ◌∷◌, map}
-use Rattle.cache_table.specs.Table.{Cells}
+use Rattle.base.specs.declared.controller.entry.Entry.TheVariants.{Blank, Stall, Act}
+use Rattle.cache_table.specs.Table.{Cells, CacheEntry}
 use Rattle.cache_table.specs.declared.state.CacheState.{CacheState}
 use Rattle.cache_table.specs.declared.state.CacheState.TheVariants.{I, IsD, ImAd, ImA, S, SmAd, SmA, M, MiA, SiA, IiA}
 use Rattle.cache_table.specs.declared.event.CacheEvent.{CacheEvent}
 use Rattle.cache_table.specs.declared.event.CacheEvent.TheVariants as event
-use Rattle.cache_table.specs.declared.entry.CacheEntry.{CacheEntry}
-use Rattle.cache_table.specs.declared.entry.CacheEntry.TheVariants.{Blank, Stall, Act}
 use Rattle.cache_table.specs.declared.actions.CacheAction.TheVariants.{GetS, GetM, PutS, PutM, InvAck, DataReq, DataDir}
 
 -- the states, in the order of the rows

@@ -1,4 +1,4 @@
-use Rattle.std.specs.Prelude.{◌≢◌, ℕ, List, [], ◌∷◌, Option, codes}
+use Rattle.std.specs.Prelude.{ℕ, List, [], ◌∷◌, Option, codes}
 use Rattle.base.specs.Spelling.{named_in}
 use Rattle.cache_table.specs.Baseline.{all_states, all_events}
 use Rattle.cache_table.specs.declared.state.CacheState.{CacheState}
@@ -22,13 +22,13 @@ state_name state.MiA = codes "MI^A"
 state_name state.SiA = codes "SI^A"
 state_name state.IiA = codes "II^A"
 
+-- the state that stands first
+abbrev pub first_state : CacheState
+first_state = state.I
+
 -- the state that is spelled so, if there is one
 abbrev pub state_named : List ℕ → Option CacheState
 state_named text = named_in state_name text all_states
-
--- no state is spelled so
-abbrev pub IsNoState : List ℕ → Type 0
-IsNoState text = (s : CacheState) → text ≢ state_name s
 
 -- how an event is spelled
 abbrev pub event_name : CacheEvent → List ℕ
@@ -45,13 +45,13 @@ event_name event.DataOwner = codes "Data-Owner"
 event_name event.InvAck = codes "Inv-Ack"
 event_name event.LastInvAck = codes "Last-Inv-Ack"
 
+-- the event that stands first
+abbrev pub first_event : CacheEvent
+first_event = event.Load
+
 -- the event that is spelled so, if there is one
 abbrev pub event_named : List ℕ → Option CacheEvent
 event_named text = named_in event_name text all_events
-
--- no event is spelled so
-abbrev pub IsNoEvent : List ℕ → Type 0
-IsNoEvent text = (e : CacheEvent) → text ≢ event_name e
 
 -- how an action is spelled
 abbrev pub action_name : CacheAction → List ℕ
@@ -69,10 +69,20 @@ all_actions =
     action.GetS ∷ action.GetM ∷ action.PutS ∷ action.PutM ∷
     action.InvAck ∷ action.DataReq ∷ action.DataDir ∷ []
 
+-- the number of an action among all actions, counted from 0
+abbrev pub action_number : CacheAction → ℕ
+action_number action.GetS = 0
+action_number action.GetM = 1
+action_number action.PutS = 2
+action_number action.PutM = 3
+action_number action.InvAck = 4
+action_number action.DataReq = 5
+action_number action.DataDir = 6
+
+-- the action that stands first
+abbrev pub first_action : CacheAction
+first_action = action.GetS
+
 -- the action that is spelled so, if there is one
 abbrev pub action_named : List ℕ → Option CacheAction
 action_named text = named_in action_name text all_actions
-
--- no action is spelled so
-abbrev pub IsNoAction : List ℕ → Type 0
-IsNoAction text = (a : CacheAction) → text ≢ action_name a

@@ -1,6 +1,4 @@
-ghost use Rattle.std.specs.Prelude.{◌≡◌, ◌<◌, ◌≤◌, ◌↔◌, ◌++◌, ◌∷◌, [], length, IfNone, IfSome, IsSome, IsTrue};
-
-use std::marker::Model;
+use base::controller::Listed;
 
 /// One thing that a cache's controller does in a cell (Primer, section 8.2).
 ///
@@ -24,93 +22,54 @@ pub enum CacheAction {
     DataDir,
 }
 
-/// At most eight actions, in order.
-#[derive(Clone, Copy, PartialEq, Eq, Debug)]
-pub struct CacheActions {
-    items: [CacheAction; 8],
-    count: usize,
+impl CacheAction {
+    /// All actions, in order.
+    pub const ALL: [CacheAction; 7] = [
+        CacheAction::GetS,
+        CacheAction::GetM,
+        CacheAction::PutS,
+        CacheAction::PutM,
+        CacheAction::InvAck,
+        CacheAction::DataReq,
+        CacheAction::DataDir,
+    ];
 }
 
-impl Model for CacheActions {
-    ghost use Rattle.std.specs.Prelude.{List, take};
-    ghost use Rattle.cache_table.specs.declared.actions.CacheAction.{CacheAction};
+impl Listed for CacheAction {
+    ghost use Rattle.cache_table.specs.Names.{action_name, action_number, all_actions, first_action};
+    ghost use Rattle.cache_table.specs.inner.Standing.{action_stands};
 
-    ghost Value = { List CacheAction };
+    ghost spelling = { action_name };
 
-    ghost use Rattle.cache_table.specs.inner.Filled.{IsFilled, filled, filled_back};
+    ghost place = { action_number };
 
-    ghost view = { λ s. take s.count s.items };
+    ghost kind = { all_actions };
 
-    ghost invariant = { IsFilled };
+    ghost head = { first_action };
 
-    ghost inverse = { filled };
-
-    ghost inverse_ok = { filled_back };
-}
-
-impl CacheActions {
-    /// The most actions that a cell has.
-    pub const MOST: usize = 8;
-
-    /// No actions.
-    pub fn none() -> CacheActions
-        ensures { result ≡ [] }
-    {
-        CacheActions {
-            items: [CacheAction::GetS; 8],
-            count: 0,
+    fn name(self) -> &'static str {
+        match self {
+            CacheAction::GetS => "gets",
+            CacheAction::GetM => "getm",
+            CacheAction::PutS => "puts",
+            CacheAction::PutM => "putm",
+            CacheAction::InvAck => "inv-ack",
+            CacheAction::DataReq => "data-req",
+            CacheAction::DataDir => "data-dir",
         }
     }
 
-    /// These actions, if there are at most `MOST`.
-    pub fn of(actions: &[CacheAction]) -> Option<CacheActions>
-        ensures few { IsSome result ↔ (length actions.now ≤ 8) }
-        ensures same { IfSome result (λ kept. kept ≡ actions.now) }
-        ensures more { IfNone result (8 < length actions.now) }
-    {
-        if actions.len() > CacheActions::MOST {
-            return None;
-        }
-        let mut kept = CacheActions::none();
-        for &action in actions {
-            kept = kept.with(action);
-        }
-        Some(kept)
+    fn number(self) -> usize {
+        self as usize
     }
 
-    /// The actions, in order.
-    pub fn as_slice(&self) -> &[CacheAction]
-        ensures actions { result.now ≡ self.now }
-        ensures few { length self.now ≤ 8 }
-    {
-        &self.items[..self.count]
+    fn all() -> &'static [CacheAction] {
+        &CacheAction::ALL
     }
 
-    /// How many actions there are.
-    pub fn len(&self) -> usize
-        ensures count { result ≡ length self.now }
-        ensures few { result ≤ 8 }
-    {
-        self.as_slice().len()
+    fn first() -> CacheAction {
+        CacheAction::GetS
     }
 
-    /// Whether there is no action.
-    pub fn is_empty(&self) -> bool
-        ensures { IsTrue result ↔ (self.now ≡ []) }
-    {
-        self.count == 0
-    }
-
-    /// These actions and then this one.
-    pub fn with(self, action: CacheAction) -> CacheActions
-        requires { length self < 8 }
-        ensures { result ≡ self ++ action ∷ [] }
-    {
-        let mut items = self.items;
-        items[self.count] = action;
-        CacheActions {
-            items,
-            count: self.count + 1,
-        }
-    }
+    ghost stands = { action_stands };
 }

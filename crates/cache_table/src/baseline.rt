@@ -2,8 +2,9 @@ ghost use Rattle.std.specs.Prelude.{◌≡◌};
 ghost use Rattle.cache_table.specs.Baseline.{baseline_cells, baseline_row};
 
 use crate::actions::CacheAction::{DataDir, DataReq, GetM, GetS, InvAck, PutM, PutS};
-use crate::entry::CacheEntry::{self, Blank, Stall};
 use crate::state::CacheState::{self, I, IiA, ImA, ImAd, IsD, M, MiA, S, SiA, SmA, SmAd};
+use crate::table::CacheEntry;
+use base::controller::Entry::{Blank, Stall};
 
 /// The rows of the baseline (after Primer, section 8.2), each with its cells in the order of the events.
 pub(crate) fn baseline_rows() -> [[CacheEntry; 12]; 11]

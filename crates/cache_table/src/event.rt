@@ -1,5 +1,4 @@
-ghost use Rattle.std.specs.Prelude.{◌≡◌, ◌<◌};
-ghost use Rattle.cache_table.specs.Table.{event_number};
+use base::controller::Listed;
 
 /// What happens to a block's line in a cache (Primer, section 8.2).
 ///
@@ -34,11 +33,65 @@ pub enum CacheEvent {
 }
 
 impl CacheEvent {
-    /// The number of the event's column in a table.
-    pub(crate) fn number(self) -> usize
-        ensures number { result ≡ event_number self }
-        ensures small { result < 12 }
-    {
+    /// All events, in the order of a table's columns.
+    pub const ALL: [CacheEvent; 12] = [
+        CacheEvent::Load,
+        CacheEvent::Store,
+        CacheEvent::Replacement,
+        CacheEvent::FwdGetS,
+        CacheEvent::FwdGetM,
+        CacheEvent::Inv,
+        CacheEvent::PutAck,
+        CacheEvent::DataDirZero,
+        CacheEvent::DataDirMore,
+        CacheEvent::DataOwner,
+        CacheEvent::InvAck,
+        CacheEvent::LastInvAck,
+    ];
+}
+
+impl Listed for CacheEvent {
+    ghost use Rattle.cache_table.specs.Names.{event_name, first_event};
+    ghost use Rattle.cache_table.specs.Table.{event_number};
+    ghost use Rattle.cache_table.specs.Baseline.{all_events};
+    ghost use Rattle.cache_table.specs.inner.Standing.{event_stands};
+
+    ghost spelling = { event_name };
+
+    ghost place = { event_number };
+
+    ghost kind = { all_events };
+
+    ghost head = { first_event };
+
+    fn name(self) -> &'static str {
+        match self {
+            CacheEvent::Load => "Load",
+            CacheEvent::Store => "Store",
+            CacheEvent::Replacement => "Replacement",
+            CacheEvent::FwdGetS => "Fwd-GetS",
+            CacheEvent::FwdGetM => "Fwd-GetM",
+            CacheEvent::Inv => "Inv",
+            CacheEvent::PutAck => "Put-Ack",
+            CacheEvent::DataDirZero => "Data-Dir-Zero",
+            CacheEvent::DataDirMore => "Data-Dir-More",
+            CacheEvent::DataOwner => "Data-Owner",
+            CacheEvent::InvAck => "Inv-Ack",
+            CacheEvent::LastInvAck => "Last-Inv-Ack",
+        }
+    }
+
+    fn number(self) -> usize {
         self as usize
     }
+
+    fn all() -> &'static [CacheEvent] {
+        &CacheEvent::ALL
+    }
+
+    fn first() -> CacheEvent {
+        CacheEvent::Load
+    }
+
+    ghost stands = { event_stands };
 }

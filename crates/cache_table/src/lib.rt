@@ -7,16 +7,11 @@
 
 mod actions;
 mod baseline;
-mod change;
-mod entry;
 mod event;
-mod names;
 mod state;
 mod table;
 
-pub use actions::{CacheAction, CacheActions};
-pub use change::CacheChange;
-pub use entry::CacheEntry;
+pub use actions::CacheAction;
 pub use event::CacheEvent;
 pub use state::CacheState;
-pub use table::{CacheTable, entry_after_changes};
+pub use table::{CacheActions, CacheChange, CacheEntry, CacheTable};

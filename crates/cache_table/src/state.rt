@@ -1,5 +1,4 @@
-ghost use Rattle.std.specs.Prelude.{◌≡◌, ◌<◌};
-ghost use Rattle.cache_table.specs.Table.{state_number};
+use base::controller::Listed;
 
 /// The state of a block's line in a cache (Primer, section 8.2).
 ///
@@ -32,11 +31,63 @@ pub enum CacheState {
 }
 
 impl CacheState {
-    /// The number of the state's row in a table.
-    pub(crate) fn number(self) -> usize
-        ensures number { result ≡ state_number self }
-        ensures small { result < 11 }
-    {
+    /// All states, in the order of a table's rows.
+    pub const ALL: [CacheState; 11] = [
+        CacheState::I,
+        CacheState::IsD,
+        CacheState::ImAd,
+        CacheState::ImA,
+        CacheState::S,
+        CacheState::SmAd,
+        CacheState::SmA,
+        CacheState::M,
+        CacheState::MiA,
+        CacheState::SiA,
+        CacheState::IiA,
+    ];
+}
+
+impl Listed for CacheState {
+    ghost use Rattle.cache_table.specs.Names.{state_name, first_state};
+    ghost use Rattle.cache_table.specs.Table.{state_number};
+    ghost use Rattle.cache_table.specs.Baseline.{all_states};
+    ghost use Rattle.cache_table.specs.inner.Standing.{state_stands};
+
+    ghost spelling = { state_name };
+
+    ghost place = { state_number };
+
+    ghost kind = { all_states };
+
+    ghost head = { first_state };
+
+    fn name(self) -> &'static str {
+        match self {
+            CacheState::I => "I",
+            CacheState::IsD => "IS^D",
+            CacheState::ImAd => "IM^AD",
+            CacheState::ImA => "IM^A",
+            CacheState::S => "S",
+            CacheState::SmAd => "SM^AD",
+            CacheState::SmA => "SM^A",
+            CacheState::M => "M",
+            CacheState::MiA => "MI^A",
+            CacheState::SiA => "SI^A",
+            CacheState::IiA => "II^A",
+        }
+    }
+
+    fn number(self) -> usize {
         self as usize
     }
+
+    fn all() -> &'static [CacheState] {
+        &CacheState::ALL
+    }
+
+    fn first() -> CacheState {
+        CacheState::I
+    }
+
+    ghost stands = { state_stands };
 }

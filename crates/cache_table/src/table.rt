@@ -1,13 +1,22 @@
 ghost use Rattle.std.specs.Prelude.{◌≡◌};
-ghost use Rattle.cache_table.specs.Table.{cell, laid_over, with_cell, IsWhole, LastChangeHolds};
+ghost use Rattle.cache_table.specs.Table.{cell, laid_over, with_cell, IsWhole};
 ghost use Rattle.cache_table.specs.Baseline.{baseline_cells, baseline_entry};
 
 use crate::baseline::baseline_rows;
-use crate::change::CacheChange;
-use crate::entry::CacheEntry;
+use crate::actions::CacheAction;
 use crate::event::CacheEvent;
 use crate::state::CacheState;
+use base::controller::{Actions, Change, Entry, Listed};
 use std::marker::Model;
+
+/// What a cache's controller does in a cell, in order.
+pub type CacheActions = Actions<CacheAction>;
+
+/// One cell of a cache's table: what the controller does in a state on an event.
+pub type CacheEntry = Entry<CacheState, CacheAction>;
+
+/// An entry that one cell of a cache's table is to have.
+pub type CacheChange = Change<CacheState, CacheEvent, CacheAction>;
 
 /// The table of a cache's controller: a cell for each state and each event.
 #[derive(Clone, Copy, PartialEq, Eq, Debug)]
@@ -71,9 +80,3 @@ impl CacheTable {
         table
     }
 }
-
-/// Where changes are laid over a whole table in order, each cell holds the entry of its last change, or its own if there
-/// is none.
-pub fn entry_after_changes()
-    ensures { LastChangeHolds }
-{}

@@ -1,14 +1,13 @@
-use Rattle.std.proofs.Common.{◌≡◌, List, get_or, map, refl, ap, ◌∙◌}
+use Rattle.std.proofs.Common.{◌≡◌, List, [], get_or, map, refl, ap, ◌∙◌}
 use Rattle.directory_table.specs.declared.state.DirectoryState.{DirectoryState}
 use Rattle.directory_table.specs.declared.state.DirectoryState.TheVariants.{I, S, M, SD}
 use Rattle.directory_table.specs.declared.event.DirectoryEvent.{DirectoryEvent}
 use Rattle.directory_table.specs.declared.event.DirectoryEvent.TheVariants as event
-use Rattle.directory_table.specs.declared.entry.DirectoryEntry.{DirectoryEntry}
-use Rattle.directory_table.specs.declared.entry.DirectoryEntry.TheVariants.{Blank}
-use Rattle.directory_table.specs.Table.{cell, row, event_number}
+use Rattle.base.specs.declared.controller.entry.Entry.TheVariants.{Blank}
+use Rattle.directory_table.specs.Table.{DirectoryEntry, cell, event_number, state_number}
 use Rattle.directory_table.specs.Baseline.{baseline_cells, baseline_entry, baseline_row, all_events}
 
-row-baseline : (state : DirectoryState) → row baseline_cells state ≡ baseline_row state
+row-baseline : (state : DirectoryState) → get_or baseline_cells (state_number state) [] ≡ baseline_row state
 row-baseline I = refl
 row-baseline S = refl
 row-baseline M = refl

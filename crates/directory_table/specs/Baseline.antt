@@ -1,11 +1,10 @@
 use Rattle.std.specs.Prelude.{List, [], ◌∷◌, map}
-use Rattle.directory_table.specs.Table.{Cells}
+use Rattle.base.specs.declared.controller.entry.Entry.TheVariants.{Blank, Stall, Act}
+use Rattle.directory_table.specs.Table.{Cells, DirectoryEntry}
 use Rattle.directory_table.specs.declared.state.DirectoryState.{DirectoryState}
 use Rattle.directory_table.specs.declared.state.DirectoryState.TheVariants.{I, S, M, SD}
 use Rattle.directory_table.specs.declared.event.DirectoryEvent.{DirectoryEvent}
 use Rattle.directory_table.specs.declared.event.DirectoryEvent.TheVariants as event
-use Rattle.directory_table.specs.declared.entry.DirectoryEntry.{DirectoryEntry}
-use Rattle.directory_table.specs.declared.entry.DirectoryEntry.TheVariants.{Blank, Stall, Act}
 use Rattle.directory_table.specs.declared.actions.DirectoryAction.TheVariants.{DataReq, DataAcks, InvSharers, FwdGetS, FwdGetM, PutAck, AddReq}
 use Rattle.directory_table.specs.declared.actions.DirectoryAction.TheVariants.{AddOwner, RemoveReq, ClearSharers, ClearOwner, SetOwner, CopyData}
 

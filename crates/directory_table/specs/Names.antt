@@ -1,4 +1,4 @@
-use Rattle.std.specs.Prelude.{◌≢◌, ℕ, List, [], ◌∷◌, Option, codes}
+use Rattle.std.specs.Prelude.{ℕ, List, [], ◌∷◌, Option, codes}
 use Rattle.base.specs.Spelling.{named_in}
 use Rattle.directory_table.specs.Baseline.{all_states, all_events}
 use Rattle.directory_table.specs.declared.state.DirectoryState.{DirectoryState}
@@ -15,13 +15,13 @@ state_name state.S = codes "S"
 state_name state.M = codes "M"
 state_name state.SD = codes "S^D"
 
+-- the state that stands first
+abbrev pub first_state : DirectoryState
+first_state = state.I
+
 -- the state that is spelled so, if there is one
 abbrev pub state_named : List ℕ → Option DirectoryState
 state_named text = named_in state_name text all_states
-
--- no state is spelled so
-abbrev pub IsNoState : List ℕ → Type 0
-IsNoState text = (s : DirectoryState) → text ≢ state_name s
 
 -- how an event is spelled
 abbrev pub event_name : DirectoryEvent → List ℕ
@@ -33,13 +33,13 @@ event_name event.PutMOwner = codes "PutM-Owner"
 event_name event.PutMNonOwner = codes "PutM-NonOwner"
 event_name event.Data = codes "Data"
 
+-- the event that stands first
+abbrev pub first_event : DirectoryEvent
+first_event = event.GetS
+
 -- the event that is spelled so, if there is one
 abbrev pub event_named : List ℕ → Option DirectoryEvent
 event_named text = named_in event_name text all_events
-
--- no event is spelled so
-abbrev pub IsNoEvent : List ℕ → Type 0
-IsNoEvent text = (e : DirectoryEvent) → text ≢ event_name e
 
 -- how an action is spelled
 abbrev pub action_name : DirectoryAction → List ℕ
@@ -63,10 +63,26 @@ all_actions =
     action.DataReq ∷ action.DataAcks ∷ action.InvSharers ∷ action.FwdGetS ∷ action.FwdGetM ∷ action.PutAck ∷ action.AddReq ∷
     action.AddOwner ∷ action.RemoveReq ∷ action.ClearSharers ∷ action.ClearOwner ∷ action.SetOwner ∷ action.CopyData ∷ []
 
+-- the number of an action among all actions, counted from 0
+abbrev pub action_number : DirectoryAction → ℕ
+action_number action.DataReq = 0
+action_number action.DataAcks = 1
+action_number action.InvSharers = 2
+action_number action.FwdGetS = 3
+action_number action.FwdGetM = 4
+action_number action.PutAck = 5
+action_number action.AddReq = 6
+action_number action.AddOwner = 7
+action_number action.RemoveReq = 8
+action_number action.ClearSharers = 9
+action_number action.ClearOwner = 10
+action_number action.SetOwner = 11
+action_number action.CopyData = 12
+
+-- the action that stands first
+abbrev pub first_action : DirectoryAction
+first_action = action.DataReq
+
 -- the action that is spelled so, if there is one
 abbrev pub action_named : List ℕ → Option DirectoryAction
 action_named text = named_in action_name text all_actions
-
--- no action is spelled so
-abbrev pub IsNoAction : List ℕ → Type 0
-IsNoAction text = (a : DirectoryAction) → text ≢ action_name a

@@ -1,6 +1,4 @@
-ghost use Rattle.std.specs.Prelude.{◌≡◌, ◌<◌, ◌≤◌, ◌↔◌, ◌++◌, ◌∷◌, [], length, IfNone, IfSome, IsSome, IsTrue};
-
-use std::marker::Model;
+use base::controller::Listed;
 
 /// One thing that a block's home does in a cell (Primer, section 8.2).
 ///
@@ -37,93 +35,66 @@ pub enum DirectoryAction {
     CopyData,
 }
 
-/// At most eight actions, in order.
-#[derive(Clone, Copy, PartialEq, Eq, Debug)]
-pub struct DirectoryActions {
-    items: [DirectoryAction; 8],
-    count: usize,
+impl DirectoryAction {
+    /// All actions, in order.
+    pub const ALL: [DirectoryAction; 13] = [
+        DirectoryAction::DataReq,
+        DirectoryAction::DataAcks,
+        DirectoryAction::InvSharers,
+        DirectoryAction::FwdGetS,
+        DirectoryAction::FwdGetM,
+        DirectoryAction::PutAck,
+        DirectoryAction::AddReq,
+        DirectoryAction::AddOwner,
+        DirectoryAction::RemoveReq,
+        DirectoryAction::ClearSharers,
+        DirectoryAction::ClearOwner,
+        DirectoryAction::SetOwner,
+        DirectoryAction::CopyData,
+    ];
 }
 
-impl Model for DirectoryActions {
-    ghost use Rattle.std.specs.Prelude.{List, take};
-    ghost use Rattle.directory_table.specs.declared.actions.DirectoryAction.{DirectoryAction};
+impl Listed for DirectoryAction {
+    ghost use Rattle.directory_table.specs.Names.{action_name, action_number, all_actions, first_action};
+    ghost use Rattle.directory_table.specs.inner.Standing.{action_stands};
 
-    ghost Value = { List DirectoryAction };
+    ghost spelling = { action_name };
 
-    ghost use Rattle.directory_table.specs.inner.Filled.{IsFilled, filled, filled_back};
+    ghost place = { action_number };
 
-    ghost view = { λ s. take s.count s.items };
+    ghost kind = { all_actions };
 
-    ghost invariant = { IsFilled };
+    ghost head = { first_action };
 
-    ghost inverse = { filled };
-
-    ghost inverse_ok = { filled_back };
-}
-
-impl DirectoryActions {
-    /// The most actions that a cell has.
-    pub const MOST: usize = 8;
-
-    /// No actions.
-    pub fn none() -> DirectoryActions
-        ensures { result ≡ [] }
-    {
-        DirectoryActions {
-            items: [DirectoryAction::DataReq; 8],
-            count: 0,
+    fn name(self) -> &'static str {
+        match self {
+            DirectoryAction::DataReq => "data-req",
+            DirectoryAction::DataAcks => "data-acks",
+            DirectoryAction::InvSharers => "inv-sharers",
+            DirectoryAction::FwdGetS => "fwd-gets",
+            DirectoryAction::FwdGetM => "fwd-getm",
+            DirectoryAction::PutAck => "put-ack",
+            DirectoryAction::AddReq => "add-req",
+            DirectoryAction::AddOwner => "add-owner",
+            DirectoryAction::RemoveReq => "remove-req",
+            DirectoryAction::ClearSharers => "clear-sharers",
+            DirectoryAction::ClearOwner => "clear-owner",
+            DirectoryAction::SetOwner => "set-owner",
+            DirectoryAction::CopyData => "copy-data",
         }
     }
 
-    /// These actions, if there are at most `MOST`.
-    pub fn of(actions: &[DirectoryAction]) -> Option<DirectoryActions>
-        ensures few { IsSome result ↔ (length actions.now ≤ 8) }
-        ensures same { IfSome result (λ kept. kept ≡ actions.now) }
-        ensures more { IfNone result (8 < length actions.now) }
-    {
-        if actions.len() > DirectoryActions::MOST {
-            return None;
-        }
-        let mut kept = DirectoryActions::none();
-        for &action in actions {
-            kept = kept.with(action);
-        }
-        Some(kept)
+    fn number(self) -> usize {
+        self as usize
     }
 
-    /// The actions, in order.
-    pub fn as_slice(&self) -> &[DirectoryAction]
-        ensures actions { result.now ≡ self.now }
-        ensures few { length self.now ≤ 8 }
-    {
-        &self.items[..self.count]
+    fn all() -> &'static [DirectoryAction] {
+        &DirectoryAction::ALL
     }
 
-    /// How many actions there are.
-    pub fn len(&self) -> usize
-        ensures count { result ≡ length self.now }
-        ensures few { result ≤ 8 }
-    {
-        self.as_slice().len()
+    fn first() -> DirectoryAction {
+        DirectoryAction::DataReq
     }
 
-    /// Whether there is no action.
-    pub fn is_empty(&self) -> bool
-        ensures { IsTrue result ↔ (self.now ≡ []) }
-    {
-        self.count == 0
-    }
-
-    /// These actions and then this one.
-    pub fn with(self, action: DirectoryAction) -> DirectoryActions
-        requires { length self < 8 }
-        ensures { result ≡ self ++ action ∷ [] }
-    {
-        let mut items = self.items;
-        items[self.count] = action;
-        DirectoryActions {
-            items,
-            count: self.count + 1,
-        }
-    }
+    ghost stands = { action_stands };
 }

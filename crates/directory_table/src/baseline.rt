@@ -5,8 +5,9 @@ use crate::actions::DirectoryAction::{
     AddOwner, AddReq, ClearOwner, ClearSharers, CopyData, DataAcks, DataReq, FwdGetM, FwdGetS,
     InvSharers, PutAck, RemoveReq, SetOwner,
 };
-use crate::entry::DirectoryEntry::{self, Blank, Stall};
 use crate::state::DirectoryState::{self, I, M, S, SD};
+use crate::table::DirectoryEntry;
+use base::controller::Entry::{Blank, Stall};
 
 /// The rows of the baseline (after Primer, section 8.2), each with its cells in the order of the events.
 pub(crate) fn baseline_rows() -> [[DirectoryEntry; 7]; 4]

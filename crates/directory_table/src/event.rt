@@ -1,5 +1,4 @@
-ghost use Rattle.std.specs.Prelude.{◌≡◌, ◌<◌};
-ghost use Rattle.directory_table.specs.Table.{event_number};
+use base::controller::Listed;
 
 /// What happens to a block at its home (Primer, section 8.2): a request of a cache, or Data.
 #[derive(Clone, Copy, PartialEq, Eq, Debug)]
@@ -21,11 +20,55 @@ pub enum DirectoryEvent {
 }
 
 impl DirectoryEvent {
-    /// The number of the event's column in a table.
-    pub(crate) fn number(self) -> usize
-        ensures number { result ≡ event_number self }
-        ensures small { result < 7 }
-    {
+    /// All events, in the order of a table's columns.
+    pub const ALL: [DirectoryEvent; 7] = [
+        DirectoryEvent::GetS,
+        DirectoryEvent::GetM,
+        DirectoryEvent::PutSNotLast,
+        DirectoryEvent::PutSLast,
+        DirectoryEvent::PutMOwner,
+        DirectoryEvent::PutMNonOwner,
+        DirectoryEvent::Data,
+    ];
+}
+
+impl Listed for DirectoryEvent {
+    ghost use Rattle.directory_table.specs.Names.{event_name, first_event};
+    ghost use Rattle.directory_table.specs.Table.{event_number};
+    ghost use Rattle.directory_table.specs.Baseline.{all_events};
+    ghost use Rattle.directory_table.specs.inner.Standing.{event_stands};
+
+    ghost spelling = { event_name };
+
+    ghost place = { event_number };
+
+    ghost kind = { all_events };
+
+    ghost head = { first_event };
+
+    fn name(self) -> &'static str {
+        match self {
+            DirectoryEvent::GetS => "GetS",
+            DirectoryEvent::GetM => "GetM",
+            DirectoryEvent::PutSNotLast => "PutS-NotLast",
+            DirectoryEvent::PutSLast => "PutS-Last",
+            DirectoryEvent::PutMOwner => "PutM-Owner",
+            DirectoryEvent::PutMNonOwner => "PutM-NonOwner",
+            DirectoryEvent::Data => "Data",
+        }
+    }
+
+    fn number(self) -> usize {
         self as usize
     }
+
+    fn all() -> &'static [DirectoryEvent] {
+        &DirectoryEvent::ALL
+    }
+
+    fn first() -> DirectoryEvent {
+        DirectoryEvent::GetS
+    }
+
+    ghost stands = { event_stands };
 }

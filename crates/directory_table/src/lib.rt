@@ -7,16 +7,11 @@
 
 mod actions;
 mod baseline;
-mod change;
-mod entry;
 mod event;
-mod names;
 mod state;
 mod table;
 
-pub use actions::{DirectoryAction, DirectoryActions};
-pub use change::DirectoryChange;
-pub use entry::DirectoryEntry;
+pub use actions::DirectoryAction;
 pub use event::DirectoryEvent;
 pub use state::DirectoryState;
-pub use table::{DirectoryTable, entry_after_changes};
+pub use table::{DirectoryActions, DirectoryChange, DirectoryEntry, DirectoryTable};

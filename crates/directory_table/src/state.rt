@@ -1,5 +1,4 @@
-ghost use Rattle.std.specs.Prelude.{◌≡◌, ◌<◌};
-ghost use Rattle.directory_table.specs.Table.{state_number};
+use base::controller::Listed;
 
 /// The state of a block at its home (Primer, section 8.2).
 #[derive(Clone, Copy, PartialEq, Eq, Debug)]
@@ -15,11 +14,49 @@ pub enum DirectoryState {
 }
 
 impl DirectoryState {
-    /// The number of the state's row in a table.
-    pub(crate) fn number(self) -> usize
-        ensures number { result ≡ state_number self }
-        ensures small { result < 4 }
-    {
+    /// All states, in the order of a table's rows.
+    pub const ALL: [DirectoryState; 4] = [
+        DirectoryState::I,
+        DirectoryState::S,
+        DirectoryState::M,
+        DirectoryState::SD,
+    ];
+}
+
+impl Listed for DirectoryState {
+    ghost use Rattle.directory_table.specs.Names.{state_name, first_state};
+    ghost use Rattle.directory_table.specs.Table.{state_number};
+    ghost use Rattle.directory_table.specs.Baseline.{all_states};
+    ghost use Rattle.directory_table.specs.inner.Standing.{state_stands};
+
+    ghost spelling = { state_name };
+
+    ghost place = { state_number };
+
+    ghost kind = { all_states };
+
+    ghost head = { first_state };
+
+    fn name(self) -> &'static str {
+        match self {
+            DirectoryState::I => "I",
+            DirectoryState::S => "S",
+            DirectoryState::M => "M",
+            DirectoryState::SD => "S^D",
+        }
+    }
+
+    fn number(self) -> usize {
         self as usize
     }
+
+    fn all() -> &'static [DirectoryState] {
+        &DirectoryState::ALL
+    }
+
+    fn first() -> DirectoryState {
+        DirectoryState::I
+    }
+
+    ghost stands = { state_stands };
 }

@@ -1,13 +1,22 @@
 ghost use Rattle.std.specs.Prelude.{◌≡◌};
-ghost use Rattle.directory_table.specs.Table.{cell, laid_over, with_cell, IsWhole, LastChangeHolds};
+ghost use Rattle.directory_table.specs.Table.{cell, laid_over, with_cell, IsWhole};
 ghost use Rattle.directory_table.specs.Baseline.{baseline_cells, baseline_entry};
 
 use crate::baseline::baseline_rows;
-use crate::change::DirectoryChange;
-use crate::entry::DirectoryEntry;
+use crate::actions::DirectoryAction;
 use crate::event::DirectoryEvent;
 use crate::state::DirectoryState;
+use base::controller::{Actions, Change, Entry, Listed};
 use std::marker::Model;
+
+/// What the directory's controller does in a cell, in order.
+pub type DirectoryActions = Actions<DirectoryAction>;
+
+/// One cell of the directory's table: what the controller does in a state on an event.
+pub type DirectoryEntry = Entry<DirectoryState, DirectoryAction>;
+
+/// An entry that one cell of the directory's table is to have.
+pub type DirectoryChange = Change<DirectoryState, DirectoryEvent, DirectoryAction>;
 
 /// The table of a directory's controller: a cell for each state and each event.
 #[derive(Clone, Copy, PartialEq, Eq, Debug)]
@@ -77,9 +86,3 @@ impl DirectoryTable {
         table
     }
 }
-
-/// Where changes are laid over a whole table in order, each cell holds the entry of its last change, or its own if there
-/// is none.
-pub fn entry_after_changes()
-    ensures { LastChangeHolds }
-{}

@@ -8,8 +8,8 @@ use Rattle.network.specs.declared.message.RequestKind.{RequestKind}
 use Rattle.network.specs.declared.message.RequestKind.TheVariants as request
 use Rattle.network.specs.Traffic.{Traffic, request_sent}
 use Rattle.cache_table.specs.declared.state.CacheState.{CacheState}
-use Rattle.cache_table.specs.declared.entry.CacheEntry.{CacheEntry}
-use Rattle.cache_table.specs.declared.entry.CacheEntry.TheVariants as entry
+use Rattle.cache_table.specs.Table.{CacheEntry}
+use Rattle.base.specs.declared.controller.entry.Entry.TheVariants as entry
 use Rattle.cache_table.specs.declared.actions.CacheAction.{CacheAction}
 use Rattle.cache_table.specs.declared.actions.CacheAction.TheVariants as action
 use Rattle.control.specs.declared.line.Line.{Line}

@@ -24,15 +24,15 @@ use Rattle.network.specs.declared.message.Response.TheVariants as response
 use Rattle.network.specs.Traffic.{Traffic, link}
 use Rattle.cache_table.specs.declared.state.CacheState.{CacheState}
 use Rattle.cache_table.specs.declared.event.CacheEvent.TheVariants as line_event
-use Rattle.cache_table.specs.declared.entry.CacheEntry.{CacheEntry}
-use Rattle.cache_table.specs.declared.entry.CacheEntry.TheVariants as entry
+use Rattle.cache_table.specs.Table.{CacheEntry}
+use Rattle.base.specs.declared.controller.entry.Entry.TheVariants as entry
 use Rattle.cache_table.specs.Baseline as cache_table
 use Rattle.cache_table.specs.Table as cache_table_cells
 use Rattle.cache_table.proofs.BaselineCells as cache_cells
 use Rattle.directory_table.specs.declared.state.DirectoryState.{DirectoryState}
 use Rattle.directory_table.specs.declared.state.DirectoryState.TheVariants as home
 use Rattle.directory_table.specs.declared.event.DirectoryEvent.TheVariants as event
-use Rattle.directory_table.specs.declared.entry.DirectoryEntry.{DirectoryEntry}
+use Rattle.directory_table.specs.Table.{DirectoryEntry}
 use Rattle.directory_table.specs.Baseline as directory_table
 use Rattle.directory_table.proofs.BaselineCells as directory_cells
 use Rattle.control.specs.declared.line.Line.{Line}

@@ -19,8 +19,8 @@ use Rattle.network.specs.declared.message.Response.{Response}
 use Rattle.network.specs.declared.message.Response.TheVariants as response
 use Rattle.network.specs.Traffic.{Traffic, link, request_taken, response_taken, response_sent, head_taken, forward_sent, all_sent}
 use Rattle.network.proofs.Sending.{all_sent-append}
-use Rattle.cache_table.specs.declared.entry.CacheEntry.{CacheEntry}
-use Rattle.cache_table.specs.declared.entry.CacheEntry.TheVariants as entry
+use Rattle.cache_table.specs.Table.{CacheEntry}
+use Rattle.base.specs.declared.controller.entry.Entry.TheVariants as entry
 use Rattle.cache_table.specs.declared.actions.CacheAction.{CacheAction}
 use Rattle.cache_table.specs.declared.actions.CacheAction.TheVariants as cache_action
 use Rattle.cache_table.specs.Baseline as cache_table
@@ -28,7 +28,7 @@ use Rattle.cache_table.specs.Table as cache_table_cells
 use Rattle.directory_table.specs.declared.state.DirectoryState.{DirectoryState}
 use Rattle.directory_table.specs.declared.state.DirectoryState.TheVariants as home
 use Rattle.directory_table.specs.declared.event.DirectoryEvent.TheVariants as event
-use Rattle.directory_table.specs.declared.entry.DirectoryEntry.{DirectoryEntry}
+use Rattle.directory_table.specs.Table.{DirectoryEntry}
 use Rattle.directory_table.specs.declared.actions.DirectoryAction.TheVariants as action
 use Rattle.directory_table.specs.Baseline as directory_table
 use Rattle.directory_table.proofs.BaselineCells as directory_cells

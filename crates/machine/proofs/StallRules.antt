@@ -6,8 +6,8 @@ use Rattle.network.specs.declared.message.ForwardKind.TheVariants.{FwdGetS, FwdG
 use Rattle.cache_table.specs.declared.state.CacheState.{CacheState}
 use Rattle.cache_table.specs.declared.state.CacheState.TheVariants.{I, IsD, ImAd, ImA, S, SmAd, SmA, M, MiA, SiA, IiA}
 use Rattle.cache_table.specs.declared.event.CacheEvent.TheVariants as event
-use Rattle.cache_table.specs.declared.entry.CacheEntry.{CacheEntry}
-use Rattle.cache_table.specs.declared.entry.CacheEntry.TheVariants.{Stall}
+use Rattle.cache_table.specs.Table.{CacheEntry}
+use Rattle.base.specs.declared.controller.entry.Entry.TheVariants.{Stall}
 use Rattle.cache_table.specs.Baseline.{baseline_entry}
 use Rattle.machine.proofs.Truths.{Never}
 use Rattle.machine.proofs.Views.{View, Local}

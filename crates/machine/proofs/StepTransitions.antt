@@ -14,10 +14,10 @@ use Rattle.network.specs.declared.message.Response.TheVariants.{Data, InvAck}
 use Rattle.network.specs.Traffic.{link}
 use Rattle.cache_table.specs.declared.state.CacheState.{CacheState}
 use Rattle.cache_table.specs.declared.state.CacheState.TheVariants.{I, IsD, ImAd, ImA, S, SmAd, SmA, M, MiA, SiA, IiA}
-use Rattle.cache_table.specs.declared.entry.CacheEntry.{CacheEntry}
+use Rattle.cache_table.specs.Table.{CacheEntry}
 use Rattle.cache_table.specs.Baseline as cache_table
 use Rattle.cache_table.proofs.BaselineCells as cache_cells
-use Rattle.directory_table.specs.declared.entry.DirectoryEntry.{DirectoryEntry}
+use Rattle.directory_table.specs.Table.{DirectoryEntry}
 use Rattle.directory_table.specs.Baseline as directory_table
 use Rattle.directory_table.proofs.BaselineCells as directory_cells
 use Rattle.control.specs.declared.line.Line.{Line}

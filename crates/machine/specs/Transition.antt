@@ -15,11 +15,11 @@ use Rattle.network.specs.declared.message.Message.{Message}
 use Rattle.network.specs.Traffic.{Traffic, link, all_sent, request_taken, head_taken, response_taken}
 use Rattle.cache_table.specs.declared.state.CacheState.{CacheState}
 use Rattle.cache_table.specs.declared.state.CacheState.TheVariants as state
-use Rattle.cache_table.specs.declared.entry.CacheEntry.{CacheEntry}
-use Rattle.cache_table.specs.declared.entry.CacheEntry.TheVariants as line_entry
+use Rattle.cache_table.specs.Table.{CacheEntry}
+use Rattle.base.specs.declared.controller.entry.Entry.TheVariants as line_entry
 use Rattle.cache_table.specs.Table as cache_table
-use Rattle.directory_table.specs.declared.entry.DirectoryEntry.{DirectoryEntry}
-use Rattle.directory_table.specs.declared.entry.DirectoryEntry.TheVariants as home_entry
+use Rattle.directory_table.specs.Table.{DirectoryEntry}
+use Rattle.base.specs.declared.controller.entry.Entry.TheVariants as home_entry
 use Rattle.directory_table.specs.Table as directory_table
 use Rattle.control.specs.declared.line.Line.{Line}
 use Rattle.control.specs.declared.line.LineInput.{LineInput}

@@ -1,6 +1,6 @@
 use crate::fault::Fault;
 use crate::finding::Finding;
-use base::text::Named;
+use base::controller::Listed;
 use cache_table::{CacheEvent, CacheState, CacheTable};
 use directory_table::{DirectoryEvent, DirectoryState, DirectoryTable};
 use std::alloc::Global;

@@ -9,11 +9,11 @@ use Rattle.base.specs.Spelling.{words}
 use Rattle.cache_table.specs.Table as cache_table
 use Rattle.cache_table.proofs.Whole as cache_whole
 use Rattle.cache_table.proofs.Changes as cache_changes
-use Rattle.cache_table.specs.declared.entry.CacheEntry.TheVariants as cache_entry
+use Rattle.base.specs.declared.controller.entry.Entry.TheVariants as cache_entry
 use Rattle.directory_table.specs.Table as directory_table
 use Rattle.directory_table.proofs.Whole as directory_whole
 use Rattle.directory_table.proofs.Changes as directory_changes
-use Rattle.directory_table.specs.declared.entry.DirectoryEntry.TheVariants as directory_entry
+use Rattle.base.specs.declared.controller.entry.Entry.TheVariants as directory_entry
 use Rattle.machine.specs.Tables.{Tables, baseline}
 use Rattle.record.specs.declared.cells.Spot.{Spot}
 use Rattle.record.specs.declared.cells.Spot.TheVariants as spot

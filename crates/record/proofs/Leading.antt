@@ -13,11 +13,11 @@ use Rattle.base.specs.declared.step.Step.TheVariants as step
 use Rattle.base.specs.declared.step.Outcome.{Outcome}
 use Rattle.base.specs.declared.step.Outcome.TheVariants as outcome
 use Rattle.base.specs.Spelling.{ask_words, step_words, outcome_words, FitsAsk, FitsStep, FitsOutcome}
-use Rattle.cache_table.specs.declared.entry.CacheEntry.{CacheEntry}
-use Rattle.cache_table.specs.declared.entry.CacheEntry.TheVariants as cache_entry
+use Rattle.cache_table.specs.Table.{CacheEntry}
+use Rattle.base.specs.declared.controller.entry.Entry.TheVariants as cache_entry
 use Rattle.cache_table.specs.Names as cache_names
-use Rattle.directory_table.specs.declared.entry.DirectoryEntry.{DirectoryEntry}
-use Rattle.directory_table.specs.declared.entry.DirectoryEntry.TheVariants as directory_entry
+use Rattle.directory_table.specs.Table.{DirectoryEntry}
+use Rattle.base.specs.declared.controller.entry.Entry.TheVariants as directory_entry
 use Rattle.directory_table.specs.Names as directory_names
 use Rattle.record.specs.declared.cells.Cell.{Cell}
 use Rattle.record.specs.declared.cells.Cell.TheVariants as cell

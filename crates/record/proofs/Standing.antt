@@ -5,14 +5,14 @@ use Rattle.std.proofs.lemmas.List.{get_or_default}
 use Rattle.std.proofs.lemmas.Bool.Decides.{nat_tests}
 use Rattle.cache_table.specs.Table as cache_table
 use Rattle.cache_table.proofs.Whole as cache_whole
-use Rattle.cache_table.specs.declared.entry.CacheEntry.{CacheEntry}
-use Rattle.cache_table.specs.declared.entry.CacheEntry.TheVariants as cache_entry
+use Rattle.cache_table.specs.Table.{CacheEntry}
+use Rattle.base.specs.declared.controller.entry.Entry.TheVariants as cache_entry
 use Rattle.cache_table.specs.declared.state.CacheState.{CacheState}
 use Rattle.cache_table.specs.declared.event.CacheEvent.{CacheEvent}
 use Rattle.directory_table.specs.Table as directory_table
 use Rattle.directory_table.proofs.Whole as directory_whole
-use Rattle.directory_table.specs.declared.entry.DirectoryEntry.{DirectoryEntry}
-use Rattle.directory_table.specs.declared.entry.DirectoryEntry.TheVariants as directory_entry
+use Rattle.directory_table.specs.Table.{DirectoryEntry}
+use Rattle.base.specs.declared.controller.entry.Entry.TheVariants as directory_entry
 use Rattle.directory_table.specs.declared.state.DirectoryState.{DirectoryState}
 use Rattle.directory_table.specs.declared.event.DirectoryEvent.{DirectoryEvent}
 use Rattle.machine.specs.Tables.{Tables, baseline}

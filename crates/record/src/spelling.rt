@@ -10,7 +10,8 @@ ghost use Rattle.record.specs.Text.{line, entry_words};
 
 use crate::cells::Cell;
 use crate::recording::Entry;
-use base::text::{Named, Text};
+use base::controller::Listed;
+use base::text::Text;
 use cache_table::{CacheAction, CacheEntry};
 use directory_table::{DirectoryAction, DirectoryEntry};
 

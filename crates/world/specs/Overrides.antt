@@ -6,16 +6,16 @@ use Rattle.serde_json.specs.Data.{Data, Items, no_items, item}
 use Rattle.serde_json.specs.Find.{as_str}
 use Rattle.serde_json.specs.Read.{read}
 use Rattle.cache_table.specs.declared.state.CacheState.{CacheState}
-use Rattle.cache_table.specs.declared.entry.CacheEntry.{CacheEntry}
-use Rattle.cache_table.specs.declared.entry.CacheEntry.TheVariants as cache_entry
-use Rattle.cache_table.specs.declared.change.CacheChange.{CacheChange}
+use Rattle.cache_table.specs.Table.{CacheEntry}
+use Rattle.base.specs.declared.controller.entry.Entry.TheVariants as cache_entry
+use Rattle.cache_table.specs.Table.{CacheChange}
 use Rattle.cache_table.specs.Names as cache_names
 use Rattle.cache_table.specs.Table as cache_table
 use Rattle.cache_table.specs.Baseline as cache_baseline
 use Rattle.directory_table.specs.declared.state.DirectoryState.{DirectoryState}
-use Rattle.directory_table.specs.declared.entry.DirectoryEntry.{DirectoryEntry}
-use Rattle.directory_table.specs.declared.entry.DirectoryEntry.TheVariants as directory_entry
-use Rattle.directory_table.specs.declared.change.DirectoryChange.{DirectoryChange}
+use Rattle.directory_table.specs.Table.{DirectoryEntry}
+use Rattle.base.specs.declared.controller.entry.Entry.TheVariants as directory_entry
+use Rattle.directory_table.specs.Table.{DirectoryChange}
 use Rattle.directory_table.specs.Names as directory_names
 use Rattle.directory_table.specs.Table as directory_table
 use Rattle.directory_table.specs.Baseline as directory_baseline

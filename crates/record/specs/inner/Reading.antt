@@ -8,8 +8,8 @@ use Rattle.base.specs.Extent.{Extent, IsWithinLimits}
 use Rattle.base.specs.Spelling.{words, step_words, FitsStep}
 use Rattle.base.specs.declared.step.Step.{Step}
 use Rattle.record.specs.declared.cells.Cell.{Cell}
-use Rattle.cache_table.specs.declared.entry.CacheEntry.{CacheEntry}
-use Rattle.directory_table.specs.declared.entry.DirectoryEntry.{DirectoryEntry}
+use Rattle.cache_table.specs.Table.{CacheEntry}
+use Rattle.directory_table.specs.Table.{DirectoryEntry}
 use Rattle.record.specs.Cells.{cell_words, cache_entry_words, directory_entry_words, FitsCell, FitsCacheEntry, FitsDirectoryEntry}
 use Rattle.record.specs.Text.{shape_words, opening_words}
 use Rattle.record.specs.declared.fault.ReadKind.{ReadKind}

@@ -1,0 +1,138 @@
+ghost use Rattle.base.specs.Cells.{LastChangeHolds};
+
+use crate::controller::actions::Actions;
+use crate::controller::listed::Listed;
+use std::alloc::AllocError;
+use std::fmt;
+
+/// One cell of a controller's table: what it does in a state on an event.
+#[derive(Copy, PartialEq, Eq, Debug)]
+pub enum Entry<S: Listed, A: Listed> {
+    /// There is no rule: the protocol takes it that the event can't come in this state.
+    Blank,
+    /// The event waits, and nothing changes.
+    Stall,
+    /// The actions are done in order, and then the controller is in the next state.
+    Act {
+        /// The state that it goes to.
+        next: S,
+        /// What is done, in order.
+        actions: Actions<A>,
+    },
+}
+
+impl<S: Listed, A: Listed> Clone for Entry<S, A> {
+    fn clone(&self) -> Result<Entry<S, A>, AllocError> {
+        Ok(*self)
+    }
+}
+
+impl<S: Listed, A: Listed> Entry<S, A> {
+    ghost use Rattle.std.specs.Prelude.{◌≡◌, [], ◌∷◌};
+
+    /// To the next state with no action.
+    pub fn quiet(next: S) -> Entry<S, A>
+        ensures { result ≡ Entry.Act next [] }
+    {
+        Entry::Act {
+            next,
+            actions: Actions::none(),
+        }
+    }
+
+    /// One action, and then to the next state.
+    pub fn one(action: A, next: S) -> Entry<S, A>
+        ensures { result ≡ Entry.Act next (action ∷ []) }
+    {
+        Entry::Act {
+            next,
+            actions: Actions::none().with(action),
+        }
+    }
+
+    /// Two actions, and then to the next state.
+    pub fn two(first: A, second: A, next: S) -> Entry<S, A>
+        ensures { result ≡ Entry.Act next (first ∷ second ∷ []) }
+    {
+        Entry::Act {
+            next,
+            actions: Actions::none().with(first).with(second),
+        }
+    }
+
+    /// Three actions, and then to the next state.
+    pub fn three(first: A, second: A, third: A, next: S) -> Entry<S, A>
+        ensures { result ≡ Entry.Act next (first ∷ second ∷ third ∷ []) }
+    {
+        Entry::Act {
+            next,
+            actions: Actions::none().with(first).with(second).with(third),
+        }
+    }
+
+    /// Four actions, and then to the next state.
+    pub fn four(first: A, second: A, third: A, fourth: A, next: S) -> Entry<S, A>
+        ensures { result ≡ Entry.Act next (first ∷ second ∷ third ∷ fourth ∷ []) }
+    {
+        Entry::Act {
+            next,
+            actions: Actions::none()
+                .with(first)
+                .with(second)
+                .with(third)
+                .with(fourth),
+        }
+    }
+}
+
+/// An entry that one cell of a controller's table is to have.
+#[derive(Copy, PartialEq, Eq, Debug)]
+pub struct Change<S: Listed, E: Listed, A: Listed> {
+    /// The state of the cell.
+    pub state: S,
+    /// The event of the cell.
+    pub event: E,
+    /// What the cell is to hold.
+    pub entry: Entry<S, A>,
+}
+
+impl<S: Listed, E: Listed, A: Listed> Clone for Change<S, E, A> {
+    fn clone(&self) -> Result<Change<S, E, A>, AllocError> {
+        Ok(*self)
+    }
+}
+
+impl<S: Listed, E: Listed, A: Listed> Change<S, E, A> {
+    ghost use Rattle.std.specs.Prelude.{◌≡◌};
+    ghost use Rattle.base.specs.Cells.{is_of};
+
+    /// Whether this is a change of the cell that the other one changes too.
+    pub fn is_of_same_cell(&self, other: &Change<S, E, A>) -> bool
+        ensures { result ≡ is_of S.place E.place self.now other.now.state other.now.event }
+    {
+        self.state.number() == other.state.number() && self.event.number() == other.event.number()
+    }
+}
+
+/// `blank`, `stall`, or `act` with the next state and the actions.
+impl<S: Listed, A: Listed> fmt::Display for Entry<S, A> {
+    fn fmt<W: fmt::Write>(&self, f: &mut fmt::Formatter<W>) -> fmt::Result {
+        match self {
+            Entry::Blank => write!(f, "blank"),
+            Entry::Stall => write!(f, "stall"),
+            Entry::Act { next, actions } => {
+                write!(f, "act {}", next.name())?;
+                for action in actions.as_slice() {
+                    write!(f, " {}", action.name())?;
+                }
+                Ok(())
+            }
+        }
+    }
+}
+
+/// Where changes are made to a whole table in order, each cell holds the entry of its last change, or its own if there is
+/// none.
+pub fn last_change_holds<S: Listed, E: Listed, A: Listed>()
+    ensures { LastChangeHolds A S.kind E.kind S.place E.place }
+{}

@@ -1,0 +1,57 @@
+ghost use Rattle.std.specs.Prelude.{◌≡◌, ◌<◌, ℕ, List, MatchOption, Some, length, slice_get};
+ghost use Rattle.base.specs.Spelling.{named_in, IsUnnamed};
+
+/// A state, an event or an action of a controller: one of a few of its kind, which stand in a fixed order and have names.
+pub trait Listed: Copy + PartialEq + 'static {
+    /// How it is spelled.
+    ghost spelling: { Self → List ℕ };
+
+    /// Its number among its kind, counted from 0.
+    ghost place: { Self → ℕ };
+
+    /// All of its kind, in order.
+    ghost kind: { List Self };
+
+    /// The one that stands first.
+    ghost head: { Self };
+
+    /// How it is spelled in texts.
+    fn name(self) -> &'static str
+        ensures { result.now ≡ spelling self };
+
+    /// Its number among its kind, counted from 0.
+    fn number(self) -> usize
+        ensures number { result ≡ place self }
+        ensures small { result < length kind };
+
+    /// All of its kind, in order.
+    fn all() -> &'static [Self]
+        ensures { result.now ≡ kind };
+
+    /// The one of its kind that stands first.
+    fn first() -> Self
+        ensures { result ≡ head };
+
+    /// Each stands at its number.
+    ghost stands: { (x : Self) → slice_get kind (place x) ≡ Some x };
+}
+
+/// The one of its kind that has this name. `None` comes exactly where none has it.
+pub fn named<N: Listed>(name: &[u8]) -> Option<N>
+    ensures spelled { MatchOption result (IsUnnamed N.spelling name.now) (λ x. name.now ≡ N.spelling x) }
+    ensures named { result ≡ named_in N.spelling name.now N.kind }
+{
+    find_named(N::all(), name)
+}
+
+/// The first of these that has this name.
+fn find_named<N: Listed>(all: &[N], name: &[u8]) -> Option<N>
+    ensures { result ≡ named_in N.spelling name.now all.now }
+{
+    for &one in all {
+        if one.name().as_bytes() == name {
+            return Some(one);
+        }
+    }
+    None
+}
