@@ -4,6 +4,6 @@ mod actions;
 mod entry;
 mod listed;
 
-pub use actions::Actions;
-pub use entry::{Change, Entry};
+pub use actions::{Actions, MOST_ACTIONS};
+pub use entry::{Change, Entry, last_change_holds};
 pub use listed::{Listed, named};

@@ -11,10 +11,9 @@ use Rattle.network.specs.declared.message.Response.{Response}
 use Rattle.network.specs.declared.message.Response.TheVariants.{Data, InvAck}
 use Rattle.network.specs.Traffic.{link}
 use Rattle.cache_table.specs.Table.{CacheEntry}
-use Rattle.base.specs.declared.controller.entry.Entry.TheVariants as line_entry
+use Rattle.base.specs.declared.controller.entry.Entry.TheVariants as table_entry
 use Rattle.cache_table.specs.Table as cache_table
 use Rattle.directory_table.specs.Table.{DirectoryEntry}
-use Rattle.base.specs.declared.controller.entry.Entry.TheVariants as home_entry
 use Rattle.directory_table.specs.Table as directory_table
 use Rattle.control.specs.declared.line.Line.{Line}
 use Rattle.control.specs.declared.line.LineInput.{LineInput}
@@ -46,15 +45,15 @@ found {X} x o e = let P : Option X → Type 0 = λ o. IsSome o in subst P e is_t
 
 line_entry-fits : (x : CacheEntry) (cache : CacheId) (line : Line) (input : LineInput) (from : Origin) (b : BlockState) → cache.0 < length b.lines →
     IsThere from b.traffic → Fits (by_line_entry x cache line input from) b
-line_entry-fits line_entry.Blank cache line input from b l t = tt
-line_entry-fits line_entry.Stall cache line input from b l t = tt
-line_entry-fits (line_entry.Act next actions) cache line input from b l t = (l, t)
+line_entry-fits table_entry.Blank cache line input from b l t = tt
+line_entry-fits table_entry.Stall cache line input from b l t = tt
+line_entry-fits (table_entry.Act next actions) cache line input from b l t = (l, t)
 
 home_entry-fits : (x : DirectoryEntry) (input : HomeInput) (from : Origin) (b : BlockState) → IsThere from b.traffic →
     IsBelow (sender_of input) (length b.lines) → Fits (by_home_entry x input from) b
-home_entry-fits home_entry.Blank input from b t l = tt
-home_entry-fits home_entry.Stall input from b t l = tt
-home_entry-fits (home_entry.Act next actions) input from b t l = (t, l)
+home_entry-fits table_entry.Blank input from b t l = tt
+home_entry-fits table_entry.Stall input from b t l = tt
+home_entry-fits (table_entry.Act next actions) input from b t l = (t, l)
 
 line-fits : (cells : cache_table.Cells) (cache : CacheId) (input : LineInput) (from : Origin) (found : Option Line) (b : BlockState) →
     found ≡ slice_get b.lines cache.0 → IsThere from b.traffic → Fits (at_line cells cache input from found) b

@@ -18,10 +18,9 @@ use Rattle.network.specs.declared.message.Response.{Response}
 use Rattle.network.specs.declared.message.Response.TheVariants.{Data, InvAck}
 use Rattle.network.specs.Traffic.{link}
 use Rattle.cache_table.specs.Table.{CacheEntry}
-use Rattle.base.specs.declared.controller.entry.Entry.TheVariants as line_entry
+use Rattle.base.specs.declared.controller.entry.Entry.TheVariants as table_entry
 use Rattle.cache_table.specs.Table as cache_table
 use Rattle.directory_table.specs.Table.{DirectoryEntry}
-use Rattle.base.specs.declared.controller.entry.Entry.TheVariants as home_entry
 use Rattle.directory_table.specs.Table as directory_table
 use Rattle.control.specs.declared.line.Line.{Line}
 use Rattle.control.specs.declared.line.LineInput.{LineInput}
@@ -58,14 +57,14 @@ StoresIfActs (AtLine cache line input next actions from) = Unit {0}
 StoresIfActs (AtHome input next actions from) = Unit {0}
 
 line-entry : (x : CacheEntry) (cache : CacheId) (line : Line) (input : LineInput) (from : Origin) → StoresIfActs (by_line_entry x cache line input from)
-line-entry line_entry.Blank cache line input from = λ latest. refl
-line-entry line_entry.Stall cache line input from = λ latest. refl
-line-entry (line_entry.Act next actions) cache line input from = tt
+line-entry table_entry.Blank cache line input from = λ latest. refl
+line-entry table_entry.Stall cache line input from = λ latest. refl
+line-entry (table_entry.Act next actions) cache line input from = tt
 
 home-entry : (x : DirectoryEntry) (input : HomeInput) (from : Origin) → StoresIfActs (by_home_entry x input from)
-home-entry home_entry.Blank input from = λ latest. refl
-home-entry home_entry.Stall input from = λ latest. refl
-home-entry (home_entry.Act next actions) input from = tt
+home-entry table_entry.Blank input from = λ latest. refl
+home-entry table_entry.Stall input from = λ latest. refl
+home-entry (table_entry.Act next actions) input from = tt
 
 to-line : (cells : cache_table.Cells) (cache : CacheId) (input : LineInput) (from : Origin) (found : Option Line) →
     StoresIfActs (at_line cells cache input from found)

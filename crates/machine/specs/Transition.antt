@@ -16,10 +16,9 @@ use Rattle.network.specs.Traffic.{Traffic, link, all_sent, request_taken, head_t
 use Rattle.cache_table.specs.declared.state.CacheState.{CacheState}
 use Rattle.cache_table.specs.declared.state.CacheState.TheVariants as state
 use Rattle.cache_table.specs.Table.{CacheEntry}
-use Rattle.base.specs.declared.controller.entry.Entry.TheVariants as line_entry
+use Rattle.base.specs.declared.controller.entry.Entry.TheVariants as table_entry
 use Rattle.cache_table.specs.Table as cache_table
 use Rattle.directory_table.specs.Table.{DirectoryEntry}
-use Rattle.base.specs.declared.controller.entry.Entry.TheVariants as home_entry
 use Rattle.directory_table.specs.Table as directory_table
 use Rattle.control.specs.declared.line.Line.{Line}
 use Rattle.control.specs.declared.line.LineInput.{LineInput}
@@ -41,9 +40,9 @@ use Rattle.machine.specs.Block.{BlockState}
 
 -- a cell of a line: a stall holds the step, a blank breaks the world, else the cell acts
 abbrev pub by_line_entry : CacheEntry → CacheId → Line → LineInput → Origin → Decision
-by_line_entry line_entry.Stall cache line input from = Refused outcome.Held
-by_line_entry line_entry.Blank cache line input from = Refused outcome.Blank
-by_line_entry (line_entry.Act next actions) cache line input from = AtLine cache line input next actions from
+by_line_entry table_entry.Stall cache line input from = Refused outcome.Held
+by_line_entry table_entry.Blank cache line input from = Refused outcome.Blank
+by_line_entry (table_entry.Act next actions) cache line input from = AtLine cache line input next actions from
 
 -- an input comes to the line of a cache, if that cache is there
 abbrev pub at_line : cache_table.Cells → CacheId → LineInput → Origin → Option Line → Decision
@@ -52,9 +51,9 @@ at_line cells cache input from (Some line) = by_line_entry (cache_table.cell cel
 
 -- a cell of a home
 abbrev pub by_home_entry : DirectoryEntry → HomeInput → Origin → Decision
-by_home_entry home_entry.Stall input from = Refused outcome.Held
-by_home_entry home_entry.Blank input from = Refused outcome.Blank
-by_home_entry (home_entry.Act next actions) input from = AtHome input next actions from
+by_home_entry table_entry.Stall input from = Refused outcome.Held
+by_home_entry table_entry.Blank input from = Refused outcome.Blank
+by_home_entry (table_entry.Act next actions) input from = AtHome input next actions from
 
 -- an input comes to the home
 abbrev pub at_home : directory_table.Cells → HomeInput → Origin → Home → Decision

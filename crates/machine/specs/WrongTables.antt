@@ -11,7 +11,7 @@ use Rattle.cache_table.specs.declared.state.CacheState.TheVariants as cache_stat
 use Rattle.cache_table.specs.declared.event.CacheEvent.{CacheEvent}
 use Rattle.cache_table.specs.declared.event.CacheEvent.TheVariants as cache_event
 use Rattle.cache_table.specs.Table.{CacheEntry}
-use Rattle.base.specs.declared.controller.entry.Entry.TheVariants as cache_entry
+use Rattle.base.specs.declared.controller.entry.Entry.TheVariants as table_entry
 use Rattle.cache_table.specs.declared.actions.CacheAction.TheVariants as cache_action
 use Rattle.directory_table.specs.Table as directory_table
 use Rattle.directory_table.specs.declared.state.DirectoryState.{DirectoryState}
@@ -19,7 +19,6 @@ use Rattle.directory_table.specs.declared.state.DirectoryState.TheVariants as di
 use Rattle.directory_table.specs.declared.event.DirectoryEvent.{DirectoryEvent}
 use Rattle.directory_table.specs.declared.event.DirectoryEvent.TheVariants as directory_event
 use Rattle.directory_table.specs.Table.{DirectoryEntry}
-use Rattle.base.specs.declared.controller.entry.Entry.TheVariants as directory_entry
 use Rattle.directory_table.specs.declared.actions.DirectoryAction.TheVariants as directory_action
 use Rattle.machine.specs.Tables.{Tables, baseline}
 use Rattle.machine.specs.Machine.{opened, after}
@@ -49,7 +48,7 @@ IsUnsafe tables steps = ¬ Safe two_by_one tables (0 ∷ []) steps
 
 -- a cache that waits for the Data of a load answers an Inv at once, and stays as it is
 abbrev pub hasty_ack : Tables
-hasty_ack = with_cache_cell cache_state.IsD cache_event.Inv (cache_entry.Act cache_state.IsD (cache_action.InvAck ∷ []))
+hasty_ack = with_cache_cell cache_state.IsD cache_event.Inv (table_entry.Act cache_state.IsD (cache_action.InvAck ∷ []))
 
 -- the Data comes only after the other cache has stored: then it reads beside a writer
 abbrev pub HastyReaderIsUnsafe : Type 0
@@ -64,37 +63,37 @@ HastyLoadIsUnsafe = IsUnsafe hasty_ack
 -- an owner has no rule for a reader's request
 abbrev pub BlankCacheIsUnsafe : Type 0
 BlankCacheIsUnsafe = IsUnsafe
-    (with_cache_cell cache_state.M cache_event.FwdGetS cache_entry.Blank)
+    (with_cache_cell cache_state.M cache_event.FwdGetS table_entry.Blank)
     (store 0 7 ∷ request 0 ∷ response 0 ∷ load 1 ∷ request 0 ∷ forward 0 ∷ [])
 
 -- a store doesn't wait for the acks that its Data announces
 abbrev pub HastyWriterIsUnsafe : Type 0
 HastyWriterIsUnsafe = IsUnsafe
-    (with_cache_cell cache_state.ImAd cache_event.DataDirMore (cache_entry.Act cache_state.M []))
+    (with_cache_cell cache_state.ImAd cache_event.DataDirMore (table_entry.Act cache_state.M []))
     (load 0 ∷ request 0 ∷ response 0 ∷ store 1 5 ∷ request 0 ∷ response 0 ∷ [])
 
 -- an owner that hands its block to another keeps it
 abbrev pub SecondWriterIsUnsafe : Type 0
 SecondWriterIsUnsafe = IsUnsafe
-    (with_cache_cell cache_state.M cache_event.FwdGetM (cache_entry.Act cache_state.M (cache_action.DataReq ∷ [])))
+    (with_cache_cell cache_state.M cache_event.FwdGetM (table_entry.Act cache_state.M (cache_action.DataReq ∷ [])))
     (store 0 7 ∷ request 0 ∷ response 0 ∷ store 1 8 ∷ request 0 ∷ forward 0 ∷ response 0 ∷ [])
 
 -- the directory drops the value that an owner gives back
 abbrev pub DroppedValueIsUnsafe : Type 0
 DroppedValueIsUnsafe = IsUnsafe
     (with_directory_cell directory_state.M directory_event.PutMOwner
-    (directory_entry.Act directory_state.I (directory_action.ClearOwner ∷ directory_action.PutAck ∷ [])))
+    (table_entry.Act directory_state.I (directory_action.ClearOwner ∷ directory_action.PutAck ∷ [])))
     (store 0 7 ∷ request 0 ∷ response 0 ∷ replace 0 ∷ request 0 ∷ load 1 ∷ request 0 ∷ response 0 ∷ [])
 
 -- the directory has no rule for a PutM that comes too late
 abbrev pub BlankDirectoryIsUnsafe : Type 0
 BlankDirectoryIsUnsafe = IsUnsafe
-    (with_directory_cell directory_state.M directory_event.PutMNonOwner directory_entry.Blank)
+    (with_directory_cell directory_state.M directory_event.PutMNonOwner table_entry.Blank)
     (store 0 7 ∷ request 0 ∷ response 0 ∷ replace 0 ∷ store 1 8 ∷ request 1 ∷ request 0 ∷ [])
 
 -- a sharer that gives its copy up leaves an Inv where it is
 abbrev pub deaf_sharer : Tables
-deaf_sharer = with_cache_cell cache_state.SiA cache_event.Inv cache_entry.Stall
+deaf_sharer = with_cache_cell cache_state.SiA cache_event.Inv table_entry.Stall
 
 -- then its Put-Ack waits behind the Inv, and the other cache's store for an ack that nobody sends
 abbrev pub DeafSharerIsStuck : Type 0

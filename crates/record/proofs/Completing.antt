@@ -9,11 +9,10 @@ use Rattle.base.specs.Spelling.{words}
 use Rattle.cache_table.specs.Table as cache_table
 use Rattle.cache_table.proofs.Whole as cache_whole
 use Rattle.cache_table.proofs.Changes as cache_changes
-use Rattle.base.specs.declared.controller.entry.Entry.TheVariants as cache_entry
+use Rattle.base.specs.declared.controller.entry.Entry.TheVariants as table_entry
 use Rattle.directory_table.specs.Table as directory_table
 use Rattle.directory_table.proofs.Whole as directory_whole
 use Rattle.directory_table.proofs.Changes as directory_changes
-use Rattle.base.specs.declared.controller.entry.Entry.TheVariants as directory_entry
 use Rattle.machine.specs.Tables.{Tables, baseline}
 use Rattle.record.specs.declared.cells.Spot.{Spot}
 use Rattle.record.specs.declared.cells.Spot.TheVariants as spot
@@ -46,7 +45,7 @@ put-here t (cell.Cache s e x) h =
     let low : i < length t.cache = omega (arith, cache_changes.state_number-small s, h.cache.rows) in
     let below : j < length (get_or t.cache i []) = omega (arith, cache_changes.event_number-small e, cache_whole.row-length t.cache i h.cache.columns low) in
     ap (cell.Cache s e)
-    (ap (λ r. get_or r j cache_entry.Blank) (get_or-set_same t.cache i _ [] low) ∙ get_or-set_same (get_or t.cache i []) j x cache_entry.Blank below)
+    (ap (λ r. get_or r j table_entry.Blank) (get_or-set_same t.cache i _ [] low) ∙ get_or-set_same (get_or t.cache i []) j x table_entry.Blank below)
 put-here t (cell.Directory s e x) h =
     let i : ℕ = directory_table.state_number s in
     let j : ℕ = directory_table.event_number e in
@@ -54,8 +53,8 @@ put-here t (cell.Directory s e x) h =
     let below : j < length (get_or t.directory i []) =
     omega (arith, directory_changes.event_number-small e, directory_whole.row-length t.directory i h.directory.columns low) in
     ap (cell.Directory s e)
-    (ap (λ r. get_or r j directory_entry.Blank) (get_or-set_same t.directory i _ [] low) ∙ get_or-set_same
-    (get_or t.directory i []) j x directory_entry.Blank below)
+    (ap (λ r. get_or r j table_entry.Blank) (get_or-set_same t.directory i _ [] low) ∙ get_or-set_same
+    (get_or t.directory i []) j x table_entry.Blank below)
 
 put-others : (t : Tables) (c : Cell) → AreWhole t → (s : Spot) → s ≢ spot_of c → cell_at (put t c) s ≡ cell_at t s
 unfolding put

@@ -14,9 +14,8 @@ use Rattle.base.specs.declared.step.Outcome.TheVariants as outcome
 use Rattle.base.proofs.Spellings.{same_step}
 use Rattle.base.specs.Extent.{Extent}
 use Rattle.cache_table.specs.Table.{CacheEntry}
-use Rattle.base.specs.declared.controller.entry.Entry.TheVariants as cache_entry
+use Rattle.base.specs.declared.controller.entry.Entry.TheVariants as table_entry
 use Rattle.directory_table.specs.Table.{DirectoryEntry}
-use Rattle.base.specs.declared.controller.entry.Entry.TheVariants as directory_entry
 use Rattle.machine.specs.Tables.{Tables, baseline}
 use Rattle.record.specs.declared.cells.Spot.{Spot}
 use Rattle.record.specs.declared.cells.Cell.{Cell}
@@ -62,26 +61,26 @@ lines-same (x ∷ xs) (y ∷ ys) h k e =
 -- ---- cells
 
 cache_entry-same : (x y : CacheEntry) → cache_entry_words x ≡ cache_entry_words y → x ≡ y
-cache_entry-same (cache_entry.Act s xs) (cache_entry.Act t ys) e = cc (cache_state-same s t cc, cache_actions-same xs ys cc)
-cache_entry-same (cache_entry.Act s xs) other e = absurd (cc)
-cache_entry-same cache_entry.Blank cache_entry.Blank e = refl
-cache_entry-same cache_entry.Blank cache_entry.Stall e = let first : 98 ≡ 115 = ap (λ l. get_or (get_or l 0 []) 0 0) e in absurd (omega (arith, first))
-cache_entry-same cache_entry.Blank (cache_entry.Act t ys) e = absurd (cc)
-cache_entry-same cache_entry.Stall cache_entry.Blank e = let first : 115 ≡ 98 = ap (λ l. get_or (get_or l 0 []) 0 0) e in absurd (omega (arith, first))
-cache_entry-same cache_entry.Stall cache_entry.Stall e = refl
-cache_entry-same cache_entry.Stall (cache_entry.Act t ys) e = absurd (cc)
+cache_entry-same (table_entry.Act s xs) (table_entry.Act t ys) e = cc (cache_state-same s t cc, cache_actions-same xs ys cc)
+cache_entry-same (table_entry.Act s xs) other e = absurd (cc)
+cache_entry-same table_entry.Blank table_entry.Blank e = refl
+cache_entry-same table_entry.Blank table_entry.Stall e = let first : 98 ≡ 115 = ap (λ l. get_or (get_or l 0 []) 0 0) e in absurd (omega (arith, first))
+cache_entry-same table_entry.Blank (table_entry.Act t ys) e = absurd (cc)
+cache_entry-same table_entry.Stall table_entry.Blank e = let first : 115 ≡ 98 = ap (λ l. get_or (get_or l 0 []) 0 0) e in absurd (omega (arith, first))
+cache_entry-same table_entry.Stall table_entry.Stall e = refl
+cache_entry-same table_entry.Stall (table_entry.Act t ys) e = absurd (cc)
 
 directory_entry-same : (x y : DirectoryEntry) → directory_entry_words x ≡ directory_entry_words y → x ≡ y
-directory_entry-same (directory_entry.Act s xs) (directory_entry.Act t ys) e = cc (directory_state-same s t cc, directory_actions-same xs ys cc)
-directory_entry-same (directory_entry.Act s xs) other e = absurd (cc)
-directory_entry-same directory_entry.Blank directory_entry.Blank e = refl
-directory_entry-same directory_entry.Blank directory_entry.Stall e =
+directory_entry-same (table_entry.Act s xs) (table_entry.Act t ys) e = cc (directory_state-same s t cc, directory_actions-same xs ys cc)
+directory_entry-same (table_entry.Act s xs) other e = absurd (cc)
+directory_entry-same table_entry.Blank table_entry.Blank e = refl
+directory_entry-same table_entry.Blank table_entry.Stall e =
     let first : 98 ≡ 115 = ap (λ l. get_or (get_or l 0 []) 0 0) e in absurd (omega (arith, first))
-directory_entry-same directory_entry.Blank (directory_entry.Act t ys) e = absurd (cc)
-directory_entry-same directory_entry.Stall directory_entry.Blank e =
+directory_entry-same table_entry.Blank (table_entry.Act t ys) e = absurd (cc)
+directory_entry-same table_entry.Stall table_entry.Blank e =
     let first : 115 ≡ 98 = ap (λ l. get_or (get_or l 0 []) 0 0) e in absurd (omega (arith, first))
-directory_entry-same directory_entry.Stall directory_entry.Stall e = refl
-directory_entry-same directory_entry.Stall (directory_entry.Act t ys) e = absurd (cc)
+directory_entry-same table_entry.Stall table_entry.Stall e = refl
+directory_entry-same table_entry.Stall (table_entry.Act t ys) e = absurd (cc)
 
 cell-same : (c d : Cell) → cell_words c ≡ cell_words d → c ≡ d
 cell-same (cell.Cache s e x) (cell.Cache t f y) h = cc (cache_state-same s t cc, cache_event-same e f cc, cache_entry-same x y cc)

@@ -14,10 +14,9 @@ use Rattle.base.specs.declared.step.Outcome.{Outcome}
 use Rattle.base.specs.declared.step.Outcome.TheVariants as outcome
 use Rattle.base.specs.Spelling.{ask_words, step_words, outcome_words, FitsAsk, FitsStep, FitsOutcome}
 use Rattle.cache_table.specs.Table.{CacheEntry}
-use Rattle.base.specs.declared.controller.entry.Entry.TheVariants as cache_entry
+use Rattle.base.specs.declared.controller.entry.Entry.TheVariants as table_entry
 use Rattle.cache_table.specs.Names as cache_names
 use Rattle.directory_table.specs.Table.{DirectoryEntry}
-use Rattle.base.specs.declared.controller.entry.Entry.TheVariants as directory_entry
 use Rattle.directory_table.specs.Names as directory_names
 use Rattle.record.specs.declared.cells.Cell.{Cell}
 use Rattle.record.specs.declared.cells.Cell.TheVariants as cell
@@ -72,15 +71,15 @@ entry-line e f =
     }
 
 cache_entry-line : (x : CacheEntry) → FitsCacheEntry x → AllByRecursion IsWord (cache_entry_words x) × (length (cache_entry_words x) ≤ 10)
-cache_entry-line cache_entry.Blank f = ((text-word _ refl (omega arith), tt), omega arith)
-cache_entry-line cache_entry.Stall f = ((text-word _ refl (omega arith), tt), omega arith)
-cache_entry-line (cache_entry.Act next actions) f =
+cache_entry-line table_entry.Blank f = ((text-word _ refl (omega arith), tt), omega arith)
+cache_entry-line table_entry.Stall f = ((text-word _ refl (omega arith), tt), omega arith)
+cache_entry-line (table_entry.Act next actions) f =
     ((text-word _ refl (omega arith), (cache_state-word next, cache_actions-words actions)), omega (arith, length-map actions cache_names.action_name, f))
 
 directory_entry-line : (x : DirectoryEntry) → FitsDirectoryEntry x → AllByRecursion IsWord (directory_entry_words x) × (length (directory_entry_words x) ≤ 10)
-directory_entry-line directory_entry.Blank f = ((text-word _ refl (omega arith), tt), omega arith)
-directory_entry-line directory_entry.Stall f = ((text-word _ refl (omega arith), tt), omega arith)
-directory_entry-line (directory_entry.Act next actions) f = (
+directory_entry-line table_entry.Blank f = ((text-word _ refl (omega arith), tt), omega arith)
+directory_entry-line table_entry.Stall f = ((text-word _ refl (omega arith), tt), omega arith)
+directory_entry-line (table_entry.Act next actions) f = (
   (text-word _ refl (omega arith), (directory_state-word next, directory_actions-words actions)),
   omega
       (arith, length-map actions directory_names.action_name, f),

@@ -6,13 +6,12 @@ use Rattle.std.proofs.lemmas.Bool.Decides.{nat_tests}
 use Rattle.cache_table.specs.Table as cache_table
 use Rattle.cache_table.proofs.Whole as cache_whole
 use Rattle.cache_table.specs.Table.{CacheEntry}
-use Rattle.base.specs.declared.controller.entry.Entry.TheVariants as cache_entry
+use Rattle.base.specs.declared.controller.entry.Entry.TheVariants as table_entry
 use Rattle.cache_table.specs.declared.state.CacheState.{CacheState}
 use Rattle.cache_table.specs.declared.event.CacheEvent.{CacheEvent}
 use Rattle.directory_table.specs.Table as directory_table
 use Rattle.directory_table.proofs.Whole as directory_whole
 use Rattle.directory_table.specs.Table.{DirectoryEntry}
-use Rattle.base.specs.declared.controller.entry.Entry.TheVariants as directory_entry
 use Rattle.directory_table.specs.declared.state.DirectoryState.{DirectoryState}
 use Rattle.directory_table.specs.declared.event.DirectoryEvent.{DirectoryEvent}
 use Rattle.machine.specs.Tables.{Tables, baseline}
@@ -77,11 +76,11 @@ directory-more cells new s e x is whole =
 -- ---- the protocol's own tables
 
 few_at_home : DirectoryEntry → Bool
-few_at_home (directory_entry.Act next actions) = leb (length actions) 8
+few_at_home (table_entry.Act next actions) = leb (length actions) 8
 few_at_home other = true
 
 few_at_line : CacheEntry → Bool
-few_at_line (cache_entry.Act next actions) = leb (length actions) 8
+few_at_line (table_entry.Act next actions) = leb (length actions) 8
 few_at_line other = true
 
 few : Cell → Bool
@@ -90,12 +89,12 @@ few (cell.Directory s e x) = few_at_home x
 
 few-fits : (c : Cell) → few c ≡ true → FitsCell c
 unfolding few few_at_home few_at_line
-few-fits (cell.Cache s e cache_entry.Blank) h = tt
-few-fits (cell.Cache s e cache_entry.Stall) h = tt
-few-fits (cell.Cache s e (cache_entry.Act next actions)) h = grind (arith, nat_tests, h)
-few-fits (cell.Directory s e directory_entry.Blank) h = tt
-few-fits (cell.Directory s e directory_entry.Stall) h = tt
-few-fits (cell.Directory s e (directory_entry.Act next actions)) h = grind (arith, nat_tests, h)
+few-fits (cell.Cache s e table_entry.Blank) h = tt
+few-fits (cell.Cache s e table_entry.Stall) h = tt
+few-fits (cell.Cache s e (table_entry.Act next actions)) h = grind (arith, nat_tests, h)
+few-fits (cell.Directory s e table_entry.Blank) h = tt
+few-fits (cell.Directory s e table_entry.Stall) h = tt
+few-fits (cell.Directory s e (table_entry.Act next actions)) h = grind (arith, nat_tests, h)
 
 all_few : List Spot → Bool
 all_few [] = true

@@ -11,7 +11,7 @@ use Rattle.cache_table.specs.declared.state.CacheState.TheVariants as cache_stat
 use Rattle.cache_table.specs.declared.event.CacheEvent.{CacheEvent}
 use Rattle.cache_table.specs.declared.event.CacheEvent.TheVariants as cache_event
 use Rattle.cache_table.specs.Table.{CacheEntry}
-use Rattle.base.specs.declared.controller.entry.Entry.TheVariants as cache_entry
+use Rattle.base.specs.declared.controller.entry.Entry.TheVariants as table_entry
 use Rattle.directory_table.specs.Baseline as directory_baseline
 use Rattle.directory_table.specs.Table as directory_table
 use Rattle.directory_table.proofs.Whole as directory_whole
@@ -20,7 +20,6 @@ use Rattle.directory_table.specs.declared.state.DirectoryState.TheVariants as di
 use Rattle.directory_table.specs.declared.event.DirectoryEvent.{DirectoryEvent}
 use Rattle.directory_table.specs.declared.event.DirectoryEvent.TheVariants as directory_event
 use Rattle.directory_table.specs.Table.{DirectoryEntry}
-use Rattle.base.specs.declared.controller.entry.Entry.TheVariants as directory_entry
 use Rattle.machine.specs.Tables.{Tables}
 use Rattle.record.specs.declared.cells.Spot.{Spot}
 use Rattle.record.specs.declared.cells.Spot.TheVariants as spot
@@ -48,10 +47,10 @@ cache-events = refl
 
 entry_of : Cell → CacheEntry
 entry_of (cell.Cache state event entry) = entry
-entry_of (cell.Directory state event entry) = cache_entry.Blank
+entry_of (cell.Directory state event entry) = table_entry.Blank
 
 cache-cell : (t u : Tables) → ((s : Spot) → cell_at t s ≡ cell_at u s) → (i j : ℕ) → i < 11 → j < 12 →
-    get_or (get_or t.cache i []) j cache_entry.Blank ≡ get_or (get_or u.cache i []) j cache_entry.Blank
+    get_or (get_or t.cache i []) j table_entry.Blank ≡ get_or (get_or u.cache i []) j table_entry.Blank
 unfolding entry_of
 cache-cell t u same i j low below =
     let state : CacheState = get_or cache_baseline.all_states i cache_state.I in
@@ -59,19 +58,19 @@ cache-cell t u same i j low below =
     let row : cache_table.state_number state ≡ i = found cache_table.state_number cache_baseline.all_states 11 i cache_state.I cache-states low in
     let column : cache_table.event_number event ≡ j = found cache_table.event_number cache_baseline.all_events 12 j cache_event.Load cache-events below in
     let here : cache_table.cell t.cache state event ≡ cache_table.cell u.cache state event = ap entry_of (same (spot.Cache state event)) in
-    ap (λ k. get_or (get_or t.cache k []) j cache_entry.Blank) (sym row)
-    ∙ ap (λ k. get_or (get_or t.cache (cache_table.state_number state) []) k cache_entry.Blank) (sym column)
+    ap (λ k. get_or (get_or t.cache k []) j table_entry.Blank) (sym row)
+    ∙ ap (λ k. get_or (get_or t.cache (cache_table.state_number state) []) k table_entry.Blank) (sym column)
     ∙ here
-    ∙ ap (λ k. get_or (get_or u.cache (cache_table.state_number state) []) k cache_entry.Blank) column
-    ∙ ap (λ k. get_or (get_or u.cache k []) j cache_entry.Blank) row
+    ∙ ap (λ k. get_or (get_or u.cache (cache_table.state_number state) []) k table_entry.Blank) column
+    ∙ ap (λ k. get_or (get_or u.cache k []) j table_entry.Blank) row
 
 cache-row : (t u : Tables) → AreWhole t → AreWhole u → ((s : Spot) → cell_at t s ≡ cell_at u s) → (i : ℕ) → i < 11 → get_or t.cache i [] ≡ get_or u.cache i []
 cache-row t u h k same i low =
     let m = cache_whole.row-length t.cache i h.cache.columns (omega (arith, h.cache.rows)) in
     let n = cache_whole.row-length u.cache i k.cache.columns (omega (arith, k.cache.rows)) in
     same_lists (get_or t.cache i []) (get_or u.cache i []) (m ∙ sym n)
-    (λ j d below. get_or_default (get_or t.cache i []) j d cache_entry.Blank (omega (arith, below)) ∙ cache-cell t u same i j low
-    (omega (arith, below, m)) ∙ get_or_default (get_or u.cache i []) j cache_entry.Blank d (omega (arith, below, m, n)))
+    (λ j d below. get_or_default (get_or t.cache i []) j d table_entry.Blank (omega (arith, below)) ∙ cache-cell t u same i j low
+    (omega (arith, below, m)) ∙ get_or_default (get_or u.cache i []) j table_entry.Blank d (omega (arith, below, m, n)))
 
 cache-same : (t u : Tables) → AreWhole t → AreWhole u → ((s : Spot) → cell_at t s ≡ cell_at u s) → t.cache ≡ u.cache
 cache-same t u h k same =
@@ -88,11 +87,11 @@ directory-events : map directory_table.event_number directory_baseline.all_event
 directory-events = refl
 
 home_entry_of : Cell → DirectoryEntry
-home_entry_of (cell.Cache state event entry) = directory_entry.Blank
+home_entry_of (cell.Cache state event entry) = table_entry.Blank
 home_entry_of (cell.Directory state event entry) = entry
 
 directory-cell : (t u : Tables) → ((s : Spot) → cell_at t s ≡ cell_at u s) → (i j : ℕ) → i < 4 → j < 7 →
-    get_or (get_or t.directory i []) j directory_entry.Blank ≡ get_or (get_or u.directory i []) j directory_entry.Blank
+    get_or (get_or t.directory i []) j table_entry.Blank ≡ get_or (get_or u.directory i []) j table_entry.Blank
 unfolding home_entry_of
 directory-cell t u same i j low below =
     let state : DirectoryState = get_or directory_baseline.all_states i directory_state.I in
@@ -103,11 +102,11 @@ directory-cell t u same i j low below =
     found directory_table.event_number directory_baseline.all_events 7 j directory_event.GetS directory-events below in
     let here : directory_table.cell t.directory state event ≡ directory_table.cell u.directory state event =
     ap home_entry_of (same (spot.Directory state event)) in
-    ap (λ k. get_or (get_or t.directory k []) j directory_entry.Blank) (sym row)
-    ∙ ap (λ k. get_or (get_or t.directory (directory_table.state_number state) []) k directory_entry.Blank) (sym column)
+    ap (λ k. get_or (get_or t.directory k []) j table_entry.Blank) (sym row)
+    ∙ ap (λ k. get_or (get_or t.directory (directory_table.state_number state) []) k table_entry.Blank) (sym column)
     ∙ here
-    ∙ ap (λ k. get_or (get_or u.directory (directory_table.state_number state) []) k directory_entry.Blank) column
-    ∙ ap (λ k. get_or (get_or u.directory k []) j directory_entry.Blank) row
+    ∙ ap (λ k. get_or (get_or u.directory (directory_table.state_number state) []) k table_entry.Blank) column
+    ∙ ap (λ k. get_or (get_or u.directory k []) j table_entry.Blank) row
 
 directory-row : (t u : Tables) → AreWhole t → AreWhole u → ((s : Spot) → cell_at t s ≡ cell_at u s) → (i : ℕ) → i < 4 →
     get_or t.directory i [] ≡ get_or u.directory i []
@@ -115,8 +114,8 @@ directory-row t u h k same i low =
     let m = directory_whole.row-length t.directory i h.directory.columns (omega (arith, h.directory.rows)) in
     let n = directory_whole.row-length u.directory i k.directory.columns (omega (arith, k.directory.rows)) in
     same_lists (get_or t.directory i []) (get_or u.directory i []) (m ∙ sym n)
-    (λ j d below. get_or_default (get_or t.directory i []) j d directory_entry.Blank (omega (arith, below)) ∙ directory-cell t u same i j low
-    (omega (arith, below, m)) ∙ get_or_default (get_or u.directory i []) j directory_entry.Blank d (omega (arith, below, m, n)))
+    (λ j d below. get_or_default (get_or t.directory i []) j d table_entry.Blank (omega (arith, below)) ∙ directory-cell t u same i j low
+    (omega (arith, below, m)) ∙ get_or_default (get_or u.directory i []) j table_entry.Blank d (omega (arith, below, m, n)))
 
 directory-same : (t u : Tables) → AreWhole t → AreWhole u → ((s : Spot) → cell_at t s ≡ cell_at u s) → t.directory ≡ u.directory
 directory-same t u h k same =

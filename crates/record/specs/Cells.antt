@@ -2,12 +2,11 @@
 use Rattle.std.specs.Prelude.{ℕ, ◌+◌, ◌*◌, ◌≤◌, length, List, [], ◌∷◌, ◌++◌, codes, map}
 use Rattle.std.specs.List.{flat_map}
 use Rattle.cache_table.specs.Table.{CacheEntry}
-use Rattle.base.specs.declared.controller.entry.Entry.TheVariants as cache_entry
+use Rattle.base.specs.declared.controller.entry.Entry.TheVariants as table_entry
 use Rattle.cache_table.specs.Table as cache_table
 use Rattle.cache_table.specs.Baseline as cache_baseline
 use Rattle.cache_table.specs.Names as cache_names
 use Rattle.directory_table.specs.Table.{DirectoryEntry}
-use Rattle.base.specs.declared.controller.entry.Entry.TheVariants as directory_entry
 use Rattle.directory_table.specs.Table as directory_table
 use Rattle.directory_table.specs.Baseline as directory_baseline
 use Rattle.directory_table.specs.Names as directory_names
@@ -46,15 +45,15 @@ spot_of (cell.Directory state event entry) = spot.Directory state event
 
 -- the words that spell what a cache does
 abbrev pub cache_entry_words : CacheEntry → List (List ℕ)
-cache_entry_words cache_entry.Blank = codes "blank" ∷ []
-cache_entry_words cache_entry.Stall = codes "stall" ∷ []
-cache_entry_words (cache_entry.Act next actions) = codes "act" ∷ cache_names.state_name next ∷ map cache_names.action_name actions
+cache_entry_words table_entry.Blank = codes "blank" ∷ []
+cache_entry_words table_entry.Stall = codes "stall" ∷ []
+cache_entry_words (table_entry.Act next actions) = codes "act" ∷ cache_names.state_name next ∷ map cache_names.action_name actions
 
 -- the words that spell what the directory does
 abbrev pub directory_entry_words : DirectoryEntry → List (List ℕ)
-directory_entry_words directory_entry.Blank = codes "blank" ∷ []
-directory_entry_words directory_entry.Stall = codes "stall" ∷ []
-directory_entry_words (directory_entry.Act next actions) = codes "act" ∷ directory_names.state_name next ∷ map directory_names.action_name actions
+directory_entry_words table_entry.Blank = codes "blank" ∷ []
+directory_entry_words table_entry.Stall = codes "stall" ∷ []
+directory_entry_words (table_entry.Act next actions) = codes "act" ∷ directory_names.state_name next ∷ map directory_names.action_name actions
 
 -- the words that spell a cell
 abbrev pub cell_words : Cell → List (List ℕ)
@@ -64,12 +63,12 @@ cell_words (cell.Directory state event entry) =
 
 -- what a cache does has at most eight actions
 abbrev pub FitsCacheEntry : CacheEntry → Type 0
-FitsCacheEntry (cache_entry.Act next actions) = length actions ≤ 8
+FitsCacheEntry (table_entry.Act next actions) = length actions ≤ 8
 FitsCacheEntry other = Unit {0}
 
 -- what the directory does has at most eight actions
 abbrev pub FitsDirectoryEntry : DirectoryEntry → Type 0
-FitsDirectoryEntry (directory_entry.Act next actions) = length actions ≤ 8
+FitsDirectoryEntry (table_entry.Act next actions) = length actions ≤ 8
 FitsDirectoryEntry other = Unit {0}
 
 -- a cell has at most eight actions

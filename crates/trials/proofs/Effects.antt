@@ -19,12 +19,11 @@ use Rattle.network.specs.declared.message.Response.TheVariants.{Data, InvAck}
 use Rattle.network.specs.Traffic.{link}
 use Rattle.cache_table.specs.Table as cache_table
 use Rattle.cache_table.specs.Table.{CacheEntry}
-use Rattle.base.specs.declared.controller.entry.Entry.TheVariants as line_entry
+use Rattle.base.specs.declared.controller.entry.Entry.TheVariants as table_entry
 use Rattle.cache_table.specs.declared.state.CacheState.{CacheState}
 use Rattle.cache_table.specs.declared.actions.CacheAction.{CacheAction}
 use Rattle.directory_table.specs.Table as directory_table
 use Rattle.directory_table.specs.Table.{DirectoryEntry}
-use Rattle.base.specs.declared.controller.entry.Entry.TheVariants as home_entry
 use Rattle.control.specs.declared.line.Line.{Line}
 use Rattle.control.specs.declared.line.LineInput.{LineInput}
 use Rattle.control.specs.declared.line.LineInput.TheVariants as line_input
@@ -153,9 +152,9 @@ refused-stays before s b what here r = inl (record {
 
 home-stays : (before : State) (s : Step) (b : BlockState) (entry : DirectoryEntry) (input : HomeInput) (from : Origin) → Here before s b →
     IsDelivery s → Does before s b (by_home_entry entry input from)
-home-stays before s b home_entry.Stall input from here d = refused-stays before s b outcome.Held here tt
-home-stays before s b home_entry.Blank input from here d = refused-stays before s b outcome.Blank here tt
-home-stays before s b (home_entry.Act state actions) input from here d = inl (record {
+home-stays before s b table_entry.Stall input from here d = refused-stays before s b outcome.Held here tt
+home-stays before s b table_entry.Blank input from here d = refused-stays before s b outcome.Blank here tt
+home-stays before s b (table_entry.Act state actions) input from here d = inl (record {
   put = delivery-puts-none s outcome.Moved d;
   done = refl;
   same = same-lines before _ (block_of s) b _ here.there refl;
@@ -215,9 +214,9 @@ message-at-entry : (before : State) (s : Step) (b : BlockState) (entry : CacheEn
     → Here before s b → IsDelivery s → IsWired from → slice_get b.lines cache.0 ≡ Some line →
     ((state : CacheState) → MessageDoes (line_completes input state line) line (line_after input state line)) → Does before s b
     (by_line_entry entry cache line input from)
-message-at-entry before s b line_entry.Stall cache line input from here d wired found does = refused-stays before s b outcome.Held here tt
-message-at-entry before s b line_entry.Blank cache line input from here d wired found does = refused-stays before s b outcome.Blank here tt
-message-at-entry before s b (line_entry.Act state actions) cache line input from here d wired found does =
+message-at-entry before s b table_entry.Stall cache line input from here d wired found does = refused-stays before s b outcome.Held here tt
+message-at-entry before s b table_entry.Blank cache line input from here d wired found does = refused-stays before s b outcome.Blank here tt
+message-at-entry before s b (table_entry.Act state actions) cache line input from here d wired found does =
     message-acts before s b cache line input state actions from here d wired found (does state)
 
 message-at-line : (before : State) (s : Step) (b : BlockState) (cells : cache_table.Cells) (cache : CacheId) (input : LineInput) (from : Origin)
@@ -300,9 +299,9 @@ ask-acts before cache block a b line state actions here found (inr (inr h)) =
 ask-at-entry : (before : State) (cache : CacheId) (block : BlockId) (a : Ask) (b : BlockState) (line : Line) (entry : CacheEntry) →
     Here before (step.Ask cache block a) b → slice_get b.lines cache.0 ≡ Some line
     → Does before (step.Ask cache block a) b (by_line_entry entry cache line (line_input.Ask a) origin.Core)
-ask-at-entry before cache block a b line line_entry.Stall here found = refused-stays before (step.Ask cache block a) b outcome.Held here tt
-ask-at-entry before cache block a b line line_entry.Blank here found = refused-stays before (step.Ask cache block a) b outcome.Blank here tt
-ask-at-entry before cache block a b line (line_entry.Act state actions) here found =
+ask-at-entry before cache block a b line table_entry.Stall here found = refused-stays before (step.Ask cache block a) b outcome.Held here tt
+ask-at-entry before cache block a b line table_entry.Blank here found = refused-stays before (step.Ask cache block a) b outcome.Blank here tt
+ask-at-entry before cache block a b line (table_entry.Act state actions) here found =
     ask-acts before cache block a b line state actions here found (ask-does a state line)
 
 ask-at-line : (before : State) (cells : cache_table.Cells) (cache : CacheId) (block : BlockId) (a : Ask) (b : BlockState) (found : Option Line) →

@@ -7,14 +7,13 @@ use Rattle.serde_json.specs.Find.{as_str}
 use Rattle.serde_json.specs.Read.{read}
 use Rattle.cache_table.specs.declared.state.CacheState.{CacheState}
 use Rattle.cache_table.specs.Table.{CacheEntry}
-use Rattle.base.specs.declared.controller.entry.Entry.TheVariants as cache_entry
+use Rattle.base.specs.declared.controller.entry.Entry.TheVariants as table_entry
 use Rattle.cache_table.specs.Table.{CacheChange}
 use Rattle.cache_table.specs.Names as cache_names
 use Rattle.cache_table.specs.Table as cache_table
 use Rattle.cache_table.specs.Baseline as cache_baseline
 use Rattle.directory_table.specs.declared.state.DirectoryState.{DirectoryState}
 use Rattle.directory_table.specs.Table.{DirectoryEntry}
-use Rattle.base.specs.declared.controller.entry.Entry.TheVariants as directory_entry
 use Rattle.directory_table.specs.Table.{DirectoryChange}
 use Rattle.directory_table.specs.Names as directory_names
 use Rattle.directory_table.specs.Table as directory_table
@@ -48,16 +47,16 @@ known_actions named (item d ds) =
 
 -- an entry of a cache's table, if its actions are known
 abbrev pub cache_entry_of : WrittenEntry CacheState → Option CacheEntry
-cache_entry_of blank = Some cache_entry.Blank
-cache_entry_of stall = Some cache_entry.Stall
-cache_entry_of (act next actions) = option_map (λ known. cache_entry.Act next known) (known_actions cache_names.action_named actions)
+cache_entry_of blank = Some table_entry.Blank
+cache_entry_of stall = Some table_entry.Stall
+cache_entry_of (act next actions) = option_map (λ known. table_entry.Act next known) (known_actions cache_names.action_named actions)
 
 -- an entry of the directory's table, if its actions are known
 abbrev pub directory_entry_of : WrittenEntry DirectoryState → Option DirectoryEntry
-directory_entry_of blank = Some directory_entry.Blank
-directory_entry_of stall = Some directory_entry.Stall
+directory_entry_of blank = Some table_entry.Blank
+directory_entry_of stall = Some table_entry.Stall
 directory_entry_of (act next actions) =
-    option_map (λ known. directory_entry.Act next known) (known_actions directory_names.action_named actions)
+    option_map (λ known. table_entry.Act next known) (known_actions directory_names.action_named actions)
 
 -- the change that a cell makes: first its states are looked up, then its event, then its actions
 abbrev pub cache_change : WrittenCell → Result CacheChange TablesFault

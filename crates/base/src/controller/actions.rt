@@ -2,6 +2,9 @@ use crate::controller::listed::Listed;
 use std::alloc::AllocError;
 use std::marker::Model;
 
+/// The most actions that a cell has.
+pub const MOST_ACTIONS: usize = 8;
+
 /// At most eight actions of a controller, in order.
 #[derive(Copy, PartialEq, Eq, Debug)]
 pub struct Actions<A: Listed> {
@@ -33,9 +36,6 @@ impl<A: Listed> Model for Actions<A> {
 impl<A: Listed> Actions<A> {
     ghost use Rattle.std.specs.Prelude.{◌≡◌, ◌<◌, ◌≤◌, ◌↔◌, ◌++◌, ◌∷◌, [], length, IfNone, IfSome, IsSome, IsTrue};
 
-    /// The most actions that a cell has.
-    pub const MOST: usize = 8;
-
     /// No actions.
     pub fn none() -> Actions<A>
         ensures { result ≡ [] }
@@ -46,13 +46,13 @@ impl<A: Listed> Actions<A> {
         }
     }
 
-    /// These actions, if there are at most `MOST`.
+    /// These actions, if there are at most `MOST_ACTIONS`.
     pub fn of(actions: &[A]) -> Option<Actions<A>>
         ensures few { IsSome result ↔ (length actions.now ≤ 8) }
         ensures same { IfSome result (λ kept. kept ≡ actions.now) }
         ensures more { IfNone result (8 < length actions.now) }
     {
-        if actions.len() > Actions::<A>::MOST {
+        if actions.len() > MOST_ACTIONS {
             return None;
         }
         let mut kept = Actions::none();
