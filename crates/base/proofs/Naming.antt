@@ -27,7 +27,7 @@ weaker (Some x) P R Q f h = h
 
 -- what is found has the name, and where nothing is found no thing of the list has it
 found-spelled : {X : Type 0} (spelling : X → List ℕ) (text : List ℕ) (xs : List X) →
-    MatchOption (named_in spelling text xs) ((i : ℕ) (d : X) → i < length xs → text ≢ spelling (get_or xs i d)) (λ x. text ≡ spelling x)
+    MatchOption (named_in spelling xs text) ((i : ℕ) (d : X) → i < length xs → text ≢ spelling (get_or xs i d)) (λ x. text ≡ spelling x)
 found-spelled spelling text [] = λ i d low. absurd (omega (arith, low))
 found-spelled {X} spelling text (x ∷ xs) = by-test (bytes_eq (spelling x) text) refl (found-spelled spelling text xs)
   where
@@ -40,16 +40,16 @@ found-spelled {X} spelling text (x ∷ xs) = by-test (bytes_eq (spelling x) text
         absurd (cc)
     none-more differs none (suc i) d low = none i d (omega (arith, low))
 
-    by-test : (b : Bool) → bytes_eq (spelling x) text ≡ b → MatchOption (named_in spelling text xs) (HasNone xs) (λ y. text ≡ spelling y) →
-        MatchOption (if b then Some x else named_in spelling text xs) (HasNone (x ∷ xs)) (λ y. text ≡ spelling y)
+    by-test : (b : Bool) → bytes_eq (spelling x) text ≡ b → MatchOption (named_in spelling xs text) (HasNone xs) (λ y. text ≡ spelling y) →
+        MatchOption (if b then Some x else named_in spelling xs text) (HasNone (x ∷ xs)) (λ y. text ≡ spelling y)
     by-test true is rest = sym ((bytes_eq-Decides (spelling x) text).0 is)
     by-test false differs rest =
-        weaker (named_in spelling text xs) (HasNone xs) (HasNone (x ∷ xs)) (λ y. text ≡ spelling y) (none-more differs) rest
+        weaker (named_in spelling xs text) (HasNone xs) (HasNone (x ∷ xs)) (λ y. text ≡ spelling y) (none-more differs) rest
 
 -- where each thing there is stands in the list, nothing is found only where none has the name
 pub all-spelled : {X : Type 0} (spelling : X → List ℕ) (text : List ℕ) (xs : List X) (place : X → ℕ) →
-    ((x : X) → slice_get xs (place x) ≡ Some x) → MatchOption (named_in spelling text xs) ((x : X) → text ≢ spelling x) (λ x. text ≡ spelling x)
+    ((x : X) → slice_get xs (place x) ≡ Some x) → MatchOption (named_in spelling xs text) ((x : X) → text ≢ spelling x) (λ x. text ≡ spelling x)
 all-spelled spelling text xs place stands =
-    weaker (named_in spelling text xs) _ _ (λ x. text ≡ spelling x)
+    weaker (named_in spelling xs text) _ _ (λ x. text ≡ spelling x)
     (λ none x is. none (place x) x (slice_get_within xs (place x) x (stands x)) (is ∙ ap spelling (sym (get_or_from_slice_get xs (place x) x x (stands x)))))
     (found-spelled spelling text xs)

@@ -25,8 +25,8 @@ joined [] = []
 joined (word ∷ words) = word ++ spaced words
 
 -- the first of these things that is spelled so, if there is one
-abbrev pub named_in : {X : Type 0} → (X → List ℕ) → List ℕ → List X → Option X
-named_in spelling text all = find (λ x. bytes_eq (spelling x) text) all
+abbrev pub named_in : {X : Type 0} → (X → List ℕ) → List X → List ℕ → Option X
+named_in spelling all text = find (λ x. bytes_eq (spelling x) text) all
 
 -- no such thing is spelled so
 abbrev pub IsUnnamed : {X : Type 0} → (X → List ℕ) → List ℕ → Type 0

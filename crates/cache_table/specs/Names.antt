@@ -28,7 +28,7 @@ first_state = state.I
 
 -- the state that is spelled so, if there is one
 abbrev pub state_named : List ℕ → Option CacheState
-state_named text = named_in state_name text all_states
+state_named text = named_in state_name all_states text
 
 -- how an event is spelled
 abbrev pub event_name : CacheEvent → List ℕ
@@ -51,7 +51,7 @@ first_event = event.Load
 
 -- the event that is spelled so, if there is one
 abbrev pub event_named : List ℕ → Option CacheEvent
-event_named text = named_in event_name text all_events
+event_named text = named_in event_name all_events text
 
 -- how an action is spelled
 abbrev pub action_name : CacheAction → List ℕ
@@ -85,4 +85,4 @@ first_action = action.GetS
 
 -- the action that is spelled so, if there is one
 abbrev pub action_named : List ℕ → Option CacheAction
-action_named text = named_in action_name text all_actions
+action_named text = named_in action_name all_actions text

@@ -21,7 +21,7 @@ first_state = state.I
 
 -- the state that is spelled so, if there is one
 abbrev pub state_named : List ℕ → Option DirectoryState
-state_named text = named_in state_name text all_states
+state_named text = named_in state_name all_states text
 
 -- how an event is spelled
 abbrev pub event_name : DirectoryEvent → List ℕ
@@ -39,7 +39,7 @@ first_event = event.GetS
 
 -- the event that is spelled so, if there is one
 abbrev pub event_named : List ℕ → Option DirectoryEvent
-event_named text = named_in event_name text all_events
+event_named text = named_in event_name all_events text
 
 -- how an action is spelled
 abbrev pub action_name : DirectoryAction → List ℕ
@@ -85,4 +85,4 @@ first_action = action.DataReq
 
 -- the action that is spelled so, if there is one
 abbrev pub action_named : List ℕ → Option DirectoryAction
-action_named text = named_in action_name text all_actions
+action_named text = named_in action_name all_actions text

@@ -5,18 +5,17 @@ use Rattle.std.specs.Str.{IsUtf8}
 use Rattle.serde_json.specs.Data.{Data, Items, no_items, item}
 use Rattle.serde_json.specs.Find.{as_str}
 use Rattle.serde_json.specs.Read.{read}
-use Rattle.cache_table.specs.declared.state.CacheState.{CacheState}
-use Rattle.cache_table.specs.Table.{CacheEntry}
-use Rattle.base.specs.declared.controller.entry.Entry.TheVariants as table_entry
-use Rattle.cache_table.specs.Table.{CacheChange}
-use Rattle.cache_table.specs.Names as cache_names
+use Rattle.base.specs.Cells.{is_of}
+use Rattle.base.specs.declared.controller.entry.Change.{Change}
+use Rattle.base.specs.declared.controller.entry.Entry.{Entry}
+use Rattle.base.specs.declared.controller.entry.Entry.TheVariants.{Blank, Stall, Act}
+use Rattle.cache_table.specs.Names as cache
 use Rattle.cache_table.specs.Table as cache_table
+use Rattle.cache_table.specs.Table.{CacheChange}
 use Rattle.cache_table.specs.Baseline as cache_baseline
-use Rattle.directory_table.specs.declared.state.DirectoryState.{DirectoryState}
-use Rattle.directory_table.specs.Table.{DirectoryEntry}
-use Rattle.directory_table.specs.Table.{DirectoryChange}
-use Rattle.directory_table.specs.Names as directory_names
+use Rattle.directory_table.specs.Names as directory
 use Rattle.directory_table.specs.Table as directory_table
+use Rattle.directory_table.specs.Table.{DirectoryChange}
 use Rattle.directory_table.specs.Baseline as directory_baseline
 use Rattle.machine.specs.Tables.{Tables}
 use Rattle.world.specs.declared.overrides.TablesFault.{TablesFault}
@@ -45,41 +44,24 @@ known_actions named no_items = Some []
 known_actions named (item d ds) =
     option_and_then (λ a. option_map (λ rest. a ∷ rest) (known_actions named ds)) (option_and_then named (as_str d))
 
--- an entry of a cache's table, if its actions are known
-abbrev pub cache_entry_of : WrittenEntry CacheState → Option CacheEntry
-cache_entry_of blank = Some table_entry.Blank
-cache_entry_of stall = Some table_entry.Stall
-cache_entry_of (act next actions) = option_map (λ known. table_entry.Act next known) (known_actions cache_names.action_named actions)
-
--- an entry of the directory's table, if its actions are known
-abbrev pub directory_entry_of : WrittenEntry DirectoryState → Option DirectoryEntry
-directory_entry_of blank = Some table_entry.Blank
-directory_entry_of stall = Some table_entry.Stall
-directory_entry_of (act next actions) =
-    option_map (λ known. table_entry.Act next known) (known_actions directory_names.action_named actions)
+-- an entry, if its actions are known
+abbrev pub entry_of : {S A : Type 0} → (List ℕ → Option A) → WrittenEntry S → Option (Entry S A)
+entry_of action_named blank = Some Blank
+entry_of action_named stall = Some Stall
+entry_of action_named (act next actions) = option_map (λ known. Act next known) (known_actions action_named actions)
 
 -- the change that a cell makes: first its states are looked up, then its event, then its actions
-abbrev pub cache_change : WrittenCell → Result CacheChange TablesFault
-cache_change c =
-    needed UnknownState (cache_names.state_named c.state) (λ state.
-    needed UnknownState (known_next cache_names.state_named c.entry) (λ entry.
-    needed UnknownEvent (cache_names.event_named c.event) (λ event.
-    needed UnknownAction (cache_entry_of entry) (λ entry. Ok (record { state = state; event = event; entry = entry })))))
-
--- the same for the directory
-abbrev pub directory_change : WrittenCell → Result DirectoryChange TablesFault
-directory_change c =
-    needed UnknownState (directory_names.state_named c.state) (λ state.
-    needed UnknownState (known_next directory_names.state_named c.entry) (λ entry.
-    needed UnknownEvent (directory_names.event_named c.event) (λ event.
-    needed UnknownAction (directory_entry_of entry) (λ entry. Ok (record { state = state; event = event; entry = entry })))))
+abbrev pub change_of : {S E A : Type 0} → (List ℕ → Option S) → (List ℕ → Option E) → (List ℕ → Option A) → WrittenCell →
+    Result (Change S E A) TablesFault
+change_of state_named event_named action_named c =
+    needed UnknownState (state_named c.state) (λ state.
+    needed UnknownState (known_next state_named c.entry) (λ entry.
+    needed UnknownEvent (event_named c.event) (λ event.
+    needed UnknownAction (entry_of action_named entry) (λ entry. Ok (record { state = state; event = event; entry = entry })))))
 
 -- whether two changes are of one cell
-abbrev pub is_same_cache_cell : CacheChange → CacheChange → Bool
-is_same_cache_cell c d = cache_table.is_of c d.state d.event
-
-abbrev pub is_same_directory_cell : DirectoryChange → DirectoryChange → Bool
-is_same_directory_cell c d = directory_table.is_of c d.state d.event
+abbrev pub is_same_cell : {S E A : Type 0} → (S → ℕ) → (E → ℕ) → Change S E A → Change S E A → Bool
+is_same_cell row column c d = is_of row column c d.state d.event
 
 -- a change, unless its cell was changed before
 abbrev pub first_of_cell : {C : Type 0} → (C → C → Bool) → List C → C → Result C TablesFault
@@ -94,12 +76,20 @@ changes_after change_of same before (item d ds) =
     unless_fault (first_of_cell same before change) (λ new.
     changes_after change_of same (before ++ new ∷ []) ds)))
 
--- the changes that the cells of one side make
-abbrev pub cache_changes : Items → Result (List CacheChange) TablesFault
-cache_changes ds = changes_after cache_change is_same_cache_cell [] ds
+-- the changes that the cells of one side make, by how its states, events and actions are looked up and by the places of its cells
+abbrev pub changes_of : {S E A : Type 0} → (List ℕ → Option S) → (List ℕ → Option E) → (List ℕ → Option A) → (S → ℕ) → (E → ℕ) → Items →
+    Result (List (Change S E A)) TablesFault
+changes_of state_named event_named action_named row column ds =
+    changes_after (change_of state_named event_named action_named) (is_same_cell row column) [] ds
 
+-- the changes of the cache's cells
+abbrev pub cache_changes : Items → Result (List CacheChange) TablesFault
+cache_changes ds = changes_of cache.state_named cache.event_named cache.action_named cache_table.state_number cache_table.event_number ds
+
+-- the changes of the directory's cells
 abbrev pub directory_changes : Items → Result (List DirectoryChange) TablesFault
-directory_changes ds = changes_after directory_change is_same_directory_cell [] ds
+directory_changes ds =
+    changes_of directory.state_named directory.event_named directory.action_named directory_table.state_number directory_table.event_number ds
 
 -- the baseline with overrides laid over it: the cache's cells are read before the directory's
 abbrev pub overridden : Data → Result Tables TablesFault

@@ -8,12 +8,10 @@ use serde_json::Value;
 use std::alloc::{AllocFailed, Global};
 use std::{error, fmt};
 
-mod cache;
-mod directory;
+mod changes;
 mod written;
 
-use cache::cache_changes;
-use directory::directory_changes;
+use changes::changes;
 use written::written_sides;
 
 /// Why overrides in JSON are refused. `docs/FORMATS.md` has their form.
@@ -96,8 +94,8 @@ fn overridden(alloc: Global, value: &Value) -> Result<Tables, TablesFault>
     let Some(sides) = written_sides(value) else {
         return Err(TablesFault::BadShape);
     };
-    let of_cache = cache_changes(alloc, sides.cache)?;
-    let of_directory = directory_changes(alloc, sides.directory)?;
+    let of_cache = changes(alloc, sides.cache)?;
+    let of_directory = changes(alloc, sides.directory)?;
     let baseline = Tables::baseline();
     Ok(Tables {
         cache: baseline.cache.with_changes(of_cache.as_slice()),

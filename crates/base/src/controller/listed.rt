@@ -39,14 +39,14 @@ pub trait Listed: Copy + PartialEq + 'static {
 /// The one of its kind that has this name. `None` comes exactly where none has it.
 pub fn named<N: Listed>(name: &[u8]) -> Option<N>
     ensures spelled { MatchOption result (IsUnnamed N.spelling name.now) (λ x. name.now ≡ N.spelling x) }
-    ensures named { result ≡ named_in N.spelling name.now N.kind }
+    ensures named { result ≡ named_in N.spelling N.kind name.now }
 {
     find_named(N::all(), name)
 }
 
 /// The first of these that has this name.
 fn find_named<N: Listed>(all: &[N], name: &[u8]) -> Option<N>
-    ensures { result ≡ named_in N.spelling name.now all.now }
+    ensures { result ≡ named_in N.spelling all.now name.now }
 {
     for &one in all {
         if one.name().as_bytes() == name {

@@ -28,5 +28,5 @@ loop-one-preserved g c =
 
 pub returns : goal.returns
 returns g c =
-    sym (ap (named_in g.N.Listed.spelling c.args.name.now) (drop_all c.loop-one.one-index c.args.all.now (omega (arith, c.loop-one-test.false))))
+    sym (ap (λ all. named_in g.N.Listed.spelling all c.args.name.now) (drop_all c.loop-one.one-index c.args.all.now (omega (arith, c.loop-one-test.false))))
     ∙ c.loop-one.invariant

@@ -9,5 +9,5 @@ returns-clause-spelled g c =
     let text = c.args.name.now in
     let spelling = g.N.Listed.spelling in
     subst (λ o. MatchOption o (IsUnnamed spelling text) (λ x. text ≡ spelling x))
-    (sym (c.find_named.ensures ∙ ap (named_in spelling text) c.all.ensures))
+    (sym (c.find_named.ensures ∙ ap (λ all. named_in spelling all text) c.all.ensures))
     (all-spelled spelling text g.N.Listed.kind g.N.Listed.place g.met.N.Listed.stands)

@@ -1,9 +1,0 @@
-use Rattle.std.proofs.Common.{◌≡◌, drop}
-use Rattle.std.specs.List.{list_any}
-use Rattle.world.specs.Overrides.{is_same_directory_cell}
-use Rattle.world.proofs.overrides.directory.is_changed.Given as goal
-
--- the changes so far are of other cells
-abbrev pub invariant-loop-earlier : goal.invariant-loop-earlier
-invariant-loop-earlier l =
-    list_any (λ c. is_same_directory_cell c l.change) (drop l.earlier-index l.changes) ≡ list_any (λ c. is_same_directory_cell c l.change) l.changes
