@@ -2,3 +2,4 @@ pub mod Cells
 pub mod Naming
 pub mod Lines
 pub mod Spellings
+pub mod Spelled

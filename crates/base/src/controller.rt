@@ -3,7 +3,8 @@
 mod actions;
 mod entry;
 mod listed;
+mod spelling;
 
 pub use actions::{Actions, MOST_ACTIONS};
-pub use entry::{Change, Entry, last_change_holds};
+pub use entry::{Change, Entry, Side, last_change_holds};
 pub use listed::{Listed, named};

@@ -35,6 +35,7 @@ impl<A: Listed> Model for Actions<A> {
 
 impl<A: Listed> Actions<A> {
     ghost use Rattle.std.specs.Prelude.{◌≡◌, ◌<◌, ◌≤◌, ◌↔◌, ◌++◌, ◌∷◌, [], length, IfNone, IfSome, IsSome, IsTrue};
+    ghost use Rattle.base.specs.Entries.{same_list};
 
     /// No actions.
     pub fn none() -> Actions<A>
@@ -96,5 +97,21 @@ impl<A: Listed> Actions<A> {
             items,
             count: self.count + 1,
         }
+    }
+
+    /// Whether the other actions are the same in the same order.
+    pub fn is_same(&self, other: &Actions<A>) -> bool
+        ensures { result ≡ same_list A.place self.now other.now }
+    {
+        let (mine, others) = (self.as_slice(), other.as_slice());
+        if mine.len() != others.len() {
+            return false;
+        }
+        for index in 0..mine.len() {
+            if mine[index].number() != others[index].number() {
+                return false;
+            }
+        }
+        true
     }
 }

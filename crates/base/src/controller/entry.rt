@@ -3,7 +3,6 @@ ghost use Rattle.base.specs.Cells.{LastChangeHolds};
 use crate::controller::actions::Actions;
 use crate::controller::listed::Listed;
 use std::alloc::AllocError;
-use std::fmt;
 
 /// One cell of a controller's table: what it does in a state on an event.
 #[derive(Copy, PartialEq, Eq, Debug)]
@@ -28,7 +27,25 @@ impl<S: Listed, A: Listed> Clone for Entry<S, A> {
 }
 
 impl<S: Listed, A: Listed> Entry<S, A> {
-    ghost use Rattle.std.specs.Prelude.{◌≡◌, [], ◌∷◌};
+    ghost use Rattle.std.specs.Prelude.{◌≡◌, ◌↔◌, [], ◌∷◌, IsTrue};
+    ghost use Rattle.base.specs.Entries.{same_entry};
+
+    /// Whether the other entry is the same.
+    pub fn is_same(&self, other: &Entry<S, A>) -> bool
+        ensures same { result ≡ same_entry S.place A.place self.now other.now }
+    {
+        match (self, other) {
+            (Entry::Blank, Entry::Blank) | (Entry::Stall, Entry::Stall) => true,
+            (
+                Entry::Act { next, actions },
+                Entry::Act {
+                    next: other_next,
+                    actions: others,
+                },
+            ) => next.number() == other_next.number() && actions.is_same(others),
+            _ => false,
+        }
+    }
 
     /// To the next state with no action.
     pub fn quiet(next: S) -> Entry<S, A>
@@ -85,6 +102,15 @@ impl<S: Listed, A: Listed> Entry<S, A> {
     }
 }
 
+/// Which controller's table a cell is of.
+#[derive(Clone, Copy, PartialEq, Eq, Debug)]
+pub enum Side {
+    /// The table of the caches.
+    Cache,
+    /// The table of the directory.
+    Directory,
+}
+
 /// An entry that one cell of a controller's table is to have.
 #[derive(Copy, PartialEq, Eq, Debug)]
 pub struct Change<S: Listed, E: Listed, A: Listed> {
@@ -111,23 +137,6 @@ impl<S: Listed, E: Listed, A: Listed> Change<S, E, A> {
         ensures { result ≡ is_of S.place E.place self.now other.now.state other.now.event }
     {
         self.state.number() == other.state.number() && self.event.number() == other.event.number()
-    }
-}
-
-/// `blank`, `stall`, or `act` with the next state and the actions.
-impl<S: Listed, A: Listed> fmt::Display for Entry<S, A> {
-    fn fmt<W: fmt::Write>(&self, f: &mut fmt::Formatter<W>) -> fmt::Result {
-        match self {
-            Entry::Blank => write!(f, "blank"),
-            Entry::Stall => write!(f, "stall"),
-            Entry::Act { next, actions } => {
-                write!(f, "act {}", next.name())?;
-                for action in actions.as_slice() {
-                    write!(f, " {}", action.name())?;
-                }
-                Ok(())
-            }
-        }
     }
 }
 

@@ -1,4 +1,4 @@
-ghost use Rattle.std.specs.Prelude.{◌≡◌, ◌<◌, ℕ, List, MatchOption, Some, length, slice_get};
+ghost use Rattle.std.specs.Prelude.{◌≡◌, ◌<◌, ◌≤◌, ℕ, List, MatchOption, Some, length, slice_get};
 ghost use Rattle.base.specs.Spelling.{named_in, IsUnnamed};
 
 /// A state, an event or an action of a controller: one of a few of its kind, which stand in a fixed order and have names.
@@ -15,9 +15,10 @@ pub trait Listed: Copy + PartialEq + 'static {
     /// The one that stands first.
     ghost head: { Self };
 
-    /// How it is spelled in texts.
+    /// How it is spelled in texts: in at most 13 bytes.
     fn name(self) -> &'static str
-        ensures { result.now ≡ spelling self };
+        ensures name { result.now ≡ spelling self }
+        ensures short { length (spelling self) ≤ 13 };
 
     /// Its number among its kind, counted from 0.
     fn number(self) -> usize

@@ -10,7 +10,7 @@ returns-then-eq g c =
     let spelling = g.N.Listed.spelling in
     let name = c.args.name.now in
     let one = c.one-item.result in
-    let test = ap (λ n. bytes_eq n name) (sym (c.as_bytes.ensures.value ∙ c.name.ensures)) ∙ sym c.eq.ensures ∙ c.if-eq.true in
+    let test = ap (λ n. bytes_eq n name) (sym (c.as_bytes.ensures.value ∙ c.name.ensures.name)) ∙ sym c.eq.ensures ∙ c.if-eq.true in
     ap Some c.one-item.is
     ∙ sym (found-here (λ x. bytes_eq (spelling x) name) c.args.all.now c.loop-one.one-index one (omega (arith, c.loop-one-test.true))
     (ap (λ x. bytes_eq (spelling x) name) (sym c.one-item.is) ∙ test))
@@ -21,7 +21,7 @@ loop-one-preserved g c =
     let spelling = g.N.Listed.spelling in
     let name = c.args.name.now in
     let one = c.one-item.result in
-    let test = ap (λ n. bytes_eq n name) (sym (c.as_bytes.ensures.value ∙ c.name.ensures)) ∙ sym c.eq.ensures ∙ c.if-eq.false in
+    let test = ap (λ n. bytes_eq n name) (sym (c.as_bytes.ensures.value ∙ c.name.ensures.name)) ∙ sym c.eq.ensures ∙ c.if-eq.false in
     sym (found-later (λ x. bytes_eq (spelling x) name) c.args.all.now c.loop-one.one-index one (omega (arith, c.loop-one-test.true))
     (ap (λ x. bytes_eq (spelling x) name) (sym c.one-item.is) ∙ test))
     ∙ c.loop-one.invariant

@@ -1,0 +1,50 @@
+-- How entries of a table and changes of its cells are spelled, and when two entries are the same.
+use Rattle.std.specs.Prelude.{◌≢◌, ℕ, ◌≤◌, ⊤, Bool, true, false, ◌==◌, ◌&&◌, List, [], ◌∷◌, codes, length, map}
+use Rattle.base.specs.declared.controller.entry.Entry.{Entry}
+use Rattle.base.specs.declared.controller.entry.Entry.TheVariants.{Blank, Stall, Act}
+use Rattle.base.specs.declared.controller.entry.Change.{Change}
+use Rattle.base.specs.declared.controller.entry.Side.{Side}
+use Rattle.base.specs.declared.controller.entry.Side.TheVariants.{Cache, Directory}
+
+-- the words that spell an entry
+abbrev pub entry_words : {S A : Type 0} → (S → List ℕ) → (A → List ℕ) → Entry S A → List (List ℕ)
+entry_words state action Blank = codes "blank" ∷ []
+entry_words state action Stall = codes "stall" ∷ []
+entry_words state action (Act next actions) = codes "act" ∷ state next ∷ map action actions
+
+-- an entry has at most eight actions
+abbrev pub HasRoom : {S A : Type 0} → Entry S A → Type 0
+HasRoom (Act next actions) = length actions ≤ 8
+HasRoom other = ⊤
+
+-- these words spell no entry
+abbrev pub IsNoEntry : {S A : Type 0} → (S → List ℕ) → (A → List ℕ) → List (List ℕ) → Type 0
+IsNoEntry {S} {A} state action line = (entry : Entry S A) → HasRoom entry → line ≢ entry_words state action entry
+
+-- the word for a side
+abbrev pub side_word : Side → List ℕ
+side_word Cache = codes "cache"
+side_word Directory = codes "directory"
+
+-- the words that spell a change of a cell of this side's table
+abbrev pub change_words : {S E A : Type 0} → (S → List ℕ) → (E → List ℕ) → (A → List ℕ) → Side → Change S E A → List (List ℕ)
+change_words state event action side c =
+    codes "cell" ∷ side_word side ∷ state c.state ∷ event c.event ∷ entry_words state action c.entry
+
+-- these words spell no change of a cell of this side's table
+abbrev pub IsNoChange : {S E A : Type 0} → (S → List ℕ) → (E → List ℕ) → (A → List ℕ) → Side → List (List ℕ) → Type 0
+IsNoChange {S} {E} {A} state event action side line =
+    (c : Change S E A) → HasRoom c.entry → line ≢ change_words state event action side c
+
+-- whether two lists have the same things, each of which has a number of its own, in the same order
+abbrev pub same_list : {A : Type 0} → (A → ℕ) → List A → List A → Bool
+same_list number [] [] = true
+same_list number (a ∷ later) (b ∷ others) = (number a == number b) && same_list number later others
+same_list number one other = false
+
+-- whether two entries are the same: both blank, both a stall, or the same next state and the same actions
+abbrev pub same_entry : {S A : Type 0} → (S → ℕ) → (A → ℕ) → Entry S A → Entry S A → Bool
+same_entry state action Blank Blank = true
+same_entry state action Stall Stall = true
+same_entry state action (Act next actions) (Act other others) = (state next == state other) && same_list action actions others
+same_entry state action entry other = false
