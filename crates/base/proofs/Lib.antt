@@ -3,3 +3,4 @@ pub mod Naming
 pub mod Lines
 pub mod Spellings
 pub mod Spelled
+pub mod Same

@@ -33,6 +33,7 @@ impl<S: Listed, A: Listed> Entry<S, A> {
     /// Whether the other entry is the same.
     pub fn is_same(&self, other: &Entry<S, A>) -> bool
         ensures same { result ≡ same_entry S.place A.place self.now other.now }
+        ensures equal { IsTrue result ↔ (self.now ≡ other.now) }
     {
         match (self, other) {
             (Entry::Blank, Entry::Blank) | (Entry::Stall, Entry::Stall) => true,
