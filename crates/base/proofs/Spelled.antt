@@ -1,13 +1,16 @@
 -- Lists of names in a line.
-use Rattle.std.proofs.Common.{◌≡◌, ◌≢◌, ◌≤◌, ◌<◌, ◌+◌, ℕ, List, [], ◌∷◌, ◌++◌, Option, Some, None, length, map, take, get_or, eqb, ap, sym, ◌∙◌, arith}
+use Rattle.std.proofs.Common.{◌≡◌, ◌≢◌, ◌≤◌, ◌<◌, ◌+◌, ℕ, List, [], ◌∷◌, ◌++◌, Option, Some, None, length, map, take, drop, get_or, eqb, ap, sym, ◌∙◌, arith}
 use Rattle.std.proofs.Common.{length-append, append_assoc}
 use Rattle.std.specs.Prelude.{MatchOption, ◌==◌, ◌&&◌, Bool, true, false, refl, suc}
-use Rattle.base.specs.Entries.{same_list}
+use Rattle.base.specs.declared.controller.entry.Entry.{Entry}
+use Rattle.base.specs.declared.controller.entry.Entry.TheVariants.{Blank, Stall, Act}
+use Rattle.base.specs.declared.controller.entry.Change.{Change}
+use Rattle.base.specs.Entries.{same_list, entry_words, change_words, SpellsOneChange}
 use Rattle.std.specs.Borrow.{Bor}
 use Rattle.std.proofs.lemmas.List.{length-map, map_more, append-nil}
 use Rattle.std.proofs.lemmas.Grind.{flat_map-append}
 use Rattle.std.proofs.lemmas.List.Splits.{length-slice_split}
-use Rattle.base.specs.Spelling.{words, spaced}
+use Rattle.base.specs.Spelling.{words, spaced, named_in}
 use Rattle.base.specs.inner.Behind.{words_behind}
 
 -- the first word, and those behind its blank
@@ -66,3 +69,41 @@ same_list-length number (x ∷ xs) (y ∷ ys) other =
     both-false : (b : Bool) → (b && false) ≡ false
     both-false true = refl
     both-false false = refl
+
+-- things that are found by their names are told apart by them
+pub same-name : {X : Type 0} (kind : List X) (spelling : X → List ℕ) → ((x : X) → named_in spelling kind (spelling x) ≡ Some x) →
+    (x y : X) → spelling x ≡ spelling y → x ≡ y
+same-name {X} kind spelling found x y e =
+    let same : Some x ≡ Some y = sym (found x) ∙ ap (named_in spelling kind) e ∙ found y in cc
+
+same-names : {X : Type 0} (spelling : X → List ℕ) → ((x y : X) → spelling x ≡ spelling y → x ≡ y) →
+    (xs ys : List X) → map spelling xs ≡ map spelling ys → xs ≡ ys
+same-names spelling one [] [] e = refl
+same-names spelling one [] (y ∷ ys) e = absurd (cc)
+same-names spelling one (x ∷ xs) [] e = absurd (cc)
+same-names spelling one (x ∷ xs) (y ∷ ys) e = cc (one x y cc, same-names spelling one xs ys cc)
+
+-- entries that are spelled alike are the same
+entry-one : {S A : Type 0} (state : S → List ℕ) (action : A → List ℕ) → ((x y : S) → state x ≡ state y → x ≡ y) →
+    ((x y : A) → action x ≡ action y → x ≡ y) → (e f : Entry S A) → entry_words state action e ≡ entry_words state action f → e ≡ f
+entry-one state action states actions (Act m a) (Act n b) e = cc (states m n cc, same-names action actions a b cc)
+entry-one state action states actions (Act m a) Blank e = absurd (cc)
+entry-one state action states actions (Act m a) Stall e = absurd (cc)
+entry-one state action states actions Blank Blank e = refl
+entry-one state action states actions Blank Stall e = let first : 98 ≡ 115 = ap (λ l. get_or (get_or l 0 []) 0 0) e in absurd (omega (arith, first))
+entry-one state action states actions Blank (Act n b) e = absurd (cc)
+entry-one state action states actions Stall Blank e = let first : 115 ≡ 98 = ap (λ l. get_or (get_or l 0 []) 0 0) e in absurd (omega (arith, first))
+entry-one state action states actions Stall Stall e = refl
+entry-one state action states actions Stall (Act n b) e = absurd (cc)
+
+-- changes that are spelled alike are the same
+pub change-one : {S E A : Type 0} (state : S → List ℕ) (event : E → List ℕ) (action : A → List ℕ) → ((x y : S) → state x ≡ state y → x ≡ y) →
+    ((x y : E) → event x ≡ event y → x ≡ y) → ((x y : A) → action x ≡ action y → x ≡ y) → SpellsOneChange state event action
+change-one state event action states events actions side c d e =
+    let row : c.state ≡ d.state = states c.state d.state (ap (λ l. get_or l 2 []) e) in
+    let column : c.event ≡ d.event = events c.event d.event (ap (λ l. get_or l 3 []) e) in
+    let entry : c.entry ≡ d.entry = entry-one state action states actions c.entry d.entry (ap (λ l. drop 4 l) e) in
+    ap (λ s. change s c.event c.entry) row ∙ ap (λ v. change d.state v c.entry) column ∙ ap (λ x. change d.state d.event x) entry
+  where
+    change : {S E A : Type 0} → S → E → Entry S A → Change S E A
+    change s v x = record { state = s; event = v; entry = x }

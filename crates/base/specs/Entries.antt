@@ -1,5 +1,5 @@
 -- How entries of a table and changes of its cells are spelled, and when two entries are the same.
-use Rattle.std.specs.Prelude.{◌≢◌, ℕ, ◌≤◌, ⊤, Bool, true, false, ◌==◌, ◌&&◌, List, [], ◌∷◌, codes, length, map}
+use Rattle.std.specs.Prelude.{◌≡◌, ◌≢◌, ℕ, ◌≤◌, ⊤, Bool, true, false, ◌==◌, ◌&&◌, List, [], ◌∷◌, codes, length, map}
 use Rattle.base.specs.declared.controller.entry.Entry.{Entry}
 use Rattle.base.specs.declared.controller.entry.Entry.TheVariants.{Blank, Stall, Act}
 use Rattle.base.specs.declared.controller.entry.Change.{Change}
@@ -11,6 +11,11 @@ abbrev pub entry_words : {S A : Type 0} → (S → List ℕ) → (A → List ℕ
 entry_words state action Blank = codes "blank" ∷ []
 entry_words state action Stall = codes "stall" ∷ []
 entry_words state action (Act next actions) = codes "act" ∷ state next ∷ map action actions
+
+-- what is done, in order: nothing where there is no rule or the event waits
+abbrev pub actions_of : {S A : Type 0} → Entry S A → List A
+actions_of (Act next actions) = actions
+actions_of other = []
 
 -- an entry has at most eight actions
 abbrev pub HasRoom : {S A : Type 0} → Entry S A → Type 0
@@ -35,6 +40,11 @@ change_words state event action side c =
 abbrev pub IsNoChange : {S E A : Type 0} → (S → List ℕ) → (E → List ℕ) → (A → List ℕ) → Side → List (List ℕ) → Type 0
 IsNoChange {S} {E} {A} state event action side line =
     (c : Change S E A) → HasRoom c.entry → line ≢ change_words state event action side c
+
+-- a line is the text of one change at most
+abbrev pub SpellsOneChange : {S E A : Type 0} → (S → List ℕ) → (E → List ℕ) → (A → List ℕ) → Type 0
+SpellsOneChange {S} {E} {A} state event action =
+    (side : Side) (c d : Change S E A) → change_words state event action side c ≡ change_words state event action side d → c ≡ d
 
 -- whether two lists have the same things, each of which has a number of its own, in the same order
 abbrev pub same_list : {A : Type 0} → (A → ℕ) → List A → List A → Bool

@@ -1,5 +1,5 @@
-use Rattle.std.specs.Prelude.{◌≡◌, ◌≢◌, ℕ, ◌<◌, ◌^◌, ⊤, List, [], ◌∷◌, ◌++◌, Option, codes, eqb}
-use Rattle.std.specs.List.{find, flat_map, slice_split}
+use Rattle.std.specs.Prelude.{◌≡◌, ◌≢◌, ℕ, ◌<◌, ◌^◌, ⊤, Bool, ◌&&◌, leb, ltb, List, [], ◌∷◌, ◌++◌, Option, codes, eqb, length}
+use Rattle.std.specs.List.{find, flat_map, list_all, slice_split}
 use Rattle.std.specs.Str.{bytes_eq}
 use Rattle.std.specs.Fmt.{decimal}
 use Rattle.base.specs.declared.step.Ask.{Ask}
@@ -27,6 +27,10 @@ joined (word ∷ words) = word ++ spaced words
 -- the first of these things that is spelled so, if there is one
 abbrev pub named_in : {X : Type 0} → (X → List ℕ) → List X → List ℕ → Option X
 named_in spelling all text = find (λ x. bytes_eq (spelling x) text) all
+
+-- whether a text may be a name: at most 13 bytes, each of which stands behind the blank
+abbrev pub is_name : List ℕ → Bool
+is_name text = leb (length text) 13 && list_all (λ b. ltb 32 b) text
 
 -- no such thing is spelled so
 abbrev pub IsUnnamed : {X : Type 0} → (X → List ℕ) → List ℕ → Type 0

@@ -8,3 +8,4 @@ mod spelling;
 pub use actions::{Actions, MOST_ACTIONS};
 pub use entry::{Change, Entry, Side, last_change_holds};
 pub use listed::{Listed, named};
+pub use spelling::spells_one_change;

@@ -37,7 +37,7 @@ impl CacheAction {
 
 impl Listed for CacheAction {
     ghost use Rattle.cache_table.specs.Names.{action_name, action_number, all_actions, first_action};
-    ghost use Rattle.cache_table.specs.inner.Standing.{action_stands};
+    ghost use Rattle.cache_table.specs.inner.Standing.{action_found, action_plain, action_stands};
 
     ghost spelling = { action_name };
 
@@ -72,4 +72,8 @@ impl Listed for CacheAction {
     }
 
     ghost stands = { action_stands };
+
+    ghost found = { action_found };
+
+    ghost plain = { action_plain };
 }

@@ -54,7 +54,7 @@ impl Listed for CacheEvent {
     ghost use Rattle.cache_table.specs.Names.{event_name, first_event};
     ghost use Rattle.cache_table.specs.Table.{event_number};
     ghost use Rattle.cache_table.specs.Baseline.{all_events};
-    ghost use Rattle.cache_table.specs.inner.Standing.{event_stands};
+    ghost use Rattle.cache_table.specs.inner.Standing.{event_found, event_plain, event_stands};
 
     ghost spelling = { event_name };
 
@@ -94,4 +94,8 @@ impl Listed for CacheEvent {
     }
 
     ghost stands = { event_stands };
+
+    ghost found = { event_found };
+
+    ghost plain = { event_plain };
 }

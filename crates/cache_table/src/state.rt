@@ -51,7 +51,7 @@ impl Listed for CacheState {
     ghost use Rattle.cache_table.specs.Names.{state_name, first_state};
     ghost use Rattle.cache_table.specs.Table.{state_number};
     ghost use Rattle.cache_table.specs.Baseline.{all_states};
-    ghost use Rattle.cache_table.specs.inner.Standing.{state_stands};
+    ghost use Rattle.cache_table.specs.inner.Standing.{state_found, state_plain, state_stands};
 
     ghost spelling = { state_name };
 
@@ -90,4 +90,8 @@ impl Listed for CacheState {
     }
 
     ghost stands = { state_stands };
+
+    ghost found = { state_found };
+
+    ghost plain = { state_plain };
 }

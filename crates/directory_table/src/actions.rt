@@ -56,7 +56,7 @@ impl DirectoryAction {
 
 impl Listed for DirectoryAction {
     ghost use Rattle.directory_table.specs.Names.{action_name, action_number, all_actions, first_action};
-    ghost use Rattle.directory_table.specs.inner.Standing.{action_stands};
+    ghost use Rattle.directory_table.specs.inner.Standing.{action_found, action_plain, action_stands};
 
     ghost spelling = { action_name };
 
@@ -97,4 +97,8 @@ impl Listed for DirectoryAction {
     }
 
     ghost stands = { action_stands };
+
+    ghost found = { action_found };
+
+    ghost plain = { action_plain };
 }

@@ -36,7 +36,7 @@ impl Listed for DirectoryEvent {
     ghost use Rattle.directory_table.specs.Names.{event_name, first_event};
     ghost use Rattle.directory_table.specs.Table.{event_number};
     ghost use Rattle.directory_table.specs.Baseline.{all_events};
-    ghost use Rattle.directory_table.specs.inner.Standing.{event_stands};
+    ghost use Rattle.directory_table.specs.inner.Standing.{event_found, event_plain, event_stands};
 
     ghost spelling = { event_name };
 
@@ -71,4 +71,8 @@ impl Listed for DirectoryEvent {
     }
 
     ghost stands = { event_stands };
+
+    ghost found = { event_found };
+
+    ghost plain = { event_plain };
 }

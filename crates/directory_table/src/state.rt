@@ -27,7 +27,7 @@ impl Listed for DirectoryState {
     ghost use Rattle.directory_table.specs.Names.{state_name, first_state};
     ghost use Rattle.directory_table.specs.Table.{state_number};
     ghost use Rattle.directory_table.specs.Baseline.{all_states};
-    ghost use Rattle.directory_table.specs.inner.Standing.{state_stands};
+    ghost use Rattle.directory_table.specs.inner.Standing.{state_found, state_plain, state_stands};
 
     ghost spelling = { state_name };
 
@@ -59,4 +59,8 @@ impl Listed for DirectoryState {
     }
 
     ghost stands = { state_stands };
+
+    ghost found = { state_found };
+
+    ghost plain = { state_plain };
 }

@@ -1,8 +1,8 @@
 use crate::fault::Fault;
 use crate::finding::Finding;
-use base::controller::Listed;
-use cache_table::{CacheEvent, CacheState, CacheTable};
-use directory_table::{DirectoryEvent, DirectoryState, DirectoryTable};
+use base::controller::Side;
+use cache_table::{CacheChange, CacheEvent, CacheState, CacheTable};
+use directory_table::{DirectoryChange, DirectoryEvent, DirectoryState, DirectoryTable};
 use std::alloc::Global;
 use std::io::{BufWriter, Write};
 use world::Tables;
@@ -23,9 +23,12 @@ pub fn print_tables<O: Write + Drop>(
 fn print_cache_cells<W: Write>(table: &CacheTable, output: &mut W) -> Result<(), Fault> {
     for state in CacheState::ALL {
         for event in CacheEvent::ALL {
-            let (state_name, event_name) = (state.name(), event.name());
-            let entry = table.entry(state, event);
-            writeln!(output, "cell cache {state_name} {event_name} {entry}")?;
+            let cell = CacheChange {
+                state,
+                event,
+                entry: table.entry(state, event),
+            };
+            writeln!(output, "{}", cell.text(Side::Cache))?;
         }
     }
     Ok(())
@@ -34,9 +37,12 @@ fn print_cache_cells<W: Write>(table: &CacheTable, output: &mut W) -> Result<(),
 fn print_directory_cells<W: Write>(table: &DirectoryTable, output: &mut W) -> Result<(), Fault> {
     for state in DirectoryState::ALL {
         for event in DirectoryEvent::ALL {
-            let (state_name, event_name) = (state.name(), event.name());
-            let entry = table.entry(state, event);
-            writeln!(output, "cell directory {state_name} {event_name} {entry}")?;
+            let cell = DirectoryChange {
+                state,
+                event,
+                entry: table.entry(state, event),
+            };
+            writeln!(output, "{}", cell.text(Side::Directory))?;
         }
     }
     Ok(())

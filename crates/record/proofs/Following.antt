@@ -11,7 +11,8 @@ use Rattle.record.specs.declared.recording.Entry.{Entry}
 use Rattle.record.specs.Cells.{all_spots, cell_at, cell_words, spot_of, spot_number}
 use Rattle.record.specs.Kept.{Kept}
 use Rattle.base.specs.Spelling.{joined}
-use Rattle.record.specs.Text.{text, lines, entries_words, entry_words, end_words, is_same, is_changed, changed, changed_cells}
+use Rattle.record.specs.Text.{text, lines, entries_words, entry_words, end_words, is_changed, changed, changed_cells}
+use Rattle.record.specs.Cells.{is_same}
 use Rattle.record.specs.Grammar.{Due, header, shape_line, opening_line, cell_count, entry_count, nothing, cells_due, entries_due, IsListed, FitsEntry}
 use Rattle.record.specs.Grammar.{Leads, Follow}
 use Rattle.record.specs.Refused.{ended, IsWellFormed}

@@ -24,15 +24,15 @@ use Rattle.record.specs.declared.recording.Entry.{Entry}
 use Rattle.record.specs.Cells.{all_spots, cache_entry_words, directory_entry_words, cell_at, cell_words, spot_number}
 use Rattle.record.specs.Kept.{Kept}
 use Rattle.base.specs.Spelling.{joined}
-use Rattle.record.specs.Text.{text, line, lines, shape_words, opening_words, cells_words, entries_words, entry_words, end_words, is_same, is_changed}
+use Rattle.record.specs.Text.{text, line, lines, shape_words, opening_words, cells_words, entries_words, entry_words, end_words, is_changed}
+use Rattle.record.specs.Cells.{is_same}
 use Rattle.record.specs.Text.{changed, changed_cells}
 use Rattle.record.specs.Grammar.{FitsEntry, header}
 use Rattle.record.specs.declared.fault.ReadKind.{ReadKind}
 use Rattle.record.specs.Refused.{IsOutside, IsRefused}
 use Rattle.std.specs.Io.KnownBytes.{Consumes}
 use Rattle.record.specs.Recordable.{AreWhole, IsRecordable}
-use Rattle.record.proofs.Alike.{cache_state-same, cache_event-same, directory_state-same, directory_event-same}
-use Rattle.record.proofs.Naming.{cache_actions-same, directory_actions-same}
+use Rattle.record.proofs.Alike.{cell-same, unchanged}
 use Rattle.record.proofs.Changed.{changed-cons}
 use Rattle.record.proofs.Legible.{IsLine, joined-open, words-joined}
 use Rattle.record.proofs.Ending.{some-line, one-line_first}
@@ -57,36 +57,6 @@ lines-same (x ∷ xs) [] h k e = absurd (some-line (joined x) (flat_map line xs)
 lines-same (x ∷ xs) (y ∷ ys) h k e =
     let same = line-same x y (flat_map line xs) (flat_map line ys) h.0 k.0 e in
     ap (λ l. l ∷ xs) same.0 ∙ ap (λ l. y ∷ l) (lines-same xs ys h.1 k.1 same.1)
-
--- ---- cells
-
-cache_entry-same : (x y : CacheEntry) → cache_entry_words x ≡ cache_entry_words y → x ≡ y
-cache_entry-same (table_entry.Act s xs) (table_entry.Act t ys) e = cc (cache_state-same s t cc, cache_actions-same xs ys cc)
-cache_entry-same (table_entry.Act s xs) other e = absurd (cc)
-cache_entry-same table_entry.Blank table_entry.Blank e = refl
-cache_entry-same table_entry.Blank table_entry.Stall e = let first : 98 ≡ 115 = ap (λ l. get_or (get_or l 0 []) 0 0) e in absurd (omega (arith, first))
-cache_entry-same table_entry.Blank (table_entry.Act t ys) e = absurd (cc)
-cache_entry-same table_entry.Stall table_entry.Blank e = let first : 115 ≡ 98 = ap (λ l. get_or (get_or l 0 []) 0 0) e in absurd (omega (arith, first))
-cache_entry-same table_entry.Stall table_entry.Stall e = refl
-cache_entry-same table_entry.Stall (table_entry.Act t ys) e = absurd (cc)
-
-directory_entry-same : (x y : DirectoryEntry) → directory_entry_words x ≡ directory_entry_words y → x ≡ y
-directory_entry-same (table_entry.Act s xs) (table_entry.Act t ys) e = cc (directory_state-same s t cc, directory_actions-same xs ys cc)
-directory_entry-same (table_entry.Act s xs) other e = absurd (cc)
-directory_entry-same table_entry.Blank table_entry.Blank e = refl
-directory_entry-same table_entry.Blank table_entry.Stall e =
-    let first : 98 ≡ 115 = ap (λ l. get_or (get_or l 0 []) 0 0) e in absurd (omega (arith, first))
-directory_entry-same table_entry.Blank (table_entry.Act t ys) e = absurd (cc)
-directory_entry-same table_entry.Stall table_entry.Blank e =
-    let first : 115 ≡ 98 = ap (λ l. get_or (get_or l 0 []) 0 0) e in absurd (omega (arith, first))
-directory_entry-same table_entry.Stall table_entry.Stall e = refl
-directory_entry-same table_entry.Stall (table_entry.Act t ys) e = absurd (cc)
-
-cell-same : (c d : Cell) → cell_words c ≡ cell_words d → c ≡ d
-cell-same (cell.Cache s e x) (cell.Cache t f y) h = cc (cache_state-same s t cc, cache_event-same e f cc, cache_entry-same x y cc)
-cell-same (cell.Cache s e x) (cell.Directory t f y) h = absurd (cc)
-cell-same (cell.Directory s e x) (cell.Cache t f y) h = absurd (cc)
-cell-same (cell.Directory s e x) (cell.Directory t f y) h = cc (directory_state-same s t cc, directory_event-same e f cc, directory_entry-same x y cc)
 
 -- ---- entries
 
@@ -160,21 +130,8 @@ entries-same (x ∷ es) (y ∷ fs) us vs n h k e =
 -- ---- tables
 
 -- cells that are as the baseline's in the same place are the same
-plain-same : (t u : Tables) (s : Spot) → AreWhole t → AreWhole u → is_changed t s ≡ false → is_changed u s ≡ false → cell_at t s ≡ cell_at u s
-plain-same t u s h k e f =
-    let left : line (cell_words (cell_at t s)) ≡ line (cell_words (cell_at baseline s)) = as-baseline (cell_at t s) e in
-    let right : line (cell_words (cell_at u s)) ≡ line (cell_words (cell_at baseline s)) = as-baseline (cell_at u s) f in
-    let same =
-    line-same (cell_words (cell_at t s)) (cell_words (cell_at u s)) [] [] (cell-line _ (h.fits s)) (cell-line _ (k.fits s))
-    (ap (λ l. l ++ []) (left ∙ sym right)) in
-    cell-same (cell_at t s) (cell_at u s) same.0
-  where
-    not-false : (b : Bool) → not b ≡ false → b ≡ true
-    not-false true e = refl
-    not-false false e = cc
-
-    as-baseline : (c : Cell) → not (is_same c (cell_at baseline s)) ≡ false → line (cell_words c) ≡ line (cell_words (cell_at baseline s))
-    as-baseline c e = (bytes_eq-Decides (line (cell_words c)) (line (cell_words (cell_at baseline s)))).0 (not-false (is_same c (cell_at baseline s)) e)
+plain-same : (t u : Tables) (s : Spot) → is_changed t s ≡ false → is_changed u s ≡ false → cell_at t s ≡ cell_at u s
+plain-same t u s e f = unchanged t s e ∙ sym (unchanged u s f)
 
 -- a cell isn't among those of later places
 later : (t u : Tables) (s : Spot) (ss : List Spot) (a : ℕ) → AreListed (a + 1) (changed u ss) → spot_number s ≡ a →
@@ -189,7 +146,7 @@ one-more : (t u : Tables) (s : Spot) (ss : List Spot) (a : ℕ) (b c : Bool) →
 one-more t u s ss a true true h k x y here lt lu e =
     let both : cell_at t s ∷ changed t ss ≡ cell_at u s ∷ changed u ss = sym (changed-cons t s ss true x) ∙ e ∙ changed-cons u s ss true y in (cc, cc)
 one-more t u s ss a false false h k x y here lt lu e =
-    (plain-same t u s h k x y, sym (changed-cons t s ss false x) ∙ e ∙ changed-cons u s ss false y)
+    (plain-same t u s x y, sym (changed-cons t s ss false x) ∙ e ∙ changed-cons u s ss false y)
 one-more t u s ss a true false h k x y here lt lu e = absurd (later t u s ss a lu here (sym (changed-cons t s ss true x) ∙ e ∙ changed-cons u s ss false y))
 one-more t u s ss a false true h k x y here lt lu e = absurd (later u t s ss a lt here (sym (changed-cons u s ss true y) ∙ sym e ∙ changed-cons t s ss false x))
 

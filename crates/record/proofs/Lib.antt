@@ -1,4 +1,3 @@
-pub mod Actions
 pub mod Alike
 pub mod Changed
 pub mod Completing

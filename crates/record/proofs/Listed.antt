@@ -28,7 +28,8 @@ use Rattle.record.specs.declared.cells.Spot.{Spot}
 use Rattle.record.specs.declared.cells.Spot.TheVariants as spot
 use Rattle.record.specs.declared.cells.Cell.{Cell}
 use Rattle.record.specs.Cells.{all_spots, cell_at, cell_words, spot_number, spot_of}
-use Rattle.record.specs.Text.{cells_words, changed, changed_cells, end_words, entries_words, entry_words, header_words, is_changed, is_same, line}
+use Rattle.record.specs.Text.{cells_words, changed, changed_cells, end_words, entries_words, entry_words, header_words, is_changed, line}
+use Rattle.record.specs.Cells.{is_same}
 use Rattle.record.specs.Text.{opening_words, shape_words, text}
 use Rattle.record.specs.Kept.{Kept}
 use Rattle.record.specs.declared.recording.Entry.{Entry}

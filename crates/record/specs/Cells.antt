@@ -1,12 +1,11 @@
--- The cells of both tables, in the order in which they are printed, and how they are spelled.
-use Rattle.std.specs.Prelude.{ℕ, ◌+◌, ◌*◌, ◌≤◌, length, List, [], ◌∷◌, ◌++◌, codes, map}
+-- The cells of both tables, in the order in which they are printed, how they are spelled, and when two hold the same.
+use Rattle.std.specs.Prelude.{ℕ, Bool, false, ◌+◌, ◌*◌, List, ◌++◌, map}
 use Rattle.std.specs.List.{flat_map}
-use Rattle.cache_table.specs.Table.{CacheEntry}
-use Rattle.base.specs.declared.controller.entry.Entry.TheVariants as table_entry
+use Rattle.base.specs.Entries.{change_words, same_entry, HasRoom}
+use Rattle.base.specs.declared.controller.entry.Side.TheVariants.{Cache, Directory}
 use Rattle.cache_table.specs.Table as cache_table
 use Rattle.cache_table.specs.Baseline as cache_baseline
 use Rattle.cache_table.specs.Names as cache_names
-use Rattle.directory_table.specs.Table.{DirectoryEntry}
 use Rattle.directory_table.specs.Table as directory_table
 use Rattle.directory_table.specs.Baseline as directory_baseline
 use Rattle.directory_table.specs.Names as directory_names
@@ -43,35 +42,22 @@ abbrev pub spot_of : Cell → Spot
 spot_of (cell.Cache state event entry) = spot.Cache state event
 spot_of (cell.Directory state event entry) = spot.Directory state event
 
--- the words that spell what a cache does
-abbrev pub cache_entry_words : CacheEntry → List (List ℕ)
-cache_entry_words table_entry.Blank = codes "blank" ∷ []
-cache_entry_words table_entry.Stall = codes "stall" ∷ []
-cache_entry_words (table_entry.Act next actions) = codes "act" ∷ cache_names.state_name next ∷ map cache_names.action_name actions
-
--- the words that spell what the directory does
-abbrev pub directory_entry_words : DirectoryEntry → List (List ℕ)
-directory_entry_words table_entry.Blank = codes "blank" ∷ []
-directory_entry_words table_entry.Stall = codes "stall" ∷ []
-directory_entry_words (table_entry.Act next actions) = codes "act" ∷ directory_names.state_name next ∷ map directory_names.action_name actions
-
 -- the words that spell a cell
 abbrev pub cell_words : Cell → List (List ℕ)
-cell_words (cell.Cache state event entry) = codes "cell" ∷ codes "cache" ∷ cache_names.state_name state ∷ cache_names.event_name event ∷ cache_entry_words entry
+cell_words (cell.Cache state event entry) =
+    change_words cache_names.state_name cache_names.event_name cache_names.action_name Cache (record { state = state; event = event; entry = entry })
 cell_words (cell.Directory state event entry) =
-    codes "cell" ∷ codes "directory" ∷ directory_names.state_name state ∷ directory_names.event_name event ∷ directory_entry_words entry
-
--- what a cache does has at most eight actions
-abbrev pub FitsCacheEntry : CacheEntry → Type 0
-FitsCacheEntry (table_entry.Act next actions) = length actions ≤ 8
-FitsCacheEntry other = Unit {0}
-
--- what the directory does has at most eight actions
-abbrev pub FitsDirectoryEntry : DirectoryEntry → Type 0
-FitsDirectoryEntry (table_entry.Act next actions) = length actions ≤ 8
-FitsDirectoryEntry other = Unit {0}
+    change_words directory_names.state_name directory_names.event_name directory_names.action_name Directory
+    (record { state = state; event = event; entry = entry })
 
 -- a cell has at most eight actions
 abbrev pub FitsCell : Cell → Type 0
-FitsCell (cell.Cache state event entry) = FitsCacheEntry entry
-FitsCell (cell.Directory state event entry) = FitsDirectoryEntry entry
+FitsCell (cell.Cache state event entry) = HasRoom entry
+FitsCell (cell.Directory state event entry) = HasRoom entry
+
+-- whether two cells of one place hold the same
+abbrev pub is_same : Cell → Cell → Bool
+is_same (cell.Cache state event entry) (cell.Cache s e other) = same_entry cache_table.state_number cache_names.action_number entry other
+is_same (cell.Directory state event entry) (cell.Directory s e other) =
+    same_entry directory_table.state_number directory_names.action_number entry other
+is_same one other = false

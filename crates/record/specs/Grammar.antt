@@ -6,7 +6,8 @@ use Rattle.machine.specs.Tables.{baseline}
 use Rattle.record.specs.declared.recording.Entry.{Entry}
 use Rattle.record.specs.declared.cells.Cell.{Cell}
 use Rattle.record.specs.Cells.{cell_at, cell_words, spot_of, spot_number, FitsCell}
-use Rattle.record.specs.Text.{header_words, shape_words, opening_words, cells_words, entries_words, entry_words, end_words, is_same}
+use Rattle.record.specs.Text.{header_words, shape_words, opening_words, cells_words, entries_words, entry_words, end_words}
+use Rattle.record.specs.Cells.{is_same}
 
 -- what is due at the next line
 pub data Due : Type 0 where

@@ -2,14 +2,13 @@
 use Rattle.std.specs.Prelude.{ℕ, List, [], ◌∷◌, ◌++◌, Bool, codes, map, length, filter, not}
 use Rattle.std.specs.List.{flat_map}
 use Rattle.std.specs.Fmt.{decimal}
-use Rattle.std.specs.Str.{bytes_eq}
 use Rattle.base.specs.Extent.{Extent}
 use Rattle.base.specs.Spelling.{joined, step_words, outcome_words}
 use Rattle.machine.specs.Tables.{Tables, baseline}
 use Rattle.record.specs.declared.recording.Entry.{Entry}
 use Rattle.record.specs.declared.cells.Spot.{Spot}
 use Rattle.record.specs.declared.cells.Cell.{Cell}
-use Rattle.record.specs.Cells.{all_spots, cell_at, cell_words}
+use Rattle.record.specs.Cells.{all_spots, cell_at, cell_words, is_same}
 use Rattle.record.specs.Kept.{Kept}
 
 -- a line of these words, with its end
@@ -43,10 +42,6 @@ entry_words e = step_words e.step ++ codes "=" ∷ outcome_words e.outcome
 -- the last line
 abbrev pub end_words : List (List ℕ)
 end_words = codes "end" ∷ []
-
--- whether two cells are spelled alike
-abbrev pub is_same : Cell → Cell → Bool
-is_same c d = bytes_eq (line (cell_words c)) (line (cell_words d))
 
 -- whether the cell at this place differs from the baseline's
 abbrev pub is_changed : Tables → Spot → Bool

@@ -1,6 +1,5 @@
 ghost use Rattle.std.specs.Prelude.{◌≡◌, ◌<◌, slice_index_or};
-ghost use Rattle.machine.specs.Tables.{baseline};
-ghost use Rattle.record.specs.Cells.{all_spots, cell_at, spot_of, spot_number};
+ghost use Rattle.record.specs.Cells.{all_spots, cell_at, is_same, spot_of, spot_number, FitsCell};
 ghost use Rattle.record.specs.inner.Pieces.{IsInWhole};
 
 use cache_table::{CacheEntry, CacheEvent, CacheState};
@@ -65,6 +64,25 @@ impl Cell {
                 event,
                 entry: tables.directory.entry(state, event),
             },
+        }
+    }
+
+    /// Whether these tables hold the same in the cell's place.
+    pub(crate) fn is_in(&self, tables: &Tables) -> bool
+        ensures same { result ≡ is_same self.now (cell_at tables.now (spot_of self.now)) }
+        ensures fits { FitsCell self.now }
+    {
+        match *self {
+            Cell::Cache {
+                state,
+                event,
+                entry,
+            } => entry.is_same(&tables.cache.entry(state, event)),
+            Cell::Directory {
+                state,
+                event,
+                entry,
+            } => entry.is_same(&tables.directory.entry(state, event)),
         }
     }
 

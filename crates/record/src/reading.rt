@@ -5,7 +5,8 @@ ghost use Rattle.base.specs.Spelling.{words};
 ghost use Rattle.machine.specs.Tables.{baseline};
 ghost use Rattle.record.specs.declared.cells.Cell as cells;
 ghost use Rattle.record.specs.Cells.{cell_at, cell_words, spot_of, FitsCell};
-ghost use Rattle.record.specs.Text.{cells_words, changed_cells, entries_words, entry_words, end_words, header_words, is_same, line, opening_words};
+ghost use Rattle.record.specs.Text.{cells_words, changed_cells, entries_words, entry_words, end_words, header_words, line, opening_words};
+ghost use Rattle.record.specs.Cells.{is_same};
 ghost use Rattle.record.specs.Text.{shape_words, text};
 ghost use Rattle.record.specs.declared.cells.Spot as cells_spot;
 ghost use Rattle.base.specs.Extent.{IsWithinLimits};
@@ -22,7 +23,6 @@ use crate::fault::{ReadFault, ReadKind};
 use crate::lines::{Lines, refused};
 use crate::parsing::{count_of, entry_of, is_end, is_header, opening_of, shape_of};
 use crate::recording::{Entry, MOST_ENTRIES, Recording};
-use crate::spelling::cell_line;
 use base::{Shape, Source};
 use std::alloc::Global;
 use world::Tables;
@@ -140,11 +140,12 @@ fn read_cells<S: Source>(lines: &mut Lines, source: &mut S, count: u32) -> Resul
     ensures many { IfOk result (λ tables. length (changed_cells tables) ≡ count) }
     ensures whole { IfOk result AreWhole }
 {
-    let mut tables = Tables::baseline();
+    let own = Tables::baseline();
+    let mut tables = own;
     let mut from = 0;
     for index in 0..count {
         lines.next(source)?;
-        let Some(cell) = listed_cell(lines.line(), from) else {
+        let Some(cell) = listed_cell(lines.line(), from, &own) else {
             return Err(refused(lines.number(), ReadKind::BadLine));
         };
         tables = with_cell(tables, &cell);
@@ -154,7 +155,8 @@ fn read_cells<S: Source>(lines: &mut Lines, source: &mut S, count: u32) -> Resul
 }
 
 /// The cell of a line, if its place is of this number or a higher one and it differs from the baseline's.
-fn listed_cell(line: &[u8], from: usize) -> Option<Cell>
+fn listed_cell(line: &[u8], from: usize, own: &Tables) -> Option<Cell>
+    requires { own.now ≡ baseline }
     ensures { MatchOption result
         ((cell : cells.Cell) → IsListed from cell → words line.now ≢ cell_words cell)
         (λ cell. IsListed from cell × (words line.now ≡ cell_words cell)) }
@@ -163,19 +165,10 @@ fn listed_cell(line: &[u8], from: usize) -> Option<Cell>
     if spot_number(cell.spot()) < from {
         return None;
     }
-    if is_baseline(&cell) {
+    if cell.is_in(own) {
         return None;
     }
     Some(cell)
-}
-
-/// Whether the cell is spelled as the baseline's in its place.
-pub(crate) fn is_baseline(cell: &Cell) -> bool
-    ensures same { result ≡ is_same cell.now (cell_at baseline (spot_of cell.now)) }
-    ensures fits { FitsCell cell.now }
-{
-    let baseline = Cell::at(&Tables::baseline(), cell.spot());
-    cell_line(cell).as_slice() == cell_line(&baseline).as_slice()
 }
 
 /// The tables with this cell in its place.

@@ -1,6 +1,7 @@
 ghost use Rattle.std.specs.Prelude.{◌≡◌, ◌≤◌, ◌<◌, ◌+◌, ◌^◌, [], IfOk, IfErr, OnOk, get_or, length, take};
 ghost use Rattle.std.specs.Io.KnownBytes.{Appends};
 ghost use Rattle.base.specs.Ends.{Marks};
+ghost use Rattle.machine.specs.Tables.{baseline};
 ghost use Rattle.record.specs.Cells.{cell_at, FitsCell};
 ghost use Rattle.record.specs.Kept.{IsKept};
 ghost use Rattle.record.specs.Recordable.{AreWhole, IsRecordable};
@@ -9,7 +10,6 @@ ghost use Rattle.record.specs.inner.Pieces.{pieces, head_piece, value_piece, cel
 ghost use Rattle.record.specs.inner.Pieces.{IsInWhole, IsOut, IsCutOff, PieceFits};
 
 use crate::cells::{Cell, SPOTS, Spot, spot_at};
-use crate::reading::is_baseline;
 use crate::recording::Recording;
 use crate::spelling::{cell_line, entry_line};
 use base::text::Text;
@@ -36,10 +36,11 @@ impl Recording {
         ensures mark { Marks (S.has_failed sink.old) result (S.has_failed sink.new) }
         ensures recordable { OnOk result (IsRecordable self.now) }
     {
-        let changed = count_changed(&self.tables());
+        let own = Tables::baseline();
+        let changed = count_changed(&self.tables(), &own);
         let mut written = 0;
         for number in 0..self.count_of_pieces() {
-            let piece = self.piece(number, changed);
+            let piece = self.piece(number, changed, &own);
             written = put_piece(sink, written, piece.as_slice())?;
         }
         Ok(())
@@ -55,8 +56,9 @@ impl Recording {
         self.opening().len() + SPOTS + self.entries().len() + 4
     }
 
-    /// The piece of this number of the text, where so many cells are changed.
-    fn piece(&self, number: usize, changed: u64) -> Text
+    /// The piece of this number of the text, where so many cells differ from the protocol's own.
+    fn piece(&self, number: usize, changed: u64, own: &Tables) -> Text
+        requires own { own.now ≡ baseline }
         requires within { number < length (pieces self.now) }
         requires changed { changed ≡ length (changed_cells self.now.tables) }
         ensures piece { result ≡ get_or (pieces self.now) number [] }
@@ -73,7 +75,7 @@ impl Recording {
         } else if number == cells {
             cells_head(changed)
         } else if number < count {
-            cell_if_changed(&self.tables(), spot_at(number - cells - 1))
+            cell_if_changed(&self.tables(), own, spot_at(number - cells - 1))
         } else if number == count {
             entries_head(entries.len() as u64)
         } else if number < count + 1 + entries.len() {
@@ -121,11 +123,12 @@ fn cells_head(changed: u64) -> Text
 }
 
 /// The line of a cell, if it differs from the baseline's, and else nothing.
-fn cell_if_changed(tables: &Tables, spot: Spot) -> Text
+fn cell_if_changed(tables: &Tables, own: &Tables, spot: Spot) -> Text
+    requires { own.now ≡ baseline }
     ensures piece { result ≡ cell_piece tables.now spot }
     ensures short { length result ≤ 192 }
 {
-    if is_changed(tables, spot) {
+    if is_changed(tables, own, spot) {
         cell_line(&Cell::at(tables, spot))
     } else {
         Text::new()
@@ -170,23 +173,25 @@ fn put_piece<S: Sink>(sink: &mut S, already: u64, piece: &[u8]) -> Result<u64, W
 }
 
 /// Whether the cell at a place differs from the baseline's.
-pub(crate) fn is_changed(tables: &Tables, spot: Spot) -> bool
+fn is_changed(tables: &Tables, own: &Tables, spot: Spot) -> bool
+    requires { own.now ≡ baseline }
     ensures changed { result ≡ is_changed tables.now spot }
     ensures fits { FitsCell (cell_at tables.now spot) }
     ensures whole { IsInWhole tables.now spot }
 {
-    !is_baseline(&Cell::at(tables, spot))
+    !Cell::at(tables, spot).is_in(own)
 }
 
 /// How many cells differ from the baseline's.
-fn count_changed(tables: &Tables) -> u64
+fn count_changed(tables: &Tables, own: &Tables) -> u64
+    requires { own.now ≡ baseline }
     ensures count { result ≡ length (changed_cells tables.now) }
     ensures few { result ≤ 160 }
     ensures whole { AreWhole tables.now }
 {
     let mut count = 0;
     for number in 0..SPOTS {
-        if is_changed(tables, spot_at(number)) {
+        if is_changed(tables, own, spot_at(number)) {
             count += 1;
         }
     }

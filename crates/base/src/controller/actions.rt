@@ -1,3 +1,6 @@
+ghost use Rattle.std.specs.Prelude.{◌≡◌};
+ghost use Rattle.base.specs.Entries.{same_list};
+
 use crate::controller::listed::Listed;
 use std::alloc::AllocError;
 use std::marker::Model;
@@ -35,7 +38,6 @@ impl<A: Listed> Model for Actions<A> {
 
 impl<A: Listed> Actions<A> {
     ghost use Rattle.std.specs.Prelude.{◌≡◌, ◌<◌, ◌≤◌, ◌↔◌, ◌++◌, ◌∷◌, [], length, IfNone, IfSome, IsSome, IsTrue};
-    ghost use Rattle.base.specs.Entries.{same_list};
 
     /// No actions.
     pub fn none() -> Actions<A>
@@ -98,20 +100,19 @@ impl<A: Listed> Actions<A> {
             count: self.count + 1,
         }
     }
+}
 
-    /// Whether the other actions are the same in the same order.
-    pub fn is_same(&self, other: &Actions<A>) -> bool
-        ensures { result ≡ same_list A.place self.now other.now }
-    {
-        let (mine, others) = (self.as_slice(), other.as_slice());
-        if mine.len() != others.len() {
+/// Whether both have the same actions in the same order.
+pub(crate) fn are_same<A: Listed>(mine: &[A], others: &[A]) -> bool
+    ensures { result ≡ same_list A.place mine.now others.now }
+{
+    if mine.len() != others.len() {
+        return false;
+    }
+    for index in 0..mine.len() {
+        if mine[index].number() != others[index].number() {
             return false;
         }
-        for index in 0..mine.len() {
-            if mine[index].number() != others[index].number() {
-                return false;
-            }
-        }
-        true
     }
+    true
 }

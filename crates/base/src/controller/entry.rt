@@ -1,6 +1,6 @@
 ghost use Rattle.base.specs.Cells.{LastChangeHolds};
 
-use crate::controller::actions::Actions;
+use crate::controller::actions::{Actions, are_same};
 use crate::controller::listed::Listed;
 use std::alloc::AllocError;
 
@@ -28,22 +28,31 @@ impl<S: Listed, A: Listed> Clone for Entry<S, A> {
 
 impl<S: Listed, A: Listed> Entry<S, A> {
     ghost use Rattle.std.specs.Prelude.{◌≡◌, ◌↔◌, [], ◌∷◌, IsTrue};
-    ghost use Rattle.base.specs.Entries.{same_entry};
+    ghost use Rattle.base.specs.Entries.{actions_of, same_entry, HasRoom};
+
+    /// What is done, in order: nothing where there is no rule or the event waits.
+    pub fn actions(&self) -> &[A]
+        ensures actions { result.now ≡ actions_of self.now }
+        ensures room { HasRoom self.now }
+    {
+        match self {
+            Entry::Act { actions, .. } => actions.as_slice(),
+            _ => &[],
+        }
+    }
 
     /// Whether the other entry is the same.
     pub fn is_same(&self, other: &Entry<S, A>) -> bool
         ensures same { result ≡ same_entry S.place A.place self.now other.now }
         ensures equal { IsTrue result ↔ (self.now ≡ other.now) }
+        ensures room { HasRoom self.now }
     {
+        let actions_are = are_same(self.actions(), other.actions());
         match (self, other) {
             (Entry::Blank, Entry::Blank) | (Entry::Stall, Entry::Stall) => true,
-            (
-                Entry::Act { next, actions },
-                Entry::Act {
-                    next: other_next,
-                    actions: others,
-                },
-            ) => next.number() == other_next.number() && actions.is_same(others),
+            (Entry::Act { next, .. }, Entry::Act { next: other_next, .. }) => {
+                next.number() == other_next.number() && actions_are
+            }
             _ => false,
         }
     }

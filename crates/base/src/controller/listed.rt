@@ -1,5 +1,5 @@
-ghost use Rattle.std.specs.Prelude.{◌≡◌, ◌<◌, ◌≤◌, ℕ, List, MatchOption, Some, length, slice_get};
-ghost use Rattle.base.specs.Spelling.{named_in, IsUnnamed};
+ghost use Rattle.std.specs.Prelude.{◌≡◌, ◌<◌, ◌≤◌, ℕ, List, MatchOption, Some, length, slice_get, true};
+ghost use Rattle.base.specs.Spelling.{is_name, named_in, IsUnnamed};
 
 /// A state, an event or an action of a controller: one of a few of its kind, which stand in a fixed order and have names.
 pub trait Listed: Copy + PartialEq + 'static {
@@ -35,6 +35,12 @@ pub trait Listed: Copy + PartialEq + 'static {
 
     /// Each stands at its number.
     ghost stands: { (x : Self) → slice_get kind (place x) ≡ Some x };
+
+    /// Each is found by its name.
+    ghost found: { (x : Self) → named_in spelling kind (spelling x) ≡ Some x };
+
+    /// Each name is one word.
+    ghost plain: { (x : Self) → is_name (spelling x) ≡ true };
 }
 
 /// The one of its kind that has this name. `None` comes exactly where none has it.

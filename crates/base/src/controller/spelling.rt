@@ -1,7 +1,7 @@
 //! Entries of a table, and changes of its cells, as text.
 
 ghost use Rattle.std.specs.Prelude.{◌≡◌, ◌≢◌, ◌≤◌, ◌+◌, ◌*◌, ◌++◌, ◌∷◌, [], List, IfSome, MatchOption, codes, map, length};
-ghost use Rattle.base.specs.Entries.{change_words, entry_words, HasRoom, IsNoChange, IsNoEntry};
+ghost use Rattle.base.specs.Entries.{change_words, entry_words, HasRoom, IsNoChange, IsNoEntry, SpellsOneChange};
 ghost use Rattle.base.specs.Spelling.{joined, spaced, words};
 ghost use Rattle.base.specs.inner.Behind.{words_behind, IsNoActions};
 
@@ -154,3 +154,8 @@ fn actions_of<A: Listed>(rest: Option<&[u8]>) -> Option<Actions<A>>
         Some(_) => None,
     }
 }
+
+/// A line is the text of one change at most.
+pub fn spells_one_change<S: Listed, E: Listed, A: Listed>()
+    ensures { SpellsOneChange S.spelling E.spelling A.spelling }
+{}

@@ -5,7 +5,7 @@ use Rattle.base.proofs.controller.entry.Entry.is_same.Goals as goal
 
 pub returns-then-number-clause-equal : goal.returns-then-number-clause-equal
 returns-then-number-clause-equal g c =
-    let found : c.is_same.result ≡ same_entry g.S.Listed.place g.A.Listed.place c.args.self.now c.args.other.now = search rules in
+    let found : c.are_same-actions_are.result ≡ same_entry g.S.Listed.place g.A.Listed.place c.args.self.now c.args.other.now = search rules in
     subst (λ b. IsTrue b ↔ (c.args.self.now ≡ c.args.other.now)) (sym found)
     (same-equal g.S.Listed.kind g.S.Listed.place g.met.S.Listed.stands g.A.Listed.kind g.A.Listed.place g.met.A.Listed.stands
     c.args.self.now c.args.other.now)

@@ -1,6 +1,6 @@
 use Rattle.std.proofs.Common.{◌≡◌, drop, length}
 use Rattle.base.specs.Entries.{same_list}
-use Rattle.base.proofs.controller.actions.Actions.is_same.Given as goal
+use Rattle.base.proofs.controller.actions.are_same.Given as goal
 
 -- the actions so far are the same
 abbrev pub invariant-loop-index : goal.invariant-loop-index

@@ -1,7 +1,7 @@
 use Rattle.std.proofs.Common.{◌≡◌, sym, ◌∙◌, ap, arith, length, rules}
 use Rattle.base.specs.Entries.{same_list}
 use Rattle.base.proofs.Spelled.{same_list-length}
-use Rattle.base.proofs.controller.actions.Actions.is_same.Goals as goal
+use Rattle.base.proofs.controller.actions.are_same.Goals as goal
 
 pub returns-then-mine-others : goal.returns-then-mine-others
-returns-then-mine-others g c = sym (same_list-length g.A.Listed.place c.args.self.now c.args.other.now (search rules))
+returns-then-mine-others g c = sym (same_list-length g.A.Listed.place c.args.mine.now c.args.others.now (search rules))
