@@ -61,7 +61,7 @@ set-elsewhere cells i j k l x d in_rows other (inr other_row) =
     ap (λ r. get_or r l d) (get_or-set_other cells i k (set (get_or cells i []) j x) [] other_row)
 
 -- what follows is of states and events of which each stands in a list at its place
-pub record AreListed {S E : Type 0} (states : List S) (events : List E) (row : S → ℕ) (column : E → ℕ) : Type 0 where
+pub record TableOf {S E : Type 0} (states : List S) (events : List E) (row : S → ℕ) (column : E → ℕ) : Type 0 where
   pub states_stand : (s : S) → slice_get states (row s) ≡ Some s
   pub events_stand : (e : E) → slice_get events (column e) ≡ Some e
 
@@ -72,14 +72,30 @@ has-row states columns row stands cells state whole =
     omega (arith, whole.rows_are, slice_get_within states (row state) state (stands state))
 
 -- an event has a cell in each row
-has-cell : {S E A : Type 0} (states : List S) (events : List E) (row : S → ℕ) (column : E → ℕ) → AreListed states events row column →
+has-cell : {S E A : Type 0} (states : List S) (events : List E) (row : S → ℕ) (column : E → ℕ) → TableOf states events row column →
     (cells : Cells S A) (state : S) (event : E) → HasSize (length states) (length events) cells → column event < length (get_or cells (row state) [])
 has-cell states events row column listed cells state event whole =
     omega (arith, whole.columns_are (row state) [] (has-row states (length events) row listed.states_stand cells state whole),
       slice_get_within events (column event) event (listed.events_stand event))
 
+-- the cell replaced holds the entry
+pub replaced-here : {S E A : Type 0} (states : List S) (events : List E) (row : S → ℕ) (column : E → ℕ) → TableOf states events row column →
+    (cells : Cells S A) (state : S) (event : E) (entry : Entry S A) → HasSize (length states) (length events) cells →
+    cell_of row column (replaced row column cells state event entry) state event ≡ entry
+replaced-here states events row column listed cells state event entry whole =
+    set-here cells (row state) (column event) (row state) (column event) entry Blank
+    (has-row states (length events) row listed.states_stand cells state whole)
+    (has-cell states events row column listed cells state event whole) refl refl
+
+-- with another entry in a cell there are as many rows and columns
+pub HasSize-replaced : {S E A : Type 0} (states : List S) (columns : ℕ) (row : S → ℕ) (column : E → ℕ) →
+    ((s : S) → slice_get states (row s) ≡ Some s) → (cells : Cells S A) (state : S) (event : E) (entry : Entry S A) →
+    HasSize (length states) columns cells → HasSize (length states) columns (replaced row column cells state event entry)
+HasSize-replaced states columns row column stands cells state event entry whole =
+    HasSize-set (length states) columns cells (row state) (column event) entry whole (slice_get_within states (row state) state (stands state))
+
 -- each cell but the one replaced is as it was
-pub replaced-other : {S E A : Type 0} (states : List S) (events : List E) (row : S → ℕ) (column : E → ℕ) → AreListed states events row column →
+pub replaced-other : {S E A : Type 0} (states : List S) (events : List E) (row : S → ℕ) (column : E → ℕ) → TableOf states events row column →
     (cells : Cells S A) (state : S) (event : E) (entry : Entry S A) (s : S) (e : E) → HasSize (length states) (length events) cells →
     ¬ ((s ≡ state) × (e ≡ event)) → cell_of row column (replaced row column cells state event entry) s e ≡ cell_of row column cells s e
 replaced-other states events row column listed cells state event entry s e whole other =
@@ -90,7 +106,7 @@ replaced-other states events row column listed cells state event entry s e whole
     (cases_eq (row s) (row state))
 
 -- what a change gives is in its cell, by whether it is of the state and whether it is of the event
-after-change : {S E A : Type 0} (states : List S) (events : List E) (row : S → ℕ) (column : E → ℕ) → AreListed states events row column →
+after-change : {S E A : Type 0} (states : List S) (events : List E) (row : S → ℕ) (column : E → ℕ) → TableOf states events row column →
     (cells : Cells S A) (change : Change S E A) (state : S) (event : E) → HasSize (length states) (length events) cells →
     (((row change.state == row state) ≡ true) × (row change.state ≡ row state))
     ⊎ (((row change.state == row state) ≡ false) × (row change.state ≢ row state)) →
@@ -120,7 +136,7 @@ unwrap_or-option_or None second d = refl
 unwrap_or-option_or (Some entry) second d = refl
 
 -- the changes are made in order, and the last of a cell is the one that it holds
-pub cell-after_changes : {S E A : Type 0} (states : List S) (events : List E) (row : S → ℕ) (column : E → ℕ) → AreListed states events row column →
+pub cell-after_changes : {S E A : Type 0} (states : List S) (events : List E) (row : S → ℕ) (column : E → ℕ) → TableOf states events row column →
     (cells : Cells S A) (changes : List (Change S E A)) (state : S) (event : E) → HasSize (length states) (length events) cells →
     cell_of row column (after_changes row column changes cells) state event
     ≡ unwrap_or (last_entry row column changes state event) (cell_of row column cells state event)

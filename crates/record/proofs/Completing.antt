@@ -2,17 +2,16 @@
 use Rattle.std.proofs.Common.{◌≡◌, ◌≢◌, ◌≤◌, ◌<◌, ◌+◌, ◌-◌, ℕ, zero, suc, List, [], ◌∷◌, ◌++◌, Some, length, map, take, get_or, refl, ap, sym, subst}
 use Rattle.std.proofs.Common.{◌∙◌, arith, append-nil, append_assoc}
 use Rattle.std.specs.List.{AllByRecursion, flat_map}
-use Rattle.std.proofs.lemmas.List.{get_or-set_same}
 use Rattle.std.proofs.lemmas.List.Elements.{All-from_recursion}
 use Rattle.std.proofs.lemmas.Grind.{flat_map-append}
 use Rattle.base.specs.Spelling.{words}
+use Rattle.base.proofs.Cells.{TableOf, HasSize-replaced, replaced-here, replaced-other}
+use Rattle.cache_table.specs.Baseline as cache_baseline
 use Rattle.cache_table.specs.Table as cache_table
-use Rattle.cache_table.proofs.Whole as cache_whole
-use Rattle.cache_table.proofs.Changes as cache_changes
-use Rattle.base.specs.declared.controller.entry.Entry.TheVariants as table_entry
+use Rattle.cache_table.specs.inner.Standing as cache_standing
+use Rattle.directory_table.specs.Baseline as directory_baseline
 use Rattle.directory_table.specs.Table as directory_table
-use Rattle.directory_table.proofs.Whole as directory_whole
-use Rattle.directory_table.proofs.Changes as directory_changes
+use Rattle.directory_table.specs.inner.Standing as directory_standing
 use Rattle.machine.specs.Tables.{Tables, baseline}
 use Rattle.record.specs.declared.cells.Spot.{Spot}
 use Rattle.record.specs.declared.cells.Spot.TheVariants as spot
@@ -32,6 +31,13 @@ use Rattle.record.proofs.Standing.{baseline-whole, whole-more}
 
 -- ---- tables of these cells
 
+cache-listed : TableOf cache_baseline.all_states cache_baseline.all_events cache_table.state_number cache_table.event_number
+cache-listed = record { states_stand = cache_standing.state_stands; events_stand = cache_standing.event_stands }
+
+directory-listed :
+    TableOf directory_baseline.all_states directory_baseline.all_events directory_table.state_number directory_table.event_number
+directory-listed = record { states_stand = directory_standing.state_stands; events_stand = directory_standing.event_stands }
+
 -- tables with this cell in its place
 put : Tables → Cell → Tables
 put t (cell.Cache s e x) = record { cache = cache_table.with_cell t.cache s e x; directory = t.directory }
@@ -40,43 +46,38 @@ put t (cell.Directory s e x) = record { cache = t.cache; directory = directory_t
 put-here : (t : Tables) (c : Cell) → AreWhole t → cell_at (put t c) (spot_of c) ≡ c
 unfolding put
 put-here t (cell.Cache s e x) h =
-    let i : ℕ = cache_table.state_number s in
-    let j : ℕ = cache_table.event_number e in
-    let low : i < length t.cache = omega (arith, cache_changes.state_number-small s, h.cache.rows) in
-    let below : j < length (get_or t.cache i []) = omega (arith, cache_changes.event_number-small e, cache_whole.row-length t.cache i h.cache.columns low) in
     ap (cell.Cache s e)
-    (ap (λ r. get_or r j table_entry.Blank) (get_or-set_same t.cache i _ [] low) ∙ get_or-set_same (get_or t.cache i []) j x table_entry.Blank below)
+    (replaced-here cache_baseline.all_states cache_baseline.all_events cache_table.state_number cache_table.event_number cache-listed t.cache s e x h.cache)
 put-here t (cell.Directory s e x) h =
-    let i : ℕ = directory_table.state_number s in
-    let j : ℕ = directory_table.event_number e in
-    let low : i < length t.directory = omega (arith, directory_changes.state_number-small s, h.directory.rows) in
-    let below : j < length (get_or t.directory i []) =
-    omega (arith, directory_changes.event_number-small e, directory_whole.row-length t.directory i h.directory.columns low) in
     ap (cell.Directory s e)
-    (ap (λ r. get_or r j table_entry.Blank) (get_or-set_same t.directory i _ [] low) ∙ get_or-set_same
-    (get_or t.directory i []) j x table_entry.Blank below)
+    (replaced-here directory_baseline.all_states directory_baseline.all_events directory_table.state_number directory_table.event_number directory-listed
+    t.directory s e x h.directory)
 
 put-others : (t : Tables) (c : Cell) → AreWhole t → (s : Spot) → s ≢ spot_of c → cell_at (put t c) s ≡ cell_at t s
 unfolding put
 put-others t (cell.Cache s e x) h (spot.Cache u f) other =
     ap (cell.Cache u f)
-    (cache_changes.cell-with_cell_other t.cache s e x u f h.cache (λ both. other (ap (λ z. spot.Cache z f) both.0 ∙ ap (spot.Cache s) both.1)))
+    (replaced-other cache_baseline.all_states cache_baseline.all_events cache_table.state_number cache_table.event_number cache-listed t.cache s e x u f
+    h.cache (λ both. other (ap (λ z. spot.Cache z f) both.0 ∙ ap (spot.Cache s) both.1)))
 put-others t (cell.Cache s e x) h (spot.Directory u f) other = refl
 put-others t (cell.Directory s e x) h (spot.Cache u f) other = refl
 put-others t (cell.Directory s e x) h (spot.Directory u f) other =
     ap (cell.Directory u f)
-    (directory_changes.cell-with_cell_other t.directory s e x u f h.directory
-    (λ both. other (ap (λ z. spot.Directory z f) both.0 ∙ ap (spot.Directory s) both.1)))
+    (replaced-other directory_baseline.all_states directory_baseline.all_events directory_table.state_number directory_table.event_number
+    directory-listed t.directory s e x u f h.directory (λ both. other (ap (λ z. spot.Directory z f) both.0 ∙ ap (spot.Directory s) both.1)))
 
 put-cache : (t : Tables) (c : Cell) → AreWhole t → cache_table.IsWhole (put t c).cache
 unfolding put
-put-cache t (cell.Cache s e x) h = cache_changes.IsWhole-with_cell t.cache s e x h.cache
+put-cache t (cell.Cache s e x) h =
+    HasSize-replaced cache_baseline.all_states 12 cache_table.state_number cache_table.event_number cache_standing.state_stands t.cache s e x h.cache
 put-cache t (cell.Directory s e x) h = h.cache
 
 put-directory : (t : Tables) (c : Cell) → AreWhole t → directory_table.IsWhole (put t c).directory
 unfolding put
 put-directory t (cell.Cache s e x) h = h.directory
-put-directory t (cell.Directory s e x) h = directory_changes.IsWhole-with_cell t.directory s e x h.directory
+put-directory t (cell.Directory s e x) h =
+    HasSize-replaced directory_baseline.all_states 7 directory_table.state_number directory_table.event_number directory_standing.state_stands
+    t.directory s e x h.directory
 
 put-whole : (t : Tables) (c : Cell) → AreWhole t → FitsCell c → AreWhole (put t c)
 put-whole t c h fits = whole-more t (put t c) c (put-here t c h) (put-others t c h) (put-cache t c h) (put-directory t c h) h fits

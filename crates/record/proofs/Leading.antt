@@ -1,5 +1,5 @@
 -- Lines that are well formed where they are due.
-use Rattle.std.proofs.Common.{◌≡◌, ◌≤◌, ◌<◌, ◌+◌, ◌-◌, ◌^◌, ℕ, zero, suc, List, [], ◌∷◌, length, map, refl, ap, sym, subst, ◌∙◌, arith, codes, length-append}
+use Rattle.std.proofs.Common.{◌≡◌, true, ◌≤◌, ◌<◌, ◌+◌, ◌-◌, ◌^◌, ℕ, zero, suc, List, [], ◌∷◌, length, map, refl, ap, sym, subst, ◌∙◌, arith, codes, length-append}
 use Rattle.std.specs.List.{AllByRecursion}
 use Rattle.std.specs.Fmt.{decimal}
 use Rattle.std.proofs.lemmas.Fmt.{decimal_injective}
@@ -12,22 +12,24 @@ use Rattle.base.specs.declared.step.Step.{Step}
 use Rattle.base.specs.declared.step.Step.TheVariants as step
 use Rattle.base.specs.declared.step.Outcome.{Outcome}
 use Rattle.base.specs.declared.step.Outcome.TheVariants as outcome
-use Rattle.base.specs.Spelling.{ask_words, step_words, outcome_words, FitsAsk, FitsStep, FitsOutcome}
-use Rattle.cache_table.specs.Table.{CacheEntry}
+use Rattle.base.specs.Spelling.{ask_words, step_words, outcome_words, is_name, FitsAsk, FitsStep, FitsOutcome}
+use Rattle.base.specs.Entries.{HasRoom}
+use Rattle.base.specs.Entries as entries
+use Rattle.base.specs.declared.controller.entry.Entry as table_cell
 use Rattle.base.specs.declared.controller.entry.Entry.TheVariants as table_entry
 use Rattle.cache_table.specs.Names as cache_names
-use Rattle.directory_table.specs.Table.{DirectoryEntry}
+use Rattle.cache_table.specs.inner.Standing as cache_standing
 use Rattle.directory_table.specs.Names as directory_names
+use Rattle.directory_table.specs.inner.Standing as directory_standing
 use Rattle.record.specs.declared.cells.Cell.{Cell}
 use Rattle.record.specs.declared.cells.Cell.TheVariants as cell
 use Rattle.record.specs.declared.recording.Entry.{Entry}
-use Rattle.record.specs.Cells.{cache_entry_words, directory_entry_words, cell_words, spot_number, FitsCell, FitsCacheEntry, FitsDirectoryEntry}
+use Rattle.record.specs.Cells.{cell_words, spot_number, FitsCell}
 use Rattle.record.specs.Text.{shape_words, opening_words, entry_words}
 use Rattle.record.specs.Grammar.{Due, header, shape_line, opening_line, cell_count, cell_line, entry_count, entry_line, end_line, nothing, cells_due}
 use Rattle.record.specs.Grammar.{entries_due, AreValues, FitsEntry, Leads}
 use Rattle.record.proofs.Alike.{same-spot}
-use Rattle.record.proofs.Legible.{IsWord, IsLine, all-append, text-word, number-word}
-use Rattle.record.proofs.Naming.{cache_state-word, cache_event-word, cache_actions-words, directory_state-word, directory_event-word, directory_actions-words}
+use Rattle.record.proofs.Legible.{IsWord, IsLine, all-append, text-word, name-word, number-word}
 
 -- ---- the words of each line
 
@@ -70,33 +72,38 @@ entry-line e f =
       few = omega (arith, n, first.2, second.1);
     }
 
-cache_entry-line : (x : CacheEntry) → FitsCacheEntry x → AllByRecursion IsWord (cache_entry_words x) × (length (cache_entry_words x) ≤ 10)
-cache_entry-line table_entry.Blank f = ((text-word _ refl (omega arith), tt), omega arith)
-cache_entry-line table_entry.Stall f = ((text-word _ refl (omega arith), tt), omega arith)
-cache_entry-line (table_entry.Act next actions) f =
-    ((text-word _ refl (omega arith), (cache_state-word next, cache_actions-words actions)), omega (arith, length-map actions cache_names.action_name, f))
+names-words : {A : Type 0} (name : A → List ℕ) → ((x : A) → is_name (name x) ≡ true) → (xs : List A) → AllByRecursion IsWord (map name xs)
+names-words name plain [] = tt
+names-words name plain (x ∷ xs) = (name-word (name x) (plain x), names-words name plain xs)
 
-directory_entry-line : (x : DirectoryEntry) → FitsDirectoryEntry x → AllByRecursion IsWord (directory_entry_words x) × (length (directory_entry_words x) ≤ 10)
-directory_entry-line table_entry.Blank f = ((text-word _ refl (omega arith), tt), omega arith)
-directory_entry-line table_entry.Stall f = ((text-word _ refl (omega arith), tt), omega arith)
-directory_entry-line (table_entry.Act next actions) f = (
-  (text-word _ refl (omega arith), (directory_state-word next, directory_actions-words actions)),
-  omega
-      (arith, length-map actions directory_names.action_name, f),
+table_entry-line : {S A : Type 0} (state : S → List ℕ) (action : A → List ℕ) → ((s : S) → is_name (state s) ≡ true) →
+    ((a : A) → is_name (action a) ≡ true) → (x : table_cell.Entry S A) → HasRoom x →
+    AllByRecursion IsWord (entries.entry_words state action x) × (length (entries.entry_words state action x) ≤ 10)
+table_entry-line state action plain_states plain_actions table_entry.Blank f = ((text-word _ refl (omega arith), tt), omega arith)
+table_entry-line state action plain_states plain_actions table_entry.Stall f = ((text-word _ refl (omega arith), tt), omega arith)
+table_entry-line state action plain_states plain_actions (table_entry.Act next actions) f = (
+  (text-word _ refl (omega arith), (name-word (state next) (plain_states next), names-words action plain_actions actions)),
+  omega (arith, length-map actions action, f),
 )
 
 pub cell-line : (c : Cell) → FitsCell c → IsLine (cell_words c)
 cell-line (cell.Cache s e x) f =
-    let rest = cache_entry-line x f in
+    let rest = table_entry-line cache_names.state_name cache_names.action_name cache_standing.state_plain cache_standing.action_plain x f in
     record {
-      each = (text-word _ refl (omega arith), (text-word _ refl (omega arith), (cache_state-word s, (cache_event-word e, rest.0))));
+      each = (
+        text-word _ refl (omega arith),
+        (text-word _ refl (omega arith), (name-word _ (cache_standing.state_plain s), (name-word _ (cache_standing.event_plain e), rest.0))),
+      );
       some = omega arith;
       few = omega (arith, rest.1);
     }
 cell-line (cell.Directory s e x) f =
-    let rest = directory_entry-line x f in
+    let rest = table_entry-line directory_names.state_name directory_names.action_name directory_standing.state_plain directory_standing.action_plain x f in
     record {
-      each = (text-word _ refl (omega arith), (text-word _ refl (omega arith), (directory_state-word s, (directory_event-word e, rest.0))));
+      each = (
+        text-word _ refl (omega arith),
+        (text-word _ refl (omega arith), (name-word _ (directory_standing.state_plain s), (name-word _ (directory_standing.event_plain e), rest.0))),
+      );
       some = omega arith;
       few = omega (arith, rest.1);
     }

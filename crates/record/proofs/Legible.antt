@@ -1,13 +1,13 @@
 -- Words of a line: short, and with no blank and no end of a line in them. So a line's words are found in its bytes again.
-use Rattle.std.proofs.Common.{◌≡◌, ◌≢◌, ◌≤◌, ◌<◌, ◌+◌, ◌*◌, ◌%◌, ◌^◌, ℕ, Bool, true, false, cond, ltb, eqb, List, [], ◌∷◌, ◌++◌, length, refl, ap}
+use Rattle.std.proofs.Common.{◌≡◌, ◌≢◌, ◌≤◌, ◌<◌, ◌+◌, ◌*◌, ◌%◌, ◌^◌, ℕ, Bool, true, false, cond, leb, ltb, ◌&&◌, eqb, List, [], ◌∷◌, ◌++◌, length, refl, ap}
 use Rattle.std.proofs.Common.{◌∙◌, arith, length-append, append-nil}
-use Rattle.std.specs.List.{All, AllByRecursion}
+use Rattle.std.specs.List.{All, AllByRecursion, list_all}
 use Rattle.std.specs.Fmt.{decimal}
 use Rattle.std.proofs.lemmas.Bool.Decides.{nat_tests}
 use Rattle.std.proofs.lemmas.Fmt.{decimal_by_steps, length-decimal-le}
 use Rattle.std.proofs.lemmas.List.Elements.{All-from_recursion}
 use Rattle.std.proofs.lemmas.List.Splits.{slice_split_at, slice_split_none}
-use Rattle.base.specs.Spelling.{words}
+use Rattle.base.specs.Spelling.{is_name, words}
 use Rattle.base.specs.Spelling.{spaced, joined}
 use Rattle.record.specs.Refused.{HasNoEnd}
 
@@ -42,6 +42,20 @@ dark-of (b ∷ bs) e =
 -- a text that is known
 pub text-word : (w : List ℕ) → all_dark w ≡ true → length w ≤ 20 → IsWord w
 text-word w dark short = record { dark = dark-of w dark; short = short }
+
+both-true : (a b : Bool) → (a && b) ≡ true → (a ≡ true) × (b ≡ true)
+both-true true b e = (refl, e)
+both-true false b e = absurd (cc)
+
+named-dark : (bs : List ℕ) → list_all (λ b. ltb 32 b) bs ≡ true → AllByRecursion (λ b. 32 < b) bs
+named-dark [] e = tt
+named-dark (b ∷ bs) e = let both = both-true (ltb 32 b) (list_all (λ c. ltb 32 c) bs) e in (grind (arith, nat_tests, both.0), named-dark bs both.1)
+
+-- a name
+pub name-word : (w : List ℕ) → is_name w ≡ true → IsWord w
+name-word w e =
+    let both = both-true (leb (length w) 13) (list_all (λ b. ltb 32 b) w) e in
+    record { dark = named-dark w both.1; short = grind (arith, nat_tests, both.0) }
 
 -- a number
 pub number-word : (n : ℕ) → n < 2 ^ 64 → IsWord (decimal n)

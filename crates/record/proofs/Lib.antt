@@ -10,8 +10,6 @@ pub mod Inverses
 pub mod Leading
 pub mod Legible
 pub mod Listed
-pub mod Names
-pub mod Naming
 pub mod Openings
 pub mod Outs
 pub mod PieceAt

@@ -4,13 +4,14 @@ use Rattle.std.proofs.Common.{sym, subst, ◌∙◌, arith, rules, below_more}
 use Rattle.std.proofs.lemmas.List.{get_or_default}
 use Rattle.std.proofs.lemmas.Bool.Decides.{nat_tests}
 use Rattle.cache_table.specs.Table as cache_table
-use Rattle.cache_table.proofs.Whole as cache_whole
 use Rattle.cache_table.specs.Table.{CacheEntry}
+use Rattle.base.specs.Entries.{HasRoom}
+use Rattle.base.specs.declared.controller.entry.Entry as table_cell
 use Rattle.base.specs.declared.controller.entry.Entry.TheVariants as table_entry
 use Rattle.cache_table.specs.declared.state.CacheState.{CacheState}
 use Rattle.cache_table.specs.declared.event.CacheEvent.{CacheEvent}
 use Rattle.directory_table.specs.Table as directory_table
-use Rattle.directory_table.proofs.Whole as directory_whole
+use Rattle.base.proofs.Cells.{HasSize-set}
 use Rattle.directory_table.specs.Table.{DirectoryEntry}
 use Rattle.directory_table.specs.declared.state.DirectoryState.{DirectoryState}
 use Rattle.directory_table.specs.declared.event.DirectoryEvent.{DirectoryEvent}
@@ -65,36 +66,34 @@ whole-more t u c here others cache directory whole fits = record {
 pub cache-more : (cells new : cache_table.Cells) (s : CacheState) (e : CacheEvent) (x : CacheEntry) → new ≡ cache_table.with_cell cells s e x →
     cache_table.IsWhole cells → cache_table.IsWhole new
 cache-more cells new s e x is whole =
-    subst cache_table.IsWhole (sym is) (cache_whole.IsWhole-set cells (cache_table.state_number s) (cache_table.event_number e) x whole (cache-state-at s).1)
+    subst cache_table.IsWhole (sym is) (HasSize-set 11 12 cells (cache_table.state_number s) (cache_table.event_number e) x whole (cache-state-at s).1)
 
 pub directory-more : (cells new : directory_table.Cells) (s : DirectoryState) (e : DirectoryEvent) (x : DirectoryEntry) →
     new ≡ directory_table.with_cell cells s e x → directory_table.IsWhole cells → directory_table.IsWhole new
 directory-more cells new s e x is whole =
     subst directory_table.IsWhole (sym is)
-    (directory_whole.IsWhole-set cells (directory_table.state_number s) (directory_table.event_number e) x whole (directory-state-at s).1)
+    (HasSize-set 4 7 cells (directory_table.state_number s) (directory_table.event_number e) x whole (directory-state-at s).1)
 
 -- ---- the protocol's own tables
 
-few_at_home : DirectoryEntry → Bool
-few_at_home (table_entry.Act next actions) = leb (length actions) 8
-few_at_home other = true
-
-few_at_line : CacheEntry → Bool
-few_at_line (table_entry.Act next actions) = leb (length actions) 8
-few_at_line other = true
+few_of : {S A : Type 0} → table_cell.Entry S A → Bool
+few_of (table_entry.Act next actions) = leb (length actions) 8
+few_of other = true
 
 few : Cell → Bool
-few (cell.Cache s e x) = few_at_line x
-few (cell.Directory s e x) = few_at_home x
+few (cell.Cache s e x) = few_of x
+few (cell.Directory s e x) = few_of x
+
+few_of-fits : {S A : Type 0} (x : table_cell.Entry S A) → few_of x ≡ true → HasRoom x
+unfolding few_of
+few_of-fits table_entry.Blank h = tt
+few_of-fits table_entry.Stall h = tt
+few_of-fits (table_entry.Act next actions) h = grind (arith, nat_tests, h)
 
 few-fits : (c : Cell) → few c ≡ true → FitsCell c
-unfolding few few_at_home few_at_line
-few-fits (cell.Cache s e table_entry.Blank) h = tt
-few-fits (cell.Cache s e table_entry.Stall) h = tt
-few-fits (cell.Cache s e (table_entry.Act next actions)) h = grind (arith, nat_tests, h)
-few-fits (cell.Directory s e table_entry.Blank) h = tt
-few-fits (cell.Directory s e table_entry.Stall) h = tt
-few-fits (cell.Directory s e (table_entry.Act next actions)) h = grind (arith, nat_tests, h)
+unfolding few
+few-fits (cell.Cache s e x) h = few_of-fits x h
+few-fits (cell.Directory s e x) h = few_of-fits x h
 
 all_few : List Spot → Bool
 all_few [] = true
@@ -115,13 +114,13 @@ few-at (s ∷ ss) zero d low h = first (few (cell_at baseline s)) (all_few ss) h
 few-at (s ∷ ss) (suc i) d low h = few-at ss i d (omega (arith, low)) (second (few (cell_at baseline s)) (all_few ss) h)
 
 pub baseline-whole : AreWhole baseline
-unfolding all_few few few_at_home few_at_line
+unfolding all_few few few_of
 baseline-whole =
     let all : all_few all_spots ≡ true = refl in
     let count : length all_spots ≡ 160 = refl in
     record {
-      cache = record { rows = refl; columns = search rules };
-      directory = record { rows = refl; columns = search rules };
+      cache = record { rows_are = refl; columns_are = search rules };
+      directory = record { rows_are = refl; columns_are = search rules };
       fits =
           λ s. let own =
           at-own s in subst (λ p. FitsCell (cell_at baseline p)) own.0
