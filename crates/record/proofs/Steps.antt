@@ -1,6 +1,6 @@
 -- Lines that are taken off a source one after the other.
 use Rattle.std.proofs.Common.{◌≡◌, ◌+◌, ◌-◌, ◌<◌, ℕ, zero, suc, List, [], ◌∷◌, ◌++◌, Option, Some, None, length, map, refl, ap, sym, subst, ◌∙◌, arith}
-use Rattle.std.proofs.Common.{append_assoc, length-append}
+use Rattle.std.proofs.Common.{length-append, rules}
 use Rattle.std.proofs.lemmas.List.{append-nil, map-append}
 use Rattle.std.proofs.lemmas.Grind.{flat_map-append}
 use Rattle.std.proofs.KnownBytes.{Consumes-trans, Consumes-nil}
@@ -10,6 +10,7 @@ use Rattle.base.specs.Spelling.{words}
 use Rattle.record.specs.declared.due.Due.{Due}
 use Rattle.record.specs.declared.due.Due.TheVariants.{Header, ShapeLine, OpeningLine, CellCount, CellLine, EntryCount, EntryLine, EndLine, Nothing}
 use Rattle.record.specs.declared.fault.ReadKind.{ReadKind}
+use Rattle.record.specs.declared.fault.ReadKind.TheVariants.{NoMemory}
 use Rattle.record.specs.declared.reader.Reader.{Reader}
 use Rattle.record.specs.Cells.{spot_number, spot_of}
 use Rattle.record.specs.Grammar.{cells_due, entries_due, Leads, Follow}
@@ -69,6 +70,18 @@ then-refused before left reader kind h fault = record {
   number = omega (arith, h.number);
   read = let-go before left (flat_map ended h.lines) (pending reader.lines) h.taken;
   fault = fault;
+}
+
+-- want of memory before anything is read
+pub no-room : (left : Option (List ℕ)) → IsRefused left left 0 Header 1 NoMemory
+no-room left = record {
+  lines = [];
+  last = Header;
+  rest = [];
+  follow = refl;
+  number = refl;
+  read = Consumes-nil left;
+  fault = (λ e. cc, record { no_end = search rules; short = omega arith });
 }
 
 -- ---- where nothing is due

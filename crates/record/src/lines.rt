@@ -71,7 +71,7 @@ impl Lines {
     pub(crate) fn are_bytes_ahead(&self) -> bool
         ensures { IsTrue result ↔ (self.now.ahead ≢ []) }
     {
-        self.at < self.end
+        !self.buffer[self.at..self.end].is_empty()
     }
 
     /// Gathers the line as far as its bytes were pulled, and answers whether it is whole.

@@ -3,7 +3,8 @@ ghost use Rattle.std.specs.Io.KnownBytes.{Consumes, IsAtEnd};
 ghost use Rattle.base.specs.Spelling.{words};
 ghost use Rattle.record.specs.declared.due.Due.TheVariants as due;
 ghost use Rattle.record.specs.Recordable.{IsRecordable};
-ghost use Rattle.record.specs.Refused.{IsFaultOfLine, IsFaultOfRest, IsRefused};
+ghost use Rattle.record.specs.Refused.{IsFaultOfLine, IsFaultOfRest, IsRefused, IsWellFormed};
+ghost use Rattle.record.specs.Text.{text};
 ghost use Rattle.record.specs.inner.Drafts.{kept, IsTaken, IsReadTo};
 ghost use Rattle.record.specs.inner.Readers.{HasTaken, HasWholeLine, IsReady};
 ghost use Rattle.record.specs.inner.Reading.{pending, stream};
@@ -57,9 +58,9 @@ impl Reader {
     pub(crate) fn read_all<S: Source>(&mut self, source: &mut S) -> Result<(), ReadKind>
         requires taken { HasTaken (S.left source.old) (S.left source.old) self.old }
         requires ready { IsReady self.old }
-        ensures taken { OnOk result (HasTaken (S.left source.old) (S.left source.new) self.new) }
-        ensures done { OnOk result ((self.new.due ≡ due.Nothing) × IsReady self.new × (pending self.new.lines ≡ [])) }
-        ensures end { OnOk result (IsAtEnd (S.left source.new)) }
+        ensures text { OnOk result (Consumes (S.left source.old) (S.left source.new) (text (kept self.new.draft))) }
+        ensures whole { OnOk result (IsWellFormed (S.left source.old) (S.left source.new)) }
+        ensures read { OnOk result (IsReadTo due.Nothing (kept self.new.draft)) }
         ensures fault { IfErr result (IsRefused (S.left source.old) (S.left source.new) 0 due.Header (self.new.lines.number + 1)) }
         ensures device { IfErr result (λ kind. kind ≡ ReadKind.Device → S.has_failed source.new ≡ true) }
         ensures few { self.new.lines.number ≤ 1000168 }

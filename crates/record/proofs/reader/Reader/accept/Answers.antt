@@ -3,8 +3,5 @@ use Rattle.record.proofs.reader.Reader.accept.Goals as goal
 
 pub returns-clause-ready : goal.returns-clause-ready
 returns-clause-ready c =
-    ready-taken c.args.self.now _ _ c.requires.ready (returns-clause-ok c) c.accept.ensures.room c.take_off.ensures.ahead c.take_off.ensures.line
+    ready-taken c.args.self.now _ _ c.requires.ready c.in_ok-self.ensures.ok c.accept.ensures.room c.take_off.ensures.ahead c.take_off.ensures.line
     c.take_off.ensures.number
-
-pub returns-clause-ok : goal.returns-clause-ok
-returns-clause-ok c = ?
