@@ -21,12 +21,15 @@ use Rattle.record.specs.declared.recording.Entry.{Entry}
 use Rattle.record.specs.Cells.{all_spots, cell_at, cell_words, spot_number, spot_of, FitsCell}
 use Rattle.record.specs.Kept.{Kept}
 use Rattle.record.specs.Text.{text, line, header_words, shape_words, opening_words, cells_words, entries_words, entry_words, end_words, changed, changed_cells}
-use Rattle.record.specs.Grammar.{Due, header, shape_line, opening_line, cell_count, cell_line, entry_count, entry_line, end_line, nothing, cells_due}
+use Rattle.record.specs.declared.due.Due.{Due}
+use Rattle.record.specs.declared.due.Due.TheVariants.{Header, ShapeLine, OpeningLine, CellCount, CellLine, EntryCount, EntryLine, EndLine, Nothing}
+use Rattle.record.specs.Grammar.{cells_due}
 use Rattle.record.specs.Grammar.{entries_due, FitsEntry, Leads, Follow}
 use Rattle.record.specs.Recordable.{AreWhole, IsRecordable}
 use Rattle.record.specs.Refused.{ended, IsWellFormed}
+use Rattle.record.specs.inner.Drafts.{IsBaselineFrom}
 use Rattle.record.proofs.Following.{AreListed}
-use Rattle.record.proofs.Listed.{IsBaselineFrom, at-own, ended-line, listed-all, listed-more, plain-more}
+use Rattle.record.proofs.Listed.{at-own, ended-line, listed-all, listed-more, plain-more}
 use Rattle.record.proofs.Standing.{baseline-whole, whole-more}
 
 -- ---- tables of these cells
@@ -123,7 +126,7 @@ begins-of due (l ∷ ls) last other f = record { first = l; rest = ls; next = f.
 turned : (due to : Due) (ls : List (List ℕ)) (last : Due) → due ≡ to → Follow due ls last → Follow to ls last
 turned due to ls last is f = subst (λ d. Follow d ls last) is f
 
-none-behind : (ls : List (List ℕ)) → Follow nothing ls nothing → ls ≡ []
+none-behind : (ls : List (List ℕ)) → Follow Nothing ls Nothing → ls ≡ []
 none-behind [] f = refl
 none-behind (l ∷ ls) f = absurd f.1
 
@@ -136,18 +139,18 @@ record Cells (from count : ℕ) (ls : List (List ℕ)) : Type 0 where
   rest : List (List ℕ)
   listed : AreListed from cells
   many : length cells ≡ count
-  follow : Follow entry_count rest nothing
+  follow : Follow EntryCount rest Nothing
   bytes : flat_map ended ls ≡ flat_map line (map cell_words cells) ++ flat_map ended rest
 
-cells-of : (n from : ℕ) (ls : List (List ℕ)) → Follow (cells_due n from) ls nothing → Cells from n ls
+cells-of : (n from : ℕ) (ls : List (List ℕ)) → Follow (cells_due n from) ls Nothing → Cells from n ls
 cells-of zero from ls f = record { cells = []; rest = ls; listed = tt; many = refl; follow = f; bytes = refl }
 cells-of (suc n) from ls f =
-    let b = begins-of (cell_line (suc n) from) ls nothing (λ e. cc) f in
+    let b = begins-of (CellLine (suc n) from) ls Nothing (λ e. cc) f in
     let c : Cell = b.leads.0 in
     let left : suc n - 1 ≡ n = omega arith in
     let more =
     cells-of n (spot_number (spot_of c) + 1) b.rest
-    (turned b.next _ b.rest nothing (b.leads.3 ∙ ap (λ k. cells_due k (spot_number (spot_of c) + 1)) left) b.follow) in
+    (turned b.next _ b.rest Nothing (b.leads.3 ∙ ap (λ k. cells_due k (spot_number (spot_of c) + 1)) left) b.follow) in
     record {
       cells = c ∷ more.cells;
       rest = more.rest;
@@ -166,10 +169,10 @@ record Entries (count : ℕ) (ls : List (List ℕ)) : Type 0 where
   fit : AllByRecursion FitsEntry entries
   bytes : flat_map ended ls ≡ flat_map line (map entry_words entries ++ end_words ∷ [])
 
-entries-of : (n : ℕ) (ls : List (List ℕ)) → Follow (entries_due n) ls nothing → Entries n ls
+entries-of : (n : ℕ) (ls : List (List ℕ)) → Follow (entries_due n) ls Nothing → Entries n ls
 entries-of zero ls f =
-    let b = begins-of end_line ls nothing (λ e. cc) f in
-    let none = none-behind b.rest (turned b.next nothing b.rest nothing b.leads.1 b.follow) in
+    let b = begins-of EndLine ls Nothing (λ e. cc) f in
+    let none = none-behind b.rest (turned b.next Nothing b.rest Nothing b.leads.1 b.follow) in
     record {
       entries = [];
       many = refl;
@@ -177,10 +180,10 @@ entries-of zero ls f =
       bytes = one-line ls b.rest b.first end_words b.is b.leads.0 ∙ ap (λ l. line end_words ++ flat_map ended l) none;
     }
 entries-of (suc n) ls f =
-    let b = begins-of (entry_line (suc n)) ls nothing (λ e. cc) f in
+    let b = begins-of (EntryLine (suc n)) ls Nothing (λ e. cc) f in
     let e : Entry = b.leads.0 in
     let left : suc n - 1 ≡ n = omega arith in
-    let more = entries-of n b.rest (turned b.next _ b.rest nothing (b.leads.3 ∙ ap entries_due left) b.follow) in
+    let more = entries-of n b.rest (turned b.next _ b.rest Nothing (b.leads.3 ∙ ap entries_due left) b.follow) in
     record {
       entries = e ∷ more.entries;
       many = ap suc more.many;
@@ -205,14 +208,14 @@ unfolding tail_text
 tail-is cs es =
     ap (λ l. line (cells_words (length cs)) ++ l) (flat_map-append line (map cell_words cs) (entries_words (length es) ∷ map entry_words es ++ end_words ∷ []))
 
-tail-of : (ls : List (List ℕ)) → Follow cell_count ls nothing →
+tail-of : (ls : List (List ℕ)) → Follow CellCount ls Nothing →
     (cs : List Cell) × (es : List Entry) × AreListed 0 cs × (length es ≤ 1000000) × AllByRecursion FitsEntry es × (flat_map ended ls ≡ tail_text cs es)
 unfolding tail_text
 tail-of ls f =
-    let b = begins-of cell_count ls nothing (λ e. cc) f in
-    let c = cells-of b.leads.0 0 b.rest (turned b.next _ b.rest nothing b.leads.3 b.follow) in
-    let d = begins-of entry_count c.rest nothing (λ e. cc) c.follow in
-    let e = entries-of d.leads.0 d.rest (turned d.next _ d.rest nothing d.leads.3 d.follow) in (
+    let b = begins-of CellCount ls Nothing (λ e. cc) f in
+    let c = cells-of b.leads.0 0 b.rest (turned b.next _ b.rest Nothing b.leads.3 b.follow) in
+    let d = begins-of EntryCount c.rest Nothing (λ e. cc) c.follow in
+    let e = entries-of d.leads.0 d.rest (turned d.next _ d.rest Nothing d.leads.3 d.follow) in (
       c.cells,
       e.entries,
       c.listed,
@@ -225,12 +228,12 @@ tail-of ls f =
           ∙ ap (λ l. line (entries_words (length e.entries)) ++ l) e.bytes)),
     )
 
-lines-text : (ls : List (List ℕ)) → Follow header ls nothing → (r : Kept) × IsTextOf (flat_map ended ls) r
+lines-text : (ls : List (List ℕ)) → Follow Header ls Nothing → (r : Kept) × IsTextOf (flat_map ended ls) r
 lines-text ls f =
-    let a = begins-of header ls nothing (λ e. cc) f in
-    let b = begins-of shape_line a.rest nothing (λ e. cc) (turned a.next _ a.rest nothing a.leads.1 a.follow) in
-    let d = begins-of (opening_line b.leads.0) b.rest nothing (λ e. cc) (turned b.next _ b.rest nothing b.leads.3 b.follow) in
-    let rest = tail-of d.rest (turned d.next _ d.rest nothing d.leads.3 d.follow) in
+    let a = begins-of Header ls Nothing (λ e. cc) f in
+    let b = begins-of ShapeLine a.rest Nothing (λ e. cc) (turned a.next _ a.rest Nothing a.leads.1 a.follow) in
+    let d = begins-of (OpeningLine b.leads.0) b.rest Nothing (λ e. cc) (turned b.next _ b.rest Nothing b.leads.3 b.follow) in
+    let rest = tail-of d.rest (turned d.next _ d.rest Nothing d.leads.3 d.follow) in
     let made = made-of rest.0 rest.2 in
     let r : Kept = record { shape = b.leads.0; tables = made.tables; opening = d.leads.0; entries = rest.1 } in
     let tail : flat_map ended d.rest ≡ tail_text (changed_cells made.tables) rest.1 = rest.5 ∙ ap (λ cs. tail_text cs rest.1) (sym made.just) in (

@@ -4,7 +4,9 @@ use Rattle.std.specs.List.{flat_map}
 use Rattle.base.specs.Spelling.{words}
 use Rattle.record.specs.declared.fault.ReadKind.{ReadKind}
 use Rattle.record.specs.declared.fault.ReadKind.TheVariants.{BadHeader, BadLine, Truncated, CountDiffers, BadOutcome, OverLimit, NoMemory, Device}
-use Rattle.record.specs.Grammar.{Due, header, shape_line, opening_line, cell_count, cell_line, entry_count, entry_line, end_line, nothing, Leads, Follow}
+use Rattle.record.specs.declared.due.Due.{Due}
+use Rattle.record.specs.declared.due.Due.TheVariants.{Header, ShapeLine, OpeningLine, CellCount, CellLine, EntryCount, EntryLine, EndLine, Nothing}
+use Rattle.record.specs.Grammar.{Leads, Follow}
 use Rattle.record.specs.Refused.{IsOver, IsMiscounted, IsBadOutcome, IsFaultOfLine, ended, BeginsFaulty, IsTooLong, IsUnfinished, IsRefused, IsOutside}
 use Rattle.record.proofs.Leading.{IsDue, leads-due, leads-one}
 use Rattle.record.proofs.Ending.{line-ends_in, line-ends_within, one-line_first}
@@ -13,47 +15,47 @@ use Rattle.record.proofs.Refusals.{Fault, ends, long, begins, behind, outside, f
 
 -- ---- a line has one fault where it is due
 
-header-over : (due : Due) (line : List (List ℕ)) → due ≡ header → IsOver due line → ⊥
+header-over : (due : Due) (line : List (List ℕ)) → due ≡ Header → IsOver due line → ⊥
 header-over due line is h = subst (λ d. IsOver d line) is h
 
-header-miscounted : (due : Due) (line : List (List ℕ)) → due ≡ header → IsMiscounted due line → ⊥
+header-miscounted : (due : Due) (line : List (List ℕ)) → due ≡ Header → IsMiscounted due line → ⊥
 header-miscounted due line is h = subst (λ d. IsMiscounted d line) is h
 
-header-outcome : (due : Due) (line : List (List ℕ)) → due ≡ header → IsBadOutcome due line → ⊥
+header-outcome : (due : Due) (line : List (List ℕ)) → due ≡ Header → IsBadOutcome due line → ⊥
 header-outcome due line is h = subst (λ d. IsBadOutcome d line) is h
 
 over-miscounted : (due : Due) (line : List (List ℕ)) → IsOver due line → IsMiscounted due line → ⊥
-over-miscounted (entry_line left) line h k = h
-over-miscounted end_line line h k = h
-over-miscounted header line h k = k
-over-miscounted shape_line line h k = k
-over-miscounted (opening_line shape) line h k = k
-over-miscounted cell_count line h k = k
-over-miscounted (cell_line left from) line h k = k
-over-miscounted entry_count line h k = k
-over-miscounted nothing line h k = k
+over-miscounted (EntryLine left) line h k = h
+over-miscounted EndLine line h k = h
+over-miscounted Header line h k = k
+over-miscounted ShapeLine line h k = k
+over-miscounted (OpeningLine shape) line h k = k
+over-miscounted CellCount line h k = k
+over-miscounted (CellLine left from) line h k = k
+over-miscounted EntryCount line h k = k
+over-miscounted Nothing line h k = k
 
 over-outcome : (due : Due) (line : List (List ℕ)) → IsOver due line → IsBadOutcome due line → ⊥
-over-outcome (entry_line left) line h k = h
-over-outcome end_line line h k = k
-over-outcome header line h k = k
-over-outcome shape_line line h k = k
-over-outcome (opening_line shape) line h k = k
-over-outcome cell_count line h k = k
-over-outcome (cell_line left from) line h k = k
-over-outcome entry_count line h k = k
-over-outcome nothing line h k = k
+over-outcome (EntryLine left) line h k = h
+over-outcome EndLine line h k = k
+over-outcome Header line h k = k
+over-outcome ShapeLine line h k = k
+over-outcome (OpeningLine shape) line h k = k
+over-outcome CellCount line h k = k
+over-outcome (CellLine left from) line h k = k
+over-outcome EntryCount line h k = k
+over-outcome Nothing line h k = k
 
 miscounted-outcome : (due : Due) (line : List (List ℕ)) → IsMiscounted due line → IsBadOutcome due line → ⊥
-miscounted-outcome (entry_line left) line h k = two-words k.step _ k.fits (sym k.spelled ∙ h)
-miscounted-outcome end_line line h k = k
-miscounted-outcome header line h k = k
-miscounted-outcome shape_line line h k = k
-miscounted-outcome (opening_line shape) line h k = k
-miscounted-outcome cell_count line h k = k
-miscounted-outcome (cell_line left from) line h k = k
-miscounted-outcome entry_count line h k = k
-miscounted-outcome nothing line h k = k
+miscounted-outcome (EntryLine left) line h k = two-words k.step _ k.fits (sym k.spelled ∙ h)
+miscounted-outcome EndLine line h k = k
+miscounted-outcome Header line h k = k
+miscounted-outcome ShapeLine line h k = k
+miscounted-outcome (OpeningLine shape) line h k = k
+miscounted-outcome CellCount line h k = k
+miscounted-outcome (CellLine left from) line h k = k
+miscounted-outcome EntryCount line h k = k
+miscounted-outcome Nothing line h k = k
 
 abbrev OneFault : Due → List (List ℕ) → ReadKind → ReadKind → Type 0
 OneFault due line one other = IsFaultOfLine due line one → IsFaultOfLine due line other → one ≡ other
@@ -115,9 +117,9 @@ ends-line due bytes kind h k = line-ends_in k.line k.behind bytes k.stands h.no_
 ends-long : (bytes : List ℕ) → IsUnfinished bytes → IsTooLong bytes → ⊥
 ends-long bytes h k = absurd (omega (arith, h.short, k.long))
 
-nothing-fault : (due : Due) (line : List (List ℕ)) (kind : ReadKind) → due ≡ nothing → IsFaultOfLine due line kind → kind ≡ BadLine
+nothing-fault : (due : Due) (line : List (List ℕ)) (kind : ReadKind) → due ≡ Nothing → IsFaultOfLine due line kind → kind ≡ BadLine
 nothing-fault due line OverLimit is h = absurd (subst (λ d. IsFaultOfLine d line OverLimit) is h)
-nothing-fault due line BadHeader is h = let no : nothing ≡ header = sym is ∙ h.0 in absurd (cc)
+nothing-fault due line BadHeader is h = let no : Nothing ≡ Header = sym is ∙ h.0 in absurd (cc)
 nothing-fault due line CountDiffers is h = absurd (subst (λ d. IsFaultOfLine d line CountDiffers) is h)
 nothing-fault due line BadOutcome is h = absurd (subst (λ d. IsFaultOfLine d line BadOutcome) is h)
 nothing-fault due line BadLine is h = refl
@@ -176,12 +178,12 @@ one-place due last final (x ∷ xs) (y ∷ ys) bytes others one other is f g e p
 
 -- two refusals of the same bytes are one, where the bytes are at fault
 pub one-refusal : (bytes : List ℕ) (end finish : Option (List ℕ)) (line place : ℕ) (one other : ReadKind) →
-    IsRefused (Some bytes) end 0 header line one → IsRefused (Some bytes) finish 0 header place other
+    IsRefused (Some bytes) end 0 Header line one → IsRefused (Some bytes) finish 0 Header place other
     → ¬ IsOutside one → ¬ IsOutside other → (line ≡ place) × (one ≡ other)
 one-refusal bytes None finish line place one other r s p q = absurd r.read
 one-refusal bytes (Some more) None line place one other r s p q = absurd s.read
 one-refusal bytes (Some more) (Some left) line place one other r s p q =
-    let same = one-place header r.last s.last r.lines s.lines (r.rest ++ more) (s.rest ++ left) one other tt r.follow s.follow
+    let same = one-place Header r.last s.last r.lines s.lines (r.rest ++ more) (s.rest ++ left) one other tt r.follow s.follow
     (sym (append_assoc (flat_map ended r.lines) r.rest more) ∙ sym r.read ∙ s.read ∙ append_assoc (flat_map ended s.lines) s.rest left) p q
     (fault-of r.last r.rest more one r.fault) (fault-of s.last s.rest left other s.fault) in
     (omega (arith, r.number, s.number, same.0), same.1)

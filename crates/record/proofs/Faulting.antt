@@ -11,7 +11,9 @@ use Rattle.base.specs.declared.step.Step.TheVariants as step
 use Rattle.record.specs.declared.fault.ReadKind.{ReadKind}
 use Rattle.record.specs.declared.fault.ReadKind.TheVariants.{BadHeader, BadLine, Truncated, CountDiffers, BadOutcome, OverLimit, NoMemory, Device}
 use Rattle.record.specs.Text.{end_words}
-use Rattle.record.specs.Grammar.{Due, header, shape_line, opening_line, cell_count, cell_line, entry_count, entry_line, end_line, nothing, Leads}
+use Rattle.record.specs.declared.due.Due.{Due}
+use Rattle.record.specs.declared.due.Due.TheVariants.{Header, ShapeLine, OpeningLine, CellCount, CellLine, EntryCount, EntryLine, EndLine, Nothing}
+use Rattle.record.specs.Grammar.{Leads}
 use Rattle.record.specs.Refused.{IsOver, IsMiscounted, IsBadOutcome, IsFaultOfLine}
 use Rattle.record.proofs.Legible.{all-append}
 use Rattle.record.proofs.Leading.{step-line}
@@ -65,39 +67,39 @@ two-words s us f e = let some = step-line s f in absurd (omega (arith, ap length
 -- ---- a line that is well formed where it is due has no fault
 
 over-not_good : (due : Due) (line : List (List ℕ)) (next : Due) → Leads due line next → IsOver due line → ⊥
-over-not_good header line next l h = h
-over-not_good shape_line line next l h = h.outside l.0 l.1 l.2
-over-not_good (opening_line shape) line next l h = h
-over-not_good cell_count line next l h = let same : codes "cells" ∷ h.count ∷ [] ≡ codes "cells" ∷ decimal l.0 ∷ [] = sym h.spelled ∙ l.2 in h.higher l.0 l.1 cc
-over-not_good (cell_line left from) line next l h = h
-over-not_good entry_count line next l h =
+over-not_good Header line next l h = h
+over-not_good ShapeLine line next l h = h.outside l.0 l.1 l.2
+over-not_good (OpeningLine shape) line next l h = h
+over-not_good CellCount line next l h = let same : codes "cells" ∷ h.count ∷ [] ≡ codes "cells" ∷ decimal l.0 ∷ [] = sym h.spelled ∙ l.2 in h.higher l.0 l.1 cc
+over-not_good (CellLine left from) line next l h = h
+over-not_good EntryCount line next l h =
     let same : codes "entries" ∷ h.count ∷ [] ≡ codes "entries" ∷ decimal l.0 ∷ [] = sym h.spelled ∙ l.2 in h.higher l.0 l.1 cc
-over-not_good (entry_line left) line next l h = h
-over-not_good end_line line next l h = h
-over-not_good nothing line next l h = h
+over-not_good (EntryLine left) line next l h = h
+over-not_good EndLine line next l h = h
+over-not_good Nothing line next l h = h
 
 miscounted-not_good : (due : Due) (line : List (List ℕ)) (next : Due) → Leads due line next → IsMiscounted due line → ⊥
-miscounted-not_good header line next l h = h
-miscounted-not_good shape_line line next l h = h
-miscounted-not_good (opening_line shape) line next l h = h
-miscounted-not_good cell_count line next l h = h
-miscounted-not_good (cell_line left from) line next l h = h
-miscounted-not_good entry_count line next l h = h
-miscounted-not_good (entry_line left) line next l h = two-words l.0.step _ l.1.0 (sym l.2 ∙ h)
-miscounted-not_good end_line line next l h = two-words h.0.step _ h.1.0 (sym h.2 ∙ l.0)
-miscounted-not_good nothing line next l h = h
+miscounted-not_good Header line next l h = h
+miscounted-not_good ShapeLine line next l h = h
+miscounted-not_good (OpeningLine shape) line next l h = h
+miscounted-not_good CellCount line next l h = h
+miscounted-not_good (CellLine left from) line next l h = h
+miscounted-not_good EntryCount line next l h = h
+miscounted-not_good (EntryLine left) line next l h = two-words l.0.step _ l.1.0 (sym l.2 ∙ h)
+miscounted-not_good EndLine line next l h = two-words h.0.step _ h.1.0 (sym h.2 ∙ l.0)
+miscounted-not_good Nothing line next l h = h
 
 outcome-not_good : (due : Due) (line : List (List ℕ)) (next : Due) → Leads due line next → IsBadOutcome due line → ⊥
-outcome-not_good header line next l h = h
-outcome-not_good shape_line line next l h = h
-outcome-not_good (opening_line shape) line next l h = h
-outcome-not_good cell_count line next l h = h
-outcome-not_good (cell_line left from) line next l h = h
-outcome-not_good entry_count line next l h = h
-outcome-not_good (entry_line left) line next l h =
+outcome-not_good Header line next l h = h
+outcome-not_good ShapeLine line next l h = h
+outcome-not_good (OpeningLine shape) line next l h = h
+outcome-not_good CellCount line next l h = h
+outcome-not_good (CellLine left from) line next l h = h
+outcome-not_good EntryCount line next l h = h
+outcome-not_good (EntryLine left) line next l h =
     h.none l.0.outcome l.1.1 (same-halves h.step l.0.step (h.first ∷ h.others) _ h.fits l.1.0 (sym h.spelled ∙ l.2)).1
-outcome-not_good end_line line next l h = h
-outcome-not_good nothing line next l h = h
+outcome-not_good EndLine line next l h = h
+outcome-not_good Nothing line next l h = h
 
 pub fault-not_good : (due : Due) (line : List (List ℕ)) (next : Due) (kind : ReadKind) → Leads due line next → IsFaultOfLine due line kind → ⊥
 fault-not_good due line next OverLimit l h = over-not_good due line next l h

@@ -8,12 +8,13 @@ use Rattle.record.specs.declared.cells.Spot.{Spot}
 use Rattle.record.specs.declared.cells.Spot.TheVariants as spot
 use Rattle.record.specs.declared.cells.Cell.{Cell}
 use Rattle.record.specs.declared.recording.Entry.{Entry}
-use Rattle.record.specs.Cells.{all_spots, cell_at, cell_words, spot_of, spot_number}
+use Rattle.record.specs.Cells.{all_spots, cell_at, cell_words, is_same, spot_of, spot_number}
 use Rattle.record.specs.Kept.{Kept}
 use Rattle.base.specs.Spelling.{joined}
 use Rattle.record.specs.Text.{text, lines, entries_words, entry_words, end_words, is_changed, changed, changed_cells}
-use Rattle.record.specs.Cells.{is_same}
-use Rattle.record.specs.Grammar.{Due, header, shape_line, opening_line, cell_count, entry_count, nothing, cells_due, entries_due, IsListed, FitsEntry}
+use Rattle.record.specs.declared.due.Due.{Due}
+use Rattle.record.specs.declared.due.Due.TheVariants.{Header, ShapeLine, OpeningLine, CellCount, EntryCount, Nothing}
+use Rattle.record.specs.Grammar.{cells_due, entries_due, IsListed, FitsEntry}
 use Rattle.record.specs.Grammar.{Leads, Follow}
 use Rattle.record.specs.Refused.{ended, IsWellFormed}
 use Rattle.record.specs.Recordable.{AreWhole, IsRecordable}
@@ -88,8 +89,8 @@ few-changed t (s ∷ ss) = fewer t s ss (is_changed t s) refl (few-changed t ss)
 pub few-cells : (t : Tables) → length (changed_cells t) ≤ 160
 few-cells t = let n : length all_spots ≡ 160 = refl in omega (arith, few-changed t all_spots, n)
 
-cells-followed : (cs : List Cell) (from : ℕ) (rest : List (List (List ℕ))) → AreListed from cs → Followed entry_count rest nothing →
-    Followed (cells_due (length cs) from) (map cell_words cs ++ rest) nothing
+cells-followed : (cs : List Cell) (from : ℕ) (rest : List (List (List ℕ))) → AreListed from cs → Followed EntryCount rest Nothing →
+    Followed (cells_due (length cs) from) (map cell_words cs ++ rest) Nothing
 cells-followed [] from rest h f = f
 cells-followed (c ∷ cs) from rest h f =
     let n : ℕ = spot_number (spot_of c) + 1 in
@@ -98,26 +99,26 @@ cells-followed (c ∷ cs) from rest h f =
 
 -- ---- the entries
 
-entries-followed : (es : List Entry) → AllByRecursion FitsEntry es → Followed (entries_due (length es)) (map entry_words es ++ end_words ∷ []) nothing
-entries-followed [] h = (nothing, (refl, refl), refl)
+entries-followed : (es : List Entry) → AllByRecursion FitsEntry es → Followed (entries_due (length es)) (map entry_words es ++ end_words ∷ []) Nothing
+entries-followed [] h = (Nothing, (refl, refl), refl)
 entries-followed (e ∷ es) h =
     let left : length es ≡ suc (length es) - 1 = omega arith in
     (entries_due (length es), (e, h.0, refl, ap entries_due left), entries-followed es h.1)
 
 -- ---- the whole text
 
-lines-followed : (r : Kept) → IsRecordable r → Followed header (lines r) nothing
+lines-followed : (r : Kept) → IsRecordable r → Followed Header (lines r) Nothing
 lines-followed r h =
-    let entries : Followed entry_count (entries_words (length r.entries) ∷ map entry_words r.entries ++ end_words ∷ []) nothing =
+    let entries : Followed EntryCount (entries_words (length r.entries) ∷ map entry_words r.entries ++ end_words ∷ []) Nothing =
     (entries_due (length r.entries), (length r.entries, h.few, refl, refl), entries-followed r.entries (recursion_from_All FitsEntry r.entries h.fits)) in
     let cells = cells-followed (changed_cells r.tables) 0 _ (listed-from r.tables h.tables all_spots 0 160 numbers) entries in (
-      shape_line,
+      ShapeLine,
       (refl, refl),
       (
-        opening_line r.shape,
+        OpeningLine r.shape,
         (r.shape, h.shape, refl, refl),
         (
-          cell_count,
+          CellCount,
           (r.opening, h.opening, refl, refl),
           (cells_due (length (changed_cells r.tables)) 0, (length (changed_cells r.tables), few-cells r.tables, refl, refl), cells),
         ),
@@ -125,13 +126,13 @@ lines-followed r h =
     )
 
 pub recorded-lines : (r : Kept) → IsRecordable r → AllByRecursion IsLine (lines r)
-recorded-lines r h = followed-lines header nothing (lines r) tt (lines-followed r h)
+recorded-lines r h = followed-lines Header Nothing (lines r) tt (lines-followed r h)
 
 -- the text of a recording is well formed from the first line to the last
 pub text-whole : (r : Kept) → IsRecordable r → IsWellFormed (Some (text r)) (Some [])
 text-whole r h = record {
   lines = map joined (lines r);
-  follow = followed-follow header nothing (lines r) tt (lines-followed r h);
+  follow = followed-follow Header Nothing (lines r) tt (lines-followed r h);
   read = sym (append-nil _ ∙ flat_map-map ended joined (lines r));
   end = refl;
 }

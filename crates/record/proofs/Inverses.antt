@@ -27,7 +27,8 @@ use Rattle.base.specs.Spelling.{joined}
 use Rattle.record.specs.Text.{text, line, lines, shape_words, opening_words, cells_words, entries_words, entry_words, end_words, is_changed}
 use Rattle.record.specs.Cells.{is_same}
 use Rattle.record.specs.Text.{changed, changed_cells}
-use Rattle.record.specs.Grammar.{FitsEntry, header}
+use Rattle.record.specs.declared.due.Due.TheVariants.{Header}
+use Rattle.record.specs.Grammar.{FitsEntry}
 use Rattle.record.specs.declared.fault.ReadKind.{ReadKind}
 use Rattle.record.specs.Refused.{IsOutside, IsRefused}
 use Rattle.std.specs.Io.KnownBytes.{Consumes}
@@ -234,6 +235,6 @@ read-back before after r s h k is read = read-text after (subst (λ b. Consumes 
 
 -- and it is refused only for want of memory or by a device
 pub refused-outside : (before end : Option (List ℕ)) (line : ℕ) (kind : ReadKind) (r : Kept) → IsRecordable r → before ≡ Some (text r) →
-    IsRefused before end 0 header line kind → IsOutside kind
+    IsRefused before end 0 Header line kind → IsOutside kind
 refused-outside before end line kind r h is refused =
-    whole-refused (text r) (Some []) end line kind (text-whole r h) (subst (λ b. IsRefused b end 0 header line kind) is refused)
+    whole-refused (text r) (Some []) end line kind (text-whole r h) (subst (λ b. IsRefused b end 0 Header line kind) is refused)

@@ -26,7 +26,9 @@ use Rattle.record.specs.declared.cells.Cell.TheVariants as cell
 use Rattle.record.specs.declared.recording.Entry.{Entry}
 use Rattle.record.specs.Cells.{cell_words, spot_number, FitsCell}
 use Rattle.record.specs.Text.{shape_words, opening_words, entry_words}
-use Rattle.record.specs.Grammar.{Due, header, shape_line, opening_line, cell_count, cell_line, entry_count, entry_line, end_line, nothing, cells_due}
+use Rattle.record.specs.declared.due.Due.{Due}
+use Rattle.record.specs.declared.due.Due.TheVariants.{Header, ShapeLine, OpeningLine, CellCount, CellLine, EntryCount, EntryLine, EndLine, Nothing}
+use Rattle.record.specs.Grammar.{cells_due}
 use Rattle.record.specs.Grammar.{entries_due, AreValues, FitsEntry, Leads}
 use Rattle.record.proofs.Alike.{same-spot}
 use Rattle.record.proofs.Legible.{IsWord, IsLine, all-append, text-word, name-word, number-word}
@@ -137,21 +139,21 @@ opening-line shape values within h = record {
 
 -- opening values are due for a shape within the limits
 abbrev pub IsDue : Due → Type 0
-IsDue (opening_line shape) = IsWithinLimits shape
+IsDue (OpeningLine shape) = IsWithinLimits shape
 IsDue other = Unit {0}
 
 -- a line that is well formed where it is due is a line of words
 pub leads-line : (due : Due) (line : List (List ℕ)) (next : Due) → IsDue due → Leads due line next → IsLine line
-leads-line header line next h l =
+leads-line Header line next h l =
     subst IsLine (sym l.0) (record { each = (text-word _ refl (omega arith), (text-word _ refl (omega arith), tt)); some = omega arith; few = omega arith })
-leads-line shape_line line next h l = subst IsLine (sym l.2) (shape-line l.0 l.1)
-leads-line (opening_line shape) line next h l = subst IsLine (sym l.2) (opening-line shape l.0 h l.1)
-leads-line cell_count line next h l = subst IsLine (sym l.2) (count-line (codes "cells") l.0 (text-word _ refl (omega arith)) (omega (arith, l.1)))
-leads-line (cell_line left from) line next h l = subst IsLine (sym l.2) (cell-line l.0 l.1.fits)
-leads-line entry_count line next h l = subst IsLine (sym l.2) (count-line (codes "entries") l.0 (text-word _ refl (omega arith)) (omega (arith, l.1)))
-leads-line (entry_line left) line next h l = subst IsLine (sym l.2) (entry-line l.0 l.1)
-leads-line end_line line next h l = subst IsLine (sym l.0) (record { each = (text-word _ refl (omega arith), tt); some = omega arith; few = omega arith })
-leads-line nothing line next h l = absurd l
+leads-line ShapeLine line next h l = subst IsLine (sym l.2) (shape-line l.0 l.1)
+leads-line (OpeningLine shape) line next h l = subst IsLine (sym l.2) (opening-line shape l.0 h l.1)
+leads-line CellCount line next h l = subst IsLine (sym l.2) (count-line (codes "cells") l.0 (text-word _ refl (omega arith)) (omega (arith, l.1)))
+leads-line (CellLine left from) line next h l = subst IsLine (sym l.2) (cell-line l.0 l.1.fits)
+leads-line EntryCount line next h l = subst IsLine (sym l.2) (count-line (codes "entries") l.0 (text-word _ refl (omega arith)) (omega (arith, l.1)))
+leads-line (EntryLine left) line next h l = subst IsLine (sym l.2) (entry-line l.0 l.1)
+leads-line EndLine line next h l = subst IsLine (sym l.0) (record { each = (text-word _ refl (omega arith), tt); some = omega arith; few = omega arith })
+leads-line Nothing line next h l = absurd l
 
 cells-due : (n from : ℕ) → IsDue (cells_due n from)
 cells-due zero from = tt
@@ -162,15 +164,15 @@ entries-due zero = tt
 entries-due (suc n) = tt
 
 pub leads-due : (due : Due) (line : List (List ℕ)) (next : Due) → Leads due line next → IsDue next
-leads-due header line next l = subst IsDue (sym l.1) tt
-leads-due shape_line line next l = subst IsDue (sym l.3) l.1
-leads-due (opening_line shape) line next l = subst IsDue (sym l.3) tt
-leads-due cell_count line next l = subst IsDue (sym l.3) (cells-due l.0 0)
-leads-due (cell_line left from) line next l = subst IsDue (sym l.3) (cells-due _ _)
-leads-due entry_count line next l = subst IsDue (sym l.3) (entries-due l.0)
-leads-due (entry_line left) line next l = subst IsDue (sym l.3) (entries-due _)
-leads-due end_line line next l = subst IsDue (sym l.1) tt
-leads-due nothing line next l = absurd l
+leads-due Header line next l = subst IsDue (sym l.1) tt
+leads-due ShapeLine line next l = subst IsDue (sym l.3) l.1
+leads-due (OpeningLine shape) line next l = subst IsDue (sym l.3) tt
+leads-due CellCount line next l = subst IsDue (sym l.3) (cells-due l.0 0)
+leads-due (CellLine left from) line next l = subst IsDue (sym l.3) (cells-due _ _)
+leads-due EntryCount line next l = subst IsDue (sym l.3) (entries-due l.0)
+leads-due (EntryLine left) line next l = subst IsDue (sym l.3) (entries-due _)
+leads-due EndLine line next l = subst IsDue (sym l.1) tt
+leads-due Nothing line next l = absurd l
 
 -- ---- behind a line one thing is due
 
@@ -185,13 +187,13 @@ pub count-same : (name : List ℕ) (m n : ℕ) → m ≤ 1000000 → n ≤ 10000
 count-same name m n h k e = decimal_injective m n (omega (arith, h)) (omega (arith, k)) cc
 
 pub leads-one : (due : Due) (line : List (List ℕ)) (a b : Due) → Leads due line a → Leads due line b → a ≡ b
-leads-one header line a b l m = l.1 ∙ sym m.1
-leads-one shape_line line a b l m = l.3 ∙ ap opening_line (shape-same l.0 m.0 l.1 m.1 (sym l.2 ∙ m.2)) ∙ sym m.3
-leads-one (opening_line shape) line a b l m = l.3 ∙ sym m.3
-leads-one cell_count line a b l m =
+leads-one Header line a b l m = l.1 ∙ sym m.1
+leads-one ShapeLine line a b l m = l.3 ∙ ap OpeningLine (shape-same l.0 m.0 l.1 m.1 (sym l.2 ∙ m.2)) ∙ sym m.3
+leads-one (OpeningLine shape) line a b l m = l.3 ∙ sym m.3
+leads-one CellCount line a b l m =
     l.3 ∙ ap (λ n. cells_due n 0) (count-same (codes "cells") l.0 m.0 (omega (arith, l.1)) (omega (arith, m.1)) (sym l.2 ∙ m.2)) ∙ sym m.3
-leads-one (cell_line left from) line a b l m = l.3 ∙ ap (λ s. cells_due (left - 1) (spot_number s + 1)) (same-spot l.0 m.0 (sym l.2 ∙ m.2)) ∙ sym m.3
-leads-one entry_count line a b l m = l.3 ∙ ap entries_due (count-same (codes "entries") l.0 m.0 l.1 m.1 (sym l.2 ∙ m.2)) ∙ sym m.3
-leads-one (entry_line left) line a b l m = l.3 ∙ sym m.3
-leads-one end_line line a b l m = l.1 ∙ sym m.1
-leads-one nothing line a b l m = absurd l
+leads-one (CellLine left from) line a b l m = l.3 ∙ ap (λ s. cells_due (left - 1) (spot_number s + 1)) (same-spot l.0 m.0 (sym l.2 ∙ m.2)) ∙ sym m.3
+leads-one EntryCount line a b l m = l.3 ∙ ap entries_due (count-same (codes "entries") l.0 m.0 l.1 m.1 (sym l.2 ∙ m.2)) ∙ sym m.3
+leads-one (EntryLine left) line a b l m = l.3 ∙ sym m.3
+leads-one EndLine line a b l m = l.1 ∙ sym m.1
+leads-one Nothing line a b l m = absurd l

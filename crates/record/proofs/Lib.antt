@@ -2,9 +2,11 @@ pub mod Alike
 pub mod Changed
 pub mod Completing
 pub mod Distinct
+pub mod Drafting
 pub mod Ending
 pub mod Exits
 pub mod Faulting
+pub mod Faults
 pub mod Following
 pub mod Inverses
 pub mod Leading

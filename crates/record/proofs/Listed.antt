@@ -35,8 +35,7 @@ use Rattle.record.specs.Kept.{Kept}
 use Rattle.record.specs.declared.recording.Entry.{Entry}
 use Rattle.record.specs.Grammar.{FitsEntry, IsListed}
 use Rattle.record.specs.Refused.{ended}
-use Rattle.record.specs.inner.Reading.{HasNextLine, Held, stream}
-use Rattle.record.proofs.Streams.{none-held}
+use Rattle.record.specs.inner.Drafts.{IsBaselineFrom}
 use Rattle.record.proofs.Changed.{changed-append}
 use Rattle.record.proofs.Spots.{at-cache, at-directory}
 use Rattle.record.proofs.Words.{spelled-text}
@@ -45,16 +44,6 @@ use Rattle.record.proofs.Words.{spelled-text}
 
 pub ended-line : (l : List ℕ) (ws : List (List ℕ)) → words l ≡ ws → ended l ≡ line ws
 ended-line l ws is = ap (λ x. x ++ 10 ∷ []) (spelled-text l ws is)
-
-pub taken-line : (b a : _) (old new : Held) (ws : List (List ℕ)) → HasNextLine b a old new → words new.line ≡ ws → Consumes b a (line ws)
-taken-line b a old new ws next is = subst (Consumes b a) (ended-line new.line ws is) next.taken
-
--- lines, and one more
-pub line-more : (b m a : _) (xs : List (List (List ℕ))) (ws : List (List ℕ)) → Consumes b m (flat_map line xs) → Consumes m a (line ws) →
-    Consumes b a (flat_map line (xs ++ ws ∷ []))
-line-more b m a xs ws first second =
-    subst (Consumes b a) (sym (flat_map-append line xs (ws ∷ []) ∙ ap (λ l. flat_map line xs ++ l) (append-nil (line ws))))
-    (Consumes-trans b m a (flat_map line xs) (line ws) first second)
 
 -- ---- the places by their numbers
 
@@ -193,10 +182,6 @@ more t k low =
     ap (changed t) (take_more all_spots k some_spot low)
     ∙ (changed-append t (take k all_spots) (at k ∷ []) ∙ ap (λ cs. changed t (take k all_spots) ++ cs) (changed-one t (at k)))
 
--- from a place on the cells are the baseline's
-abbrev pub IsBaselineFrom : ℕ → Tables → Type 0
-IsBaselineFrom from t = (s : Spot) → from ≤ spot_number s → cell_at t s ≡ cell_at baseline s
-
 -- places that are as in the baseline add nothing
 skipped : (t : Tables) (from d : ℕ) → from + d ≤ 160 →
     ((s : Spot) → from ≤ spot_number s → spot_number s < from + d → cell_at t s ≡ cell_at baseline s) →
@@ -262,76 +247,3 @@ listed-all t from low plain =
     let d : ℕ = 160 - from in
     let reach : from + d ≡ 160 = omega (arith, low) in
     sym (skipped t from d (omega (arith, reach)) (λ s high below. plain s high)) ∙ ap (λ m. changed t (take m all_spots)) reach
-
--- ---- texts part by part
-
-pub cells-text : (b a : Option (List ℕ)) (cs ds : List Cell) → cs ≡ ds → Consumes b a (flat_map line (map cell_words cs)) →
-    Consumes b a (flat_map line (map cell_words ds))
-cells-text b a cs ds e h = subst (λ xs. Consumes b a (flat_map line (map cell_words xs))) e h
-
-pub cells-more : (b m a : Option (List ℕ)) (cs ds : List Cell) (cell : Cell) → ds ≡ cs ++ cell ∷ [] →
-    Consumes b m (flat_map line (map cell_words cs)) → Consumes m a (line (cell_words cell)) → Consumes b a (flat_map line (map cell_words ds))
-cells-more b m a cs ds cell e first second =
-    cells-text b a (cs ++ cell ∷ []) ds (sym e)
-    (subst (λ xs. Consumes b a (flat_map line xs)) (sym (map-append cell_words cs (cell ∷ [])))
-    (line-more b m a (map cell_words cs) (cell_words cell) first second))
-
--- a line that counts, and what it counts
-pub counted : (b m a : Option (List ℕ)) (named : ℕ → List (List ℕ)) (n k : ℕ) (rest : List ℕ) → n ≡ k → Consumes b m (line (named k)) →
-    Consumes m a rest → Consumes b a (line (named n) ++ rest)
-counted b m a named n k rest e first second =
-    subst (λ i. Consumes b a (line (named i) ++ rest)) (sym e) (Consumes-trans b m a (line (named k)) rest first second)
-
-pub entries-more : (b m a : Option (List ℕ)) (old new : List Entry) (e : Entry) → new ≡ old ++ e ∷ [] →
-    Consumes b m (flat_map line (map entry_words old)) → Consumes m a (line (entry_words e)) → Consumes b a (flat_map line (map entry_words new))
-entries-more b m a old new e is first second =
-    subst (λ es. Consumes b a (flat_map line (map entry_words es))) (sym is)
-    (subst (λ xs. Consumes b a (flat_map line xs)) (sym (map-append entry_words old (e ∷ [])))
-    (line-more b m a (map entry_words old) (entry_words e) first second))
-
-pub many-more : (old new : List Entry) (e : Entry) (n : ℕ) → new ≡ old ++ e ∷ [] → length old ≡ n → length new ≡ n + 1
-many-more old new e n is many = ap length is ∙ omega (arith, length_push old e, many)
-
-pub fits-more : (old new : List Entry) (e : Entry) → new ≡ old ++ e ∷ [] → FitsEntry e → All FitsEntry old → All FitsEntry new
-fits-more old new e is fits before = subst (All FitsEntry) (sym is) (All-push FitsEntry old e before fits)
-
--- the parts of a text, one behind the other
-parts : (r : Kept) → List ℕ
-parts r =
-    line header_words ++ (line (shape_words r.shape) ++ (line (opening_words r.opening)
-    ++ ((line (cells_words (length (changed_cells r.tables))) ++ flat_map line (map cell_words (changed_cells r.tables)))
-    ++ ((line (entries_words (length r.entries)) ++ flat_map line (map entry_words r.entries)) ++ line end_words))))
-
-parts-text : (r : Kept) → parts r ≡ text r
-unfolding parts
-parts-text r =
-    let cells : List (List (List ℕ)) = map cell_words (changed_cells r.tables) in
-    let entries : List (List (List ℕ)) = map entry_words r.entries in
-    let count : List ℕ = line (entries_words (length r.entries)) in
-    let last : (count ++ flat_map line entries) ++ line end_words ≡ flat_map line (entries_words (length r.entries) ∷ entries ++ end_words ∷ []) =
-    append_assoc count (flat_map line entries) (line end_words)
-    ∙ ap (λ l. count ++ l)
-    (ap (λ l. flat_map line entries ++ l) (sym (append-nil (line end_words))) ∙ sym (flat_map-append line entries (end_words ∷ []))) in
-    let middle : (line (cells_words (length (changed_cells r.tables))) ++ flat_map line cells) ++ ((count ++ flat_map line entries) ++ line end_words)
-    ≡ line (cells_words (length (changed_cells r.tables))) ++ flat_map line (cells ++ (entries_words (length r.entries) ∷ entries ++ end_words ∷ [])) =
-    append_assoc (line (cells_words (length (changed_cells r.tables)))) (flat_map line cells) _
-    ∙ ap (λ l. line (cells_words (length (changed_cells r.tables))) ++ l)
-    (ap (λ l. flat_map line cells ++ l) last ∙ sym (flat_map-append line cells (entries_words (length r.entries) ∷ entries ++ end_words ∷ []))) in
-    ap (λ l. line header_words ++ (line (shape_words r.shape) ++ (line (opening_words r.opening) ++ l))) middle
-
--- all parts have been read
-pub text-read : (a b c d e f g : Option (List ℕ)) (r : Kept) → Consumes a b (line header_words) → Consumes b c (line (shape_words r.shape)) →
-    Consumes c d (line (opening_words r.opening))
-    → Consumes d e (line (cells_words (length (changed_cells r.tables))) ++ flat_map line (map cell_words (changed_cells r.tables)))
-    → Consumes e f (line (entries_words (length r.entries)) ++ flat_map line (map entry_words r.entries)) → Consumes f g
-    (line end_words) → Consumes a g (text r)
-unfolding parts
-text-read a b c d e f g r header shape opening cells entries end =
-    subst (Consumes a g) (parts-text r)
-    (Consumes-trans a b g _ _ header
-    (Consumes-trans b c g _ _ shape (Consumes-trans c d g _ _ opening (Consumes-trans d e g _ _ cells (Consumes-trans e f g _ _ entries end)))))
-
--- at the start no bytes are held
-pub start-read : (l : Held) (a b : Option (List ℕ)) (bytes : List ℕ) → l ≡ record { bytes = []; line = []; number = 0 } →
-    Consumes (stream l a) b bytes → Consumes a b bytes
-start-read l a b bytes none h = subst (λ x. Consumes x b bytes) (ap (λ (k : Held). stream k a) none ∙ none-held a) h

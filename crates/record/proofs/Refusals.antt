@@ -6,7 +6,9 @@ use Rattle.std.proofs.lemmas.List.{take-append-le}
 use Rattle.base.specs.Spelling.{words}
 use Rattle.record.specs.declared.fault.ReadKind.{ReadKind}
 use Rattle.record.specs.declared.fault.ReadKind.TheVariants.{BadHeader, BadLine, Truncated, CountDiffers, BadOutcome, OverLimit, NoMemory, Device}
-use Rattle.record.specs.Grammar.{Due, header, nothing, Leads, Follow}
+use Rattle.record.specs.declared.due.Due.{Due}
+use Rattle.record.specs.declared.due.Due.TheVariants.{Header, Nothing}
+use Rattle.record.specs.Grammar.{Leads, Follow}
 use Rattle.record.specs.Refused.{ended, HasNoEnd, IsFaultOfLine, BeginsFaulty, IsTooLong, IsUnfinished, IsFaultOfRest, IsRefused, IsWellFormed, IsOutside}
 use Rattle.record.proofs.Legible.{joined-open, joined-short}
 use Rattle.record.proofs.Ending.{some-line, line-ends_in, line-ends_within, one-line_first}
@@ -16,10 +18,10 @@ use Rattle.record.proofs.Words.{spelled-text}
 
 -- the fault of all bytes that follow, whether they were read or not
 pub data Fault (due : Due) (bytes : List ℕ) (kind : ReadKind) : Type 0 where
-  ends : kind ≡ Truncated → due ≢ nothing → IsUnfinished bytes → Fault due bytes kind
-  long : kind ≡ OverLimit → due ≢ nothing → IsTooLong bytes → Fault due bytes kind
+  ends : kind ≡ Truncated → due ≢ Nothing → IsUnfinished bytes → Fault due bytes kind
+  long : kind ≡ OverLimit → due ≢ Nothing → IsTooLong bytes → Fault due bytes kind
   begins : BeginsFaulty due bytes kind → Fault due bytes kind
-  behind : kind ≡ BadLine → due ≡ nothing → bytes ≢ [] → Fault due bytes kind
+  behind : kind ≡ BadLine → due ≡ Nothing → bytes ≢ [] → Fault due bytes kind
   outside : IsOutside kind → Fault due bytes kind
 
 longer : (rest more : List ℕ) → IsTooLong rest → IsTooLong (rest ++ more)
@@ -76,7 +78,7 @@ good-outside due next l more bytes kind is leads begin (outside h) = h
 
 -- ---- no bytes, where nothing is due
 
-empty-outside : (due : Due) (bytes : List ℕ) (kind : ReadKind) → due ≡ nothing → bytes ≡ [] → Fault due bytes kind → IsOutside kind
+empty-outside : (due : Due) (bytes : List ℕ) (kind : ReadKind) → due ≡ Nothing → bytes ≡ [] → Fault due bytes kind → IsOutside kind
 empty-outside due bytes kind none empty (ends k some h) = absurd (some none)
 empty-outside due bytes kind none empty (long k some h) = absurd (some none)
 empty-outside due bytes kind none empty (begins h) = absurd (some-line h.line h.behind (sym empty ∙ h.stands))
@@ -85,7 +87,7 @@ empty-outside due bytes kind none empty (outside h) = h
 
 -- ---- whole texts
 
-whole-outside : (due last : Due) (xs ys : List (List ℕ)) (bytes : List ℕ) (kind : ReadKind) → IsDue due → Follow due xs nothing → Follow due ys last →
+whole-outside : (due last : Due) (xs ys : List (List ℕ)) (bytes : List ℕ) (kind : ReadKind) → IsDue due → Follow due xs Nothing → Follow due ys last →
     flat_map ended xs ≡ flat_map ended ys ++ bytes → Fault last bytes kind → IsOutside kind
 whole-outside due last [] [] bytes kind is f g e h = empty-outside last bytes kind (sym g ∙ f) (sym e) h
 whole-outside due last [] (y ∷ ys) bytes kind is f g e h = absurd (subst (λ d. Leads d (words y) g.0) f g.1)
@@ -100,17 +102,17 @@ whole-outside due last (x ∷ xs) (y ∷ ys) bytes kind is f g e h =
 
 -- a whole text is refused only for want of memory or by a device
 pub whole-refused : (bytes : List ℕ) (after end : Option (List ℕ)) (line : ℕ) (kind : ReadKind) → IsWellFormed (Some bytes) after →
-    IsRefused (Some bytes) end 0 header line kind → IsOutside kind
+    IsRefused (Some bytes) end 0 Header line kind → IsOutside kind
 whole-refused bytes None end line kind w r = absurd w.read
 whole-refused bytes (Some left) None line kind w r = absurd r.read
 whole-refused bytes (Some left) (Some more) line kind w r =
     let all : bytes ≡ flat_map ended w.lines = w.read ∙ ap (λ l. flat_map ended w.lines ++ l) w.end ∙ append-nil (flat_map ended w.lines) in
-    whole-outside header r.last w.lines r.lines (r.rest ++ more) kind tt w.follow r.follow
+    whole-outside Header r.last w.lines r.lines (r.rest ++ more) kind tt w.follow r.follow
     (sym all ∙ r.read ∙ append_assoc (flat_map ended r.lines) r.rest more) (fault-of r.last r.rest more kind r.fault)
 
 -- ---- no whole text stands before other bytes
 
-alone : (due : Due) (xs ys : List (List ℕ)) (more : List ℕ) → IsDue due → Follow due xs nothing → Follow due ys nothing →
+alone : (due : Due) (xs ys : List (List ℕ)) (more : List ℕ) → IsDue due → Follow due xs Nothing → Follow due ys Nothing →
     flat_map ended xs ≡ flat_map ended ys ++ more → more ≡ []
 alone due [] [] more is f g e = sym e
 alone due [] (y ∷ ys) more is f g e = absurd (subst (λ d. Leads d (words y) g.0) f g.1)
@@ -120,9 +122,9 @@ alone due (x ∷ xs) (y ∷ ys) more is f g e =
     one-line_first x y (flat_map ended xs) (flat_map ended ys ++ more) (good-open due x f.0 is f.1) (good-open due y g.0 is g.1)
     (e ∙ append_assoc (ended y) (flat_map ended ys) more) in
     let next : g.0 ≡ f.0 = leads-one due (words x) g.0 f.0 (subst (λ l. Leads due (words l) g.0) (sym same.0) g.1) f.1 in
-    alone f.0 xs ys more (leads-due due (words x) f.0 f.1) f.2 (subst (λ d. Follow d ys nothing) next g.2) same.1
+    alone f.0 xs ys more (leads-due due (words x) f.0 f.1) f.2 (subst (λ d. Follow d ys Nothing) next g.2) same.1
 
 pub whole-alone : (bytes front more : List ℕ) → IsWellFormed (Some bytes) (Some []) → IsWellFormed (Some front) (Some []) → bytes ≡ front ++ more → more ≡ []
 whole-alone bytes front more w v e =
-    alone header w.lines v.lines more tt w.follow v.follow
+    alone Header w.lines v.lines more tt w.follow v.follow
     (sym (append-nil (flat_map ended w.lines)) ∙ sym w.read ∙ e ∙ ap (λ l. l ++ more) (v.read ∙ append-nil (flat_map ended v.lines)))

@@ -3,36 +3,23 @@ use Rattle.std.specs.Prelude.{◌≡◌, ℕ, ◌+◌, ◌-◌, ◌<◌, ◌≤�
 use Rattle.base.specs.Extent.{Extent, IsWithinLimits}
 use Rattle.base.specs.Spelling.{words, FitsStep, FitsOutcome}
 use Rattle.machine.specs.Tables.{baseline}
+use Rattle.record.specs.declared.due.Due.{Due}
+use Rattle.record.specs.declared.due.Due.TheVariants.{Header, ShapeLine, OpeningLine, CellCount, CellLine, EntryCount, EntryLine, EndLine, Nothing}
 use Rattle.record.specs.declared.recording.Entry.{Entry}
 use Rattle.record.specs.declared.cells.Cell.{Cell}
 use Rattle.record.specs.Cells.{cell_at, cell_words, spot_of, spot_number, FitsCell}
 use Rattle.record.specs.Text.{header_words, shape_words, opening_words, cells_words, entries_words, entry_words, end_words}
 use Rattle.record.specs.Cells.{is_same}
 
--- what is due at the next line
-pub data Due : Type 0 where
-  header : Due
-  shape_line : Due
-  -- the opening values of this shape
-  opening_line : Extent → Due
-  cell_count : Due
-  -- a cell: so many are still to come, and its place is of this number or a higher one
-  cell_line : ℕ → ℕ → Due
-  entry_count : Due
-  -- an entry: so many are still to come
-  entry_line : ℕ → Due
-  end_line : Due
-  nothing : Due
-
--- what is due where so many cells are still to come
+-- what is due where so many cells are still to come, the next at a place of this number or a higher one
 abbrev pub cells_due : ℕ → ℕ → Due
-cells_due zero from = entry_count
-cells_due (suc left) from = cell_line (suc left) from
+cells_due zero from = EntryCount
+cells_due (suc left) from = CellLine (suc left) from
 
 -- what is due where so many entries are still to come
 abbrev pub entries_due : ℕ → Due
-entries_due zero = end_line
-entries_due (suc left) = entry_line (suc left)
+entries_due zero = EndLine
+entries_due (suc left) = EntryLine (suc left)
 
 -- one opening value for each block
 pub record AreValues (shape : Extent) (values : List ℕ) : Type 0 where
@@ -51,16 +38,16 @@ FitsEntry e = FitsStep e.step × FitsOutcome e.outcome
 
 -- the line of these words is well formed as what is due, and behind it the next is due
 abbrev pub Leads : Due → List (List ℕ) → Due → Type 0
-Leads header line next = (line ≡ header_words) × (next ≡ shape_line)
-Leads shape_line line next = (shape : Extent) × IsWithinLimits shape × (line ≡ shape_words shape) × (next ≡ opening_line shape)
-Leads (opening_line shape) line next = (values : List ℕ) × AreValues shape values × (line ≡ opening_words values) × (next ≡ cell_count)
-Leads cell_count line next = (count : ℕ) × (count ≤ 160) × (line ≡ cells_words count) × (next ≡ cells_due count 0)
-Leads (cell_line left from) line next =
+Leads Header line next = (line ≡ header_words) × (next ≡ ShapeLine)
+Leads ShapeLine line next = (shape : Extent) × IsWithinLimits shape × (line ≡ shape_words shape) × (next ≡ OpeningLine shape)
+Leads (OpeningLine shape) line next = (values : List ℕ) × AreValues shape values × (line ≡ opening_words values) × (next ≡ CellCount)
+Leads CellCount line next = (count : ℕ) × (count ≤ 160) × (line ≡ cells_words count) × (next ≡ cells_due count 0)
+Leads (CellLine left from) line next =
     (cell : Cell) × IsListed from cell × (line ≡ cell_words cell) × (next ≡ cells_due (left - 1) (spot_number (spot_of cell) + 1))
-Leads entry_count line next = (count : ℕ) × (count ≤ 1000000) × (line ≡ entries_words count) × (next ≡ entries_due count)
-Leads (entry_line left) line next = (e : Entry) × FitsEntry e × (line ≡ entry_words e) × (next ≡ entries_due (left - 1))
-Leads end_line line next = (line ≡ end_words) × (next ≡ nothing)
-Leads nothing line next = ⊥
+Leads EntryCount line next = (count : ℕ) × (count ≤ 1000000) × (line ≡ entries_words count) × (next ≡ entries_due count)
+Leads (EntryLine left) line next = (e : Entry) × FitsEntry e × (line ≡ entry_words e) × (next ≡ entries_due (left - 1))
+Leads EndLine line next = (line ≡ end_words) × (next ≡ Nothing)
+Leads Nothing line next = ⊥
 
 -- these lines are well formed one after the other: from what is due at the first of them to what is due behind the last
 abbrev pub Follow : Due → List (List ℕ) → Due → Type 0

@@ -11,7 +11,9 @@ use Rattle.record.specs.declared.recording.Entry.{Entry}
 use Rattle.record.specs.declared.fault.ReadKind.{ReadKind}
 use Rattle.record.specs.declared.fault.ReadKind.TheVariants.{BadHeader, BadLine, Truncated, CountDiffers, BadOutcome, OverLimit, NoMemory, Device}
 use Rattle.record.specs.Text.{header_words, shape_words, entry_words, end_words}
-use Rattle.record.specs.Grammar.{Due, header, shape_line, cell_count, entry_count, entry_line, end_line, nothing, FitsEntry, Leads, Follow}
+use Rattle.record.specs.declared.due.Due.{Due}
+use Rattle.record.specs.declared.due.Due.TheVariants.{Header, ShapeLine, CellCount, EntryCount, EntryLine, EndLine, Nothing}
+use Rattle.record.specs.Grammar.{FitsEntry, Leads, Follow}
 
 -- a line with its end
 abbrev pub ended : List ℕ → List ℕ
@@ -45,15 +47,15 @@ pub record IsOtherShape (line : List (List ℕ)) : Type 0 where
 
 -- the line is past a limit of what is due
 abbrev pub IsOver : Due → List (List ℕ) → Type 0
-IsOver shape_line line = IsOtherShape line
-IsOver cell_count line = IsHigherCount (codes "cells") 160 line
-IsOver entry_count line = IsHigherCount (codes "entries") 1000000 line
+IsOver ShapeLine line = IsOtherShape line
+IsOver CellCount line = IsHigherCount (codes "cells") 160 line
+IsOver EntryCount line = IsHigherCount (codes "entries") 1000000 line
 IsOver due line = ⊥
 
 -- the end stands where an entry is due, or an entry where the end is due
 abbrev pub IsMiscounted : Due → List (List ℕ) → Type 0
-IsMiscounted (entry_line left) line = line ≡ end_words
-IsMiscounted end_line line = (e : Entry) × FitsEntry e × (line ≡ entry_words e)
+IsMiscounted (EntryLine left) line = line ≡ end_words
+IsMiscounted EndLine line = (e : Entry) × FitsEntry e × (line ≡ entry_words e)
 IsMiscounted due line = ⊥
 
 -- where an entry is due, a step and an equals sign stand, and what follows is no outcome
@@ -67,12 +69,12 @@ pub record HasNoOutcome (line : List (List ℕ)) : Type 0 where
 
 -- an entry is due, and what follows its step is no outcome
 abbrev pub IsBadOutcome : Due → List (List ℕ) → Type 0
-IsBadOutcome (entry_line left) line = HasNoOutcome line
+IsBadOutcome (EntryLine left) line = HasNoOutcome line
 IsBadOutcome due line = ⊥
 
 -- the line isn't the one that is due, and the fault isn't one of those above
 pub record IsOther (due : Due) (line : List (List ℕ)) : Type 0 where
-  pub behind_header : due ≢ header
+  pub behind_header : due ≢ Header
   pub other : (next : Due) → ¬ Leads due line next
   pub not_over : ¬ IsOver due line
   pub not_miscounted : ¬ IsMiscounted due line
@@ -81,7 +83,7 @@ pub record IsOther (due : Due) (line : List (List ℕ)) : Type 0 where
 -- this is the fault of a whole line of these words, where this is due
 abbrev pub IsFaultOfLine : Due → List (List ℕ) → ReadKind → Type 0
 IsFaultOfLine due line OverLimit = IsOver due line
-IsFaultOfLine due line BadHeader = (due ≡ header) × (line ≢ header_words)
+IsFaultOfLine due line BadHeader = (due ≡ Header) × (line ≢ header_words)
 IsFaultOfLine due line CountDiffers = IsMiscounted due line
 IsFaultOfLine due line BadOutcome = IsBadOutcome due line
 IsFaultOfLine due line BadLine = IsOther due line
@@ -106,14 +108,13 @@ pub record IsUnfinished (rest : List ℕ) : Type 0 where
   pub no_end : HasNoEnd rest
   pub short : length rest ≤ 90000
 
--- where this is due and these bytes have been read, this is the first fault: a device or memory fails only in a line that isn't whole yet, and where
--- it is memory at most 4,096 bytes have been read ahead
+-- where this is due and these bytes have been read, this is the first fault: memory or a device fails only in a line that isn't whole yet
 abbrev pub IsFaultOfRest : Due → List ℕ → Option (List ℕ) → ReadKind → Type 0
-IsFaultOfRest due rest end Truncated = (due ≢ nothing) × IsUnfinished rest × IsAtEnd end
-IsFaultOfRest due rest end OverLimit = ((due ≢ nothing) × IsTooLong rest) ⊎ BeginsFaulty due rest OverLimit
-IsFaultOfRest due rest end BadLine = ((due ≡ nothing) × (rest ≢ [])) ⊎ BeginsFaulty due rest BadLine
-IsFaultOfRest due rest end NoMemory = (front ahead : List ℕ) × (due ≢ nothing) × (rest ≡ front ++ ahead) × IsUnfinished front × (length ahead ≤ 4096)
-IsFaultOfRest due rest end Device = IsUnfinished rest × (due ≡ nothing → rest ≡ [])
+IsFaultOfRest due rest end Truncated = (due ≢ Nothing) × IsUnfinished rest × IsAtEnd end
+IsFaultOfRest due rest end OverLimit = ((due ≢ Nothing) × IsTooLong rest) ⊎ BeginsFaulty due rest OverLimit
+IsFaultOfRest due rest end BadLine = ((due ≡ Nothing) × (rest ≢ [])) ⊎ BeginsFaulty due rest BadLine
+IsFaultOfRest due rest end NoMemory = (due ≢ Nothing) × IsUnfinished rest
+IsFaultOfRest due rest end Device = IsUnfinished rest × (due ≡ Nothing → rest ≡ [])
 IsFaultOfRest due rest end kind = BeginsFaulty due rest kind
 
 -- what a source has left, behind so many lines and where this is due, is refused in this line: the lines before it are well formed, and it has this fault
@@ -133,6 +134,6 @@ IsOutside kind = (kind ≡ NoMemory) ⊎ (kind ≡ Device)
 -- what a source had, up to what it has left, was well formed lines from the first to the last, and nothing is left
 pub record IsWellFormed (before after : Option (List ℕ)) : Type 0 where
   pub lines : List (List ℕ)
-  pub follow : Follow header lines nothing
+  pub follow : Follow Header lines Nothing
   pub read : Consumes before after (flat_map ended lines)
   pub end : IsAtEnd after

@@ -1,3 +1,5 @@
+pub mod Drafts
 pub mod Pieces
-pub mod SoFar
+pub mod Readers
 pub mod Reading
+pub mod SoFar

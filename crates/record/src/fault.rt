@@ -1,3 +1,7 @@
+ghost use Rattle.std.specs.Prelude.{◌≡◌};
+ghost use Rattle.record.specs.declared.fault.ReadKind.TheVariants as kind;
+
+use base::{Failed, NoMemory};
 use std::{error, fmt};
 use thiserror::Error;
 
@@ -46,6 +50,22 @@ impl fmt::Display for ReadKind {
 }
 
 impl error::Error for ReadKind {}
+
+impl From<NoMemory> for ReadKind {
+    ghost from_gives = { λ _ k. k ≡ kind.NoMemory };
+
+    fn from(_refused: NoMemory) -> ReadKind {
+        ReadKind::NoMemory
+    }
+}
+
+impl From<Failed> for ReadKind {
+    ghost from_gives = { λ _ k. k ≡ kind.Device };
+
+    fn from(_failed: Failed) -> ReadKind {
+        ReadKind::Device
+    }
+}
 
 /// Why a text wasn't read.
 #[derive(Clone, Copy, Debug, PartialEq, Eq, Error)]

@@ -3,9 +3,12 @@
 
 mod cell_parsing;
 mod cells;
+mod draft;
+mod due;
 mod fault;
 mod lines;
 mod parsing;
+mod reader;
 mod reading;
 mod recording;
 mod replaying;

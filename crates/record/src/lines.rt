@@ -1,20 +1,24 @@
-ghost use Rattle.std.specs.Prelude.{◌≡◌, ◌≢◌, ◌≤◌, ◌+◌, ◌<◌, ◌^◌, ◌∷◌, [], length, IfOk, IfErr, OnOk, OnErr, MatchOption, true};
+ghost use Rattle.std.specs.Prelude.{◌≡◌, ◌≢◌, ◌≤◌, ◌<◌, ◌+◌, ◌^◌, ◌↔◌, ◌∷◌, [], length, IfOk, IfErr, OnOk, OnErr, IsTrue};
 ghost use Rattle.std.specs.Io.KnownBytes.{Consumes, IsAtEnd};
 ghost use Rattle.base.specs.Ends.{Marks};
-ghost use Rattle.record.specs.inner.Reading.{Held, HasNextLine, Stops, stream};
+ghost use Rattle.record.specs.Refused.{HasNoEnd, IsTooLong};
+ghost use Rattle.record.specs.inner.Reading.{Gathered, BeginsWithEnd, IsWholeIf, pending};
 
-use crate::fault::{ReadFault, ReadKind};
-use base::{Failed, Source};
+use crate::fault::ReadKind;
+use base::{Failed, NoMemory, Source};
 use std::alloc::Global;
 use std::marker::Model;
 
 /// The most bytes of a line, without its end.
 const MOST_BYTES: usize = 90_000;
 
+/// The most bytes of a pull.
+pub(crate) const MOST_PULLED: usize = 4096;
+
 /// The lines of a source, one after the other. It holds one of them, and the bytes of one pull.
 #[derive(Drop)]
 pub(crate) struct Lines {
-    buffer: [u8; 4096],
+    buffer: [u8; MOST_PULLED],
     at: usize,
     end: usize,
     line: Vec<u8>,
@@ -22,130 +26,108 @@ pub(crate) struct Lines {
 }
 
 impl Model for Lines {
-    ghost use Rattle.std.specs.Prelude.{◌≤◌, ◌-◌, take, drop};
-    ghost use Rattle.record.specs.inner.Reading.{Held};
+    ghost use Rattle.std.specs.Prelude.{◌≤◌, ◌-◌, take, drop, length};
+    ghost use Rattle.std.specs.Vec.{vec_capacity};
+    ghost use Rattle.record.specs.Refused.{HasNoEnd};
+    ghost use Rattle.record.specs.inner.Reading.{Gathered, AreGathered};
 
-    ghost Value = { Held };
+    ghost Value = { Gathered };
 
-    ghost view = { λ s. record { bytes = take (s.end - s.at) (drop s.at s.buffer); line = s.line.items; number = s.number } };
+    ghost view = { λ s. record { line = s.line.items; ahead = take (s.end - s.at) (drop s.at s.buffer); number = s.number } };
 
-    ghost invariant = { λ s. (s.at ≤ s.end) × (s.end ≤ 4096) };
+    ghost invariant = { λ s. AreGathered s.at s.end s.line.items (vec_capacity s.line) };
 }
 
 impl Lines {
-    /// No line yet. It takes no memory.
-    pub(crate) fn open(alloc: Global) -> Lines
-        ensures { result ≡ record { bytes = []; line = []; number = 0 } }
+    /// No line yet, and room for one.
+    pub(crate) fn open(alloc: Global) -> Result<Lines, NoMemory>
+        ensures { IfOk result (λ lines. lines ≡ record { line = []; ahead = []; number = 0 }) }
     {
-        Lines {
-            buffer: [0; 4096],
+        let line = Vec::with_capacity(alloc, MOST_BYTES)?;
+        Ok(Lines {
+            buffer: [0; MOST_PULLED],
             at: 0,
             end: 0,
-            line: Vec::new(alloc),
+            line,
             number: 0,
-        }
+        })
     }
 
-    /// The last line, without its end.
+    /// What has been gathered of the line.
     pub(crate) fn line(&self) -> &[u8]
         ensures { result.now ≡ self.now.line }
     {
         self.line.as_slice()
     }
 
-    /// The number of the last line, counted from 1.
+    /// How many lines were taken off.
     pub(crate) fn number(&self) -> u64
-        ensures number { result ≡ self.now.number }
-        ensures held { length self.now.bytes ≤ 4096 }
+        ensures { result ≡ self.now.number }
     {
         self.number
     }
 
-    /// Pulls the next bytes, where none is held.
-    fn refill<S: Source>(&mut self, source: &mut S) -> Result<(), Failed>
-        ensures ok { OnOk result (Consumes (stream self.old (S.left source.old)) (stream self.new (S.left source.new)) []) }
-        ensures end { OnOk result (self.new.bytes ≡ [] → IsAtEnd (S.left source.new)) }
-        ensures err { OnErr result (Consumes (stream self.old (S.left source.old)) (S.left source.new) []) }
+    /// Whether bytes were pulled that don't belong to the line yet.
+    pub(crate) fn are_bytes_ahead(&self) -> bool
+        ensures { IsTrue result ↔ (self.now.ahead ≢ []) }
+    {
+        !self.buffer[self.at..self.end].is_empty()
+    }
+
+    /// Gathers the line as far as its bytes were pulled, and answers whether it is whole.
+    ///
+    /// It is refused `OverLimit` where the line is too long.
+    pub(crate) fn gather(&mut self) -> Result<bool, ReadKind>
+        ensures ok { IfOk result (λ whole. IsWholeIf whole self.new.ahead) }
+        ensures err { IfErr result (λ kind. (kind ≡ ReadKind.OverLimit) × IsTooLong (pending self.new)) }
+        ensures kept { pending self.new ≡ pending self.old }
+        ensures ahead { length self.new.ahead ≤ length self.old.ahead }
+        ensures number { self.new.number ≡ self.old.number }
+        ensures open { HasNoEnd self.new.line }
+        ensures short { length self.new.line ≤ 90000 }
+    {
+        while self.at < self.end {
+            let byte = self.buffer[self.at];
+            if byte == b'\n' {
+                return Ok(true);
+            }
+            if self.line.len() >= MOST_BYTES {
+                return Err(ReadKind::OverLimit);
+            }
+            self.line.push_reserved(byte);
+            self.at += 1;
+        }
+        Ok(false)
+    }
+
+    /// Pulls the next bytes, where none are ahead, and answers whether there were any.
+    pub(crate) fn pull<S: Source>(&mut self, source: &mut S) -> Result<bool, Failed>
+        requires none { self.old.ahead ≡ [] }
+        ensures ok { OnOk result (Consumes (S.left source.old) (S.left source.new) self.new.ahead) }
+        ensures some { IfOk result (λ some. IsTrue some ↔ (self.new.ahead ≢ [])) }
+        ensures end { OnOk result (self.new.ahead ≡ [] → IsAtEnd (S.left source.new)) }
+        ensures few { length self.new.ahead ≤ 4096 }
+        ensures err { OnErr result (Consumes (S.left source.old) (S.left source.new) [] × (self.new.ahead ≡ [])) }
         ensures line { self.new.line ≡ self.old.line }
         ensures number { self.new.number ≡ self.old.number }
         ensures mark { Marks (S.has_failed source.old) result (S.has_failed source.new) }
     {
-        if self.at < self.end {
-            return Ok(());
-        }
         self.at = 0;
         self.end = 0;
         self.end = source.pull(&mut self.buffer)?;
-        Ok(())
+        Ok(self.end > 0)
     }
 
-    /// The next byte, or `None` where none is left.
-    pub(crate) fn next_byte<S: Source>(&mut self, source: &mut S) -> Result<Option<u8>, Failed>
-        ensures byte { IfOk result (λ byte. MatchOption byte
-            (Consumes (stream self.old (S.left source.old)) (S.left source.new) [] × IsAtEnd (S.left source.new))
-            (λ b. Consumes (stream self.old (S.left source.old)) (stream self.new (S.left source.new)) (b ∷ []))) }
-        ensures held { OnOk result (length self.new.bytes < 4096) }
-        ensures err { OnErr result (Consumes (stream self.old (S.left source.old)) (S.left source.new) []) }
-        ensures line { self.new.line ≡ self.old.line }
-        ensures number { self.new.number ≡ self.old.number }
-        ensures mark { Marks (S.has_failed source.old) result (S.has_failed source.new) }
+    /// Takes off the line, which is whole.
+    pub(crate) fn take_off(&mut self)
+        requires whole { BeginsWithEnd self.old.ahead }
+        requires few { self.old.number < 2 ^ 60 }
+        ensures ahead { self.old.ahead ≡ 10 ∷ self.new.ahead }
+        ensures line { self.new.line ≡ [] }
+        ensures number { self.new.number ≡ self.old.number + 1 }
     {
-        self.refill(source)?;
-        Ok(self.take_byte())
-    }
-
-    /// The first of the bytes that are held.
-    fn take_byte(&mut self) -> Option<u8>
-        ensures byte { MatchOption result ((self.old.bytes ≡ []) × (self.new.bytes ≡ [])) (λ b. self.old.bytes ≡ b ∷ self.new.bytes) }
-        ensures held { length self.new.bytes < 4096 }
-        ensures line { self.new.line ≡ self.old.line }
-        ensures number { self.new.number ≡ self.old.number }
-    {
-        if self.at >= self.end {
-            return None;
-        }
-        let byte = self.buffer[self.at];
-        self.at += 1;
-        Some(byte)
-    }
-
-    /// Takes the next line off. It is then the one that is held.
-    ///
-    /// It is refused where the line doesn't come to its end: `Truncated`, `OverLimit`, `NoMemory` or `Device`.
-    pub(crate) fn next<S: Source>(&mut self, source: &mut S) -> Result<(), ReadFault>
-        requires { self.old.number < 2 ^ 60 }
-        ensures ok { OnOk result (HasNextLine (stream self.old (S.left source.old)) (stream self.new (S.left source.new)) self.old self.new) }
-        ensures err { IfErr result (λ fault. Stops (stream self.old (S.left source.old)) (S.left source.new) fault.kind) }
-        ensures place { IfErr result (λ fault. fault.line ≡ self.old.number + 1) }
-        ensures mark { IfErr result (λ fault. fault.kind ≡ ReadKind.Device → S.has_failed source.new ≡ true) }
-        ensures unmarked { OnOk result (S.has_failed source.new ≡ S.has_failed source.old) }
-    {
-        let line = self.number + 1;
         self.line.clear();
-        for count in 0..MOST_BYTES + 1 {
-            let byte = match self.next_byte(source) {
-                Ok(Some(byte)) => byte,
-                Ok(None) => return Err(refused(line, ReadKind::Truncated)),
-                Err(_) => return Err(refused(line, ReadKind::Device)),
-            };
-            if byte == b'\n' {
-                self.number = line;
-                return Ok(());
-            }
-            if count >= MOST_BYTES {
-                return Err(refused(line, ReadKind::OverLimit));
-            }
-            if let Err(_) = self.line.push(byte) {
-                return Err(refused(line, ReadKind::NoMemory));
-            }
-        }
-        Err(refused(line, ReadKind::OverLimit))
+        self.at += 1;
+        self.number += 1;
     }
-}
-
-/// A fault of this kind in this line.
-pub(crate) fn refused(line: u64, kind: ReadKind) -> ReadFault
-    ensures { result ≡ record { line = line; kind = kind } }
-{
-    ReadFault { line, kind }
 }

@@ -1,6 +1,6 @@
 //! What single lines of a recording spell.
 
-ghost use Rattle.std.specs.Prelude.{◌≡◌, ◌≢◌, ◌≤◌, ◌<◌, ◌^◌, ◌↔◌, ◌∷◌, ◌++◌, [], codes, ℕ, List, All, IfOk, IfErr, IfSome, IfNone, IsTrue, MatchOption, length};
+ghost use Rattle.std.specs.Prelude.{◌≡◌, ◌≢◌, ◌≤◌, ◌<◌, ◌^◌, ◌↔◌, ◌∷◌, ◌++◌, [], codes, ℕ, List, All, IfOk, IfErr, OnOk, IfSome, IfNone, IsTrue, MatchOption, length};
 ghost use Rattle.std.specs.Fmt.{decimal};
 ghost use Rattle.std.specs.Vec.{vec_capacity};
 ghost use Rattle.base.specs.Extent.{Extent, IsWithinLimits};
@@ -135,20 +135,24 @@ pub(crate) fn shape_of(line: &[u8]) -> Result<Shape, ReadKind>
     }
 }
 
-/// The opening values of so many blocks, put where there is room for them.
-pub(crate) fn opening_of(room: Vec<u64>, line: &[u8], blocks: u32) -> Result<Vec<u64>, ReadKind>
-    requires none { room.items ≡ [] }
-    requires room { blocks ≤ vec_capacity room }
-    ensures count { IfOk result (λ values. length values.items ≡ blocks) }
-    ensures words { IfOk result (λ values. words line.now ≡ opening_words values.items) }
-    ensures small { IfOk result (λ values. All (λ value. value < 2 ^ 64) values.items) }
+/// Reads the opening values of so many blocks, for which there is room.
+pub(crate) fn opening_of(
+    values: &mut Vec<u64>,
+    line: &[u8],
+    blocks: u32,
+) -> Result<(), ReadKind>
+    requires room { blocks ≤ vec_capacity values.old }
+    ensures count { OnOk result (length values.new.items ≡ blocks) }
+    ensures words { OnOk result (words line.now ≡ opening_words values.new.items) }
+    ensures small { OnOk result (All (λ value. value < 2 ^ 64) values.new.items) }
+    ensures room { vec_capacity values.new ≡ vec_capacity values.old }
     ensures err { IfErr result (IsBadOpening blocks (words line.now)) }
 {
     let (first, mut rest) = cut(line);
     if first != b"opening".as_slice() {
         return Err(ReadKind::BadLine);
     }
-    let mut values = room;
+    values.clear();
     while values.len() < blocks as usize {
         let Some(text) = rest else {
             return Err(ReadKind::BadLine);
@@ -161,7 +165,7 @@ pub(crate) fn opening_of(room: Vec<u64>, line: &[u8], blocks: u32) -> Result<Vec
         rest = more;
     }
     match rest {
-        None => Ok(values),
+        None => Ok(()),
         Some(_) => Err(ReadKind::BadLine),
     }
 }

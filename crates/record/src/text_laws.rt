@@ -4,7 +4,7 @@ ghost use Rattle.std.specs.Prelude.{◌++◌, ◌≡◌, ◌≤◌, [], All, Lis
 ghost use Rattle.record.specs.Kept.{Kept};
 ghost use Rattle.base.specs.Spelling.{joined};
 ghost use Rattle.record.specs.Text.{lines, text};
-ghost use Rattle.record.specs.Grammar.{header};
+ghost use Rattle.record.specs.declared.due.Due.TheVariants.{Header};
 ghost use Rattle.record.specs.Refused.{IsOutside, IsRefused, IsWellFormed};
 ghost use Rattle.record.specs.Recordable.{IsRecordable};
 ghost use Rattle.record.specs.declared.fault.ReadKind.{ReadKind};
@@ -15,7 +15,7 @@ pub fn a_text_is_read()
     ensures whole { (r : Kept) → IsRecordable r → IsWellFormed (Some (text r)) (Some []) }
     ensures short { (r : Kept) → IsRecordable r → All (λ words. length (joined words) ≤ 90000) (lines r) }
     ensures refused { (r : Kept) (end : Option (List ℕ)) (line : ℕ) (kind : ReadKind) →
-        IsRecordable r → IsRefused (Some (text r)) end 0 header line kind → IsOutside kind }
+        IsRecordable r → IsRefused (Some (text r)) end 0 Header line kind → IsOutside kind }
 {}
 
 /// Bytes that are well formed from the first line to the last are the text of a recording.
@@ -34,8 +34,8 @@ pub fn a_text_is_of_one_recording()
 /// are well formed from the first line to the last have none.
 pub fn one_refusal_at_most()
     ensures one { (bytes : List ℕ) (end other_end : Option (List ℕ)) (line other_line : ℕ) (kind other_kind : ReadKind) →
-        IsRefused (Some bytes) end 0 header line kind → IsRefused (Some bytes) other_end 0 header other_line other_kind →
+        IsRefused (Some bytes) end 0 Header line kind → IsRefused (Some bytes) other_end 0 Header other_line other_kind →
         ¬ IsOutside kind → ¬ IsOutside other_kind → (line ≡ other_line) × (kind ≡ other_kind) }
     ensures none { (bytes : List ℕ) (after end : Option (List ℕ)) (line : ℕ) (kind : ReadKind) →
-        IsWellFormed (Some bytes) after → IsRefused (Some bytes) end 0 header line kind → IsOutside kind }
+        IsWellFormed (Some bytes) after → IsRefused (Some bytes) end 0 Header line kind → IsOutside kind }
 {}

@@ -1,8 +1,7 @@
 -- How a text is read line by line. Only private clauses cite this file.
-use Rattle.std.specs.Prelude.{◌≡◌, ◌≢◌, ℕ, ◌+◌, ◌<◌, ◌≤◌, ◌^◌, List, [], ◌∷◌, ◌++◌, Option, Some, None, All, codes, length}
+use Rattle.std.specs.Prelude.{Bool, true, false, ◌≡◌, ◌≢◌, ℕ, ◌+◌, ◌<◌, ◌≤◌, ◌^◌, List, [], ◌∷◌, ◌++◌, Option, Some, None, All, codes, length}
 use Rattle.std.specs.Borrow.{Bor}
-use Rattle.std.specs.List.{flat_map}
-use Rattle.std.specs.Io.KnownBytes.{Consumes, IsAtEnd, prepend_known}
+use Rattle.std.specs.Io.KnownBytes.{prepend_known}
 use Rattle.std.specs.Fmt.{decimal}
 use Rattle.base.specs.Extent.{Extent, IsWithinLimits}
 use Rattle.base.specs.Spelling.{words, step_words, FitsStep}
@@ -13,47 +12,39 @@ use Rattle.directory_table.specs.Table.{DirectoryEntry}
 use Rattle.record.specs.Cells.{cell_words, cache_entry_words, directory_entry_words, FitsCell, FitsCacheEntry, FitsDirectoryEntry}
 use Rattle.record.specs.Text.{shape_words, opening_words}
 use Rattle.record.specs.declared.fault.ReadKind.{ReadKind}
-use Rattle.record.specs.declared.fault.ReadKind.TheVariants.{Truncated, OverLimit, NoMemory, Device, BadLine, BadOutcome}
-use Rattle.record.specs.Grammar.{Due, Follow}
-use Rattle.record.specs.Refused.{ended, HasNoEnd, IsTooLong, IsUnfinished, IsHigherCount, IsOtherShape, HasNoOutcome}
+use Rattle.record.specs.declared.fault.ReadKind.TheVariants.{OverLimit, BadLine, BadOutcome}
+use Rattle.record.specs.Refused.{HasNoEnd, IsHigherCount, IsOtherShape, HasNoOutcome}
 
--- the bytes that were pulled and don't belong to a line yet, the last line, and how many lines there were
-pub record Held : Type 0 where
-  pub bytes : List ℕ
+-- what was pulled of a source and isn't taken yet: the line as far as it is gathered, and the bytes ahead; and how many lines were taken
+pub record Gathered : Type 0 where
   pub line : List ℕ
+  pub ahead : List ℕ
   pub number : ℕ
 
+-- the bytes that were pulled and aren't taken yet
+abbrev pub pending : Gathered → List ℕ
+pending gathered = gathered.line ++ gathered.ahead
+
 -- all bytes that are still to come
-abbrev pub stream : Held → Option (List ℕ) → Option (List ℕ)
-stream held left = prepend_known held.bytes left
+abbrev pub stream : Gathered → Option (List ℕ) → Option (List ℕ)
+stream gathered left = prepend_known (pending gathered) left
 
--- the next line has been taken off
-pub record HasNextLine (before after : Option (List ℕ)) (old new : Held) : Type 0 where
-  pub taken : Consumes before after (ended new.line)
-  pub no_end : HasNoEnd new.line
-  pub short : length new.line ≤ 90000
-  pub number : new.number ≡ old.number + 1
+-- the next byte is the end of a line
+abbrev pub BeginsWithEnd : List ℕ → Type 0
+BeginsWithEnd bytes = (behind : List ℕ) × (bytes ≡ 10 ∷ behind)
 
--- a line doesn't come to its end, for this reason
-abbrev pub IsStop : List ℕ → Option (List ℕ) → ReadKind → Type 0
-IsStop rest end Truncated = IsUnfinished rest × IsAtEnd end
-IsStop rest end OverLimit = IsTooLong rest
-IsStop rest end NoMemory = (front ahead : List ℕ) × (rest ≡ front ++ ahead) × IsUnfinished front × (length ahead ≤ 4096)
-IsStop rest end Device = IsUnfinished rest
-IsStop rest end kind = ⊥
+-- a line that is whole has its end ahead, and of one that isn't nothing is ahead
+abbrev pub IsWholeIf : Bool → List ℕ → Type 0
+IsWholeIf true ahead = BeginsWithEnd ahead
+IsWholeIf false ahead = ahead ≡ []
 
--- the next line doesn't come to its end
-pub record Stops (before end : Option (List ℕ)) (kind : ReadKind) : Type 0 where
-  pub rest : List ℕ
-  pub read : Consumes before end rest
-  pub stop : IsStop rest end kind
-
--- lines have been taken off that are well formed, from what was due to what is due now
-pub record HasRead (before after : Option (List ℕ)) (from to : ℕ) (due next : Due) : Type 0 where
-  pub lines : List (List ℕ)
-  pub follow : Follow due lines next
-  pub count : to ≡ from + length lines
-  pub taken : Consumes before after (flat_map ended lines)
+-- the bytes ahead stand between two ends of a buffer, and a line has no end, isn't too long and has its room
+pub record AreGathered (at end : ℕ) (line : List ℕ) (capacity : ℕ) : Type 0 where
+  pub in_order : at ≤ end
+  pub within : end ≤ 4096
+  pub no_end : HasNoEnd line
+  pub short : length line ≤ 90000
+  pub room : 90000 ≤ capacity
 
 -- why a line of words isn't a count of this name up to this number
 abbrev pub IsBadCount : List ℕ → ℕ → List (List ℕ) → ReadKind → Type 0

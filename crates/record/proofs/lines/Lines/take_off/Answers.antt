@@ -1,0 +1,10 @@
+use Rattle.std.proofs.Common.{◌≡◌, ap, sym, ◌∙◌, rules}
+use Rattle.record.specs.inner.Reading.{Gathered}
+use Rattle.record.proofs.Streams.{held-begins}
+use Rattle.record.proofs.lines.Lines.take_off.Goals as goal
+
+pub returns-clause-ahead : goal.returns-clause-ahead
+returns-clause-ahead c =
+    let ahead = ap (λ (g : Gathered). g.ahead) c.self.view_is in
+    sym ahead
+    ∙ (held-begins c.self.inside.buffer c.requires.whole.0 10 c.self.inside.at c.self.inside.end (search rules) (ahead ∙ c.requires.whole.1)).1
