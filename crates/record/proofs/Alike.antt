@@ -1,5 +1,6 @@
 -- Cells that are spelled alike, and cells that hold the same.
-use Rattle.std.proofs.Common.{◌≡◌, ◌≤◌, ℕ, Bool, true, false, not, refl, ap, sym, subst}
+use Rattle.std.proofs.Common.{◌≡◌, ◌≤◌, ℕ, Bool, true, false, not, List, refl, ap, sym, subst}
+use Rattle.base.specs.Entries.{IsNoChange}
 use Rattle.base.specs.declared.controller.entry.Side.TheVariants as side
 use Rattle.base.proofs.Same.{entry-equal}
 use Rattle.base.proofs.Spelled.{change-one, same-name}
@@ -18,6 +19,7 @@ use Rattle.record.specs.declared.cells.Spot.{Spot}
 use Rattle.record.specs.declared.cells.Spot.TheVariants as spot
 use Rattle.record.specs.Cells.{cell_at, cell_words, is_same, spot_of, spot_number}
 use Rattle.record.specs.Grammar.{IsListed}
+use Rattle.record.specs.inner.Reading.{IsNoCell}
 
 -- cells that are spelled alike are the same
 pub cell-same : (c d : Cell) → cell_words c ≡ cell_words d → c ≡ d
@@ -63,3 +65,9 @@ unchanged t (spot.Directory s e) h =
     ap (cell.Directory s e)
     (entry-equal directory_baseline.all_states directory_table.state_number directory_standing.state_stands directory.all_actions
     directory.action_number directory_standing.action_stands _ _ (not-false _ h))
+
+-- what spells no change of either side spells no cell
+pub no_cell : (line : List (List ℕ)) → IsNoChange cache.state_name cache.event_name cache.action_name side.Cache line →
+    IsNoChange directory.state_name directory.event_name directory.action_name side.Directory line → IsNoCell line
+no_cell line none never (cell.Cache s e x) fits = none (record { state = s; event = e; entry = x }) fits
+no_cell line none never (cell.Directory s e x) fits = never (record { state = s; event = e; entry = x }) fits

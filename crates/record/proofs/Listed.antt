@@ -3,9 +3,8 @@ use Rattle.std.proofs.Common.{◌≡◌, ◌≢◌, ℕ, zero, suc, ◌+◌, ◌
 use Rattle.std.proofs.Common.{map, get_or, refl, sym, ap, ◌∙◌, subst, arith, append_assoc, Option}
 use Rattle.std.specs.List.{All, flat_map, range_with_len}
 use Rattle.std.proofs.lemmas.List.Elements.{All-push}
-use Rattle.std.specs.Str.{bytes_eq}
 use Rattle.std.proofs.lemmas.List.{take_more, append-nil, length_push, map-append}
-use Rattle.std.proofs.lemmas.Slice.Eq.{bytes_eq-Decides}
+use Rattle.base.proofs.Same.{entry-self}
 use Rattle.std.proofs.lemmas.List.FromFn.{get_or-map-range_with_len}
 use Rattle.std.proofs.lemmas.Grind.{flat_map-append}
 use Rattle.std.specs.Io.KnownBytes.{Consumes}
@@ -16,17 +15,20 @@ use Rattle.cache_table.specs.declared.state.CacheState.TheVariants as cache_stat
 use Rattle.cache_table.specs.declared.event.CacheEvent.{CacheEvent}
 use Rattle.cache_table.specs.declared.event.CacheEvent.TheVariants as cache_event
 use Rattle.cache_table.specs.Baseline as cache_baseline
+use Rattle.cache_table.specs.Names.{action_number}
 use Rattle.cache_table.specs.Table as cache_table
 use Rattle.directory_table.specs.declared.state.DirectoryState.{DirectoryState}
 use Rattle.directory_table.specs.declared.state.DirectoryState.TheVariants as directory_state
 use Rattle.directory_table.specs.declared.event.DirectoryEvent.{DirectoryEvent}
 use Rattle.directory_table.specs.declared.event.DirectoryEvent.TheVariants as directory_event
 use Rattle.directory_table.specs.Baseline as directory_baseline
+use Rattle.directory_table.specs.Names as directory_names
 use Rattle.directory_table.specs.Table as directory_table
 use Rattle.machine.specs.Tables.{Tables, baseline}
 use Rattle.record.specs.declared.cells.Spot.{Spot}
 use Rattle.record.specs.declared.cells.Spot.TheVariants as spot
 use Rattle.record.specs.declared.cells.Cell.{Cell}
+use Rattle.record.specs.declared.cells.Cell.TheVariants as cell
 use Rattle.record.specs.Cells.{all_spots, cell_at, cell_words, spot_number, spot_of}
 use Rattle.record.specs.Text.{cells_words, changed, changed_cells, end_words, entries_words, entry_words, header_words, is_changed, line}
 use Rattle.record.specs.Cells.{is_same}
@@ -165,12 +167,13 @@ changed-one t s = elim (is_changed t s) as (λ b. map (cell_at t) (cond b (s ∷
   | false ↦ refl
 ]
 
-same-bytes : (xs : List ℕ) → bytes_eq xs xs ≡ true
-same-bytes xs = (bytes_eq-Decides xs xs).1 refl
+same-self : (c : Cell) → is_same c c ≡ true
+same-self (cell.Cache s e x) = entry-self cache_table.state_number action_number x
+same-self (cell.Directory s e x) = entry-self directory_table.state_number directory_names.action_number x
 
 kept-none : (c : Cell) → kept_if c c ≡ []
 unfolding kept_if
-kept-none c = rw (same-bytes (line (cell_words c))) refl
+kept-none c = rw (same-self c) refl
 
 kept-one : (c d : Cell) → is_same c d ≡ false → kept_if c d ≡ c ∷ []
 unfolding kept_if

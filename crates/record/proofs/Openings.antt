@@ -10,13 +10,7 @@ use Rattle.std.proofs.lemmas.List.Splits.{length-slice_split}
 use Rattle.base.specs.Spelling.{words}
 use Rattle.record.specs.Text.{opening_words}
 use Rattle.record.specs.declared.fault.ReadKind.TheVariants.{BadLine}
-use Rattle.record.specs.inner.Reading.{IsBadOpening, words_behind}
-
--- the first word, and those behind its blank
-pub cut-words : (o : Option (Bor (List ℕ))) (ws : List (List ℕ)) (w : List ℕ) → MatchOption o (ws ≡ w ∷ []) (λ rest. ws ≡ w ∷ words rest.now) →
-    ws ≡ w ∷ words_behind o
-cut-words None ws w h = h
-cut-words (Some rest) ws w h = h
+use Rattle.record.specs.inner.Reading.{IsBadOpening}
 
 -- too few values
 pub few-values : (blocks : ℕ) (line : List (List ℕ)) (values : List ℕ) → line ≡ opening_words values → length values < blocks → IsBadOpening blocks line BadLine

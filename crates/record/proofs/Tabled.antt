@@ -46,13 +46,14 @@ same-cell : {S E A : Type 0} (states : List S) (events : List E) (row : S → �
 same-cell {S} {E} {A} states events row column rows columns places c d same i j low below =
     let state : S = get_or states i places.some_state in
     let event : E = get_or events j places.some_event in
+    let blank : Entry S A = Blank in
     let in_row : row state ≡ i = found row states rows i places.some_state places.rows_count low in
     let in_column : column event ≡ j = found column events columns j places.some_event places.columns_count below in
-    ap (λ k. get_or (get_or c k []) j (Blank {S = S} {A = A})) (sym in_row)
-    ∙ ap (λ k. get_or (get_or c (row state) []) k (Blank {S = S} {A = A})) (sym in_column)
+    ap (λ k. get_or (get_or c k []) j blank) (sym in_row)
+    ∙ ap (λ k. get_or (get_or c (row state) []) k blank) (sym in_column)
     ∙ same state event
-    ∙ ap (λ k. get_or (get_or d (row state) []) k (Blank {S = S} {A = A})) in_column
-    ∙ ap (λ k. get_or (get_or d k []) j (Blank {S = S} {A = A})) in_row
+    ∙ ap (λ k. get_or (get_or d (row state) []) k blank) in_column
+    ∙ ap (λ k. get_or (get_or d k []) j blank) in_row
 
 same-row : {S E A : Type 0} (states : List S) (events : List E) (row : S → ℕ) (column : E → ℕ) (rows columns : ℕ) →
     HasPlaces states events row column rows columns → (c d : Cells S A) → HasSize rows columns c → HasSize rows columns d → AreAlike row column c d →

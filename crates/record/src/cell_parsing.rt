@@ -11,6 +11,7 @@ use cache_table::CacheChange;
 use directory_table::DirectoryChange;
 
 /// The cell that the line of a cell spells.
+#[tactic(auto, using(crate::proofs::Alike::no_cell))]
 pub(crate) fn cell_of(line: &[u8]) -> Option<Cell>
     ensures fits { IfSome result FitsCell }
     ensures cell { MatchOption result (IsNoCell (words line.now)) (λ cell. words line.now ≡ cell_words cell) }
@@ -22,10 +23,12 @@ pub(crate) fn cell_of(line: &[u8]) -> Option<Cell>
             entry: change.entry,
         });
     }
-    let change = DirectoryChange::read(Side::Directory, line)?;
-    Some(Cell::Directory {
-        state: change.state,
-        event: change.event,
-        entry: change.entry,
-    })
+    match DirectoryChange::read(Side::Directory, line) {
+        Some(change) => Some(Cell::Directory {
+            state: change.state,
+            event: change.event,
+            entry: change.entry,
+        }),
+        None => None,
+    }
 }

@@ -7,9 +7,7 @@ use Rattle.base.specs.Extent.{Extent, IsWithinLimits}
 use Rattle.base.specs.Spelling.{words, step_words, FitsStep}
 use Rattle.base.specs.declared.step.Step.{Step}
 use Rattle.record.specs.declared.cells.Cell.{Cell}
-use Rattle.cache_table.specs.Table.{CacheEntry}
-use Rattle.directory_table.specs.Table.{DirectoryEntry}
-use Rattle.record.specs.Cells.{cell_words, cache_entry_words, directory_entry_words, FitsCell, FitsCacheEntry, FitsDirectoryEntry}
+use Rattle.record.specs.Cells.{cell_words, FitsCell}
 use Rattle.record.specs.Text.{shape_words, opening_words}
 use Rattle.record.specs.declared.fault.ReadKind.{ReadKind}
 use Rattle.record.specs.declared.fault.ReadKind.TheVariants.{OverLimit, BadLine, BadOutcome}
@@ -58,11 +56,6 @@ IsBadShape line OverLimit = IsOtherShape line
 IsBadShape line BadLine = ((shape : Extent) → IsWithinLimits shape → line ≢ shape_words shape) × ¬ IsOtherShape line
 IsBadShape line other = ⊥
 
--- the words behind a blank, if there is one
-abbrev pub words_behind : Option (Bor (List ℕ)) → List (List ℕ)
-words_behind None = []
-words_behind (Some rest) = words rest.now
-
 -- why a line of words isn't that of the opening values of a shape
 abbrev pub IsBadOpening : ℕ → List (List ℕ) → ReadKind → Type 0
 IsBadOpening blocks line BadLine = (values : List ℕ) → length values ≡ blocks → All (λ value. value < 2 ^ 64) values → line ≢ opening_words values
@@ -81,14 +74,6 @@ abbrev pub IsBadEntry : List (List ℕ) → ReadKind → Type 0
 IsBadEntry line BadOutcome = HasNoOutcome line
 IsBadEntry line BadLine = HasNoStep line
 IsBadEntry line other = ⊥
-
--- nothing that a cache does is spelled so
-abbrev pub IsNoCacheEntry : List (List ℕ) → Type 0
-IsNoCacheEntry line = (entry : CacheEntry) → FitsCacheEntry entry → line ≢ cache_entry_words entry
-
--- nothing that the directory does is spelled so
-abbrev pub IsNoDirectoryEntry : List (List ℕ) → Type 0
-IsNoDirectoryEntry line = (entry : DirectoryEntry) → FitsDirectoryEntry entry → line ≢ directory_entry_words entry
 
 -- no step and no equals sign stand in a line so that the sign's first blank is here
 abbrev pub HasNoStepBefore : List ℕ → ℕ → Type 0

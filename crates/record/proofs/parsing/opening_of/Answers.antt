@@ -1,8 +1,9 @@
 use Rattle.std.proofs.Common.{◌≡◌, ◌++◌, ◌∙◌, ap, rules}
 use Rattle.base.specs.Spelling.{words}
 use Rattle.record.specs.Text.{opening_words}
-use Rattle.record.specs.inner.Reading.{words_behind}
-use Rattle.record.proofs.Openings.{cut-words, many-values, no-value}
+use Rattle.base.specs.inner.Behind.{words_behind}
+use Rattle.base.proofs.Spelled.{cut-words}
+use Rattle.record.proofs.Openings.{many-values, no-value}
 use Rattle.record.proofs.parsing.opening_of.Goals as goal
 
 pub returns-in_default-number_of-clause-err : goal.returns-in_default-number_of-clause-err

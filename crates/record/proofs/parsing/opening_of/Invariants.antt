@@ -3,7 +3,7 @@ use Rattle.std.specs.Prelude.{All}
 use Rattle.std.specs.Vec.{vec_capacity}
 use Rattle.base.specs.Spelling.{words}
 use Rattle.record.specs.Text.{opening_words}
-use Rattle.record.specs.inner.Reading.{words_behind}
+use Rattle.base.specs.inner.Behind.{words_behind}
 use Rattle.record.proofs.parsing.opening_of.Given as goal
 
 abbrev pub invariant-loop-rest : goal.invariant-loop-rest

@@ -3,11 +3,11 @@ use Rattle.record.specs.Cells.{spot_number}
 use Rattle.record.proofs.Alike.{in-order, differs}
 use Rattle.record.proofs.reading.listed_cell.Goals as goal
 
-pub returns-then-is_baseline : goal.returns-then-is_baseline
-returns-then-is_baseline c = λ other listed spelled.
+pub returns-then-is_in : goal.returns-then-is_in
+returns-then-is_in c = λ other listed spelled.
     let same = sym c.in_ok-cell.ensures.cell ∙ spelled in
     let no = differs c.args.from c.in_ok-cell.cell other same listed in
-    cc (no, c.is_baseline.ensures.same, c.if-is_baseline.true)
+    cc (no, c.is_in.ensures.same, c.if-is_in.true)
 
 pub returns-then-spot_number-from : goal.returns-then-spot_number-from
 returns-then-spot_number-from c = λ other listed spelled.
