@@ -75,8 +75,11 @@ has-row states columns row stands cells state whole =
 has-cell : {S E A : Type 0} (states : List S) (events : List E) (row : S → ℕ) (column : E → ℕ) → TableOf states events row column →
     (cells : Cells S A) (state : S) (event : E) → HasSize (length states) (length events) cells → column event < length (get_or cells (row state) [])
 has-cell states events row column listed cells state event whole =
-    omega (arith, whole.columns_are (row state) [] (has-row states (length events) row listed.states_stand cells state whole),
-      slice_get_within events (column event) event (listed.events_stand event))
+    omega (
+      arith,
+      whole.columns_are (row state) [] (has-row states (length events) row listed.states_stand cells state whole),
+      slice_get_within events (column event) event (listed.events_stand event),
+    )
 
 -- the cell replaced holds the entry
 pub replaced-here : {S E A : Type 0} (states : List S) (events : List E) (row : S → ℕ) (column : E → ℕ) → TableOf states events row column →
@@ -102,7 +105,7 @@ replaced-other states events row column listed cells state event entry s e whole
     set-elsewhere cells (row state) (column event) (row s) (column e) entry Blank
     (has-row states (length events) row listed.states_stand cells state whole)
     (λ same_row same_column.
-      other (same-place states row listed.states_stand s state same_row, same-place events column listed.events_stand e event same_column))
+    other (same-place states row listed.states_stand s state same_row, same-place events column listed.events_stand e event same_column))
     (cases_eq (row s) (row state))
 
 -- what a change gives is in its cell, by whether it is of the state and whether it is of the event
@@ -145,8 +148,8 @@ cell-after_changes {S} {E} {A} states events row column listed cells (change ∷
     let changed : Cells S A = replaced row column cells change.state change.event change.entry in
     cell-after_changes states events row column listed changed later state event
     (HasSize-set (length states) (length events) cells (row change.state) (column change.event) change.entry whole
-      (slice_get_within states (row change.state) change.state (listed.states_stand change.state)))
+    (slice_get_within states (row change.state) change.state (listed.states_stand change.state)))
     ∙ ap (λ d. unwrap_or (last_entry row column later state event) d)
-      (after-change states events row column listed cells change state event whole (eqb_tells (row change.state) (row state))
-      (eqb_tells (column change.event) (column event)))
+    (after-change states events row column listed cells change state event whole (eqb_tells (row change.state) (row state))
+    (eqb_tells (column change.event) (column event)))
     ∙ sym (unwrap_or-option_or (last_entry row column later state event) (entry_given row column change state event) (cell_of row column cells state event))

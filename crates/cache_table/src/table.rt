@@ -2,8 +2,8 @@ ghost use Rattle.std.specs.Prelude.{◌≡◌};
 ghost use Rattle.cache_table.specs.Table.{cell, laid_over, with_cell, IsWhole};
 ghost use Rattle.cache_table.specs.Baseline.{baseline_cells, baseline_entry};
 
-use crate::baseline::baseline_rows;
 use crate::actions::CacheAction;
+use crate::baseline::baseline_rows;
 use crate::event::CacheEvent;
 use crate::state::CacheState;
 use base::controller::{Actions, Change, Entry, Listed};

@@ -2,8 +2,8 @@ ghost use Rattle.std.specs.Prelude.{◌≡◌};
 ghost use Rattle.directory_table.specs.Table.{cell, laid_over, with_cell, IsWhole};
 ghost use Rattle.directory_table.specs.Baseline.{baseline_cells, baseline_entry};
 
-use crate::baseline::baseline_rows;
 use crate::actions::DirectoryAction;
+use crate::baseline::baseline_rows;
 use crate::event::DirectoryEvent;
 use crate::state::DirectoryState;
 use base::controller::{Actions, Change, Entry, Listed};

@@ -147,7 +147,13 @@ put-ack-acted n b cache r line next latest h there at comes =
     (seen-after (line_input.Forward m) line next b.home w cache.0 ∙ ap
     (λ (y : View). record y { state = next; early = early_of line.acks; acks = late_of line.acks }) mine)
     comes
-    (record { shares = refl; owns = refl; fwd_gets = refl; link = has-rest PutAck v.link (rest_of b cache.0) (λ e. absurd (cc)) (own-begins b cache.0 m line at) })
+    (record {
+      shares = refl;
+      owns = refl;
+      fwd_gets = refl;
+      link = has-rest PutAck v.link (rest_of b cache.0) (λ e. absurd (cc))
+          (own-begins b cache.0 m line at);
+    })
     (record { promised = bound.promised; acks = bound.acks })
 
 -- a cache that a forward names doesn't hold the block
@@ -212,7 +218,13 @@ gets-acted n b cache r line next latest h there at gives =
     λ z d. response_sent-seen z b.home (response_sent x w1) y d ∙ ap (λ (u : View). response_added d y u) (response_sent-seen z b.home w1 x d) in
     let mine : seen line b.home w cache.0 ≡ record v { link = rest } =
     sent line cache.0 ∙ relinked _ v (FwdGetS ∷ rest)
-    (ap (λ t. let u : View = seen line b.home w1 cache.0 in record u { link = FwdGetS ∷ rest; invs = u.invs + 0 + 0; dir_data = u.dir_data + 0 + 0; owner_data = u.owner_data + only t 1 + 0; promised = u.promised + 0 + 0 }) other_test
+    (ap (λ t. let u : View = seen line b.home w1 cache.0 in record u {
+      link = FwdGetS ∷ rest;
+      invs = u.invs + 0 + 0;
+      dir_data = u.dir_data + 0 + 0;
+      owner_data = u.owner_data + only t 1 + 0;
+      promised = u.promised + 0 + 0;
+    }) other_test
     ∙ gets-other (seen line b.home w1 cache.0) v (FwdGetS ∷ rest)
     (ap (λ t. named t FwdGetS (record (seen line b.home w1 cache.0) { link = FwdGetS ∷ rest })) (sym other_test) ∙ own)) in
     let after : view_of b' cache.0 ≡ record v { state = next; link = rest } =
@@ -287,7 +299,13 @@ getm-acted n b cache r line next latest h there at unshared gives =
     let sent : (z : Line) (d : ℕ) → seen z b.home w d ≡ response_added d x (seen z b.home w1 d) = λ z d. response_sent-seen z b.home w1 x d in
     let mine : seen line b.home w cache.0 ≡ record v { link = rest } =
     sent line cache.0 ∙ relinked _ v (FwdGetM ∷ rest)
-    (ap (λ t. let u : View = seen line b.home w1 cache.0 in record u { link = FwdGetM ∷ rest; invs = u.invs + 0; dir_data = u.dir_data + 0; owner_data = u.owner_data + only t 1; promised = u.promised + 0 }) other_test
+    (ap (λ t. let u : View = seen line b.home w1 cache.0 in record u {
+      link = FwdGetM ∷ rest;
+      invs = u.invs + 0;
+      dir_data = u.dir_data + 0;
+      owner_data = u.owner_data + only t 1;
+      promised = u.promised + 0;
+    }) other_test
     ∙ getm-other (seen line b.home w1 cache.0) v (FwdGetM ∷ rest)
     (ap (λ t. named t FwdGetM (record (seen line b.home w1 cache.0) { link = FwdGetM ∷ rest })) (sym other_test) ∙ own)) in
     let after : view_of b' cache.0 ≡ record v { state = next; link = rest } =

@@ -44,7 +44,14 @@ home_block b home w = record { lines = b.lines; home = home; traffic = w; latest
 -- what a view becomes when Data is sent by the home, with these acks, and the home's notes on the cache are these
 abbrev pub with_data : Bool → ℕ → Bool → Bool → View → View
 with_data mine acks sh ow u =
-    record u { invs = u.invs + 0; dir_data = u.dir_data + only mine 1; owner_data = u.owner_data + 0; promised = u.promised + only mine acks; shares = sh; owns = ow }
+    record u {
+      invs = u.invs + 0;
+      dir_data = u.dir_data + only mine 1;
+      owner_data = u.owner_data + 0;
+      promised = u.promised + only mine acks;
+      shares = sh;
+      owns = ow;
+    }
 
 shared-own : (t sh : Bool) (u v : View) → t ≡ true → sh ≡ true → request_added true GetS u ≡ v → with_data t 0 sh u.owns u ≡ give_shared v
 shared-own true true u v p q e = grind (arith)
@@ -108,7 +115,14 @@ pub at-s : (b : Block) → Good b → b.home ≡ home.S → (c : ℕ) → (b.vie
 at-s b g e c = grind (arith, g.owner c)
 
 given-own : (t ow : Bool) (acks : ℕ) (u v : View) → t ≡ true → ow ≡ true → v.shares ≡ false → request_added true GetM u ≡ v →
-    with_data t acks u.shares ow u ≡ record v { getm = v.getm - 1; dir_data = v.dir_data + 1; promised = v.promised + acks; invs = v.invs + 0; shares = false; owns = true }
+    with_data t acks u.shares ow u ≡ record v {
+      getm = v.getm - 1;
+      dir_data = v.dir_data + 1;
+      promised = v.promised + acks;
+      invs = v.invs + 0;
+      shares = false;
+      owns = true;
+    }
 given-own true true acks u v p q s e = grind (arith)
 given-own true false acks u v p q s e = absurd (cc)
 given-own false ow acks u v p q s e = absurd (cc)
@@ -292,7 +306,15 @@ getm-forwarded n b i r o h hs own_o at =
 -- what a view becomes when a home in S serves a GetM
 abbrev exclusive : Bool → Bool → ℕ → Bool → View → View
 exclusive mine invited acks ow u =
-    record u { invs = u.invs + 0 + only mine acks; dir_data = u.dir_data + only mine 1; owner_data = u.owner_data + 0; promised = u.promised + only mine acks; link = pushed invited Inv u.link; shares = false; owns = ow }
+    record u {
+      invs = u.invs + 0 + only mine acks;
+      dir_data = u.dir_data + only mine 1;
+      owner_data = u.owner_data + 0;
+      promised = u.promised + only mine acks;
+      link = pushed invited Inv u.link;
+      shares = false;
+      owns = ow;
+    }
 
 exclusive-own : (t k ow : Bool) (acks : ℕ) (u v : View) → t ≡ true → k ≡ false → ow ≡ true → request_added true GetM u ≡ v →
     exclusive t k acks ow u ≡ give acks v

@@ -18,7 +18,24 @@ use Rattle.machine.proofs.Sound.{Sound, Bounded}
 -- nothing concerns a cache of an opened block
 abbrev idle_view : View
 idle_view =
-    record { state = line_state.I; early = 0; acks = 0; gets = 0; getm = 0; puts = 0; putm = 0; fwd_gets = 0; fwd_getm = 0; invs = 0; dir_data = 0; owner_data = 0; promised = 0; link = []; shares = false; owns = false }
+    record {
+      state = line_state.I;
+      early = 0;
+      acks = 0;
+      gets = 0;
+      getm = 0;
+      puts = 0;
+      putm = 0;
+      fwd_gets = 0;
+      fwd_getm = 0;
+      invs = 0;
+      dir_data = 0;
+      owner_data = 0;
+      promised = 0;
+      link = [];
+      shares = false;
+      owns = false;
+    }
 
 no-messages : (f : Forward → ℕ) (n : ℕ) → total f (replicate n []) ≡ 0
 no-messages f zero = refl

@@ -83,8 +83,15 @@ unstuck-at caches few s h w block b e =
       moves = λ not_quiet.
           let f : Found b block = some-move caches b block b.traffic.responses refl k.ranked k.sound (λ q. not_quiet (quiet-tells b.traffic q)) in
           let o : (next baseline s f.0).outcome ≡ (transition baseline f.0 b).outcome = outcome-at s f.0 b block w f.2 there in
-          let m : Moves (transition baseline f.0 b) = f.3 in
-          (f.0, record { delivery = f.1; here = f.2; acts = λ r. moved (next baseline s f.0).outcome r (λ x. m.served (sym o ∙ x)) (λ x. m.there (sym o ∙ x)) (λ x. m.busy (sym o ∙ x)) (λ x. (guards caches few).unmet f.0 b k (sym o ∙ x)) (λ x. m.whole (sym o ∙ x)) });
+          let m : Moves (transition baseline f.0 b) = f.3 in (
+            f.0,
+            record {
+              delivery = f.1;
+              here = f.2;
+              acts = λ r. moved (next baseline s f.0).outcome r (λ x. m.served (sym o ∙ x))
+                  (λ x. m.there (sym o ∙ x)) (λ x. m.busy (sym o ∙ x)) (λ x. (guards caches few).unmet f.0 b k (sym o ∙ x)) (λ x. m.whole (sym o ∙ x));
+            },
+          );
       done = λ quiet c line at. quiet-done caches b k.sound k.valued (quiet-told b.traffic quiet) c line (sym at);
       ready =
           λ quiet cache ask x. quiet-ready caches b block k.sound (quiet-told b.traffic quiet) cache ask

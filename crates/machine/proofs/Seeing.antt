@@ -32,7 +32,12 @@ request_added mine kind v =
 -- a response adds to its receiver's
 abbrev pub response_added : ℕ → Response → View → View
 response_added c x v =
-    record v { invs = v.invs + inv_ack c x; dir_data = v.dir_data + dir_data c x; owner_data = v.owner_data + owner_data c x; promised = v.promised + ack_number c x }
+    record v {
+      invs = v.invs + inv_ack c x;
+      dir_data = v.dir_data + dir_data c x;
+      owner_data = v.owner_data + owner_data c x;
+      promised = v.promised + ack_number c x;
+    }
 
 -- a forward adds to that of the cache that it names
 abbrev pub named : Bool → ForwardKind → View → View

@@ -18,7 +18,8 @@ pub fn watch_knows_what_is_due()
     ensures due { (opening : List ℕ) (steps : List Step) (outcomes : List Outcome) →
         AreDue opening (completions steps outcomes) (noted_all opening steps outcomes) }
     ensures history { (shape : Extent) (tables : Tables) (opening : List ℕ) (before : List Step) (step : Step) →
-        scene_of step (made_after shape tables opening before step) (slice_get (noted_all opening before (after tables (opened shape opening) before).outcomes) (block_of step))
+        scene_of step (made_after shape tables opening before step) (slice_get
+        (noted_all opening before (after tables (opened shape opening) before).outcomes) (block_of step))
         ≡ scene_after shape tables opening before step }
 {}
 

@@ -132,7 +132,8 @@ cell-taken r s left from cell line next h listed spelled shape opening entries w
           ap (λ d. lines_before d s) due ∙ cells-before (left - 1) behind s ∙ ap (lines_to_cells s) n
           ∙ ap (λ hs. hs ++ cells_words count ∷ map cell_words (changed_cells s.tables)) (heads-same r s shape opening)
           ∙ ap (λ cs. head_lines r ++ cells_words count ∷ cs)
-          (ap (map cell_words) more ∙ map-append cell_words (changed_cells r.tables) (cell ∷ []) ∙ ap (λ l. map cell_words (changed_cells r.tables) ++ l ∷ []) (sym spelled));
+          (ap (map cell_words) more ∙ map-append cell_words (changed_cells r.tables) (cell ∷ [])
+          ∙ ap (λ l. map cell_words (changed_cells r.tables) ++ l ∷ []) (sym spelled));
       read =
           subst (λ d. IsReadTo d s) (sym due)
           (cells-read (left - 1) behind s (subst IsWithinLimits (sym shape) h.shape) whole values (entries ∙ h.entries) low plain
@@ -141,7 +142,8 @@ cell-taken r s left from cell line next h listed spelled shape opening entries w
   where
     heads-same : (r s : Kept) → s.shape ≡ r.shape → s.opening ≡ r.opening → head_lines s ≡ head_lines r
     heads-same r s shape opening =
-        ap (λ x. header_words ∷ shape_words x ∷ opening_words s.opening ∷ []) shape ∙ ap (λ o. header_words ∷ shape_words r.shape ∷ opening_words o ∷ []) opening
+        ap (λ x. header_words ∷ shape_words x ∷ opening_words s.opening ∷ []) shape
+        ∙ ap (λ o. header_words ∷ shape_words r.shape ∷ opening_words o ∷ []) opening
 
 -- a recording with these entries, made so
 pub entries-set : (r : Kept) (entries more : List Entry) → entries ≡ more →

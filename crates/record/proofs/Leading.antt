@@ -1,5 +1,6 @@
 -- Lines that are well formed where they are due.
-use Rattle.std.proofs.Common.{◌≡◌, true, ◌≤◌, ◌<◌, ◌+◌, ◌-◌, ◌^◌, ℕ, zero, suc, List, [], ◌∷◌, length, map, refl, ap, sym, subst, ◌∙◌, arith, codes, length-append}
+use Rattle.std.proofs.Common.{◌≡◌, true, ◌≤◌, ◌<◌, ◌+◌, ◌-◌, ◌^◌, ℕ, zero, suc, List, [], ◌∷◌, length, map, refl, ap, sym, subst, ◌∙◌, arith}
+use Rattle.std.proofs.Common.{codes, length-append}
 use Rattle.std.specs.List.{AllByRecursion}
 use Rattle.std.specs.Fmt.{decimal}
 use Rattle.std.proofs.lemmas.Fmt.{decimal_injective}

@@ -76,7 +76,8 @@ outcomes-push tables s (x ∷ xs) step = ap (λ os. (next tables s x).outcome �
 -- one entry more, whose outcome is as told
 pub push-so-far : (r : Kept) (done : List Entry) (e : Entry) (world new : View) (old_watch watch : List ℕ) (entries : List Entry)
     (violation : Option (ℕ × Violation)) (seen : Option Violation) (what : Outcome) (n : ℕ) →
-    n ≡ length done → IsSoFar r done world old_watch entries violation → next world.tables world.state e.step ≡ stepped new.state what → new.shape ≡ world.shape → new.tables ≡ world.tables → what ≡ e.outcome →
+    n ≡ length done → IsSoFar r done world old_watch entries violation → next world.tables world.state e.step ≡ stepped new.state what →
+    new.shape ≡ world.shape → new.tables ≡ world.tables → what ≡ e.outcome →
     AnswersHistory new old_watch e.step what seen → SeesNext new old_watch e.step what watch →
     IsSoFar r (done ++ e ∷ []) new watch (entries ++ record { step = e.step; outcome = what } ∷ []) (first_seen violation n seen)
 push-so-far r done e world new old_watch watch entries violation seen what n is h made shape tables told answers sees =

@@ -47,8 +47,10 @@ pub enum ReplayFault {
 pub fn replay(alloc: Global, recording: &Recording) -> Result<Replayed, ReplayFault>
     ensures legal { IfOk result (λ replayed. IsLegal recording.now) }
     ensures entries { IfOk result (λ replayed. replayed.entries.items ≡ recording.now.entries) }
-    ensures violation { IfOk result (λ replayed. AnswersFirst recording.now.shape recording.now.tables recording.now.opening (steps_of recording.now) replayed.violation) }
-    ensures safe { IfOk result (λ replayed. replayed.violation ≡ None ↔ Safe recording.now.shape recording.now.tables recording.now.opening (steps_of recording.now)) }
+    ensures violation { IfOk result (λ replayed. AnswersFirst recording.now.shape recording.now.tables recording.now.opening
+        (steps_of recording.now) replayed.violation) }
+    ensures safe { IfOk result (λ replayed. replayed.violation ≡ None ↔ Safe recording.now.shape recording.now.tables recording.now.opening
+        (steps_of recording.now)) }
     ensures clean { recording.now.tables ≡ baseline → IfOk result (λ replayed. replayed.violation ≡ None) }
     ensures differs { IfErr result (FaultOf recording.now) }
 {

@@ -70,7 +70,13 @@ pub walks-agree : (tables : Tables) (draw : ℕ → ℕ) (m last final : Moment)
 walks-agree tables draw m last final [] [] one other = inl (refl, sym one ∙ other)
 walks-agree tables draw m last final [] (f ∷ fs) one other =
     inr (inl
-    (record { more = f; rest = fs; split = refl; goes = subst (λ (x : Moment). choices_at tables x ≢ []) one (some-choice tables (draw 0) m other.0 f other.1) }))
+    (record {
+      more = f;
+      rest = fs;
+      split = refl;
+      goes = subst (λ (x : Moment). choices_at tables x ≢ []) one
+          (some-choice tables (draw 0) m other.0 f other.1);
+    }))
 walks-agree tables draw m last final (e ∷ es) [] one other =
     inr (inr
     (record { more = e; rest = es; split = refl; goes = subst (λ (x : Moment). choices_at tables x ≢ []) other (some-choice tables (draw 0) m one.0 e one.1) }))

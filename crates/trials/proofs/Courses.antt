@@ -129,7 +129,8 @@ verdict-at-rest offered same terms tree number c Cut g none rest = absurd rest
 verdict-at-rest offered same terms tree number c (Broke violation) g none rest = absurd rest
 
 pub ends-at-rest : SameOffers → SameChoices → (terms : Terms) (tree : Tree) (number : ℕ) (c chosen : Course) (verdict : Verdict) →
-    IsGoing terms tree number c → length c.recording.entries ≤ terms.limit → Chooses c None chosen → IsVerdictAtRest chosen verdict → IsTrial terms tree number chosen.recording verdict
+    IsGoing terms tree number c → length c.recording.entries ≤ terms.limit → Chooses c None chosen → IsVerdictAtRest chosen verdict →
+    IsTrial terms tree number chosen.recording verdict
 ends-at-rest offered same terms tree number c chosen verdict g few none rest =
     subst (λ (x : Course). IsTrial terms tree number x.recording verdict) (sym none.1) (record {
       shape = g.shape.1;

@@ -20,7 +20,8 @@ HasCome old limit c = (terms : Terms) (tree : Tree) (number : ℕ) → terms.lim
 
 abbrev pub RestEnds : Type 0
 RestEnds = (terms : Terms) (tree : Tree) (number : ℕ) (c chosen : Course) (verdict : Verdict) →
-    IsGoing terms tree number c → length c.recording.entries ≤ terms.limit → Chooses c None chosen → IsVerdictAtRest chosen verdict → IsTrial terms tree number chosen.recording verdict
+    IsGoing terms tree number c → length c.recording.entries ≤ terms.limit → Chooses c None chosen → IsVerdictAtRest chosen verdict →
+    IsTrial terms tree number chosen.recording verdict
 
 abbrev pub StepGoes : Type 0
 StepGoes = (terms : Terms) (tree : Tree) (number : ℕ) (c chosen made : Course) (choice : Choice) (violation : Option Violation) →

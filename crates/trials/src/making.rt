@@ -35,7 +35,8 @@ pub fn trial<A: Allocator>(
     ensures steps { IfOk result (λ made. made.result.steps ≡ length made.recording.entries) }
     ensures legal { IfOk result (λ made. IsLegal made.recording) }
     ensures in_turn { IfOk result (λ made. AnswersInTurn made.recording.entries) }
-    ensures broke { IfOk result (λ made. HasBroken made.result.verdict ↔ (¬ Safe setup.now.shape setup.now.tables setup.now.opening (steps_of made.recording))) }
+    ensures broke { IfOk result (λ made. HasBroken made.result.verdict ↔
+        (¬ Safe setup.now.shape setup.now.tables setup.now.opening (steps_of made.recording))) }
     ensures sound { setup.now.tables ≡ baseline → IfOk result (λ made. IsSound made.result.verdict) }
     ensures sequential { setup.now.tables ≡ baseline → IfOk result (λ made. AreSequential setup.now.opening made.recording.entries) }
 {

@@ -31,7 +31,12 @@ impl Model for Block {
       room = b.wires.room;
     } };
 
-    ghost invariant = { λ b. IsBlockAmong (length b.lines.items) (record { lines = b.lines.items; home = b.home; traffic = b.wires.traffic; latest = b.latest }) };
+    ghost invariant = { λ b. IsBlockAmong (length b.lines.items) (record {
+      lines = b.lines.items;
+      home = b.home;
+      traffic = b.wires.traffic;
+      latest = b.latest;
+    }) };
 }
 
 impl Block {

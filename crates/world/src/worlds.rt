@@ -230,7 +230,8 @@ fn ready_at(
 ) -> Result<Outcome, NoMemory>
     requires { number < vec_len blocks.old }
     ensures outcome { IfOk result (λ what. ComesOfAt tables.now step number (states blocks.old.items) what) }
-    ensures room { OnOk result (HasRoomIn (sent_at tables.now step (slice_get (states blocks.new.items) number)) (slice_get (rooms_of blocks.new.items) number)) }
+    ensures room { OnOk result (HasRoomIn (sent_at tables.now step (slice_get (states blocks.new.items) number))
+        (slice_get (rooms_of blocks.new.items) number)) }
     ensures state { states blocks.new.items ≡ states blocks.old.items }
     ensures succeeds { HasRoomIn (sent_at tables.now step (slice_get (states blocks.old.items) number)) (slice_get (rooms_of blocks.old.items) number) →
         IsOk result }

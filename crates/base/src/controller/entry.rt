@@ -50,9 +50,13 @@ impl<S: Listed, A: Listed> Entry<S, A> {
         let actions_are = are_same(self.actions(), other.actions());
         match (self, other) {
             (Entry::Blank, Entry::Blank) | (Entry::Stall, Entry::Stall) => true,
-            (Entry::Act { next, .. }, Entry::Act { next: other_next, .. }) => {
-                next.number() == other_next.number() && actions_are
-            }
+            (
+                Entry::Act { next, .. },
+                Entry::Act {
+                    next: other_next,
+                    ..
+                },
+            ) => { next.number() == other_next.number() && actions_are }
             _ => false,
         }
     }

@@ -78,9 +78,7 @@ fn change_of<S: Listed, E: Listed, A: Listed>(
     })
 }
 
-fn known_next<'a, S: Listed>(
-    written: WrittenEntry<'a, &'a str>,
-) -> Option<WrittenEntry<'a, S>>
+fn known_next<'a, S: Listed>(written: WrittenEntry<'a, &'a str>) -> Option<WrittenEntry<'a, S>>
     ensures next { option_map (seen_entry (λ s. s)) result ≡ known_next (named_in S.spelling S.kind) (seen_entry text written.entry) }
     ensures few { HasFew written.entry → IfSome result HasFew }
 {

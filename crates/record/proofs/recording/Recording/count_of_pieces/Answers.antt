@@ -7,8 +7,14 @@ returns-clause-count c = omega (arith, pieces-count c.args.self.now, ap length c
 
 pub returns-clause-few : goal.returns-clause-few
 returns-clause-few c =
-    omega
-    (arith, c.opening.ensures.each, c.opening.ensures.within.few_blocks, ap length c.opening.ensures.value, ap length c.entries.ensures.value, c.entries.ensures.few)
+    omega (
+      arith,
+      c.opening.ensures.each,
+      c.opening.ensures.within.few_blocks,
+      ap length c.opening.ensures.value,
+      ap length c.entries.ensures.value,
+      c.entries.ensures.few,
+    )
 
 pub returns-clause-kept : goal.returns-clause-kept
 returns-clause-kept c = record { within = c.opening.ensures.within; each = c.opening.ensures.each; few = c.entries.ensures.few }

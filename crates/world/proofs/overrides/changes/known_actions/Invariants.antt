@@ -9,4 +9,4 @@ abbrev pub invariant-loop-value : goal.invariant-loop-value
 invariant-loop-value g l =
     (length l.actions ≡ l.value-index)
     × (option_map (λ rest. l.actions ++ rest) (known_actions (named_in g.A.Listed.spelling g.A.Listed.kind) (items_view (drop l.value-index l.values)))
-      ≡ known_actions (named_in g.A.Listed.spelling g.A.Listed.kind) (items_view l.values))
+    ≡ known_actions (named_in g.A.Listed.spelling g.A.Listed.kind) (items_view l.values))
