@@ -1,6 +1,6 @@
 -- Lines that are taken off a source one after the other.
-use Rattle.std.proofs.Common.{◌≡◌, ◌+◌, ◌-◌, ◌<◌, ℕ, zero, suc, List, [], ◌∷◌, ◌++◌, Option, Some, None, length, map, refl, ap, sym, subst, ◌∙◌, arith}
-use Rattle.std.proofs.Common.{length-append, rules}
+use Rattle.std.proofs.Common.{◌≡◌, ◌+◌, ◌-◌, ◌<◌, ℕ, zero, suc, List, [], ◌∷◌, ◌++◌, Option, length, map, refl, ap, sym, subst, ◌∙◌, arith}
+use Rattle.std.proofs.Common.{◌≢◌, ◌≤◌, inr, append_assoc, Bool, true, false, length-append, rules}
 use Rattle.std.proofs.lemmas.List.{append-nil, map-append}
 use Rattle.std.proofs.lemmas.Grind.{flat_map-append}
 use Rattle.std.proofs.KnownBytes.{Consumes-trans, Consumes-nil}
@@ -10,24 +10,68 @@ use Rattle.base.specs.Spelling.{words}
 use Rattle.record.specs.declared.due.Due.{Due}
 use Rattle.record.specs.declared.due.Due.TheVariants.{Header, ShapeLine, OpeningLine, CellCount, CellLine, EntryCount, EntryLine, EndLine, Nothing}
 use Rattle.record.specs.declared.fault.ReadKind.{ReadKind}
-use Rattle.record.specs.declared.fault.ReadKind.TheVariants.{NoMemory}
+use Rattle.record.specs.declared.fault.ReadKind.TheVariants.{BadHeader, BadLine, Truncated, CountDiffers, BadOutcome, OverLimit, NoMemory, Device}
 use Rattle.record.specs.declared.reader.Reader.{Reader}
 use Rattle.record.specs.Cells.{spot_number, spot_of}
 use Rattle.record.specs.Grammar.{cells_due, entries_due, Leads, Follow}
-use Rattle.record.specs.Kept.{Kept}
-use Rattle.record.specs.Refused.{ended, IsFaultOfRest, IsRefused, IsWellFormed}
-use Rattle.record.specs.Text.{line, lines, text}
+use Rattle.record.specs.Refused.{ended, BeginsFaulty, HasNoEnd, IsFaultOfLine, IsUnfinished, IsFaultOfRest, IsRefused, IsWellFormed}
+use Rattle.record.specs.Text.{line, text}
 use Rattle.record.specs.inner.Drafts.{kept, lines_before, lines_left, IsTaken}
 use Rattle.record.specs.inner.Readers.{HasTaken}
-use Rattle.record.specs.inner.Reading.{pending, stream}
-use Rattle.record.proofs.Streams.{let-go, line-off, none-held}
+use Rattle.record.specs.inner.Reading.{Gathered, AreSomeIf, IsWholeIf, pending, stream}
+use Rattle.record.proofs.Streams.{let-go, line-off, none-held, pulled}
 use Rattle.record.proofs.Words.{spelled-text}
 
 follow-append : (due mid last : Due) (xs ys : List (List ℕ)) → Follow due xs mid → Follow mid ys last → Follow due (xs ++ ys) last
 follow-append due mid last [] ys first second = subst (λ (d : Due). Follow d ys last) (sym first) second
 follow-append due mid last (x ∷ xs) ys first second = (first.0, first.1, follow-append first.0 mid last xs ys first.2 second)
 
--- bytes that were pulled
+-- ---- bytes that are pulled
+
+pub none-if : (b : Bool) (bytes : List ℕ) → b ≡ false → AreSomeIf b bytes → bytes ≡ []
+none-if false bytes is h = h
+none-if true bytes is h = absurd (cc)
+
+pub some-if : (b : Bool) (bytes : List ℕ) → b ≡ true → AreSomeIf b bytes → 0 < length bytes
+some-if true bytes is h = h
+some-if false bytes is h = absurd (cc)
+
+pub some-pending : (gathered : Gathered) → 0 < length gathered.ahead → pending gathered ≢ []
+some-pending gathered some none = absurd (omega (arith, some, ap length none, length-append gathered.line gathered.ahead))
+
+pub not-whole : (b : Bool) (ahead : List ℕ) → b ≡ false → IsWholeIf b ahead → ahead ≡ []
+not-whole false ahead is h = h
+not-whole true ahead is h = absurd (cc)
+
+pub unfinished : (gathered : Gathered) (line : List ℕ) → gathered.ahead ≡ [] → gathered.line ≡ line → HasNoEnd line → length line ≤ 90000 →
+    IsUnfinished (pending gathered)
+unfinished gathered line none is no_end short =
+    subst IsUnfinished (sym (ap (λ l. gathered.line ++ l) none ∙ append-nil gathered.line ∙ is)) (record { no_end = no_end; short = short })
+
+-- nothing is lost
+pub then-pulled : (before left more : Option (List ℕ)) (old mid new : Gathered) → Consumes before (stream old left) [] → pending mid ≡ pending old →
+    mid.ahead ≡ [] → new.line ≡ mid.line → Consumes left more new.ahead → Consumes before (stream new more) []
+then-pulled before left more old mid new first kept none line bytes =
+    Consumes-trans before (stream old left) (stream new more) [] [] first
+    (subst (λ l. Consumes (stream old left) (prepend_known (l ++ new.ahead) more) []) (sym line)
+    (subst (λ l. Consumes (prepend_known l left) (prepend_known (mid.line ++ new.ahead) more) []) kept
+    (pulled left more mid.line mid.ahead new.ahead none bytes)))
+
+pub then-longer : (old mid new : Gathered) → pending mid ≡ pending old → mid.ahead ≡ [] → new.line ≡ mid.line → length mid.line ≤ 90000 →
+    0 < length new.ahead → 90001 - length (pending new) < 90001 - length (pending old)
+then-longer old mid new kept none line short some =
+    omega (
+      arith,
+      ap length kept,
+      ap length none,
+      ap length line,
+      length-append old.line old.ahead,
+      length-append mid.line mid.ahead,
+      length-append new.line new.ahead,
+      short,
+      some,
+    )
+
 pub then-gathered : (before left more : Option (List ℕ)) (old new : Reader) → HasTaken before left old →
     Consumes (stream old.lines left) (stream new.lines more) [] → new.due ≡ old.due → kept new.draft ≡ kept old.draft →
     new.lines.number ≡ old.lines.number → HasTaken before more new
@@ -59,7 +103,32 @@ then-taken before left old new h taken ahead none number =
           (line-off left old.lines.line old.lines.ahead new.lines.line new.lines.ahead ahead none));
     }
 
--- and then a fault
+-- ---- faults
+
+begins : (due : Due) (rest : List ℕ) (end : _) (kind : ReadKind) → BeginsFaulty due rest kind → IsFaultOfRest due rest end kind
+begins due rest end Truncated h = absurd h.fault
+begins due rest end OverLimit h = inr h
+begins due rest end NoMemory h = absurd h.fault
+begins due rest end Device h = absurd h.fault
+begins due rest end BadHeader h = h
+begins due rest end BadLine h = inr h
+begins due rest end CountDiffers h = h
+begins due rest end BadOutcome h = h
+
+-- a whole line with a fault
+pub line-fault : (due : Due) (line ahead behind : List ℕ) (end : _) (kind : ReadKind) → ahead ≡ 10 ∷ behind → HasNoEnd line → length line ≤ 90000 →
+    IsFaultOfLine due (words line) kind → IsFaultOfRest due (line ++ ahead) end kind
+line-fault due line ahead behind end kind is no_end short fault =
+    begins due (line ++ ahead) end kind (record {
+      line = line;
+      behind = behind;
+      stands = ap (λ l. line ++ l) is ∙ sym (append_assoc line (10 ∷ []) behind);
+      no_end = no_end;
+      short = short;
+      fault = fault;
+    })
+
+-- lines, and then a fault
 pub then-refused : (before left : Option (List ℕ)) (reader : Reader) (kind : ReadKind) → HasTaken before left reader →
     IsFaultOfRest reader.due (pending reader.lines) left kind → IsRefused before left 0 Header (reader.lines.number + 1) kind
 then-refused before left reader kind h fault = record {

@@ -63,8 +63,8 @@ pub held-begins : (buffer more : List ℕ) (x at end : ℕ) → end ≤ length b
     (at < end) × (take (end - at) (drop at buffer) ≡ x ∷ take (end - (at + 1)) (drop (at + 1) buffer))
 held-begins buffer more x at end fits is = elim (cases_lt at end) [
   | inl low ↦ let held = first-held buffer at end low fits in
-  let same : get_or buffer at 0 ≡ x = cc in
-  (low, held ∙ ap (λ b. b ∷ take (end - (at + 1)) (drop (at + 1) buffer)) same)
+      let same : get_or buffer at 0 ≡ x = cc in
+      (low, held ∙ ap (λ b. b ∷ take (end - (at + 1)) (drop (at + 1) buffer)) same)
   | inr high ↦ let none = none-held_between buffer at end high in absurd (cc)
 ]
 

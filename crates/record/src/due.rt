@@ -12,10 +12,7 @@ pub(crate) enum Due {
     OpeningLine(Shape),
     CellCount,
     /// A cell: so many are still to come, and its place is of this number or a higher one.
-    CellLine {
-        left: u32,
-        from: usize,
-    },
+    CellLine { left: u32, from: usize },
     EntryCount,
     /// An entry: so many are still to come.
     EntryLine(u32),

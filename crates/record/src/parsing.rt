@@ -1,6 +1,7 @@
 //! What single lines of a recording spell.
 
-ghost use Rattle.std.specs.Prelude.{◌≡◌, ◌≢◌, ◌≤◌, ◌<◌, ◌^◌, ◌↔◌, ◌∷◌, ◌++◌, [], codes, ℕ, List, All, IfOk, IfErr, OnOk, IfSome, IfNone, IsTrue, MatchOption, length};
+ghost use Rattle.std.specs.Prelude.{◌≡◌, ◌≢◌, ◌≤◌, ◌<◌, ◌^◌, ◌↔◌, ◌∷◌, ◌++◌, [], codes, ℕ, List, All, IfOk, IfErr, OnOk, IfSome, IfNone, IsTrue};
+ghost use Rattle.std.specs.Prelude.{MatchOption, length};
 ghost use Rattle.std.specs.Fmt.{decimal};
 ghost use Rattle.std.specs.Vec.{vec_capacity};
 ghost use Rattle.base.specs.Extent.{Extent, IsWithinLimits};
@@ -136,11 +137,7 @@ pub(crate) fn shape_of(line: &[u8]) -> Result<Shape, ReadKind>
 }
 
 /// Reads the opening values of so many blocks, for which there is room.
-pub(crate) fn opening_of(
-    values: &mut Vec<u64>,
-    line: &[u8],
-    blocks: u32,
-) -> Result<(), ReadKind>
+pub(crate) fn opening_of(values: &mut Vec<u64>, line: &[u8], blocks: u32) -> Result<(), ReadKind>
     requires room { blocks ≤ vec_capacity values.old }
     ensures count { OnOk result (length values.new.items ≡ blocks) }
     ensures words { OnOk result (words line.now ≡ opening_words values.new.items) }

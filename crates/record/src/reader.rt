@@ -19,7 +19,7 @@ use std::alloc::Global;
 
 /// A recording that is being read, line by line.
 ///
-/// All room that a pull can make necessary is made before it, so that no byte that was read is lost to want of memory.
+/// All room that the bytes of a pull could need is made before it. So no line that is whole is refused for want of memory.
 #[derive(Drop)]
 pub(crate) struct Reader {
     lines: Lines,

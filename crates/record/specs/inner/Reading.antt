@@ -1,5 +1,5 @@
 -- How a text is read line by line. Only private clauses cite this file.
-use Rattle.std.specs.Prelude.{Bool, true, false, ◌≡◌, ◌≢◌, ℕ, ◌+◌, ◌<◌, ◌≤◌, ◌^◌, List, [], ◌∷◌, ◌++◌, Option, Some, None, All, codes, length}
+use Rattle.std.specs.Prelude.{Bool, true, false, ◌≡◌, ◌≢◌, ℕ, ◌<◌, ◌≤◌, ◌^◌, List, [], ◌∷◌, ◌++◌, Option, Some, None, All, codes, length}
 use Rattle.std.specs.Borrow.{Bor}
 use Rattle.std.specs.Io.KnownBytes.{prepend_known}
 use Rattle.std.specs.Fmt.{decimal}
@@ -32,6 +32,11 @@ stream gathered left = prepend_known (pending gathered) left
 -- the next byte is the end of a line
 abbrev pub BeginsWithEnd : List ℕ → Type 0
 BeginsWithEnd bytes = (behind : List ℕ) × (bytes ≡ 10 ∷ behind)
+
+-- whether there are bytes
+abbrev pub AreSomeIf : Bool → List ℕ → Type 0
+AreSomeIf true bytes = 0 < length bytes
+AreSomeIf false bytes = bytes ≡ []
 
 -- a line that is whole has its end ahead, and of one that isn't nothing is ahead
 abbrev pub IsWholeIf : Bool → List ℕ → Type 0

@@ -1,4 +1,4 @@
-use Rattle.std.proofs.Common.{◌≡◌, ap, sym, ◌∙◌, rules}
+use Rattle.std.proofs.Common.{ap, sym, ◌∙◌, rules}
 use Rattle.record.specs.inner.Reading.{Gathered}
 use Rattle.record.proofs.Streams.{held-begins}
 use Rattle.record.proofs.lines.Lines.take_off.Goals as goal

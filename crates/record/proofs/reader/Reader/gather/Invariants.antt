@@ -1,4 +1,4 @@
-use Rattle.std.proofs.Common.{◌≡◌, ◌-◌, ◌<◌, [], length}
+use Rattle.std.proofs.Common.{◌≡◌, ◌-◌, [], length}
 use Rattle.std.specs.Io.KnownBytes.{Consumes}
 use Rattle.record.specs.inner.Drafts.{kept}
 use Rattle.record.specs.inner.Readers.{IsReady}

@@ -1,13 +1,11 @@
 use Rattle.std.proofs.Common.{◌≡◌, ◌<◌, ◌+◌, ap, rules, subst, sym}
 use Rattle.std.proofs.lemmas.Result.{IfErr-weaker, on_ok_weaker}
-use Rattle.base.specs.Spelling.{words}
 use Rattle.record.specs.declared.due.Due.TheVariants.{Header, Nothing}
 use Rattle.record.specs.Refused.{IsFaultOfRest, IsRefused}
 use Rattle.record.specs.inner.Drafts.{kept, lines_left, IsReadTo}
 use Rattle.record.specs.inner.Reading.{Gathered, pending}
 use Rattle.record.proofs.Exits.{handed-on}
-use Rattle.record.proofs.Faults.{line-fault}
-use Rattle.record.proofs.Steps.{fewer-left, taken-text, taken-whole, then-gathered, then-refused, then-taken}
+use Rattle.record.proofs.Steps.{fewer-left, line-fault, taken-text, taken-whole, then-gathered, then-refused, then-taken}
 use Rattle.record.proofs.reader.Reader.read_all.Goals as goal
 
 pub returns-in_err-gather-clause-fault : goal.returns-in_err-gather-clause-fault
