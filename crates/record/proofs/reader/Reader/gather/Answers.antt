@@ -1,4 +1,5 @@
-use Rattle.std.proofs.Common.{sym, ◌∙◌, refl, rules, arith}
+use Rattle.std.proofs.Common.{◌≢◌, sym, ◌∙◌, refl, rules, arith}
+use Rattle.record.specs.declared.due.Due.TheVariants.{Nothing}
 use Rattle.record.specs.declared.fault.ReadKind.TheVariants.{Device, NoMemory}
 use Rattle.record.proofs.Drafting.{less-room, ready-gathered}
 use Rattle.record.proofs.Exits.{handed-on}
@@ -9,12 +10,12 @@ pub returns-in_err-reserve-clause-err : goal.returns-in_err-reserve-clause-err
 returns-in_err-reserve-clause-err g c =
     let none = not-whole c.in_ok-gather.field-0 _ (search rules) c.in_ok-gather.ensures.ok in
     handed-on c.from_residual-in_err-reserve.result NoMemory _ _ c.from_residual-in_err-reserve.ensures.1
-    (c.requires.more, unfinished c.gather.new.self c.gather.new.self.line none refl c.gather.ensures.open c.gather.ensures.short)
+    (c.requires.more, unfinished c.gather.new.self _ none refl c.gather.ensures.open c.gather.ensures.short)
 
 pub returns-in_err-pull-clause-err : goal.returns-in_err-pull-clause-err
 returns-in_err-pull-clause-err g c =
-    handed-on c.from_residual-in_err-pull.result Device _ _ c.from_residual-in_err-pull.ensures.1
-    (unfinished c.pull.new.self c.gather.new.self.line c.in_err-pull.ensures.err c.pull.ensures.line c.gather.ensures.open c.gather.ensures.short, λ done. absurd (c.requires.more done))
+    let line = unfinished c.pull.new.self _ c.in_err-pull.ensures.err c.pull.ensures.line c.gather.ensures.open c.gather.ensures.short in
+    handed-on c.from_residual-in_err-pull.result Device _ _ c.from_residual-in_err-pull.ensures.1 (line, λ done. absurd (c.requires.more done))
 
 pub returns-in_err-pull-clause-stream : goal.returns-in_err-pull-clause-stream
 returns-in_err-pull-clause-stream g c =
@@ -25,7 +26,8 @@ returns-in_err-pull-clause-stream g c =
 pub returns-then-not-branch-2-clause-err : goal.returns-then-not-branch-2-clause-err
 returns-then-not-branch-2-clause-err g c =
     let none = none-if c.in_ok-pull.field-0 _ (search rules) c.in_ok-pull.ensures.some in
-    (c.requires.more, unfinished c.pull.new.self c.gather.new.self.line none c.pull.ensures.line c.gather.ensures.open c.gather.ensures.short, c.in_ok-pull.ensures.end none)
+    let line = unfinished c.pull.new.self _ none c.pull.ensures.line c.gather.ensures.open c.gather.ensures.short in
+    (c.requires.more, line, c.in_ok-pull.ensures.end none)
 
 pub returns-then-not-branch-2-clause-stream : goal.returns-then-not-branch-2-clause-stream
 returns-then-not-branch-2-clause-stream g c =
@@ -44,9 +46,10 @@ loop-self-preserved g c =
     let none = not-whole c.in_ok-gather.field-0 _ (search rules) c.in_ok-gather.ensures.ok in
     let room = c.in_ok-reserve.ensures.ok (less-room c.loop-self.self.draft _ 0 (omega arith) c.loop-self.invariant.ready.room) in
     let number = c.pull.ensures.number ∙ c.gather.ensures.number in
+    let more : c.loop-self.self.due ≢ Nothing = λ done. c.requires.more (sym c.loop-self.invariant.due ∙ done) in
     record {
       ready =
-          ready-gathered c.loop-self.self _ c.loop-self.invariant.ready (λ done. c.requires.more (sym c.loop-self.invariant.due ∙ done)) refl c.reserve.ensures.kept number
+          ready-gathered c.loop-self.self _ c.loop-self.invariant.ready more refl c.reserve.ensures.kept number
           (less-room c.reserve.new.self 4096 _ c.pull.ensures.few room);
       stream =
           then-pulled _ (g.S.Source.left c.loop-self.source) (g.S.Source.left c.pull.new.source) c.loop-self.self.lines c.gather.new.self c.pull.new.self
