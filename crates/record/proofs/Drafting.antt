@@ -21,6 +21,7 @@ use Rattle.record.specs.Text.{header_words, shape_words, opening_words, changed_
 use Rattle.record.specs.inner.Drafts.{kept, head_lines, lines_to_cells, lines_to_entries, lines_before, lines_left, IsBaselineFrom, IsReadTo, IsTaken}
 use Rattle.record.specs.inner.Drafts.{HasRoom}
 use Rattle.record.specs.inner.Readers.{IsReady}
+use Rattle.record.specs.inner.Reading.{IsTakenOff}
 use Rattle.record.proofs.Listed.{at-own, listed-all, listed-more, plain-more}
 use Rattle.record.proofs.Steps.{fewer-left}
 
@@ -173,11 +174,10 @@ ready-gathered old new h more due same number room = record {
 
 -- one line more
 pub ready-taken : (old new : Reader) (line : List (List ℕ)) → IsReady old → IsTaken old.due (kept old.draft) line new.due (kept new.draft) →
-    ((n : ℕ) → HasRoom old.draft (n + 1) → HasRoom new.draft n) → old.lines.ahead ≡ 10 ∷ new.lines.ahead → new.lines.line ≡ [] →
-    new.lines.number ≡ old.lines.number + 1 → IsReady new
-ready-taken old new line h taken room ahead none number = record {
+    ((n : ℕ) → HasRoom old.draft (n + 1) → HasRoom new.draft n) → IsTakenOff old.lines new.lines → IsReady new
+ready-taken old new line h taken room off = record {
   read = taken.read;
-  room = room (length new.lines.ahead) (less-room old.draft (length old.lines.ahead) (length new.lines.ahead + 1) (omega (arith, ap length ahead)) h.room);
-  few = omega (arith, h.few, number, fewer-left old.due line new.due taken.leads);
-  line = λ done. none;
+  room = room (length new.lines.ahead) (less-room old.draft (length old.lines.ahead) (length new.lines.ahead + 1) (omega (arith, ap length off.ahead)) h.room);
+  few = omega (arith, h.few, off.number, fewer-left old.due line new.due taken.leads);
+  line = λ done. off.line;
 }

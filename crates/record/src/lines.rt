@@ -2,7 +2,7 @@ ghost use Rattle.std.specs.Prelude.{◌≡◌, ◌≤◌, ◌<◌, ◌+◌, ◌^
 ghost use Rattle.std.specs.Io.KnownBytes.{Consumes, IsAtEnd};
 ghost use Rattle.base.specs.Ends.{Marks};
 ghost use Rattle.record.specs.Refused.{HasNoEnd, IsTooLong};
-ghost use Rattle.record.specs.inner.Reading.{Gathered, AreSomeIf, BeginsWithEnd, IsWholeIf, pending};
+ghost use Rattle.record.specs.inner.Reading.{Gathered, AreSomeIf, BeginsWithEnd, IsTakenOff, IsWholeIf, pending};
 
 use crate::fault::ReadKind;
 use base::{Failed, NoMemory, Source};
@@ -122,9 +122,7 @@ impl Lines {
     pub(crate) fn take_off(&mut self)
         requires whole { BeginsWithEnd self.old.ahead }
         requires few { self.old.number < 2 ^ 60 }
-        ensures ahead { self.old.ahead ≡ 10 ∷ self.new.ahead }
-        ensures line { self.new.line ≡ [] }
-        ensures number { self.new.number ≡ self.old.number + 1 }
+        ensures { IsTakenOff self.old self.new }
     {
         self.line.clear();
         self.at += 1;

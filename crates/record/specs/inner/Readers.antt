@@ -18,6 +18,13 @@ pub record HasTaken (before left : Option (List ℕ)) (reader : Reader) : Type 0
   pub number : reader.lines.number ≡ length lines
   pub taken : Consumes before (stream reader.lines left) (flat_map ended lines)
 
+-- bytes were pulled at most: none is lost, and what was read is the same
+pub record HasPulled (left more : Option (List ℕ)) (old new : Reader) : Type 0 where
+  pub stream : Consumes (stream old.lines left) (stream new.lines more) []
+  pub number : new.lines.number ≡ old.lines.number
+  pub due : new.due ≡ old.due
+  pub kept : kept new.draft ≡ kept old.draft
+
 -- what a reader always keeps: among others, there is room for as many entries as there are bytes ahead
 pub record IsReady (reader : Reader) : Type 0 where
   pub read : IsReadTo reader.due (kept reader.draft)

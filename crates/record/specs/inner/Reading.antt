@@ -1,5 +1,5 @@
 -- How a text is read line by line. Only private clauses cite this file.
-use Rattle.std.specs.Prelude.{Bool, true, false, ◌≡◌, ◌≢◌, ℕ, ◌<◌, ◌≤◌, ◌^◌, List, [], ◌∷◌, ◌++◌, Option, Some, None, All, codes, length}
+use Rattle.std.specs.Prelude.{Bool, true, false, ◌≡◌, ◌≢◌, ℕ, ◌+◌, ◌<◌, ◌≤◌, ◌^◌, List, [], ◌∷◌, ◌++◌, Option, Some, None, All, codes, length}
 use Rattle.std.specs.Borrow.{Bor}
 use Rattle.std.specs.Io.KnownBytes.{prepend_known}
 use Rattle.std.specs.Fmt.{decimal}
@@ -32,6 +32,12 @@ stream gathered left = prepend_known (pending gathered) left
 -- the next byte is the end of a line
 abbrev pub BeginsWithEnd : List ℕ → Type 0
 BeginsWithEnd bytes = (behind : List ℕ) × (bytes ≡ 10 ∷ behind)
+
+-- the line, whose end is next, was taken off
+pub record IsTakenOff (old new : Gathered) : Type 0 where
+  pub line : new.line ≡ []
+  pub ahead : old.ahead ≡ 10 ∷ new.ahead
+  pub number : new.number ≡ old.number + 1
 
 -- whether there are bytes
 abbrev pub AreSomeIf : Bool → List ℕ → Type 0

@@ -1,7 +1,5 @@
 use Rattle.std.proofs.Common.{◌++◌, ap, ◌∙◌, refl, rules, inl}
-use Rattle.std.proofs.KnownBytes.{Consumes-nil}
-use Rattle.record.specs.inner.Reading.{stream}
-use Rattle.record.proofs.Steps.{none-if, some-if, some-pending, then-pulled}
+use Rattle.record.proofs.Steps.{none-if, none-pulled, pulled-more, some-if, some-pending}
 use Rattle.record.proofs.reader.Reader.end.Goals as goal
 
 pub returns-clause-ok : goal.returns-clause-ok
@@ -10,26 +8,29 @@ returns-clause-ok g c =
     let line = c.pull.ensures.line ∙ c.requires.ready.line c.requires.done in
     (c.in_ok-pull.ensures.end none, ap (λ l. l ++ c.pull.new.self.ahead) line ∙ none)
 
-pub returns-clause-stream : goal.returns-clause-stream
-returns-clause-stream g c =
+pub returns-clause-pulled : goal.returns-clause-pulled
+returns-clause-pulled g c =
     let left = g.S.Source.left c.args.source.now in
-    let held = c.args.self.now.lines in
+    let old = c.args.self.now in
     let none = none-if c.are_bytes_ahead.result _ (search rules) c.are_bytes_ahead.ensures in
-    then-pulled (stream held left) left _ held held c.pull.new.self (Consumes-nil (stream held left)) refl none c.pull.ensures.line c.pull.ensures.bytes
+    pulled-more left left _ old old _ old.lines (none-pulled left old) refl none c.pull.ensures.line c.pull.ensures.bytes c.pull.ensures.number refl refl
 
-pub returns-in_err-pull-clause-stream : goal.returns-in_err-pull-clause-stream
-returns-in_err-pull-clause-stream g c =
+pub returns-in_err-pull-clause-pulled : goal.returns-in_err-pull-clause-pulled
+returns-in_err-pull-clause-pulled g c =
     let left = g.S.Source.left c.args.source.now in
-    let held = c.args.self.now.lines in
+    let old = c.args.self.now in
     let none = none-if c.are_bytes_ahead.result _ (search rules) c.are_bytes_ahead.ensures in
-    then-pulled (stream held left) left _ held held c.pull.new.self (Consumes-nil (stream held left)) refl none c.pull.ensures.line c.pull.ensures.bytes
+    pulled-more left left _ old old _ old.lines (none-pulled left old) refl none c.pull.ensures.line c.pull.ensures.bytes c.pull.ensures.number refl refl
 
-pub returns-then-branch-clause-stream : goal.returns-then-branch-clause-stream
-returns-then-branch-clause-stream g c =
+pub returns-then-branch-clause-pulled : goal.returns-then-branch-clause-pulled
+returns-then-branch-clause-pulled g c =
     let left = g.S.Source.left c.args.source.now in
-    let held = c.args.self.now.lines in
+    let old = c.args.self.now in
     let none = none-if c.are_bytes_ahead.result _ (search rules) c.are_bytes_ahead.ensures in
-    then-pulled (stream held left) left _ held held c.pull.new.self (Consumes-nil (stream held left)) refl none c.pull.ensures.line c.pull.ensures.bytes
+    pulled-more left left _ old old _ old.lines (none-pulled left old) refl none c.pull.ensures.line c.pull.ensures.bytes c.pull.ensures.number refl refl
+
+pub returns-then-are_bytes_ahead-clause-pulled : goal.returns-then-are_bytes_ahead-clause-pulled
+returns-then-are_bytes_ahead-clause-pulled g c = none-pulled (g.S.Source.left c.args.source.now) c.args.self.now
 
 pub returns-then-branch-clause-err : goal.returns-then-branch-clause-err
 returns-then-branch-clause-err g c =

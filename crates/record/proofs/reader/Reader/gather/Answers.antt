@@ -3,7 +3,7 @@ use Rattle.record.specs.declared.due.Due.TheVariants.{Nothing}
 use Rattle.record.specs.declared.fault.ReadKind.TheVariants.{Device, NoMemory}
 use Rattle.record.proofs.Drafting.{less-room, ready-gathered}
 use Rattle.record.proofs.Exits.{handed-on}
-use Rattle.record.proofs.Steps.{none-if, not-whole, some-if, then-longer, then-pulled, unfinished}
+use Rattle.record.proofs.Steps.{none-if, not-whole, some-if, pulled-gathered, pulled-more, then-longer, unfinished}
 use Rattle.record.proofs.reader.Reader.gather.Goals as goal
 
 pub returns-in_err-reserve-clause-err : goal.returns-in_err-reserve-clause-err
@@ -17,11 +17,24 @@ returns-in_err-pull-clause-err g c =
     let line = unfinished c.pull.new.self _ c.in_err-pull.ensures.err c.pull.ensures.line c.gather.ensures.open c.gather.ensures.short in
     handed-on c.from_residual-in_err-pull.result Device _ _ c.from_residual-in_err-pull.ensures.1 (line, λ done. absurd (c.requires.more done))
 
-pub returns-in_err-pull-clause-stream : goal.returns-in_err-pull-clause-stream
-returns-in_err-pull-clause-stream g c =
+pub returns-in_err-pull-clause-pulled : goal.returns-in_err-pull-clause-pulled
+returns-in_err-pull-clause-pulled g c =
     let none = not-whole c.in_ok-gather.field-0 _ (search rules) c.in_ok-gather.ensures.ok in
-    then-pulled _ (g.S.Source.left c.loop-self.source) (g.S.Source.left c.pull.new.source) c.loop-self.self.lines c.gather.new.self c.pull.new.self
-    c.loop-self.invariant.stream c.gather.ensures.kept none c.pull.ensures.line c.pull.ensures.bytes
+    pulled-more _ (g.S.Source.left c.loop-self.source) _ c.args.self.now c.loop-self.self _ c.gather.new.self c.loop-self.invariant.pulled
+    c.gather.ensures.kept none c.pull.ensures.line c.pull.ensures.bytes (c.pull.ensures.number ∙ c.gather.ensures.number) refl c.reserve.ensures.kept
+
+pub returns-in_err-gather-clause-pulled : goal.returns-in_err-gather-clause-pulled
+returns-in_err-gather-clause-pulled g c =
+    pulled-gathered _ _ c.args.self.now c.loop-self.self _ c.loop-self.invariant.pulled c.gather.ensures.kept c.gather.ensures.number refl refl
+
+pub returns-in_err-reserve-clause-pulled : goal.returns-in_err-reserve-clause-pulled
+returns-in_err-reserve-clause-pulled g c =
+    pulled-gathered _ _ c.args.self.now c.loop-self.self _ c.loop-self.invariant.pulled c.gather.ensures.kept c.gather.ensures.number refl
+    c.reserve.ensures.kept
+
+pub returns-clause-pulled : goal.returns-clause-pulled
+returns-clause-pulled g c =
+    pulled-gathered _ _ c.args.self.now c.loop-self.self _ c.loop-self.invariant.pulled c.gather.ensures.kept c.gather.ensures.number refl refl
 
 pub returns-then-not-branch-2-clause-err : goal.returns-then-not-branch-2-clause-err
 returns-then-not-branch-2-clause-err g c =
@@ -29,11 +42,11 @@ returns-then-not-branch-2-clause-err g c =
     let line = unfinished c.pull.new.self _ none c.pull.ensures.line c.gather.ensures.open c.gather.ensures.short in
     (c.requires.more, line, c.in_ok-pull.ensures.end none)
 
-pub returns-then-not-branch-2-clause-stream : goal.returns-then-not-branch-2-clause-stream
-returns-then-not-branch-2-clause-stream g c =
+pub returns-then-not-branch-2-clause-pulled : goal.returns-then-not-branch-2-clause-pulled
+returns-then-not-branch-2-clause-pulled g c =
     let none = not-whole c.in_ok-gather.field-0 _ (search rules) c.in_ok-gather.ensures.ok in
-    then-pulled _ (g.S.Source.left c.loop-self.source) (g.S.Source.left c.pull.new.source) c.loop-self.self.lines c.gather.new.self c.pull.new.self
-    c.loop-self.invariant.stream c.gather.ensures.kept none c.pull.ensures.line c.pull.ensures.bytes
+    pulled-more _ (g.S.Source.left c.loop-self.source) _ c.args.self.now c.loop-self.self _ c.gather.new.self c.loop-self.invariant.pulled
+    c.gather.ensures.kept none c.pull.ensures.line c.pull.ensures.bytes (c.pull.ensures.number ∙ c.gather.ensures.number) refl c.reserve.ensures.kept
 
 pub loop-self-smaller : goal.loop-self-smaller
 loop-self-smaller g c =
@@ -46,15 +59,12 @@ loop-self-preserved g c =
     let none = not-whole c.in_ok-gather.field-0 _ (search rules) c.in_ok-gather.ensures.ok in
     let room = c.in_ok-reserve.ensures.ok (less-room c.loop-self.self.draft _ 0 (omega arith) c.loop-self.invariant.ready.room) in
     let number = c.pull.ensures.number ∙ c.gather.ensures.number in
-    let more : c.loop-self.self.due ≢ Nothing = λ done. c.requires.more (sym c.loop-self.invariant.due ∙ done) in
+    let more : c.loop-self.self.due ≢ Nothing = λ done. c.requires.more (sym c.loop-self.invariant.pulled.due ∙ done) in
     record {
       ready =
           ready-gathered c.loop-self.self _ c.loop-self.invariant.ready more refl c.reserve.ensures.kept number
           (less-room c.reserve.new.self 4096 _ c.pull.ensures.few room);
-      stream =
-          then-pulled _ (g.S.Source.left c.loop-self.source) (g.S.Source.left c.pull.new.source) c.loop-self.self.lines c.gather.new.self c.pull.new.self
-          c.loop-self.invariant.stream c.gather.ensures.kept none c.pull.ensures.line c.pull.ensures.bytes;
-      number = number ∙ c.loop-self.invariant.number;
-      due = c.loop-self.invariant.due;
-      kept = c.reserve.ensures.kept ∙ c.loop-self.invariant.kept;
+      pulled =
+          pulled-more _ (g.S.Source.left c.loop-self.source) _ c.args.self.now c.loop-self.self _ c.gather.new.self c.loop-self.invariant.pulled
+          c.gather.ensures.kept none c.pull.ensures.line c.pull.ensures.bytes number refl c.reserve.ensures.kept;
     }
