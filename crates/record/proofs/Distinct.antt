@@ -162,13 +162,11 @@ one-place : (due last final : Due) (xs ys : List (List ℕ)) (bytes others : Lis
 one-place due last final [] [] bytes others one other is f g e p q h k =
     (refl, one-fault final others one other p q (subst (λ d. Fault d others one) (sym f ∙ g) (subst (λ b. Fault last b one) e h)) k)
 one-place due last final [] (y ∷ ys) bytes others one other is f g e p q h k =
-    absurd
-    (p (good-outside due g.0 y (flat_map ended ys ++ others) bytes one is g.1 (e ∙ append_assoc (ended y) (flat_map ended ys) others)
-    (subst (λ d. Fault d bytes one) (sym f) h)))
+    let begin = e ∙ append_assoc (ended y) (flat_map ended ys) others in
+    absurd (p (good-outside due g.0 y (flat_map ended ys ++ others) bytes one is g.1 begin (subst (λ d. Fault d bytes one) (sym f) h)))
 one-place due last final (x ∷ xs) [] bytes others one other is f g e p q h k =
-    absurd
-    (q (good-outside due f.0 x (flat_map ended xs ++ bytes) others other is f.1 (sym e ∙ append_assoc (ended x) (flat_map ended xs) bytes)
-    (subst (λ d. Fault d others other) (sym g) k)))
+    let begin = sym e ∙ append_assoc (ended x) (flat_map ended xs) bytes in
+    absurd (q (good-outside due f.0 x (flat_map ended xs ++ bytes) others other is f.1 begin (subst (λ d. Fault d others other) (sym g) k)))
 one-place due last final (x ∷ xs) (y ∷ ys) bytes others one other is f g e p q h k =
     let same =
     one-line_first x y (flat_map ended xs ++ bytes) (flat_map ended ys ++ others) (good-open due x f.0 is f.1) (good-open due y g.0 is g.1)

@@ -1,5 +1,5 @@
 -- A recording that is read grows line by line.
-use Rattle.std.proofs.Common.{◌≡◌, ◌≢◌, ◌≤◌, ◌<◌, ◌+◌, ◌-◌, ℕ, zero, suc, List, [], ◌∷◌, ◌++◌, length, map, take, refl, ap, sym, subst, ◌∙◌, arith}
+use Rattle.std.proofs.Common.{◌≡◌, ◌≢◌, ◌≤◌, ◌+◌, ◌-◌, ℕ, zero, suc, List, [], ◌∷◌, ◌++◌, length, map, refl, ap, sym, subst, ◌∙◌, arith}
 use Rattle.std.proofs.Common.{append_assoc}
 use Rattle.std.specs.List.{All}
 use Rattle.std.proofs.lemmas.List.{length_push, map-append}
@@ -10,17 +10,18 @@ use Rattle.record.specs.declared.cells.Spot.{Spot}
 use Rattle.record.specs.declared.cells.Cell.{Cell}
 use Rattle.record.specs.declared.draft.Draft.{Draft}
 use Rattle.record.specs.declared.due.Due.{Due}
-use Rattle.record.specs.declared.due.Due.TheVariants.{Header, ShapeLine, CellCount, CellLine, EntryCount, EntryLine, EndLine, Nothing}
+use Rattle.record.specs.declared.due.Due.TheVariants.{CellCount, CellLine, EntryCount, EntryLine, Nothing}
 use Rattle.record.specs.declared.reader.Reader.{Reader}
 use Rattle.record.specs.declared.recording.Entry.{Entry}
 use Rattle.record.specs.Cells.{cell_at, cell_words, spot_of, spot_number}
 use Rattle.record.specs.Grammar.{cells_due, entries_due, AreValues, FitsEntry, IsListed, Leads}
 use Rattle.record.specs.Kept.{Kept}
-use Rattle.record.specs.Recordable.{AreWhole, IsRecordable}
-use Rattle.record.specs.Text.{header_words, shape_words, opening_words, changed_cells, cells_words, entries_words, entry_words, end_words}
+use Rattle.record.specs.Recordable.{AreWhole}
+use Rattle.record.specs.Text.{header_words, shape_words, opening_words, changed_cells, cells_words, entries_words, entry_words}
 use Rattle.record.specs.inner.Drafts.{kept, head_lines, lines_to_cells, lines_to_entries, lines_before, lines_left, IsBaselineFrom, IsReadTo, IsTaken}
 use Rattle.record.specs.inner.Drafts.{HasRoom}
 use Rattle.record.specs.inner.Readers.{IsReady}
+use Rattle.record.specs.inner.Reading.{IsTakenOff}
 use Rattle.record.proofs.Listed.{at-own, listed-all, listed-more, plain-more}
 use Rattle.record.proofs.Steps.{fewer-left}
 
@@ -53,18 +54,9 @@ baseline-changed = sym (listed-all baseline 0 (omega arith) (λ s high. refl))
 
 -- ---- lines that leave the recording as it is
 
-pub header-taken : (r : Kept) (line : List (List ℕ)) (next : Due) → IsReadTo Header r → Leads Header line next → IsTaken Header r line next r
-header-taken r line next h leads = record {
-  leads = leads;
-  before = ap (λ d. lines_before d r) leads.1 ∙ ap (λ l. l ∷ []) (sym leads.0);
-  read =
-      subst (λ d. IsReadTo d r) (sym leads.1)
-      (record { shape = h.shape; tables = h.tables; fits = h.fits; opening = tt; cells = h.cells; entries = h.entries });
-}
-
-pub cell_count-taken : (r : Kept) (line : List (List ℕ)) (next : Due) → IsReadTo CellCount r → Leads CellCount line next →
+at-cell_count : (r : Kept) (line : List (List ℕ)) (next : Due) → IsReadTo CellCount r → Leads CellCount line next →
     IsTaken CellCount r line next r
-cell_count-taken r line next h leads =
+at-cell_count r line next h leads =
     let none : changed_cells r.tables ≡ [] = ap changed_cells h.cells ∙ baseline-changed in
     let n : length (changed_cells r.tables) + leads.0 ≡ leads.0 = omega (arith, ap length none) in
     let plain : IsBaselineFrom 0 r.tables = λ s high. ap (λ (t : Tables). cell_at t s) h.cells in
@@ -78,9 +70,9 @@ cell_count-taken r line next h leads =
           (cells-read leads.0 0 r h.shape h.tables h.opening h.entries (omega arith) plain h.fits);
     }
 
-pub entry_count-taken : (r : Kept) (line : List (List ℕ)) (next : Due) → IsReadTo EntryCount r → Leads EntryCount line next →
+at-entry_count : (r : Kept) (line : List (List ℕ)) (next : Due) → IsReadTo EntryCount r → Leads EntryCount line next →
     IsTaken EntryCount r line next r
-entry_count-taken r line next h leads =
+at-entry_count r line next h leads =
     let n : length r.entries + leads.0 ≡ leads.0 = omega (arith, ap length h.entries) in
     let cells = lines_to_cells r (length (changed_cells r.tables)) in
     record {
@@ -91,21 +83,15 @@ entry_count-taken r line next h leads =
       read = subst (λ d. IsReadTo d r) (sym leads.3) (entries-read leads.0 r h.shape h.tables h.opening (omega (arith, n, leads.1)) h.fits);
     }
 
-pub end-taken : (r : Kept) (line : List (List ℕ)) (next : Due) → IsReadTo EndLine r → Leads EndLine line next → IsTaken EndLine r line next r
-end-taken r line next h leads =
-    let cells = map cell_words (changed_cells r.tables) in
-    let entries = map entry_words r.entries in
-    record {
-      leads = leads;
-      before =
-          ap (λ d. lines_before d r) leads.1
-          ∙ ap (λ l. head_lines r ++ cells_words (length (changed_cells r.tables)) ∷ l)
-          (sym (append_assoc cells (entries_words (length r.entries) ∷ entries) (end_words ∷ [])))
-          ∙ ap (λ l. lines_before EndLine r ++ l ∷ []) (sym leads.0);
-      read =
-          subst (λ d. IsReadTo d r) (sym leads.1)
-          (record { shape = h.shape; tables = h.tables; fits = h.fits; opening = h.opening; cells = tt; entries = h.entries });
-    }
+pub cell_count-taken : (due : Due) (r : Kept) (line : List (List ℕ)) (next : Due) → due ≡ CellCount → IsReadTo due r → Leads CellCount line next →
+    IsTaken due r line next r
+cell_count-taken due r line next is h leads =
+    subst (λ d. IsTaken d r line next r) (sym is) (at-cell_count r line next (subst (λ d. IsReadTo d r) is h) leads)
+
+pub entry_count-taken : (due : Due) (r : Kept) (line : List (List ℕ)) (next : Due) → due ≡ EntryCount → IsReadTo due r → Leads EntryCount line next →
+    IsTaken due r line next r
+entry_count-taken due r line next is h leads =
+    subst (λ d. IsTaken d r line next r) (sym is) (at-entry_count r line next (subst (λ d. IsReadTo d r) is h) leads)
 
 -- ---- one cell or one entry more
 
@@ -171,11 +157,6 @@ entry-taken r s left e line next h fits spelled is due =
           (entries-read (left - 1) t h.shape h.tables h.opening (omega (arith, n, h.entries.1)) (All-push FitsEntry r.entries e h.fits fits));
     })
 
--- ---- all of it
-
-pub all-read : (r : Kept) → IsReadTo Nothing r → IsRecordable r
-all-read r h = record { shape = h.shape; tables = h.tables; opening = h.opening; few = h.entries; fits = h.fits }
-
 -- ---- what a reader keeps
 
 pub less-room : (draft : Draft) (m n : ℕ) → n ≤ m → HasRoom draft m → HasRoom draft n
@@ -193,11 +174,10 @@ ready-gathered old new h more due same number room = record {
 
 -- one line more
 pub ready-taken : (old new : Reader) (line : List (List ℕ)) → IsReady old → IsTaken old.due (kept old.draft) line new.due (kept new.draft) →
-    ((n : ℕ) → HasRoom old.draft (n + 1) → HasRoom new.draft n) → old.lines.ahead ≡ 10 ∷ new.lines.ahead → new.lines.line ≡ [] →
-    new.lines.number ≡ old.lines.number + 1 → IsReady new
-ready-taken old new line h taken room ahead none number = record {
+    ((n : ℕ) → HasRoom old.draft (n + 1) → HasRoom new.draft n) → IsTakenOff old.lines new.lines → IsReady new
+ready-taken old new line h taken room off = record {
   read = taken.read;
-  room = room (length new.lines.ahead) (less-room old.draft (length old.lines.ahead) (length new.lines.ahead + 1) (omega (arith, ap length ahead)) h.room);
-  few = omega (arith, h.few, number, fewer-left old.due line new.due taken.leads);
-  line = λ done. none;
+  room = room (length new.lines.ahead) (less-room old.draft (length old.lines.ahead) (length new.lines.ahead + 1) (omega (arith, ap length off.ahead)) h.room);
+  few = omega (arith, h.few, off.number, fewer-left old.due line new.due taken.leads);
+  line = λ done. off.line;
 }

@@ -6,7 +6,6 @@ pub mod Drafting
 pub mod Ending
 pub mod Exits
 pub mod Faulting
-pub mod Faults
 pub mod Following
 pub mod Inverses
 pub mod Leading

@@ -1,14 +1,10 @@
 -- The cells that have been read are those that the tables change.
-use Rattle.std.proofs.Common.{◌≡◌, ◌≢◌, ℕ, zero, suc, ◌+◌, ◌-◌, ◌*◌, ◌/◌, ◌%◌, ◌<◌, ◌≤◌, true, false, cond, not, List, [], ◌∷◌, ◌++◌, length, take}
-use Rattle.std.proofs.Common.{map, get_or, refl, sym, ap, ◌∙◌, subst, arith, append_assoc, Option}
-use Rattle.std.specs.List.{All, flat_map, range_with_len}
-use Rattle.std.proofs.lemmas.List.Elements.{All-push}
-use Rattle.std.proofs.lemmas.List.{take_more, append-nil, length_push, map-append}
+use Rattle.std.proofs.Common.{◌≡◌, ◌≢◌, ℕ, zero, suc, ◌+◌, ◌-◌, ◌*◌, ◌/◌, ◌%◌, ◌<◌, ◌≤◌, true, false, cond, not, List, [], ◌∷◌, ◌++◌, take}
+use Rattle.std.proofs.Common.{map, get_or, refl, sym, ap, ◌∙◌, arith}
+use Rattle.std.specs.List.{range_with_len}
+use Rattle.std.proofs.lemmas.List.{take_more, append-nil}
 use Rattle.base.proofs.Same.{entry-self}
 use Rattle.std.proofs.lemmas.List.FromFn.{get_or-map-range_with_len}
-use Rattle.std.proofs.lemmas.Grind.{flat_map-append}
-use Rattle.std.specs.Io.KnownBytes.{Consumes}
-use Rattle.std.proofs.KnownBytes.{Consumes-trans}
 use Rattle.base.specs.Spelling.{words}
 use Rattle.cache_table.specs.declared.state.CacheState.{CacheState}
 use Rattle.cache_table.specs.declared.state.CacheState.TheVariants as cache_state
@@ -29,13 +25,9 @@ use Rattle.record.specs.declared.cells.Spot.{Spot}
 use Rattle.record.specs.declared.cells.Spot.TheVariants as spot
 use Rattle.record.specs.declared.cells.Cell.{Cell}
 use Rattle.record.specs.declared.cells.Cell.TheVariants as cell
-use Rattle.record.specs.Cells.{all_spots, cell_at, cell_words, spot_number, spot_of}
-use Rattle.record.specs.Text.{cells_words, changed, changed_cells, end_words, entries_words, entry_words, header_words, is_changed, line}
-use Rattle.record.specs.Cells.{is_same}
-use Rattle.record.specs.Text.{opening_words, shape_words, text}
-use Rattle.record.specs.Kept.{Kept}
-use Rattle.record.specs.declared.recording.Entry.{Entry}
-use Rattle.record.specs.Grammar.{FitsEntry, IsListed}
+use Rattle.record.specs.Cells.{all_spots, cell_at, cell_words, is_same, spot_number, spot_of}
+use Rattle.record.specs.Text.{changed, changed_cells, is_changed, line}
+use Rattle.record.specs.Grammar.{IsListed}
 use Rattle.record.specs.Refused.{ended}
 use Rattle.record.specs.inner.Drafts.{IsBaselineFrom}
 use Rattle.record.proofs.Changed.{changed-append}

@@ -1,6 +1,6 @@
 -- Lines that are taken off a source one after the other.
-use Rattle.std.proofs.Common.{◌≡◌, ◌+◌, ◌-◌, ◌<◌, ℕ, zero, suc, List, [], ◌∷◌, ◌++◌, Option, Some, None, length, map, refl, ap, sym, subst, ◌∙◌, arith}
-use Rattle.std.proofs.Common.{length-append, rules}
+use Rattle.std.proofs.Common.{◌≡◌, ◌+◌, ◌-◌, ◌<◌, ℕ, zero, suc, List, [], ◌∷◌, ◌++◌, Option, length, map, refl, ap, sym, subst, ◌∙◌, arith}
+use Rattle.std.proofs.Common.{◌≢◌, ◌≤◌, inr, append_assoc, Bool, true, false, length-append, rules}
 use Rattle.std.proofs.lemmas.List.{append-nil, map-append}
 use Rattle.std.proofs.lemmas.Grind.{flat_map-append}
 use Rattle.std.proofs.KnownBytes.{Consumes-trans, Consumes-nil}
@@ -10,56 +10,145 @@ use Rattle.base.specs.Spelling.{words}
 use Rattle.record.specs.declared.due.Due.{Due}
 use Rattle.record.specs.declared.due.Due.TheVariants.{Header, ShapeLine, OpeningLine, CellCount, CellLine, EntryCount, EntryLine, EndLine, Nothing}
 use Rattle.record.specs.declared.fault.ReadKind.{ReadKind}
-use Rattle.record.specs.declared.fault.ReadKind.TheVariants.{NoMemory}
+use Rattle.record.specs.declared.fault.ReadKind.TheVariants.{BadHeader, BadLine, Truncated, CountDiffers, BadOutcome, OverLimit, NoMemory, Device}
 use Rattle.record.specs.declared.reader.Reader.{Reader}
 use Rattle.record.specs.Cells.{spot_number, spot_of}
 use Rattle.record.specs.Grammar.{cells_due, entries_due, Leads, Follow}
-use Rattle.record.specs.Kept.{Kept}
-use Rattle.record.specs.Refused.{ended, IsFaultOfRest, IsRefused, IsWellFormed}
-use Rattle.record.specs.Text.{line, lines, text}
+use Rattle.record.specs.Refused.{ended, BeginsFaulty, HasNoEnd, IsFaultOfLine, IsUnfinished, IsFaultOfRest, IsRefused, IsWellFormed}
+use Rattle.record.specs.Text.{line, text}
 use Rattle.record.specs.inner.Drafts.{kept, lines_before, lines_left, IsTaken}
-use Rattle.record.specs.inner.Readers.{HasTaken}
-use Rattle.record.specs.inner.Reading.{pending, stream}
-use Rattle.record.proofs.Streams.{let-go, line-off, none-held}
+use Rattle.record.specs.inner.Readers.{HasPulled, HasTaken}
+use Rattle.record.specs.inner.Reading.{Gathered, AreSomeIf, IsTakenOff, IsWholeIf, pending, stream}
+use Rattle.record.proofs.Streams.{let-go, line-off, none-held, pulled}
 use Rattle.record.proofs.Words.{spelled-text}
 
 follow-append : (due mid last : Due) (xs ys : List (List ℕ)) → Follow due xs mid → Follow mid ys last → Follow due (xs ++ ys) last
 follow-append due mid last [] ys first second = subst (λ (d : Due). Follow d ys last) (sym first) second
 follow-append due mid last (x ∷ xs) ys first second = (first.0, first.1, follow-append first.0 mid last xs ys first.2 second)
 
--- bytes that were pulled
-pub then-gathered : (before left more : Option (List ℕ)) (old new : Reader) → HasTaken before left old →
-    Consumes (stream old.lines left) (stream new.lines more) [] → new.due ≡ old.due → kept new.draft ≡ kept old.draft →
-    new.lines.number ≡ old.lines.number → HasTaken before more new
-then-gathered before left more old new h pulled due same number = record {
-  lines = h.lines;
-  follow = subst (λ d. Follow Header h.lines d) (sym due) h.follow;
-  told = h.told ∙ ap (λ d. lines_before d (kept old.draft)) (sym due) ∙ ap (lines_before new.due) (sym same);
+-- ---- bytes that are pulled
+
+pub none-if : (b : Bool) (bytes : List ℕ) → b ≡ false → AreSomeIf b bytes → bytes ≡ []
+none-if false bytes is h = h
+none-if true bytes is h = absurd (cc)
+
+pub some-if : (b : Bool) (bytes : List ℕ) → b ≡ true → AreSomeIf b bytes → 0 < length bytes
+some-if true bytes is h = h
+some-if false bytes is h = absurd (cc)
+
+pub some-pending : (gathered : Gathered) → 0 < length gathered.ahead → pending gathered ≢ []
+some-pending gathered some none = absurd (omega (arith, some, ap length none, length-append gathered.line gathered.ahead))
+
+pub not-whole : (b : Bool) (ahead : List ℕ) → b ≡ false → IsWholeIf b ahead → ahead ≡ []
+not-whole false ahead is h = h
+not-whole true ahead is h = absurd (cc)
+
+pub unfinished : (gathered : Gathered) (line : List ℕ) → gathered.ahead ≡ [] → gathered.line ≡ line → HasNoEnd line → length line ≤ 90000 →
+    IsUnfinished (pending gathered)
+unfinished gathered line none is no_end short =
+    subst IsUnfinished (sym (ap (λ l. gathered.line ++ l) none ∙ append-nil gathered.line ∙ is)) (record { no_end = no_end; short = short })
+
+-- nothing is lost
+then-pulled : (before left more : Option (List ℕ)) (old mid new : Gathered) → Consumes before (stream old left) [] → pending mid ≡ pending old →
+    mid.ahead ≡ [] → new.line ≡ mid.line → Consumes left more new.ahead → Consumes before (stream new more) []
+then-pulled before left more old mid new first kept none line bytes =
+    Consumes-trans before (stream old left) (stream new more) [] [] first
+    (subst (λ l. Consumes (stream old left) (prepend_known (l ++ new.ahead) more) []) (sym line)
+    (subst (λ l. Consumes (prepend_known l left) (prepend_known (mid.line ++ new.ahead) more) []) kept
+    (pulled left more mid.line mid.ahead new.ahead none bytes)))
+
+pub none-pulled : (left : Option (List ℕ)) (reader : Reader) → HasPulled left left reader reader
+none-pulled left reader = record { stream = Consumes-nil (stream reader.lines left); number = refl; due = refl; kept = refl }
+
+pub pulled-gathered : (left more : Option (List ℕ)) (old mid new : Reader) → HasPulled left more old mid → pending new.lines ≡ pending mid.lines →
+    new.lines.number ≡ mid.lines.number → new.due ≡ mid.due → kept new.draft ≡ kept mid.draft → HasPulled left more old new
+pulled-gathered left more old mid new h kept number due same = record {
+  stream = subst (λ l. Consumes (stream old.lines left) (prepend_known l more) []) (sym kept) h.stream;
   number = number ∙ h.number;
+  due = due ∙ h.due;
+  kept = same ∙ h.kept;
+}
+
+pub pulled-more : (left more most : Option (List ℕ)) (old mid new : Reader) (lines : Gathered) → HasPulled left more old mid →
+    pending lines ≡ pending mid.lines → lines.ahead ≡ [] → new.lines.line ≡ lines.line → Consumes more most new.lines.ahead →
+    new.lines.number ≡ mid.lines.number → new.due ≡ mid.due → kept new.draft ≡ kept mid.draft → HasPulled left most old new
+pulled-more left more most old mid new lines h pending none line bytes number due same = record {
+  stream = then-pulled (stream old.lines left) more most mid.lines lines new.lines h.stream pending none line bytes;
+  number = number ∙ h.number;
+  due = due ∙ h.due;
+  kept = same ∙ h.kept;
+}
+
+pub then-longer : (old mid new : Gathered) → pending mid ≡ pending old → mid.ahead ≡ [] → new.line ≡ mid.line → length mid.line ≤ 90000 →
+    0 < length new.ahead → 90001 - length (pending new) < 90001 - length (pending old)
+then-longer old mid new kept none line short some =
+    omega (
+      arith,
+      ap length kept,
+      ap length none,
+      ap length line,
+      length-append old.line old.ahead,
+      length-append mid.line mid.ahead,
+      length-append new.line new.ahead,
+      short,
+      some,
+    )
+
+pub then-gathered : (before left more : Option (List ℕ)) (old new : Reader) → HasTaken before left old → HasPulled left more old new →
+    HasTaken before more new
+then-gathered before left more old new h pulled = record {
+  lines = h.lines;
+  follow = subst (λ d. Follow Header h.lines d) (sym pulled.due) h.follow;
+  told = h.told ∙ ap (λ d. lines_before d (kept old.draft)) (sym pulled.due) ∙ ap (lines_before new.due) (sym pulled.kept);
+  number = pulled.number ∙ h.number;
   taken =
       subst (Consumes before (stream new.lines more)) (append-nil (flat_map ended h.lines))
-      (Consumes-trans before (stream old.lines left) (stream new.lines more) (flat_map ended h.lines) [] h.taken pulled);
+      (Consumes-trans before (stream old.lines left) (stream new.lines more) (flat_map ended h.lines) [] h.taken pulled.stream);
 }
 
 -- one line more
 pub then-taken : (before left : Option (List ℕ)) (old new : Reader) → HasTaken before left old →
-    IsTaken old.due (kept old.draft) (words old.lines.line) new.due (kept new.draft) → old.lines.ahead ≡ 10 ∷ new.lines.ahead → new.lines.line ≡ [] →
-    new.lines.number ≡ old.lines.number + 1 → HasTaken before left new
-then-taken before left old new h taken ahead none number =
+    IsTaken old.due (kept old.draft) (words old.lines.line) new.due (kept new.draft) → IsTakenOff old.lines new.lines → HasTaken before left new
+then-taken before left old new h taken off =
     let one : List (List ℕ) = old.lines.line ∷ [] in
     record {
       lines = h.lines ++ one;
       follow = follow-append Header old.due new.due h.lines one h.follow (new.due, taken.leads, refl);
       told = map-append words h.lines one ∙ ap (λ l. l ++ words old.lines.line ∷ []) h.told ∙ sym taken.before;
-      number = number ∙ omega (arith, h.number, length-append h.lines one);
+      number = off.number ∙ omega (arith, h.number, length-append h.lines one);
       taken =
           subst (Consumes before (stream new.lines left))
           (ap (λ l. flat_map ended h.lines ++ l) (sym (append-nil (ended old.lines.line))) ∙ sym (flat_map-append ended h.lines one))
           (Consumes-trans before (stream old.lines left) (stream new.lines left) (flat_map ended h.lines) (ended old.lines.line) h.taken
-          (line-off left old.lines.line old.lines.ahead new.lines.line new.lines.ahead ahead none));
+          (line-off left old.lines.line old.lines.ahead new.lines.line new.lines.ahead off.ahead off.line));
     }
 
--- and then a fault
+-- ---- faults
+
+begins : (due : Due) (rest : List ℕ) (end : _) (kind : ReadKind) → BeginsFaulty due rest kind → IsFaultOfRest due rest end kind
+begins due rest end Truncated h = absurd h.fault
+begins due rest end OverLimit h = inr h
+begins due rest end NoMemory h = absurd h.fault
+begins due rest end Device h = absurd h.fault
+begins due rest end BadHeader h = h
+begins due rest end BadLine h = inr h
+begins due rest end CountDiffers h = h
+begins due rest end BadOutcome h = h
+
+-- a whole line with a fault
+pub line-fault : (due : Due) (line ahead behind : List ℕ) (end : _) (kind : ReadKind) → ahead ≡ 10 ∷ behind → HasNoEnd line → length line ≤ 90000 →
+    IsFaultOfLine due (words line) kind → IsFaultOfRest due (line ++ ahead) end kind
+line-fault due line ahead behind end kind is no_end short fault =
+    begins due (line ++ ahead) end kind (record {
+      line = line;
+      behind = behind;
+      stands = ap (λ l. line ++ l) is ∙ sym (append_assoc line (10 ∷ []) behind);
+      no_end = no_end;
+      short = short;
+      fault = fault;
+    })
+
+-- lines, and then a fault
 pub then-refused : (before left : Option (List ℕ)) (reader : Reader) (kind : ReadKind) → HasTaken before left reader →
     IsFaultOfRest reader.due (pending reader.lines) left kind → IsRefused before left 0 Header (reader.lines.number + 1) kind
 then-refused before left reader kind h fault = record {

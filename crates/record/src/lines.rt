@@ -1,8 +1,8 @@
-ghost use Rattle.std.specs.Prelude.{◌≡◌, ◌≢◌, ◌≤◌, ◌<◌, ◌+◌, ◌^◌, ◌↔◌, ◌∷◌, [], length, IfOk, IfErr, OnOk, OnErr, IsTrue};
+ghost use Rattle.std.specs.Prelude.{◌≡◌, ◌≤◌, ◌<◌, ◌+◌, ◌^◌, ◌∷◌, [], length, IfOk, IfErr, OnOk, OnErr};
 ghost use Rattle.std.specs.Io.KnownBytes.{Consumes, IsAtEnd};
 ghost use Rattle.base.specs.Ends.{Marks};
 ghost use Rattle.record.specs.Refused.{HasNoEnd, IsTooLong};
-ghost use Rattle.record.specs.inner.Reading.{Gathered, BeginsWithEnd, IsWholeIf, pending};
+ghost use Rattle.record.specs.inner.Reading.{Gathered, AreSomeIf, BeginsWithEnd, IsTakenOff, IsWholeIf, pending};
 
 use crate::fault::ReadKind;
 use base::{Failed, NoMemory, Source};
@@ -69,7 +69,7 @@ impl Lines {
 
     /// Whether bytes were pulled that don't belong to the line yet.
     pub(crate) fn are_bytes_ahead(&self) -> bool
-        ensures { IsTrue result ↔ (self.now.ahead ≢ []) }
+        ensures { AreSomeIf result self.now.ahead }
     {
         !self.buffer[self.at..self.end].is_empty()
     }
@@ -103,11 +103,11 @@ impl Lines {
     /// Pulls the next bytes, where none are ahead, and answers whether there were any.
     pub(crate) fn pull<S: Source>(&mut self, source: &mut S) -> Result<bool, Failed>
         requires none { self.old.ahead ≡ [] }
-        ensures ok { OnOk result (Consumes (S.left source.old) (S.left source.new) self.new.ahead) }
-        ensures some { IfOk result (λ some. IsTrue some ↔ (self.new.ahead ≢ [])) }
+        ensures bytes { Consumes (S.left source.old) (S.left source.new) self.new.ahead }
+        ensures some { IfOk result (λ some. AreSomeIf some self.new.ahead) }
         ensures end { OnOk result (self.new.ahead ≡ [] → IsAtEnd (S.left source.new)) }
         ensures few { length self.new.ahead ≤ 4096 }
-        ensures err { OnErr result (Consumes (S.left source.old) (S.left source.new) [] × (self.new.ahead ≡ [])) }
+        ensures err { OnErr result (self.new.ahead ≡ []) }
         ensures line { self.new.line ≡ self.old.line }
         ensures number { self.new.number ≡ self.old.number }
         ensures mark { Marks (S.has_failed source.old) result (S.has_failed source.new) }
@@ -122,9 +122,7 @@ impl Lines {
     pub(crate) fn take_off(&mut self)
         requires whole { BeginsWithEnd self.old.ahead }
         requires few { self.old.number < 2 ^ 60 }
-        ensures ahead { self.old.ahead ≡ 10 ∷ self.new.ahead }
-        ensures line { self.new.line ≡ [] }
-        ensures number { self.new.number ≡ self.old.number + 1 }
+        ensures { IsTakenOff self.old self.new }
     {
         self.line.clear();
         self.at += 1;

@@ -6,8 +6,8 @@ ghost use Rattle.record.specs.Recordable.{IsRecordable};
 ghost use Rattle.record.specs.Refused.{IsFaultOfLine, IsFaultOfRest, IsRefused, IsWellFormed};
 ghost use Rattle.record.specs.Text.{text};
 ghost use Rattle.record.specs.inner.Drafts.{kept, IsTaken, IsReadTo};
-ghost use Rattle.record.specs.inner.Readers.{HasTaken, HasWholeLine, IsReady};
-ghost use Rattle.record.specs.inner.Reading.{pending, stream};
+ghost use Rattle.record.specs.inner.Readers.{HasPulled, HasTaken, HasWholeLine, IsReady};
+ghost use Rattle.record.specs.inner.Reading.{pending, IsTakenOff};
 
 use crate::draft::Draft;
 use crate::due::Due;
@@ -19,7 +19,7 @@ use std::alloc::Global;
 
 /// A recording that is being read, line by line.
 ///
-/// All room that a pull can make necessary is made before it, so that no byte that was read is lost to want of memory.
+/// All room that the bytes of a pull could need is made before it. So no line that is whole is refused for want of memory.
 #[derive(Drop)]
 pub(crate) struct Reader {
     lines: Lines,
@@ -78,11 +78,8 @@ impl Reader {
         requires more { self.old.due ≢ due.Nothing }
         ensures ok { OnOk result (HasWholeLine self.new) }
         ensures err { IfErr result (IsFaultOfRest self.old.due (pending self.new.lines) (S.left source.new)) }
-        ensures stream { Consumes (stream self.old.lines (S.left source.old)) (stream self.new.lines (S.left source.new)) [] }
+        ensures pulled { HasPulled (S.left source.old) (S.left source.new) self.old self.new }
         ensures ready { OnOk result (IsReady self.new) }
-        ensures number { self.new.lines.number ≡ self.old.lines.number }
-        ensures due { self.new.due ≡ self.old.due }
-        ensures kept { kept self.new.draft ≡ kept self.old.draft }
         ensures device { IfErr result (λ kind. kind ≡ ReadKind.Device → S.has_failed source.new ≡ true) }
     {
         while !self.lines.gather()? {
@@ -101,9 +98,7 @@ impl Reader {
         ensures ok { OnOk result (IsTaken self.old.due (kept self.old.draft) (words self.old.lines.line) self.new.due (kept self.new.draft)) }
         ensures err { IfErr result (IsFaultOfLine self.old.due (words self.old.lines.line)) }
         ensures ready { OnOk result (IsReady self.new) }
-        ensures line { OnOk result (self.new.lines.line ≡ []) }
-        ensures ahead { OnOk result (self.old.lines.ahead ≡ 10 ∷ self.new.lines.ahead) }
-        ensures number { OnOk result (self.new.lines.number ≡ self.old.lines.number + 1) }
+        ensures off { OnOk result (IsTakenOff self.old.lines self.new.lines) }
         ensures lines { OnErr result (self.new.lines ≡ self.old.lines) }
     {
         self.due = self.draft.accept(self.due, self.lines.line())?;
@@ -117,10 +112,7 @@ impl Reader {
         requires done { self.old.due ≡ due.Nothing }
         ensures ok { OnOk result (IsAtEnd (S.left source.new) × (pending self.new.lines ≡ [])) }
         ensures err { IfErr result (IsFaultOfRest due.Nothing (pending self.new.lines) (S.left source.new)) }
-        ensures stream { Consumes (stream self.old.lines (S.left source.old)) (stream self.new.lines (S.left source.new)) [] }
-        ensures number { self.new.lines.number ≡ self.old.lines.number }
-        ensures due { self.new.due ≡ self.old.due }
-        ensures draft { self.new.draft ≡ self.old.draft }
+        ensures pulled { HasPulled (S.left source.old) (S.left source.new) self.old self.new }
         ensures device { IfErr result (λ kind. kind ≡ ReadKind.Device → S.has_failed source.new ≡ true) }
     {
         if self.lines.are_bytes_ahead() {

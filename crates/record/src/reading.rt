@@ -23,8 +23,9 @@ use world::Tables;
 impl Recording {
     /// The recording whose text a source gives, in whatever pieces it comes.
     ///
-    /// The first line with a fault is named. It holds one line of the text at a time. The text of a recording is read back as
-    /// that recording, if memory and the source don't fail.
+    /// The first line with a fault is named. It holds one line of the text at a time, and makes room only before it pulls: so
+    /// want of memory names a line that isn't whole yet. The text of a recording is read back as that recording, if memory
+    /// and the source don't fail.
     pub fn read<S: Source>(alloc: Global, source: &mut S) -> Result<Recording, ReadFault>
         ensures text { IfOk result (λ recording. Consumes (S.left source.old) (S.left source.new) (text recording)) }
         ensures whole { OnOk result (IsWellFormed (S.left source.old) (S.left source.new)) }

@@ -1,5 +1,5 @@
 -- What a reader has read of a source. Only private clauses cite this file.
-use Rattle.std.specs.Prelude.{◌≡◌, ℕ, ◌+◌, ◌≤◌, List, [], ◌++◌, Option, length, map}
+use Rattle.std.specs.Prelude.{◌≡◌, ℕ, ◌+◌, ◌≤◌, List, [], Option, length, map}
 use Rattle.std.specs.List.{flat_map}
 use Rattle.std.specs.Io.KnownBytes.{Consumes}
 use Rattle.base.specs.Spelling.{words}
@@ -17,6 +17,13 @@ pub record HasTaken (before left : Option (List ℕ)) (reader : Reader) : Type 0
   pub told : map words lines ≡ lines_before reader.due (kept reader.draft)
   pub number : reader.lines.number ≡ length lines
   pub taken : Consumes before (stream reader.lines left) (flat_map ended lines)
+
+-- bytes were pulled at most: none is lost, and what was read is the same
+pub record HasPulled (left more : Option (List ℕ)) (old new : Reader) : Type 0 where
+  pub stream : Consumes (stream old.lines left) (stream new.lines more) []
+  pub number : new.lines.number ≡ old.lines.number
+  pub due : new.due ≡ old.due
+  pub kept : kept new.draft ≡ kept old.draft
 
 -- what a reader always keeps: among others, there is room for as many entries as there are bytes ahead
 pub record IsReady (reader : Reader) : Type 0 where

@@ -31,6 +31,17 @@ stream gathered left = prepend_known (pending gathered) left
 abbrev pub BeginsWithEnd : List ℕ → Type 0
 BeginsWithEnd bytes = (behind : List ℕ) × (bytes ≡ 10 ∷ behind)
 
+-- the line, whose end is next, was taken off
+pub record IsTakenOff (old new : Gathered) : Type 0 where
+  pub line : new.line ≡ []
+  pub ahead : old.ahead ≡ 10 ∷ new.ahead
+  pub number : new.number ≡ old.number + 1
+
+-- whether there are bytes
+abbrev pub AreSomeIf : Bool → List ℕ → Type 0
+AreSomeIf true bytes = 0 < length bytes
+AreSomeIf false bytes = bytes ≡ []
+
 -- a line that is whole has its end ahead, and of one that isn't nothing is ahead
 abbrev pub IsWholeIf : Bool → List ℕ → Type 0
 IsWholeIf true ahead = BeginsWithEnd ahead

@@ -1,4 +1,3 @@
-use Rattle.std.proofs.Common.{refl, ap, ◌∙◌}
 use Rattle.record.specs.inner.Drafts.{kept}
 use Rattle.record.proofs.Drafting.{entries-set, entry-taken}
 use Rattle.record.proofs.Exits.{handed-on}

@@ -22,19 +22,14 @@ loop-self-preserved c =
     let low = c.loop-self-test.true in
     let held = c.loop-self.invariant.gathered in
     let pushed = c.push_reserved.ensures.items in
+    let byte = get_or c.loop-self.self-inside.buffer c.loop-self.self-inside.at 0 in
     let full : length c.loop-self.self-inside.line.items < 90000 = search rules in
     record {
       gathered = record {
         in_order = omega (arith, low);
         within = held.within;
         no_end = subst HasNoEnd (sym pushed) (more-open c.loop-self.self-inside.line.items _ held.no_end c.if-byte-eq10.false);
-        short = omega (
-          arith,
-          ap length pushed,
-          length_push c.loop-self.self-inside.line.items
-              (get_or c.loop-self.self-inside.buffer c.loop-self.self-inside.at 0),
-          full,
-        );
+        short = omega (arith, ap length pushed, length_push c.loop-self.self-inside.line.items byte, full);
         room = omega (arith, held.room, c.push_reserved.ensures.capacity);
       };
       kept =

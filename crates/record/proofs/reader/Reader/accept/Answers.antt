@@ -3,5 +3,4 @@ use Rattle.record.proofs.reader.Reader.accept.Goals as goal
 
 pub returns-clause-ready : goal.returns-clause-ready
 returns-clause-ready c =
-    ready-taken c.args.self.now _ _ c.requires.ready c.in_ok-self.ensures.ok c.accept.ensures.room c.take_off.ensures.ahead c.take_off.ensures.line
-    c.take_off.ensures.number
+    ready-taken c.args.self.now _ _ c.requires.ready c.in_ok-self.ensures.ok c.accept.ensures.room c.take_off.ensures

@@ -1,17 +1,12 @@
-use Rattle.std.proofs.Common.{◌≡◌, ◌-◌, ◌<◌, [], length}
-use Rattle.std.specs.Io.KnownBytes.{Consumes}
-use Rattle.record.specs.inner.Drafts.{kept}
-use Rattle.record.specs.inner.Readers.{IsReady}
-use Rattle.record.specs.inner.Reading.{pending, stream}
+use Rattle.std.proofs.Common.{◌-◌, length}
+use Rattle.record.specs.inner.Readers.{HasPulled, IsReady}
+use Rattle.record.specs.inner.Reading.{pending}
 use Rattle.record.proofs.reader.Reader.gather.Given as goal
 
 abbrev pub invariant-loop-self : goal.invariant-loop-self
 invariant-loop-self g l = record {
   ready : IsReady l.self;
-  stream : Consumes (stream l.fn.self.lines (g.S.Source.left l.fn.source)) (stream l.self.lines (g.S.Source.left l.source)) [];
-  number : l.self.lines.number ≡ l.fn.self.lines.number;
-  due : l.self.due ≡ l.fn.self.due;
-  kept : kept l.self.draft ≡ kept l.fn.self.draft;
+  pulled : HasPulled (g.S.Source.left l.fn.source) (g.S.Source.left l.source) l.fn.self l.self;
 }
 
 abbrev pub decreases-loop-self : goal.decreases-loop-self

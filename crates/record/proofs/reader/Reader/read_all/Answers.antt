@@ -1,13 +1,11 @@
-use Rattle.std.proofs.Common.{◌≡◌, ◌<◌, ◌+◌, ap, rules, subst, sym}
+use Rattle.std.proofs.Common.{◌≡◌, ◌<◌, ◌+◌, rules, subst, sym, ◌∙◌}
 use Rattle.std.proofs.lemmas.Result.{IfErr-weaker, on_ok_weaker}
-use Rattle.base.specs.Spelling.{words}
 use Rattle.record.specs.declared.due.Due.TheVariants.{Header, Nothing}
 use Rattle.record.specs.Refused.{IsFaultOfRest, IsRefused}
 use Rattle.record.specs.inner.Drafts.{kept, lines_left, IsReadTo}
 use Rattle.record.specs.inner.Reading.{Gathered, pending}
 use Rattle.record.proofs.Exits.{handed-on}
-use Rattle.record.proofs.Faults.{line-fault}
-use Rattle.record.proofs.Steps.{fewer-left, taken-text, taken-whole, then-gathered, then-refused, then-taken}
+use Rattle.record.proofs.Steps.{fewer-left, line-fault, taken-text, taken-whole, then-gathered, then-refused, then-taken}
 use Rattle.record.proofs.reader.Reader.read_all.Goals as goal
 
 pub returns-in_err-gather-clause-fault : goal.returns-in_err-gather-clause-fault
@@ -15,28 +13,23 @@ returns-in_err-gather-clause-fault g c =
     let left = g.S.Source.left c.gather.new.source in
     let kind = c.in_err-gather.field-0.0 in
     let new = c.gather.new.self in
-    let taken =
-    then-gathered _ _ left c.loop-self.self new c.loop-self.invariant.taken c.gather.ensures.stream c.gather.ensures.due c.gather.ensures.kept
-    c.gather.ensures.number in
+    let taken = then-gathered _ _ left c.loop-self.self new c.loop-self.invariant.taken c.gather.ensures.pulled in
     handed-on c.from_residual.result _ _ _ c.from_residual.ensures.1
     (then-refused _ left new kind taken
-    (subst (λ d. IsFaultOfRest d (pending new.lines) left kind) (sym c.gather.ensures.due) c.in_err-gather.ensures.err))
+    (subst (λ d. IsFaultOfRest d (pending new.lines) left kind) (sym c.gather.ensures.pulled.due) c.in_err-gather.ensures.err))
 
 pub loop-self-smaller : goal.loop-self-smaller
 loop-self-smaller g c =
-    subst (λ d. lines_left c.accept.new.self.due < lines_left d) c.gather.ensures.due
+    subst (λ d. lines_left c.accept.new.self.due < lines_left d) c.gather.ensures.pulled.due
     (fewer-left c.gather.new.self.due _ c.accept.new.self.due c.in_ok-accept.ensures.ok.leads)
 
 pub loop-self-preserved : goal.loop-self-preserved
 loop-self-preserved g c =
     let left = g.S.Source.left c.gather.new.source in
-    let taken =
-    then-gathered _ _ left c.loop-self.self c.gather.new.self c.loop-self.invariant.taken c.gather.ensures.stream c.gather.ensures.due c.gather.ensures.kept
-    c.gather.ensures.number in
+    let taken = then-gathered _ _ left c.loop-self.self c.gather.new.self c.loop-self.invariant.taken c.gather.ensures.pulled in
     record {
       taken =
-          then-taken _ left c.gather.new.self c.accept.new.self taken c.in_ok-accept.ensures.ok c.in_ok-accept.ensures.ahead c.in_ok-accept.ensures.line
-          c.in_ok-accept.ensures.number;
+          then-taken _ left c.gather.new.self c.accept.new.self taken c.in_ok-accept.ensures.ok c.in_ok-accept.ensures.off;
       ready = c.in_ok-accept.ensures.ready;
     }
 
@@ -46,9 +39,7 @@ returns-in_err-accept-clause-fault g c =
     let kind = c.in_err-accept.field-0.0 in
     let new = c.gather.new.self in
     let line = c.in_ok-gather.ensures.ok in
-    let taken =
-    then-gathered _ _ left c.loop-self.self new c.loop-self.invariant.taken c.gather.ensures.stream c.gather.ensures.due c.gather.ensures.kept
-    c.gather.ensures.number in
+    let taken = then-gathered _ _ left c.loop-self.self new c.loop-self.invariant.taken c.gather.ensures.pulled in
     handed-on c.from_residual-in_err-accept.result _ _ _ c.from_residual-in_err-accept.ensures.1
     (subst (λ (l : Gathered). IsRefused (g.S.Source.left c.args.source.now) left 0 Header (l.number + 1) kind) (sym c.in_err-accept.ensures.lines)
     (then-refused _ left new kind taken
@@ -57,33 +48,30 @@ returns-in_err-accept-clause-fault g c =
 pub returns-clause-text : goal.returns-clause-text
 returns-clause-text g c =
     let left = g.S.Source.left c.end.new.source in
-    let taken =
-    then-gathered _ _ left c.loop-self.self c.end.new.self c.loop-self.invariant.taken c.end.ensures.stream c.end.ensures.due (ap kept c.end.ensures.draft)
-    c.end.ensures.number in
-    on_ok_weaker c.end.result (λ done. taken-text _ left c.end.new.self taken (search rules) done.1) c.end.ensures.ok
+    let taken = then-gathered _ _ left c.loop-self.self c.end.new.self c.loop-self.invariant.taken c.end.ensures.pulled in
+    let done : c.loop-self.self.due ≡ Nothing = search rules in
+    on_ok_weaker c.end.result (λ end. taken-text _ left c.end.new.self taken (c.end.ensures.pulled.due ∙ done) end.1) c.end.ensures.ok
 
 pub returns-clause-whole : goal.returns-clause-whole
 returns-clause-whole g c =
     let left = g.S.Source.left c.end.new.source in
-    let taken =
-    then-gathered _ _ left c.loop-self.self c.end.new.self c.loop-self.invariant.taken c.end.ensures.stream c.end.ensures.due (ap kept c.end.ensures.draft)
-    c.end.ensures.number in
-    on_ok_weaker c.end.result (λ done. taken-whole _ left c.end.new.self taken (search rules) done.1 done.0) c.end.ensures.ok
+    let taken = then-gathered _ _ left c.loop-self.self c.end.new.self c.loop-self.invariant.taken c.end.ensures.pulled in
+    let done : c.loop-self.self.due ≡ Nothing = search rules in
+    on_ok_weaker c.end.result (λ end. taken-whole _ left c.end.new.self taken (c.end.ensures.pulled.due ∙ done) end.1 end.0) c.end.ensures.ok
 
 pub returns-clause-read : goal.returns-clause-read
 returns-clause-read g c =
     let done : c.loop-self.self.due ≡ Nothing = search rules in
     on_ok_weaker c.end.result
-    (λ end. subst (λ d. IsReadTo Nothing (kept d)) (sym c.end.ensures.draft)
+    (λ end. subst (IsReadTo Nothing) (sym c.end.ensures.pulled.kept)
     (subst (λ d. IsReadTo d (kept c.loop-self.self.draft)) done c.loop-self.invariant.ready.read)) c.end.ensures.ok
 
 pub returns-clause-fault : goal.returns-clause-fault
 returns-clause-fault g c =
     let left = g.S.Source.left c.end.new.source in
     let new = c.end.new.self in
-    let done : Nothing ≡ new.due = search rules in
-    let taken =
-    then-gathered _ _ left c.loop-self.self new c.loop-self.invariant.taken c.end.ensures.stream c.end.ensures.due (ap kept c.end.ensures.draft)
-    c.end.ensures.number in
+    let at : c.loop-self.self.due ≡ Nothing = search rules in
+    let done : new.due ≡ Nothing = c.end.ensures.pulled.due ∙ at in
+    let taken = then-gathered _ _ left c.loop-self.self new c.loop-self.invariant.taken c.end.ensures.pulled in
     IfErr-weaker c.end.result _ _
-    (λ kind fault. then-refused _ left new kind taken (subst (λ d. IsFaultOfRest d (pending new.lines) left kind) done fault)) c.end.ensures.err
+    (λ kind fault. then-refused _ left new kind taken (subst (λ d. IsFaultOfRest d (pending new.lines) left kind) (sym done) fault)) c.end.ensures.err

@@ -1,0 +1,70 @@
+use Rattle.std.proofs.Common.{◌≢◌, sym, ◌∙◌, refl, rules, arith}
+use Rattle.record.specs.declared.due.Due.TheVariants.{Nothing}
+use Rattle.record.specs.declared.fault.ReadKind.TheVariants.{Device, NoMemory}
+use Rattle.record.proofs.Drafting.{less-room, ready-gathered}
+use Rattle.record.proofs.Exits.{handed-on}
+use Rattle.record.proofs.Steps.{none-if, not-whole, some-if, pulled-gathered, pulled-more, then-longer, unfinished}
+use Rattle.record.proofs.reader.Reader.gather.Goals as goal
+
+pub returns-in_err-reserve-clause-err : goal.returns-in_err-reserve-clause-err
+returns-in_err-reserve-clause-err g c =
+    let none = not-whole c.in_ok-gather.field-0 _ (search rules) c.in_ok-gather.ensures.ok in
+    handed-on c.from_residual-in_err-reserve.result NoMemory _ _ c.from_residual-in_err-reserve.ensures.1
+    (c.requires.more, unfinished c.gather.new.self _ none refl c.gather.ensures.open c.gather.ensures.short)
+
+pub returns-in_err-pull-clause-err : goal.returns-in_err-pull-clause-err
+returns-in_err-pull-clause-err g c =
+    let line = unfinished c.pull.new.self _ c.in_err-pull.ensures.err c.pull.ensures.line c.gather.ensures.open c.gather.ensures.short in
+    handed-on c.from_residual-in_err-pull.result Device _ _ c.from_residual-in_err-pull.ensures.1 (line, λ done. absurd (c.requires.more done))
+
+pub returns-in_err-pull-clause-pulled : goal.returns-in_err-pull-clause-pulled
+returns-in_err-pull-clause-pulled g c =
+    let none = not-whole c.in_ok-gather.field-0 _ (search rules) c.in_ok-gather.ensures.ok in
+    pulled-more _ (g.S.Source.left c.loop-self.source) _ c.args.self.now c.loop-self.self _ c.gather.new.self c.loop-self.invariant.pulled
+    c.gather.ensures.kept none c.pull.ensures.line c.pull.ensures.bytes (c.pull.ensures.number ∙ c.gather.ensures.number) refl c.reserve.ensures.kept
+
+pub returns-in_err-gather-clause-pulled : goal.returns-in_err-gather-clause-pulled
+returns-in_err-gather-clause-pulled g c =
+    pulled-gathered _ _ c.args.self.now c.loop-self.self _ c.loop-self.invariant.pulled c.gather.ensures.kept c.gather.ensures.number refl refl
+
+pub returns-in_err-reserve-clause-pulled : goal.returns-in_err-reserve-clause-pulled
+returns-in_err-reserve-clause-pulled g c =
+    pulled-gathered _ _ c.args.self.now c.loop-self.self _ c.loop-self.invariant.pulled c.gather.ensures.kept c.gather.ensures.number refl
+    c.reserve.ensures.kept
+
+pub returns-clause-pulled : goal.returns-clause-pulled
+returns-clause-pulled g c =
+    pulled-gathered _ _ c.args.self.now c.loop-self.self _ c.loop-self.invariant.pulled c.gather.ensures.kept c.gather.ensures.number refl refl
+
+pub returns-then-not-branch-2-clause-err : goal.returns-then-not-branch-2-clause-err
+returns-then-not-branch-2-clause-err g c =
+    let none = none-if c.in_ok-pull.field-0 _ (search rules) c.in_ok-pull.ensures.some in
+    let line = unfinished c.pull.new.self _ none c.pull.ensures.line c.gather.ensures.open c.gather.ensures.short in
+    (c.requires.more, line, c.in_ok-pull.ensures.end none)
+
+pub returns-then-not-branch-2-clause-pulled : goal.returns-then-not-branch-2-clause-pulled
+returns-then-not-branch-2-clause-pulled g c =
+    let none = not-whole c.in_ok-gather.field-0 _ (search rules) c.in_ok-gather.ensures.ok in
+    pulled-more _ (g.S.Source.left c.loop-self.source) _ c.args.self.now c.loop-self.self _ c.gather.new.self c.loop-self.invariant.pulled
+    c.gather.ensures.kept none c.pull.ensures.line c.pull.ensures.bytes (c.pull.ensures.number ∙ c.gather.ensures.number) refl c.reserve.ensures.kept
+
+pub loop-self-smaller : goal.loop-self-smaller
+loop-self-smaller g c =
+    let none = not-whole c.in_ok-gather.field-0 _ (search rules) c.in_ok-gather.ensures.ok in
+    let some = some-if c.in_ok-pull.field-0 _ (search rules) c.in_ok-pull.ensures.some in
+    then-longer c.loop-self.self.lines c.gather.new.self c.pull.new.self c.gather.ensures.kept none c.pull.ensures.line c.gather.ensures.short some
+
+pub loop-self-preserved : goal.loop-self-preserved
+loop-self-preserved g c =
+    let none = not-whole c.in_ok-gather.field-0 _ (search rules) c.in_ok-gather.ensures.ok in
+    let room = c.in_ok-reserve.ensures.ok (less-room c.loop-self.self.draft _ 0 (omega arith) c.loop-self.invariant.ready.room) in
+    let number = c.pull.ensures.number ∙ c.gather.ensures.number in
+    let more : c.loop-self.self.due ≢ Nothing = λ done. c.requires.more (sym c.loop-self.invariant.pulled.due ∙ done) in
+    record {
+      ready =
+          ready-gathered c.loop-self.self _ c.loop-self.invariant.ready more refl c.reserve.ensures.kept number
+          (less-room c.reserve.new.self 4096 _ c.pull.ensures.few room);
+      pulled =
+          pulled-more _ (g.S.Source.left c.loop-self.source) _ c.args.self.now c.loop-self.self _ c.gather.new.self c.loop-self.invariant.pulled
+          c.gather.ensures.kept none c.pull.ensures.line c.pull.ensures.bytes number refl c.reserve.ensures.kept;
+    }
