@@ -1,7 +1,7 @@
 -- Tables of cells: what is set in one is read there, and each other is as it was.
 use Rattle.std.specs.Prelude.{◌≡◌, ◌≢◌, ◌⊎◌, ℕ, ◌<◌, All, true, false, ◌==◌, Option, Some, None, List, [], ◌∷◌, slice_get, unwrap_or}
 use Rattle.std.specs.Option.{option_or}
-use Rattle.std.proofs.Common.{refl, ap, sym, ◌∙◌, inl, inr, length, get_or, set, zero, suc, arith}
+use Rattle.std.proofs.Common.{refl, ap, sym, ◌∙◌, inl, inr, length, get_or, set, arith}
 use Rattle.std.proofs.lemmas.List.{length-set, get_or_default, get_or-set_same, get_or-set_other}
 use Rattle.std.proofs.lemmas.Option.{slice_get_within, get_or_from_slice_get}
 use Rattle.std.proofs.lemmas.Bool.{cases_eq}

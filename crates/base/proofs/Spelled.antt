@@ -5,7 +5,7 @@ use Rattle.std.specs.Prelude.{MatchOption, ◌==◌, ◌&&◌, Bool, true, false
 use Rattle.base.specs.declared.controller.entry.Entry.{Entry}
 use Rattle.base.specs.declared.controller.entry.Entry.TheVariants.{Blank, Stall, Act}
 use Rattle.base.specs.declared.controller.entry.Change.{Change}
-use Rattle.base.specs.Entries.{same_list, entry_words, change_words, SpellsOneChange}
+use Rattle.base.specs.Entries.{same_list, entry_words, SpellsOneChange}
 use Rattle.std.specs.Borrow.{Bor}
 use Rattle.std.proofs.lemmas.List.{length-map, map_more, append-nil}
 use Rattle.std.proofs.lemmas.Grind.{flat_map-append}

@@ -1,5 +1,5 @@
 -- The numbers of rows and columns, and the cells of a cache's table.
-use Rattle.std.specs.Prelude.{ℕ, Bool, List}
+use Rattle.std.specs.Prelude.{ℕ, List}
 use Rattle.base.specs.declared.controller.entry.Entry.{Entry}
 use Rattle.base.specs.declared.controller.entry.Change.{Change}
 use Rattle.base.specs.Cells as cells

@@ -1,71 +1,33 @@
 -- In a block without messages nothing waits, and nothing is held.
-use Rattle.std.proofs.Common.{◌≡◌, ◌≢◌, ℕ, ◌<◌, ◌≤◌, ◌+◌, List, [], ◌∷◌, ◌⊎◌, inl, inr, length, get_or, refl, ap, sym, subst, ◌∙◌, zero, suc, arith}
-use Rattle.std.proofs.Common.{Option, Some, None, Bool, true, false, ◌==◌, if◌then◌else◌, slice_get, sum_by, eq-eqb, map, add-one}
-use Rattle.std.proofs.lemmas.Bool.{cases_eq, cases_lt}
-use Rattle.std.proofs.lemmas.List.Sums.{sum_by-cons}
+use Rattle.std.proofs.Common.{◌≡◌, ◌≢◌, ℕ, ◌<◌, [], inl, inr, refl, ap, arith}
+use Rattle.std.proofs.Common.{Option, Some, None, if◌then◌else◌, slice_get, sum_by, map}
+use Rattle.std.proofs.lemmas.Bool.{cases_eq}
 use Rattle.base.specs.declared.ids.CacheId.{CacheId}
 use Rattle.base.specs.declared.ids.BlockId.{BlockId}
 use Rattle.base.specs.declared.step.Ask.{Ask}
 use Rattle.base.specs.declared.step.Ask.TheVariants.{Load, Store, Replace}
-use Rattle.base.specs.declared.step.Step.{Step}
 use Rattle.base.specs.declared.step.Step.TheVariants as step
-use Rattle.base.specs.declared.step.Outcome.{Outcome}
 use Rattle.base.specs.declared.step.Outcome.TheVariants as outcome
-use Rattle.base.specs.declared.ids.Place.TheVariants.{Dir, Cache}
-use Rattle.base.specs.Steps.{block_of}
-use Rattle.network.specs.declared.message.Request.{Request}
-use Rattle.network.specs.declared.message.RequestKind.{RequestKind}
-use Rattle.network.specs.declared.message.RequestKind.TheVariants as request
 use Rattle.network.specs.declared.message.Forward.{Forward}
-use Rattle.network.specs.declared.message.ForwardKind.{ForwardKind}
-use Rattle.network.specs.declared.message.ForwardKind.TheVariants.{FwdGetS, FwdGetM, Inv, PutAck}
-use Rattle.network.specs.declared.message.Response.{Response}
-use Rattle.network.specs.declared.message.Response.TheVariants as response
 use Rattle.network.specs.Traffic.{Traffic, link}
-use Rattle.cache_table.specs.declared.state.CacheState.{CacheState}
-use Rattle.cache_table.specs.declared.event.CacheEvent.TheVariants as line_event
-use Rattle.cache_table.specs.Table.{CacheEntry}
-use Rattle.base.specs.declared.controller.entry.Entry.TheVariants as entry
 use Rattle.cache_table.specs.Baseline as cache_table
-use Rattle.cache_table.specs.Table as cache_table_cells
-use Rattle.cache_table.proofs.BaselineCells as cache_cells
-use Rattle.directory_table.specs.declared.state.DirectoryState.{DirectoryState}
-use Rattle.directory_table.specs.declared.state.DirectoryState.TheVariants as home
-use Rattle.directory_table.specs.declared.event.DirectoryEvent.TheVariants as event
-use Rattle.directory_table.specs.Table.{DirectoryEntry}
-use Rattle.directory_table.specs.Baseline as directory_table
-use Rattle.directory_table.proofs.BaselineCells as directory_cells
 use Rattle.control.specs.declared.line.Line.{Line}
-use Rattle.control.specs.declared.line.LineInput.{LineInput}
 use Rattle.control.specs.declared.line.LineInput.TheVariants as line_input
-use Rattle.control.specs.declared.line.LineCompletion.{LineCompletion}
-use Rattle.control.specs.declared.line.LineCompletion.TheVariants as done
-use Rattle.control.specs.declared.home.HomeInput.TheVariants as home_input
-use Rattle.control.specs.Sharing.{is_sole}
-use Rattle.control.specs.Events.{event_at_line, forward_event, is_count, more_acks, event_at_home, owns}
-use Rattle.machine.proofs.Truths.{Never}
 use Rattle.machine.specs.Block.{BlockState}
-use Rattle.machine.specs.Transition.{Transition, outcome_of, carried_out, by_line_entry, by_home_entry, at_line, at_ask, at_request, at_forward}
-use Rattle.machine.specs.Transition.{at_response, is_idle, transition}
-use Rattle.machine.specs.declared.decision.Origin.{Origin}
+use Rattle.machine.specs.Transition.{carried_out, at_line, at_ask}
+use Rattle.machine.specs.Transition.{is_idle, transition}
 use Rattle.machine.specs.declared.decision.Origin.TheVariants as origin
 use Rattle.machine.specs.declared.decision.Decision.TheVariants.{Refused}
-use Rattle.control.specs.LineEffect.{line_completes}
 use Rattle.machine.specs.Tables.{baseline}
-use Rattle.machine.specs.Unstuck.{IsDelivery}
 use Rattle.machine.proofs.Quiet.{IsQuiet}
-use Rattle.machine.proofs.Views.{View, Local}
-use Rattle.machine.proofs.Counts.{only, total, link-total, sum_by-remove, link-there, total-below}
-use Rattle.machine.proofs.Seen.{seen, view_of, names, of_kind, is_fwd_gets, is_fwd_getm, is_inv, dir_data, owner_data, inv_ack, home_data}
+use Rattle.machine.proofs.Counts.{total}
+use Rattle.machine.proofs.Seen.{seen, names, is_fwd_gets, is_fwd_getm, is_inv, dir_data, owner_data, inv_ack}
 use Rattle.machine.proofs.Sound.{Sound, local-at}
-use Rattle.machine.proofs.Homes.{line_of-past}
-use Rattle.machine.proofs.ForwardTransitions.{rest_of, own-begins}
 use Rattle.machine.proofs.Values.{Valued}
 use Rattle.machine.proofs.LineValues.{waits-at}
-use Rattle.machine.proofs.Ranks.{Ranked, owed_to}
-use Rattle.machine.proofs.StallRules.{Serves, Unanswered, Idle, HasInvIn, data_zero_serves, data_more_serves, data_owner_serves, inv_ack_serves}
-use Rattle.machine.proofs.StallRules.{last_ack_serves, put_ack_serves, inv_serves, fwd_gets_serves, fwd_getm_serves, inv_first, idle_pending}
-use Rattle.machine.proofs.StallRules.{idle_load, idle_store, idle_replace, response_waits}
+use Rattle.machine.proofs.StallRules.{Idle}
+use Rattle.machine.proofs.StallRules.{idle_pending}
+use Rattle.machine.proofs.StallRules.{idle_load, idle_store, idle_replace}
 use Rattle.machine.proofs.Cases.{by-test}
 use Rattle.machine.proofs.Moves.{line-moves, find-link}
 

@@ -5,8 +5,6 @@ use Rattle.std.proofs.lemmas.Bool.{cases_eq, cases_lt}
 use Rattle.std.proofs.lemmas.List.Sums.{sum_by-cons}
 use Rattle.base.specs.declared.ids.CacheId.{CacheId}
 use Rattle.base.specs.declared.ids.BlockId.{BlockId}
-use Rattle.base.specs.declared.step.Ask.{Ask}
-use Rattle.base.specs.declared.step.Ask.TheVariants.{Load, Store, Replace}
 use Rattle.base.specs.declared.step.Step.{Step}
 use Rattle.base.specs.declared.step.Step.TheVariants as step
 use Rattle.base.specs.declared.step.Outcome.{Outcome}
@@ -45,11 +43,10 @@ use Rattle.control.specs.Sharing.{is_sole}
 use Rattle.control.specs.Events.{event_at_line, forward_event, is_count, more_acks, event_at_home, owns}
 use Rattle.machine.proofs.Truths.{Never}
 use Rattle.machine.specs.Block.{BlockState}
-use Rattle.machine.specs.Transition.{Transition, outcome_of, carried_out, by_line_entry, by_home_entry, at_line, at_ask, at_request, at_forward}
-use Rattle.machine.specs.Transition.{at_response, is_idle, transition}
+use Rattle.machine.specs.Transition.{Transition, outcome_of, carried_out, by_line_entry, by_home_entry, at_line, at_request, at_forward}
+use Rattle.machine.specs.Transition.{at_response, transition}
 use Rattle.machine.specs.declared.decision.Origin.{Origin}
 use Rattle.machine.specs.declared.decision.Origin.TheVariants as origin
-use Rattle.machine.specs.declared.decision.Decision.TheVariants.{Refused}
 use Rattle.control.specs.LineEffect.{line_completes}
 use Rattle.machine.specs.Tables.{baseline}
 use Rattle.machine.specs.Unstuck.{IsDelivery}
@@ -60,12 +57,10 @@ use Rattle.machine.proofs.Seen.{seen, view_of, names, of_kind, is_fwd_gets, is_f
 use Rattle.machine.proofs.Sound.{Sound, local-at}
 use Rattle.machine.proofs.Homes.{line_of-past}
 use Rattle.machine.proofs.ForwardTransitions.{rest_of, own-begins}
-use Rattle.machine.proofs.Values.{Valued}
-use Rattle.machine.proofs.LineValues.{waits-at}
 use Rattle.machine.proofs.Ranks.{Ranked, owed_to}
-use Rattle.machine.proofs.StallRules.{Serves, Unanswered, Idle, HasInvIn, data_zero_serves, data_more_serves, data_owner_serves, inv_ack_serves}
-use Rattle.machine.proofs.StallRules.{last_ack_serves, put_ack_serves, inv_serves, fwd_gets_serves, fwd_getm_serves, inv_first, idle_pending}
-use Rattle.machine.proofs.StallRules.{idle_load, idle_store, idle_replace, response_waits}
+use Rattle.machine.proofs.StallRules.{Serves, Unanswered, HasInvIn, data_zero_serves, data_more_serves, data_owner_serves, inv_ack_serves}
+use Rattle.machine.proofs.StallRules.{last_ack_serves, put_ack_serves, inv_serves, fwd_gets_serves, fwd_getm_serves, inv_first}
+use Rattle.machine.proofs.StallRules.{response_waits}
 use Rattle.machine.proofs.Cases.{by-test}
 
 -- a transition that is neither held nor without its message

@@ -1,11 +1,10 @@
 -- A text is the text of one recording.
-use Rattle.std.proofs.Common.{◌≡◌, ◌<◌, ◌+◌, ◌^◌, ℕ, zero, suc, Bool, true, false, not, List, [], ◌∷◌, ◌++◌, Option, None, Some, length, map, get_or}
+use Rattle.std.proofs.Common.{◌≡◌, ◌<◌, ◌+◌, ◌^◌, ℕ, zero, suc, Bool, true, false, List, [], ◌∷◌, ◌++◌, Option, None, Some, length, map, get_or}
 use Rattle.std.proofs.Common.{refl, ap, sym, subst, ◌∙◌, arith, append-nil, codes}
 use Rattle.std.specs.List.{AllByRecursion, flat_map, range_with_len}
 use Rattle.std.specs.Fmt.{decimal}
 use Rattle.std.proofs.lemmas.Fmt.{decimal_injective}
 use Rattle.std.proofs.lemmas.List.Elements.{recursion_from_All}
-use Rattle.std.proofs.lemmas.Slice.Eq.{bytes_eq-Decides}
 use Rattle.base.specs.Spelling.{words, outcome_words, FitsOutcome}
 use Rattle.base.specs.declared.ids.CacheId.{CacheId}
 use Rattle.base.specs.declared.step.Step.{Step}
@@ -13,19 +12,14 @@ use Rattle.base.specs.declared.step.Outcome.{Outcome}
 use Rattle.base.specs.declared.step.Outcome.TheVariants as outcome
 use Rattle.base.proofs.Spellings.{same_step}
 use Rattle.base.specs.Extent.{Extent}
-use Rattle.cache_table.specs.Table.{CacheEntry}
-use Rattle.base.specs.declared.controller.entry.Entry.TheVariants as table_entry
-use Rattle.directory_table.specs.Table.{DirectoryEntry}
-use Rattle.machine.specs.Tables.{Tables, baseline}
+use Rattle.machine.specs.Tables.{Tables}
 use Rattle.record.specs.declared.cells.Spot.{Spot}
 use Rattle.record.specs.declared.cells.Cell.{Cell}
-use Rattle.record.specs.declared.cells.Cell.TheVariants as cell
 use Rattle.record.specs.declared.recording.Entry.{Entry}
 use Rattle.record.specs.Cells.{all_spots, cell_at, cell_words, spot_number}
 use Rattle.record.specs.Kept.{Kept}
 use Rattle.base.specs.Spelling.{joined}
 use Rattle.record.specs.Text.{text, line, lines, shape_words, opening_words, cells_words, entries_words, entry_words, end_words, is_changed}
-use Rattle.record.specs.Cells.{is_same}
 use Rattle.record.specs.Text.{changed, changed_cells}
 use Rattle.record.specs.declared.due.Due.TheVariants.{Header}
 use Rattle.record.specs.Grammar.{FitsEntry}
@@ -37,7 +31,7 @@ use Rattle.record.proofs.Alike.{cell-same, unchanged}
 use Rattle.record.proofs.Changed.{changed-cons}
 use Rattle.record.proofs.Legible.{IsLine, joined-open, words-joined}
 use Rattle.record.proofs.Ending.{some-line, one-line_first}
-use Rattle.record.proofs.Leading.{cell-line, count-same, shape-same}
+use Rattle.record.proofs.Leading.{count-same, shape-same}
 use Rattle.record.proofs.Faulting.{same-halves}
 use Rattle.record.proofs.Following.{AreListed, spot-own, listed-from, few-cells, recorded-lines, text-whole}
 use Rattle.record.proofs.Listed.{at-own, numbers, some_spot}

@@ -25,7 +25,7 @@ use Rattle.record.specs.declared.cells.Spot.{Spot}
 use Rattle.record.specs.declared.cells.Spot.TheVariants as spot
 use Rattle.record.specs.declared.cells.Cell.{Cell}
 use Rattle.record.specs.declared.cells.Cell.TheVariants as cell
-use Rattle.record.specs.Cells.{all_spots, cell_at, cell_words, is_same, spot_number, spot_of}
+use Rattle.record.specs.Cells.{all_spots, cell_at, is_same, spot_number, spot_of}
 use Rattle.record.specs.Text.{changed, changed_cells, is_changed, line}
 use Rattle.record.specs.Grammar.{IsListed}
 use Rattle.record.specs.Refused.{ended}

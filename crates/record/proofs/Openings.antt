@@ -1,8 +1,6 @@
 -- Lines of opening values.
-use Rattle.std.proofs.Common.{◌≡◌, ◌≢◌, ◌<◌, ◌^◌, ◌+◌, suc, ℕ, List, [], ◌∷◌, ◌++◌, Option, Some, None, length, map, get_or, ap, sym, ◌∙◌, arith, eqb}
+use Rattle.std.proofs.Common.{◌≡◌, ◌≢◌, ◌<◌, ◌^◌, ◌+◌, suc, ℕ, List, [], ◌∷◌, ◌++◌, length, map, get_or, ap, sym, ◌∙◌, arith, eqb}
 use Rattle.std.proofs.Common.{length-append, append_assoc, codes}
-use Rattle.std.specs.Prelude.{MatchOption}
-use Rattle.std.specs.Borrow.{Bor}
 use Rattle.std.specs.Fmt.{decimal}
 use Rattle.std.proofs.lemmas.List.{length-map, get_or-map, get_or_at, map_push}
 use Rattle.std.proofs.lemmas.List.Elements.{All-get_or}

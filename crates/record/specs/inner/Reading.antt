@@ -1,6 +1,5 @@
 -- How a text is read line by line. Only private clauses cite this file.
-use Rattle.std.specs.Prelude.{Bool, true, false, ◌≡◌, ◌≢◌, ℕ, ◌+◌, ◌<◌, ◌≤◌, ◌^◌, List, [], ◌∷◌, ◌++◌, Option, Some, None, All, codes, length}
-use Rattle.std.specs.Borrow.{Bor}
+use Rattle.std.specs.Prelude.{Bool, true, false, ◌≡◌, ◌≢◌, ℕ, ◌+◌, ◌<◌, ◌≤◌, ◌^◌, List, [], ◌∷◌, ◌++◌, Option, All, codes, length}
 use Rattle.std.specs.Io.KnownBytes.{prepend_known}
 use Rattle.std.specs.Fmt.{decimal}
 use Rattle.base.specs.Extent.{Extent, IsWithinLimits}

@@ -1,5 +1,4 @@
-use Rattle.std.proofs.Common.{◌≡◌, sym, ◌∙◌, ap, arith, length, rules}
-use Rattle.base.specs.Entries.{same_list}
+use Rattle.std.proofs.Common.{sym, rules}
 use Rattle.base.proofs.Spelled.{same_list-length}
 use Rattle.base.proofs.controller.actions.are_same.Goals as goal
 

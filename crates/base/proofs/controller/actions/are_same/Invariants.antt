@@ -1,4 +1,4 @@
-use Rattle.std.proofs.Common.{◌≡◌, drop, length}
+use Rattle.std.proofs.Common.{◌≡◌, drop}
 use Rattle.base.specs.Entries.{same_list}
 use Rattle.base.proofs.controller.actions.are_same.Given as goal
 

@@ -1,4 +1,4 @@
-use Rattle.std.proofs.Common.{◌≡◌, ◌∙◌, ap, length, arith}
+use Rattle.std.proofs.Common.{◌∙◌, ap, length, arith}
 use Rattle.base.proofs.Spelled.{pushed-more}
 use Rattle.base.proofs.controller.spelling.push_actions.Goals as goal
 
