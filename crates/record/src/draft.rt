@@ -73,6 +73,7 @@ impl Draft {
         }
     }
 
+    /// Takes the line of the shape.
     fn accept_shape(&mut self, line: &[u8]) -> Result<Due, ReadKind>
         requires read { IsReadTo due.ShapeLine (kept self.old) }
         ensures ok { IfOk result (λ next. IsTaken due.ShapeLine (kept self.old) (words line.now) next (kept self.new)) }
@@ -83,6 +84,7 @@ impl Draft {
         Ok(Due::OpeningLine(self.shape))
     }
 
+    /// Takes the line of the opening values.
     fn accept_opening(&mut self, line: &[u8], shape: Shape) -> Result<Due, ReadKind>
         requires read { IsReadTo (due.OpeningLine shape) (kept self.old) }
         requires room { HasRoom self.old 1 }
@@ -94,6 +96,7 @@ impl Draft {
         Ok(Due::CellCount)
     }
 
+    /// Takes the line of a cell, of which so many are still to come.
     fn accept_cell(&mut self, line: &[u8], left: u32, from: usize) -> Result<Due, ReadKind>
         requires read { IsReadTo (due.CellLine left from) (kept self.old) }
         ensures ok { IfOk result (λ next. IsTaken (due.CellLine left from) (kept self.old) (words line.now) next (kept self.new)) }
@@ -107,6 +110,7 @@ impl Draft {
         Ok(Due::cells(left - 1, spot_number(cell.spot()) + 1))
     }
 
+    /// Takes the line of an entry, of which so many are still to come.
     fn accept_entry(&mut self, line: &[u8], left: u32) -> Result<Due, ReadKind>
         requires read { IsReadTo (due.EntryLine left) (kept self.old) }
         requires room { HasRoom self.old 1 }

@@ -1,7 +1,9 @@
-use Rattle.std.proofs.Common.{subst, sym}
+use Rattle.std.proofs.Common.{◌+◌, subst, sym}
 use Rattle.std.specs.Io.KnownBytes.{Consumes}
+use Rattle.record.specs.declared.due.Due.TheVariants.{Header}
 use Rattle.record.specs.Kept.{Kept}
 use Rattle.record.specs.Recordable.{IsRecordable}
+use Rattle.record.specs.Refused.{IsRefused}
 use Rattle.record.specs.Text.{text}
 use Rattle.record.proofs.Inverses.{read-back, refused-outside}
 use Rattle.record.proofs.Steps.{no-room}
@@ -9,6 +11,11 @@ use Rattle.record.proofs.recording.Recording.read.Goals as goal
 
 pub returns-in_default-clause-fault : goal.returns-in_default-clause-fault
 returns-in_default-clause-fault g c = no-room (g.S.Source.left c.args.source.now)
+
+pub returns-in-Err-clause-fault : goal.returns-in-Err-clause-fault
+returns-in-Err-clause-fault g c =
+    subst (λ n. IsRefused (g.S.Source.left c.args.source.now) (g.S.Source.left c.read_all.new.source) 0 Header (n + 1) c.in-Err.kind) (sym c.number.ensures)
+    c.in-Err.ensures.fault
 
 pub returns-in-Ok-read_all-clause-text : goal.returns-in-Ok-read_all-clause-text
 returns-in-Ok-read_all-clause-text g c =
