@@ -1,0 +1,4 @@
+pub mod Lists
+pub mod Ties
+pub mod Entering
+pub mod Drawing
