@@ -2,3 +2,4 @@ pub mod Lists
 pub mod Ties
 pub mod Entering
 pub mod Drawing
+pub mod Owned
