@@ -3,4 +3,5 @@ pub mod Histories
 pub mod FloorId
 pub mod Turning
 pub mod Closing
+pub mod Crews
 pub mod inner

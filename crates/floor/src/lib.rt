@@ -3,6 +3,7 @@
 
 mod belonging;
 mod closing;
+mod crews;
 mod floors;
 mod grounds;
 mod halls;
@@ -10,6 +11,7 @@ mod seats;
 mod tokens;
 
 pub use closing::{CloseFault, Closed};
+pub use crews::{Chooser, CrewFault, Gate, Wish, crew};
 pub use floors::{Floor, FloorFault, MOST_SEATS};
 pub use grounds::{Ground, Naming};
 pub use halls::{Hall, TurnFault};
