@@ -235,3 +235,17 @@ compares slots id me a b o keep sit s h len at fits =
       record { by = h.by; place = h.place; es = h.es; os = h.os; n = h.n; even = h.even; fits = λ b x got. h.fits b x (set_same s.views id b me.0 x at got) },
       (refl, (own.1 sit).2 ∙ cc (sym kept.1, sym kept.2)),
     )
+
+-- what is left behind where the keeper took a seat, added an entry, and let the seat go
+pub added : (h t u a b x hall seat : Me Entry TokenView) (e : Entry) → h ≡ (keeper h.0.entries h.0.owners h.0.next, []) → u ≡ t → a ≡ (h.0, h.1) → b ≡ (seated a.0 u.0, a.1) →
+    x.0 ≡ grown b.0 e → x.1 ≡ b.1 → hall ≡ (stood x.0, x.1) → seat ≡ (risen x.0, []) →
+    (hall ≡ (keeper (h.0.entries ++ e ∷ []) (h.0.owners ++ t.0.number ∷ []) h.0.next, []))
+    × (seat ≡ (sitting t.0.number (t.0.made ++ (length h.0.entries, e) ∷ []), []))
+added h t u a b x hall seat e keep taken spared joined grew kept stood' risen' =
+    let same : x.0 ≡ grown (seated h.0 t.0) e =
+    grew ∙ ap (λ (m : Me Entry TokenView). grown m.0 e) (joined ∙ (ap (λ (m : Me Entry TokenView). let n : Me Entry TokenView = (seated m.0 u.0, m.1) in n) spared ∙ ap (λ (m : Me Entry TokenView). let n : Me Entry TokenView = (seated h.0 m.0, h.1) in n) taken)) in
+    let lent : x.1 ≡ [] =
+    kept ∙ (ap (λ (m : Me Entry TokenView). m.1) joined ∙ (ap (λ (m : Me Entry TokenView). m.1) spared ∙ ap (λ (m : Me Entry TokenView). m.1) keep)) in (
+      stood' ∙ (ap (λ v. (stood v, x.1)) same ∙ ap (λ l. (stood (grown (seated h.0 t.0) e), l)) lent),
+      risen' ∙ ap (λ v. (risen v, [])) same,
+    )
