@@ -1,5 +1,5 @@
 -- The step that a word draws.
-use Rattle.std.proofs.Common.{◌≡◌, ◌<◌, ◌%◌, ℕ, List, Option, Some, true, length, filter, slice_get, get_or, sym, ap, ◌∙◌, subst, arith}
+use Rattle.std.proofs.Common.{◌≡◌, ◌<◌, ◌%◌, ℕ, List, Option, Some, true, length, slice_get, get_or, sym, ap, ◌∙◌, subst, arith}
 use Rattle.std.proofs.lemmas.Option.{slice_get-get_or}
 use Rattle.std.proofs.lemmas.List.Elements.{filter_passes}
 use Rattle.base.specs.Extent.{Extent}
@@ -27,10 +27,10 @@ drawn f world watch recording os violation seats es number seat word steps s h e
     let state : world.state ≡ state_of f.setup es = h.state ∙ ap (state_of f.setup) entries in
     let same : steps ≡ its_ready f es seat =
     e ∙ (ap (λ n. ready_for n world.shape.caches world.tables world.state number) many
-      ∙ (ap (λ n. ready_for f.seats n world.tables world.state number) caches
-        ∙ (ap (λ (t : Tables). ready_for f.seats f.setup.shape.caches t world.state number) h.tables
-          ∙ (ap (λ (x : State). ready_for f.seats f.setup.shape.caches f.setup.tables x number) state
-            ∙ ap (λ n. its_ready f es n) is)))) in
+    ∙ (ap (λ n. ready_for f.seats n world.tables world.state number) caches
+    ∙ (ap (λ (t : Tables). ready_for f.seats f.setup.shape.caches t world.state number) h.tables
+    ∙ (ap (λ (x : State). ready_for f.seats f.setup.shape.caches f.setup.tables x number) state
+    ∙ ap (λ n. its_ready f es n) is)))) in
     let k : ℕ = word % length steps in
     let within : k < length steps = omega (arith, some) in
     let inside : k < length (its_ready f es seat) = subst (λ (l : List Step). k < length l) same within in

@@ -1,5 +1,5 @@
 -- One entry more keeps what the lock keeps.
-use Rattle.std.proofs.Common.{◌≡◌, ◌<◌, ◌≤◌, ℕ, zero, suc, List, [], ◌∷◌, ◌++◌, ◌+◌, Option, Some, Result, Ok, Err, IsOk, IfOk, Bool, true, length, take, map, slice_get, refl, sym, ap, ◌∙◌, subst, inl, inr, arith, length-append}
+use Rattle.std.proofs.Common.{◌≡◌, ◌<◌, ◌≤◌, ℕ, List, [], ◌∷◌, ◌++◌, ◌+◌, Option, Result, Ok, Err, IsOk, IfOk, true, length, take, refl, sym, ap, ◌∙◌, subst, inl, inr, arith, length-append}
 use Rattle.std.proofs.lemmas.List.{map_push, length-map, take-append-le}
 use Rattle.base.specs.Extent.{Extent}
 use Rattle.base.specs.declared.fault.NoMemory.{NoMemory}
@@ -15,12 +15,12 @@ use Rattle.monitor.specs.Violations.{AnswersFirst}
 use Rattle.monitor.specs.Watching.{HasSeen, LeadTo, AnswersHistory, SeesNext, AreDue, made_after, scene_after}
 use Rattle.monitor.proofs.FirstViolations.{first_seen, first-push}
 use Rattle.record.specs.declared.recording.Entry.{Entry}
-use Rattle.record.specs.Kept.{Kept, IsLegal, steps_of, with_entry}
+use Rattle.record.specs.Kept.{Kept, steps_of, with_entry}
 use Rattle.trials.specs.Terms.{Terms}
 use Rattle.floor.specs.FloorId.{FloorId}
-use Rattle.floor.specs.Turning.{recorded, state_of, is_its, IsFirstOf}
-use Rattle.floor.specs.Closing.{HaveOwners, Belonged}
-use Rattle.floor.specs.inner.Keeping.{IsKeptUp}
+use Rattle.floor.specs.Turning.{recorded, is_its}
+use Rattle.floor.specs.Closing.{HaveOwners}
+use Rattle.floor.specs.inner.Keeping.{IsKeptUp, Advances}
 use Rattle.floor.proofs.Lists.{get_push, take_whole}
 
 state_push : (tables : Tables) (s : State) (xs : List Step) (step : Step) → state_after tables s (xs ++ step ∷ []) ≡ (next tables (state_after tables s xs) step).state
@@ -40,16 +40,16 @@ owned_push f es os e o h lt mine = record {
   belonged = λ k x p at by. elim (get_push es e x k at) [
     | inl a ↦ elim (get_push os o p k by) [
       | inl b ↦
-        let low : k ≤ length es = (let l = a.1 in omega (arith, l)) in
-        subst (λ (l : List Entry). (p < f.seats) × (is_its f l p x.step ≡ true)) (sym (take-append-le k es (e ∷ []) low)) (h.belonged k x p a.0 b.0)
+          let low : k ≤ length es = (let l = a.1 in omega (arith, l)) in
+          subst (λ (l : List Entry). (p < f.seats) × (is_its f l p x.step ≡ true)) (sym (take-append-le k es (e ∷ []) low)) (h.belonged k x p a.0 b.0)
       | inr b ↦ absurd (let l = a.1 in let r = b.0 in omega (arith, l, r, h.each))
     ]
     | inr a ↦ elim (get_push os o p k by) [
       | inl b ↦ absurd (let l = b.1 in let r = a.0 in omega (arith, l, r, h.each))
       | inr b ↦
-        let front : take k (es ++ e ∷ []) ≡ es = ap (λ n. take n (es ++ e ∷ [])) a.0 ∙ take_whole es (e ∷ []) in
-        subst (λ (l : List Entry). (p < f.seats) × (is_its f l p x.step ≡ true)) (sym front)
-        (subst (λ (q : ℕ). (q < f.seats) × (is_its f es q x.step ≡ true)) b.1 (subst (λ (y : Entry). (o < f.seats) × (is_its f es o y.step ≡ true)) a.1 (lt, mine)))
+          let front : take k (es ++ e ∷ []) ≡ es = ap (λ n. take n (es ++ e ∷ [])) a.0 ∙ take_whole es (e ∷ []) in
+          subst (λ (l : List Entry). (p < f.seats) × (is_its f l p x.step ≡ true)) (sym front)
+          (subst (λ (q : ℕ). (q < f.seats) × (is_its f es q x.step ≡ true)) b.1 (subst (λ (y : Entry). (o < f.seats) × (is_its f es o y.step ≡ true)) a.1 (lt, mine)))
     ]
   ];
 }
@@ -85,9 +85,9 @@ kept_push f world new watch watch' recording os violation e o seen h lt mine mad
     record {
       recorded_is = refl;
       legal =
-        map_push (λ (e : Entry). e.outcome) es e ∙ (ap (λ os. os ++ e.outcome ∷ []) h.legal
+          map_push (λ (e : Entry). e.outcome) es e ∙ (ap (λ os. os ++ e.outcome ∷ []) h.legal
           ∙ (ap (λ o. outcomes_of setup.tables s before ++ o ∷ []) (ap (λ (n : Next). n.outcome) (sym here))
-              ∙ (sym (outcomes_push setup.tables s before e.step) ∙ ap (outcomes_of setup.tables s) (sym steps))));
+          ∙ (sym (outcomes_push setup.tables s before e.step) ∙ ap (outcomes_of setup.tables s) (sym steps))));
       shape = new_shape;
       tables = new_tables;
       state = ap (λ (n : Next). n.state) (sym here) ∙ (sym (state_push setup.tables s before e.step) ∙ ap (state_after setup.tables s) (sym steps));
@@ -98,7 +98,7 @@ kept_push f world new watch watch' recording os violation e o seen h lt mine mad
     }
 
 -- a step directly after its `ready` is made, and has the outcome that was told
-as_told : (world mid new : View) (step : Step) (told : Outcome) (r : Result Outcome NoMemory) → mid.tables ≡ world.tables → mid.state ≡ world.state →
+pub as_told : (world mid new : View) (step : Step) (told : Outcome) (r : Result Outcome NoMemory) → mid.tables ≡ world.tables → mid.state ≡ world.state →
     told ≡ (next world.tables world.state step).outcome → IsOk r → IfOk r (λ what. next mid.tables mid.state step ≡ stepped new.state what) →
     next world.tables world.state step ≡ stepped new.state told
 as_told world mid new step told (Ok what) tables state is ok made =
@@ -107,17 +107,21 @@ as_told world mid new step told (Ok what) tables state is ok made =
     here ∙ ap (stepped new.state) (sym (is ∙ ap (λ (n : Next). n.outcome) here))
 as_told world mid new step told (Err fault) tables state is ok made = absurd (cc ok)
 
-pub kept_more : (f : FloorId) (world mid new : View) (watch watch' : List ℕ) (recording recording' : Kept) (os os' : List ℕ) (violation violation' : Option (ℕ × Violation))
-    (e : Entry) (o n : ℕ) (seen : Option Violation) (r : Result Outcome NoMemory) →
-    IsKeptUp f world watch recording os violation → o < f.seats → is_its f recording.entries o e.step ≡ true →
-    mid.shape ≡ world.shape → mid.tables ≡ world.tables → mid.state ≡ world.state → e.outcome ≡ (next world.tables world.state e.step).outcome →
-    IsOk r → IfOk r (λ what. next mid.tables mid.state e.step ≡ stepped new.state what) → new.shape ≡ mid.shape → new.tables ≡ mid.tables →
-    AnswersHistory new watch e.step e.outcome seen → SeesNext new watch e.step e.outcome watch' →
-    recording' ≡ with_entry recording e → os' ≡ os ++ o ∷ [] → n ≡ length recording.entries → violation' ≡ first_seen violation n seen →
+pub kept_more : (f : FloorId) (world new : View) (watch watch' : List ℕ) (recording recording' : Kept) (os os' : List ℕ) (violation violation' : Option (ℕ × Violation))
+    (step : Step) (e : Entry) (o n : ℕ) (seen : Option Violation) →
+    IsKeptUp f world watch recording os violation → o < f.seats → is_its f recording.entries o step ≡ true →
+    Advances world new recording recording' step e → AnswersHistory new watch step e.outcome seen → SeesNext new watch step e.outcome watch' →
+    os' ≡ os ++ o ∷ [] → n ≡ length recording.entries → violation' ≡ first_seen violation n seen →
     IsKeptUp f new watch' recording' os' violation'
-kept_more f world mid new watch watch' recording recording' os os' violation violation' e o n seen r h lt mine shape tables state told ok made shape' tables' answers sees same_recording same_owners number same_violation =
-    let kept = kept_push f world new watch watch' recording os violation e o seen h lt mine (as_told world mid new e.step e.outcome r tables state told ok made) (shape' ∙ shape) (tables' ∙ tables) answers sees in
-    let same : recording' ≡ recorded f.setup (recording.entries ++ e ∷ []) = same_recording ∙ ap (λ (k : Kept). with_entry k e) h.recorded_is in
+kept_more f world new watch watch' recording recording' os os' violation violation' step e o n seen h lt mine advances answers sees same_owners number same_violation =
+    let a = advances in
+    let is : step ≡ e.step = sym a.step_is in
+    let kept = kept_push f world new watch watch' recording os violation e o seen h lt
+    (subst (λ (s : Step). is_its f recording.entries o s ≡ true) is mine)
+    (subst (λ (s : Step). next world.tables world.state s ≡ stepped new.state e.outcome) is a.made) a.shape a.tables
+    (subst (λ (s : Step). AnswersHistory new watch s e.outcome seen) is answers)
+    (subst (λ (s : Step). SeesNext new watch s e.outcome watch') is sees) in
+    let same : recording' ≡ recorded f.setup (recording.entries ++ e ∷ []) = a.recorded ∙ ap (λ (k : Kept). with_entry k e) h.recorded_is in
     rw (same, same_owners, same_violation, number) kept
 
 -- there was room for one entry more

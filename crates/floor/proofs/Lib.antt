@@ -3,3 +3,4 @@ pub mod Ties
 pub mod Entering
 pub mod Drawing
 pub mod Owned
+pub mod Crewing

@@ -1,5 +1,5 @@
 -- A list with one more element, place by place.
-use Rattle.std.proofs.Common.{◌≡◌, ◌⊎◌, ◌<◌, ◌≤◌, ℕ, zero, suc, List, [], ◌∷◌, ◌++◌, Some, length, take, slice_get, refl, ap, inl, inr, arith, ◌∙◌}
+use Rattle.std.proofs.Common.{◌≡◌, ◌⊎◌, ◌<◌, ℕ, zero, suc, List, [], ◌∷◌, ◌++◌, Some, length, take, slice_get, refl, ap, inl, inr, arith, ◌∙◌}
 use Rattle.std.proofs.lemmas.List.{take_all, take-append-le}
 
 -- an element of a list with one more is one of the list, or that one

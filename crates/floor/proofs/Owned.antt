@@ -1,5 +1,5 @@
 -- What a seat owns stands in the recording, and each entry has its owner.
-use Rattle.std.proofs.Common.{◌≡◌, ℕ, zero, suc, ◌+◌, ◌<◌, cond, eqb, List, [], ◌∷◌, length, get_or, slice_get, Some, Bool, true, false, refl, sym, ap, ◌∙◌, subst, arith}
+use Rattle.std.proofs.Common.{◌≡◌, ℕ, zero, suc, ◌+◌, cond, eqb, List, [], ◌∷◌, length, slice_get, Some, Bool, true, false, refl, sym, ap, ◌∙◌, subst, arith}
 use Rattle.std.proofs.lemmas.Bool.Decides.{nat_tests}
 use Rattle.std.proofs.lemmas.Option.{slice_get_within, get_or_from_slice_get, some_pair_parts}
 use Rattle.record.specs.declared.recording.Entry.{Entry}
@@ -39,7 +39,7 @@ owner_from k (x ∷ es) (o ∷ os) zero e even p = (
   refl,
   0,
   ap (λ l. slice_get l 0) (own_is o ((k, x) ∷ owned_from o (k + 1) es os) (owned_from o (k + 1) es os))
-  ∙ (let f : x ≡ e = cc p in ap Some (ap (λ y. (k, y)) f ∙ ap (λ n. (n, e)) (omega arith))),
+      ∙ (let f : x ≡ e = cc p in ap Some (ap (λ y. (k, y)) f ∙ ap (λ n. (n, e)) (omega arith))),
 )
 owner_from k (x ∷ es) (o ∷ os) (suc m) e even p =
     let q = owner_from (k + 1) es os m e (omega (arith, even)) p in
@@ -67,8 +67,7 @@ pub all_received : (f : FloorId) (es : List Entry) (os : List ℕ) (row : List S
 all_received f es os row h there all n e at =
     let q = owner_from 0 es os n e h.each at in
     let t = there q.0 (h.belonged n e q.0 at q.1).0 in
-    let s : SeatView = t.1 in
-    (
+    let s : SeatView = t.1 in (
       t.0,
       s,
       t.2,

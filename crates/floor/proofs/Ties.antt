@@ -1,10 +1,9 @@
 -- The tokens' rule, kept by each step.
-use Rattle.std.proofs.Common.{◌≡◌, ◌≢◌, ◌⊎◌, inl, inr, ℕ, zero, suc, ◌+◌, ◌<◌, ◌≤◌, cond, eqb, List, [], ◌∷◌, ◌++◌, length, slice_set, Bool, true, false, refl, sym, ap, ◌∙◌, subst, arith, rules, length-append}
+use Rattle.std.proofs.Common.{◌≡◌, ◌≢◌, ◌⊎◌, inl, inr, ℕ, zero, suc, ◌+◌, cond, eqb, List, [], ◌∷◌, ◌++◌, length, slice_set, Bool, true, false, refl, sym, ap, ◌∙◌, arith, length-append}
 use Rattle.std.proofs.lemmas.Bool.Decides.{nat_tests}
-use Rattle.std.proofs.lemmas.Grind.{common_steps}
-use mathlib.Core.Option.{Option, none, some}
+use mathlib.Core.Option.{Option, some}
 use lib.ListN.{get_elem?}
-use Rattle.atomic_table.specs.Table.{State, Me, Step, step, Act, keeps, Allows, Splits, Joins, stepped, opening}
+use Rattle.atomic_table.specs.Table.{Me, step, keeps, Allows, Splits, Joins, opening}
 use Rattle.record.specs.declared.recording.Entry.{Entry}
 use Rattle.floor.specs.declared.tokens.TokenView.{TokenView}
 use Rattle.floor.specs.Histories.{history, owned_from}
@@ -70,7 +69,7 @@ owned_own seat k (x ∷ es) (p ∷ os) e even =
   where
     by_case : (b : Bool) → owned_from seat (k + 1) (es ++ e ∷ []) (os ++ seat ∷ []) ≡ owned_from seat (k + 1) es os ++ (k + length (x ∷ es), e) ∷ []
         → cond b ((k, x) ∷ owned_from seat (k + 1) (es ++ e ∷ []) (os ++ seat ∷ [])) (owned_from seat (k + 1) (es ++ e ∷ []) (os ++ seat ∷ []))
-            ≡ cond b ((k, x) ∷ owned_from seat (k + 1) es os) (owned_from seat (k + 1) es os) ++ (k + length (x ∷ es), e) ∷ []
+        ≡ cond b ((k, x) ∷ owned_from seat (k + 1) es os) (owned_from seat (k + 1) es os) ++ (k + length (x ∷ es), e) ∷ []
     by_case true r = ap (λ l. (k, x) ∷ l) r
     by_case false r = r
 
@@ -209,10 +208,10 @@ adds slots id me a b f e keep sit s h len at fits =
           | inl q ↦ rw (q.0, q.1) (
             (λ k. (kept.0, ap (λ l. l ++ e ∷ []) kept.1, ap (λ l. l ++ v.number ∷ []) kept.2, kept.3)),
             (λ k. (
-                mine.0,
-                mine.1,
-                ap (λ l. l ++ (length v.entries, e) ∷ []) mine.2 ∙ (ap (λ n. history v.number h.es h.os ++ (n, e) ∷ []) (ap (λ (l : List Entry). length l) kept.1 ∙ (omega arith)) ∙ sym (owned_own v.number 0 h.es h.os e h.even)),
-              )),
+              mine.0,
+              mine.1,
+              ap (λ l. l ++ (length v.entries, e) ∷ []) mine.2 ∙ (ap (λ n. history v.number h.es h.os ++ (n, e) ∷ []) (ap (λ (l : List Entry). length l) kept.1 ∙ (omega arith)) ∙ sym (owned_own v.number 0 h.es h.os e h.even)),
+            )),
           )
           | inr q ↦ (
             (λ k. absurd (q.0 (((h.fits b x q.1).0 k).0 ∙ sym kept.0))),

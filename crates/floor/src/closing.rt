@@ -69,9 +69,7 @@ pub(crate) fn end<F: Naming>(mut hall: Hall<F>, mut seats: Vec<Seat<F>>) -> Clos
     ensures seats { result.seats.items ≡ seats.items }
 {
     no_violation_under_the_own_tables();
-    for seat in seats.iter_mut() {
-        hall.compare(seat);
-    }
+    compare_all(&mut hall, &mut seats);
     let Hall {
         alloc: _,
         world: _,
@@ -92,5 +90,15 @@ pub(crate) fn end<F: Naming>(mut hall: Hall<F>, mut seats: Vec<Seat<F>>) -> Clos
         owners,
         seats,
         violation,
+    }
+}
+
+/// The receipts of each seat are its history.
+fn compare_all<F: Naming>(hall: &mut Hall<F>, seats: &mut Vec<Seat<F>>)
+    ensures histories { AreHistories hall.old.entries hall.old.owners seats.old.items }
+    ensures same { (hall.new ≡ hall.old) × (seats.new.items ≡ seats.old.items) }
+{
+    for seat in seats.iter_mut() {
+        hall.compare(seat);
     }
 }

@@ -138,7 +138,14 @@ impl<F: Naming> Model for Running<F> {
     ghost invariant = { λ r. IsWayOf r.before.value r.way };
 }
 
-fn start<'s, F: Naming + Send + Sync + 's, R: Wait + Sync, G: Gate + Sync, C: Chooser<F> + Drop + Send + 's, E>(
+fn start<
+    's,
+    F: Naming + Send + Sync + 's,
+    R: Wait + Sync,
+    G: Gate + Sync,
+    C: Chooser<F> + Drop + Send + 's,
+    E,
+>(
     scope: &Scope<'s, E>,
     rt: &'s R,
     floor: &'s Floor<F>,
@@ -170,7 +177,14 @@ fn start<'s, F: Naming + Send + Sync + 's, R: Wait + Sync, G: Gate + Sync, C: Ch
     }
 }
 
-fn start_all<'s, F: Naming + Send + Sync + 's, R: Wait + Sync, G: Gate + Sync, C: Chooser<F> + Drop + Send + 's, E>(
+fn start_all<
+    's,
+    F: Naming + Send + Sync + 's,
+    R: Wait + Sync,
+    G: Gate + Sync,
+    C: Chooser<F> + Drop + Send + 's,
+    E,
+>(
     scope: &Scope<'s, E>,
     rt: &'s R,
     floor: &'s Floor<F>,
@@ -187,9 +201,6 @@ fn start_all<'s, F: Naming + Send + Sync + 's, R: Wait + Sync, G: Gate + Sync, C
     let mut members = members;
     let mut running = running;
     for flag in flags {
-        if members.is_empty() {
-            break;
-        }
         let (seat, chooser) = members.remove(0);
         running.push_reserved(start(scope, rt, floor, gate, flag, seat, chooser));
     }
@@ -229,7 +240,12 @@ fn finish_all<F: Naming, R: Threads>(
 ///
 /// All seats come back, in their order. A thread that can't be started counts as a refused growth of its seat, which makes no
 /// turn. The crew itself is refused only before any turn, and hands all back as it was.
-pub fn crew<F: Naming + Send + Sync, R: Threads + Wait + Sync, G: Gate + Sync, C: Chooser<F> + Drop + Send>(
+pub fn crew<
+    F: Naming + Send + Sync,
+    R: Threads + Wait + Sync,
+    G: Gate + Sync,
+    C: Chooser<F> + Drop + Send,
+>(
     rt: &R,
     alloc: Global,
     floor: &Floor<F>,

@@ -93,7 +93,12 @@ impl<F: Naming> Floor<F> {
     }
 
     /// Takes the lock, and makes the hall's [`turn`](Hall::turn).
-    pub fn turn(&self, wait: &impl Wait, seat: &mut Seat<F>, step: Step) -> Result<Receipt<F>, TurnFault>
+    pub fn turn(
+        &self,
+        wait: &impl Wait,
+        seat: &mut Seat<F>,
+        step: Step,
+    ) -> Result<Receipt<F>, TurnFault>
         ensures step { IfOk result (λ receipt. receipt.1.step ≡ step) }
         ensures added { IfOk result (λ receipt. seat.new ≡ with_receipt seat.old receipt) }
         ensures err { OnErr result (seat.new ≡ seat.old) }
@@ -102,7 +107,12 @@ impl<F: Naming> Floor<F> {
     }
 
     /// Takes the lock, and makes the hall's [`turn_any`](Hall::turn_any).
-    pub fn turn_any(&self, wait: &impl Wait, seat: &mut Seat<F>, word: u32) -> Result<Option<Receipt<F>>, TurnFault>
+    pub fn turn_any(
+        &self,
+        wait: &impl Wait,
+        seat: &mut Seat<F>,
+        word: u32,
+    ) -> Result<Option<Receipt<F>>, TurnFault>
         ensures added { IfOk result (λ made. IfSome made (λ receipt. seat.new ≡ with_receipt seat.old receipt)) }
         ensures none { IfOk result (λ made. IfNone made (seat.new ≡ seat.old)) }
         ensures err { OnErr result (seat.new ≡ seat.old) }
@@ -113,7 +123,10 @@ impl<F: Naming> Floor<F> {
     /// Ends the floor, where all its seats are handed in. It waits for nobody, and takes no memory.
     ///
     /// It is refused `SeatMissing` exactly where a seat is missing. Then floor and seats come back as they were.
-    pub fn close(self, seats: Vec<Seat<F>>) -> Result<Closed<F>, (CloseFault, Floor<F>, Vec<Seat<F>>)>
+    pub fn close(
+        self,
+        seats: Vec<Seat<F>>,
+    ) -> Result<Closed<F>, (CloseFault, Floor<F>, Vec<Seat<F>>)>
         ensures missing { MatchResult result (λ _. AllThere F.floor.seats seats.items) (λ _. IsMissing F.floor.seats seats.items) }
         ensures back { IfErr result (λ refused. (refused.0 ≡ CloseFault.SeatMissing) × (refused.1 ≡ self) × (refused.2.items ≡ seats.items)) }
         ensures setup { IfOk result (λ closed. closed.recording ≡ recorded F.floor.setup closed.recording.entries) }

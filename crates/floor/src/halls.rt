@@ -1,10 +1,13 @@
 //! The hall, which lies behind the lock: a world, and what was done in it.
 
+ghost use Rattle.std.specs.Prelude.{◌≡◌, ◌<◌, IfOk, OnErr, OnOk, vec_len, vec_capacity};
+ghost use Rattle.floor.specs.inner.Keeping.{Advances, IsSame};
+
 use crate::belonging::{is_of, ready_for};
 use crate::grounds::Naming;
 use crate::seats::{Receipt, Seat};
 use crate::tokens::{Log, Token, add_entry, compare_seat};
-use base::Step;
+use base::{NoMemory, Step};
 use monitor::{Violation, Watch};
 use record::{Entry, Recording};
 use std::alloc::Global;
@@ -88,7 +91,11 @@ impl<F: Naming> Hall<F> {
     ///
     /// It is refused `Full` exactly where there are as many entries as the floor takes. A refused turn changes neither hall
     /// nor seat.
-    pub fn turn_any(&mut self, seat: &mut Seat<F>, word: u32) -> Result<Option<Receipt<F>>, TurnFault>
+    pub fn turn_any(
+        &mut self,
+        seat: &mut Seat<F>,
+        word: u32,
+    ) -> Result<Option<Receipt<F>>, TurnFault>
         ensures full { length self.old.entries ≡ F.floor.capacity → IsErrOf result TurnFault.Full }
         ensures room { length self.old.entries < F.floor.capacity → IsOkUnless result TurnFault.NoMemory }
         ensures within { length self.old.entries ≤ F.floor.capacity }
@@ -121,20 +128,14 @@ impl<F: Naming> Hall<F> {
         ensures ok { IfOk result (λ receipt. Turns F.floor self.old self.new seat.old seat.new step receipt) }
         ensures err { OnErr result ((self.new ≡ self.old) × (seat.new ≡ seat.old)) }
     {
-        if self.owners.reserve(1).is_err() || seat.receipts.reserve(1).is_err() {
+        if let Err(_) = grow(&mut self.owners, &mut seat.receipts) {
             return Err(TurnFault::NoMemory);
         }
-        let Ok(outcome) = self.world.ready(step) else {
+        let number = self.recording.entries().len() as u64;
+        let Ok(entry) = advance(&mut self.world, &mut self.recording, step) else {
             return Err(TurnFault::NoMemory);
         };
-        let entry = Entry { step, outcome };
-        let number = self.recording.entries().len() as u64;
-        if self.recording.push(entry).is_err() {
-            return Err(TurnFault::NoMemory);
-        }
-        // Directly after its `ready` the step succeeds.
-        let _ = self.world.step(step);
-        let seen = self.watch.see(&self.world, step, outcome);
+        let seen = self.watch.see(&self.world, step, entry.outcome);
         self.violation = self.violation.or(Some(number).zip(seen));
         add_entry(&self.log, &mut self.token, &mut seat.token, &entry);
         self.owners.push_reserved(seat.number);
@@ -149,4 +150,29 @@ impl<F: Naming> Hall<F> {
     {
         compare_seat(&self.log, &mut self.token, &mut seat.token);
     }
+}
+
+/// Makes room for one more owner and one more receipt.
+fn grow<F: Naming>(owners: &mut Vec<u32>, receipts: &mut Vec<Receipt<F>>) -> Result<(), NoMemory>
+    ensures room { OnOk result ((vec_len owners.new < vec_capacity owners.new) × (vec_len receipts.new < vec_capacity receipts.new)) }
+    ensures same { (owners.new.items ≡ owners.old.items) × (receipts.new.items ≡ receipts.old.items) }
+{
+    owners.reserve(1)?;
+    receipts.reserve(1)?;
+    Ok(())
+}
+
+/// Makes a step, and adds it to a recording. Where memory is refused, world and recording are as they were.
+fn advance(world: &mut World, recording: &mut Recording, step: Step) -> Result<Entry, NoMemory>
+    ensures ok { IfOk result (λ entry. Advances world.old world.new recording.old recording.new step entry) }
+    ensures err { OnErr result (IsSame world.old world.new × (recording.new ≡ recording.old)) }
+{
+    let outcome = world.ready(step)?;
+    let entry = Entry { step, outcome };
+    if let Err(_) = recording.push(entry) {
+        return Err(NoMemory);
+    }
+    // Directly after its `ready` the step succeeds.
+    let _ = world.step(step);
+    Ok(entry)
 }

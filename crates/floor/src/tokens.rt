@@ -6,9 +6,9 @@ ghost use Rattle.floor.specs.inner.Tokens.{keeper, sitting};
 ghost use Rattle.floor.specs.Histories.{history};
 
 use atomic_table::{Join, Play, Seat as TableSeat, Split, Table, TableRule};
+use record::Entry;
 use std::alloc::Global;
 use std::collections::LinkedList;
-use record::Entry;
 use std::mem;
 
 /// What a token knows. No value of it is made.
@@ -118,7 +118,8 @@ pub fn add_entry(log: &Log, hall: &mut Token, seat: &mut Token, entry: &Entry)
     let spare = log.shared.split_seat::<Spare>(hall);
     let token = mem::replace(seat, spare);
     log.shared.join_seat::<Sit>(hall, token);
-    log.shared.compare_exchange_with::<Add>(hall, 0, 0, 0, entry);
+    log.shared
+        .compare_exchange_with::<Add>(hall, 0, 0, 0, entry);
     let token = log.shared.split_seat::<Stand>(hall);
     *seat = token;
 }

@@ -2,11 +2,13 @@
 use Rattle.std.specs.Prelude.{◌≡◌, ◌<◌, ◌≤◌, ℕ, List, [], Option, length}
 use Rattle.atomic_table.specs.Table.{Me}
 use Rattle.atomic_table.specs.Seated.{TableId}
+use Rattle.base.specs.declared.step.Step.{Step}
+use Rattle.machine.specs.Machine.{next}
 use Rattle.monitor.specs.declared.violation.Violation.{Violation}
 use Rattle.monitor.specs.Watching.{HasSeen}
 use Rattle.record.specs.declared.recording.Entry.{Entry}
-use Rattle.record.specs.Kept.{Kept, IsLegal, steps_of}
-use Rattle.world.specs.View.{View}
+use Rattle.record.specs.Kept.{Kept, IsLegal, steps_of, with_entry}
+use Rattle.world.specs.View.{View, stepped}
 use Rattle.floor.specs.declared.tokens.TokenView.{TokenView}
 use Rattle.floor.specs.FloorId.{FloorId}
 use Rattle.floor.specs.Turning.{recorded, state_of, IsFirstOf}
@@ -40,3 +42,17 @@ pub record IsSeat (floor : FloorId) (number : ℕ) (made : List (ℕ × Entry)) 
   pub within : number < floor.seats
   pub token_is : token ≡ floor.ground
   pub sits : me ≡ (sitting number made, [])
+
+-- a world is as it was, but for its room
+pub record IsSame (old new : View) : Type 0 where
+  pub shape : new.shape ≡ old.shape
+  pub tables : new.tables ≡ old.tables
+  pub state : new.state ≡ old.state
+
+-- a world has made a step, and a recording has one more entry of it
+pub record Advances (old new : View) (before after : Kept) (step : Step) (entry : Entry) : Type 0 where
+  pub step_is : entry.step ≡ step
+  pub made : next old.tables old.state step ≡ stepped new.state entry.outcome
+  pub shape : new.shape ≡ old.shape
+  pub tables : new.tables ≡ old.tables
+  pub recorded : after ≡ with_entry before entry

@@ -1,4 +1,4 @@
-use Rattle.std.proofs.Common.{◌≡◌, ◌≤◌, ◌+◌, ◌++◌, List, length, vec_capacity, vec_len}
+use Rattle.std.proofs.Common.{◌≤◌, ◌+◌, ◌++◌, List, length, vec_capacity, vec_len}
 use Rattle.floor.specs.Crews.{ComeBack}
 use Rattle.floor.proofs.crews.finish_all.Given as goal
 

@@ -1,5 +1,4 @@
-use Rattle.std.proofs.Common.{◌≡◌, ◌++◌, ◌∷◌, ◌+◌, [], ℕ, List, map, arith, ap, sym, ◌∙◌}
-use Rattle.std.specs.List.{range_with_len}
+use Rattle.std.proofs.Common.{◌++◌, ◌∷◌, ◌+◌, [], ℕ, List, arith, ap, sym, ◌∙◌}
 use Rattle.std.proofs.lemmas.List.FromFn.{map-range_with_len_more}
 use Rattle.record.specs.declared.recording.Entry.{Entry}
 use Rattle.floor.specs.Turning.{SeatView, new_seat}
@@ -12,9 +11,9 @@ loop-number-preserved g c =
     let n : ℕ = c.loop-number.number in
     record {
       row =
-        c.push_reserved.ensures.items
-        ∙ (ap (λ (made : List (ℕ × Entry)). c.loop-number.row.items ++ record { number = n; made = made } ∷ []) c.new.ensures.items
-            ∙ (ap (λ (l : List SeatView). l ++ new_seat n ∷ []) i.row ∙ sym (map-range_with_len_more new_seat 0 n n (omega arith))));
+          c.push_reserved.ensures.items
+          ∙ (ap (λ (made : List (ℕ × Entry)). c.loop-number.row.items ++ record { number = n; made = made } ∷ []) c.new.ensures.items
+          ∙ (ap (λ (l : List SeatView). l ++ new_seat n ∷ []) i.row ∙ sym (map-range_with_len_more new_seat 0 n n (omega arith))));
       count = omega (arith, i.count, c.push_reserved.ensures.len);
       room = omega (arith, i.room, c.push_reserved.ensures.capacity);
       table = c.deal_seat-dealt.ensures.hall.1 ∙ i.table;

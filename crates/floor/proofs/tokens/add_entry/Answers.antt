@@ -1,4 +1,4 @@
-use Rattle.std.proofs.Common.{◌≡◌, ◌++◌, ◌∷◌, [], length, refl, arith, ap, sym, ◌∙◌, eqb, rules}
+use Rattle.std.proofs.Common.{◌≡◌, ◌++◌, ◌∷◌, [], length, refl, arith, ap, sym, ◌∙◌, eqb}
 use prog.Atomic.{either}
 use Rattle.floor.proofs.Ties.{spares, sits, adds, stands, added}
 use Rattle.floor.specs.inner.Tokens.{keeper, sitting}
@@ -29,8 +29,8 @@ compare_exchange_with-requires c =
       j.0 ∙ (s.0 ∙ r.table),
       omega (arith, r.one),
       adds c.args.log.now.shared.table_id.slots c.join_seat.new.seat.id c.join_seat.new.seat.me 0 0 (λ n. either (eqb n 0) 0 n) c.args.entry.now
-        (ap (λ m. m.0.keeps) j.2 ∙ (ap (λ m. m.0.keeps) s.2 ∙ ap (λ m. m.0.keeps) r.keeps))
-        (ap (λ m. m.0.sits) j.2 ∙ (ap (λ t. t.me.0.sits) same ∙ ap (λ m. m.0.sits) r.sits)),
+          (ap (λ m. m.0.keeps) j.2 ∙ (ap (λ m. m.0.keeps) s.2 ∙ ap (λ m. m.0.keeps) r.keeps))
+          (ap (λ m. m.0.sits) j.2 ∙ (ap (λ t. t.me.0.sits) same ∙ ap (λ m. m.0.sits) r.sits)),
     )
 
 pub split_seat-token-requires : goal.split_seat-token-requires
@@ -52,9 +52,9 @@ left_behind c =
     let x = c.compare_exchange_with.ensures.2 in
     let k = c.split_seat-token.ensures in
     added c.args.hall.now.me c.args.seat.now.me c.replace-token.result.me c.split_seat-spare.new.seat.me c.join_seat.new.seat.me
-      c.compare_exchange_with.new.seat.me c.split_seat-token.new.seat.me c.split_seat-token.result.me
-      c.args.entry.now c.requires.keeps (ap (λ t. t.me) c.replace-token.ensures.value) c.split_seat-spare.ensures.2 c.join_seat.ensures.2
-      (x.0 c.args.entry.now refl) x.1 k.2 k.4
+    c.compare_exchange_with.new.seat.me c.split_seat-token.new.seat.me c.split_seat-token.result.me
+    c.args.entry.now c.requires.keeps (ap (λ t. t.me) c.replace-token.ensures.value) c.split_seat-spare.ensures.2 c.join_seat.ensures.2
+    (x.0 c.args.entry.now refl) x.1 k.2 k.4
 
 pub returns-clause-hall : goal.returns-clause-hall
 returns-clause-hall c = (left_behind c).0

@@ -1,4 +1,4 @@
-use Rattle.std.proofs.Common.{◌≡◌, arith, ap, sym, ◌∙◌, true, rules}
+use Rattle.std.proofs.Common.{arith, ap, ◌∙◌}
 use mathlib.Core.Option.{none}
 use Rattle.floor.proofs.Ties.{spares, sits, compares, stands}
 use Rattle.floor.proofs.tokens.compare_seat.Goals as goal
@@ -27,8 +27,8 @@ load-requires c =
       j.0 ∙ (s.0 ∙ r.table),
       omega (arith, r.one),
       compares c.args.log.now.shared.table_id.slots c.join_seat.new.seat.id c.join_seat.new.seat.me 0 0 none
-        (ap (λ m. m.0.keeps) j.2 ∙ (ap (λ m. m.0.keeps) s.2 ∙ ap (λ m. m.0.keeps) r.keeps))
-        (ap (λ m. m.0.sits) j.2 ∙ (ap (λ t. t.me.0.sits) same ∙ ap (λ m. m.0.sits) r.sits)),
+          (ap (λ m. m.0.keeps) j.2 ∙ (ap (λ m. m.0.keeps) s.2 ∙ ap (λ m. m.0.keeps) r.keeps))
+          (ap (λ m. m.0.sits) j.2 ∙ (ap (λ t. t.me.0.sits) same ∙ ap (λ m. m.0.sits) r.sits)),
     )
 
 pub split_seat-token-requires : goal.split_seat-token-requires
@@ -41,6 +41,6 @@ split_seat-token-requires c =
       x.0 ∙ (j.0 ∙ (s.0 ∙ r.table)),
       omega (arith, r.one),
       stands c.load.new.seat.id c.load.new.seat.me.0
-        (ap (λ m. m.0.keeps) (x.2.0 ∙ j.2) ∙ (ap (λ m. m.0.keeps) s.2 ∙ ap (λ m. m.0.keeps) r.keeps))
-        (ap (λ m. m.0.sits) (x.2.0 ∙ j.2) ∙ (ap (λ t. t.me.0.sits) same ∙ ap (λ m. m.0.sits) r.sits)),
+          (ap (λ m. m.0.keeps) (x.2.0 ∙ j.2) ∙ (ap (λ m. m.0.keeps) s.2 ∙ ap (λ m. m.0.keeps) r.keeps))
+          (ap (λ m. m.0.sits) (x.2.0 ∙ j.2) ∙ (ap (λ t. t.me.0.sits) same ∙ ap (λ m. m.0.sits) r.sits)),
     )

@@ -1,4 +1,4 @@
-use Rattle.std.proofs.Common.{rules, ap, ◌∙◌, filter, ◌≡◌, true}
+use Rattle.std.proofs.Common.{rules, ap, ◌≡◌, true}
 use Rattle.floor.specs.Turning.{Draws, is_its}
 use Rattle.floor.proofs.Drawing.{drawn}
 use Rattle.floor.proofs.halls.Hall.turn_any.Goals as goal
@@ -13,13 +13,13 @@ drew g c =
     let es = ap (λ s. s.entries) c.self.view_is in
     let number = ap (λ s. s.number) c.seat.view_is in
     drawn g.F.Naming.floor i.world i.watch i.recording i.owners.items i.violation i.seats c.args.self.now.entries c.seat.inside.number c.args.seat.now.number c.args.word c.in-Ok.ready.items c.index-step.result.now
-      c.self.invariant.0
-      es
-      number
-      c.self.invariant.1.seats_is
-      c.in-Ok.ensures
-      (search rules)
-      (search rules)
+    c.self.invariant.0
+    es
+    number
+    c.self.invariant.1.seats_is
+    c.in-Ok.ensures
+    (search rules)
+    (search rules)
 
 pub enter-requires-clause-yours : goal.enter-requires-clause-yours
 enter-requires-clause-yours g c = (drew g (goal.at.enter-requires-clause-yours g c).After-index-step).1

@@ -1,7 +1,7 @@
 use Rattle.std.proofs.Common.{◌≡◌, ◌<◌, ℕ, get_or}
 use Rattle.floor.specs.Turning.{SeatView}
 use Rattle.floor.specs.Histories.{history}
-use Rattle.floor.proofs.closing.end.Given as goal
+use Rattle.floor.proofs.closing.compare_all.Given as goal
 
 abbrev pub invariant-loop-seat : goal.invariant-loop-seat
 invariant-loop-seat g l = record {
