@@ -1,5 +1,6 @@
 -- Members of a crew that start one after the other.
-use Rattle.std.proofs.Common.{◌≡◌, ◌≤◌, ◌<◌, ◌+◌, ℕ, List, [], ◌∷◌, ◌++◌, length, map, get_or, drop, sym, ap, ◌∙◌, append_assoc, append-nil, arith, length-append}
+use Rattle.std.proofs.Common.{◌≡◌, ◌≤◌, ◌<◌, ◌+◌, ℕ, List, [], ◌∷◌, ◌++◌, length}
+use Rattle.std.proofs.Common.{map, get_or, drop, sym, ap, ◌∙◌, append_assoc, append-nil, arith, length-append}
 
 -- one more has started
 pub one_started : {X Y : Type 0} (running running' : List X) (ms ms' : List (X × Y)) (all : List X) (one : X × Y) (x : X) (index count room room' : ℕ) →
@@ -18,7 +19,8 @@ one_started running running' (m ∷ ms) ms' all one x index count room room' so_
     )
 
 -- all have started
-pub all_started : {X Y : Type 0} (running : List X) (ms : List (X × Y)) (all : List X) (index count : ℕ) → running ++ map (λ m. m.0) ms ≡ all → length ms + index ≡ count → count ≤ index →
+pub all_started : {X Y : Type 0} (running : List X) (ms : List (X × Y)) (all : List X) (index count : ℕ) → running ++ map (λ m. m.0) ms ≡ all →
+    length ms + index ≡ count → count ≤ index →
     running ≡ all
 all_started running [] all index count so_far counted done = sym (append-nil running) ∙ so_far
 all_started running (m ∷ ms) all index count so_far counted done = absurd (omega (arith, counted, done))

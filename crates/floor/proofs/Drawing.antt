@@ -17,7 +17,8 @@ use Rattle.floor.specs.Turning.{Draws, is_its, its_ready, state_of}
 use Rattle.floor.specs.inner.Keeping.{IsKeptUp}
 
 -- the step that a word draws among those that are ready for a seat, and it is the seat's
-pub drawn : (f : FloorId) (world : View) (watch : List ℕ) (recording : Kept) (os : List ℕ) (violation : Option (ℕ × Violation)) (seats : ℕ) (es : List Entry) (number seat word : ℕ)
+pub drawn : (f : FloorId) (world : View) (watch : List ℕ) (recording : Kept) (os : List ℕ) (violation : Option (ℕ × Violation))
+    (seats : ℕ) (es : List Entry) (number seat word : ℕ)
     (steps : List Step) (s : Step) → IsKeptUp f world watch recording os violation →
     recording.entries ≡ es → number ≡ seat → seats ≡ f.seats →
     steps ≡ ready_for seats world.shape.caches world.tables world.state number → 0 < length steps → s ≡ get_or steps (word % length steps) s →

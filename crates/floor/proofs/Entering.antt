@@ -1,5 +1,6 @@
 -- One entry more keeps what the lock keeps.
-use Rattle.std.proofs.Common.{◌≡◌, ◌<◌, ◌≤◌, ℕ, List, [], ◌∷◌, ◌++◌, ◌+◌, Option, Result, Ok, Err, IsOk, IfOk, true, length, take, refl, sym, ap, ◌∙◌, subst, inl, inr, arith, length-append}
+use Rattle.std.proofs.Common.{◌≡◌, ◌<◌, ◌≤◌, ℕ, List, [], ◌∷◌, ◌++◌, ◌+◌, Option, Result, Ok, Err}
+use Rattle.std.proofs.Common.{IsOk, IfOk, true, length, take, refl, sym, ap, ◌∙◌, subst, inl, inr, arith, length-append}
 use Rattle.std.proofs.lemmas.List.{map_push, length-map, take-append-le}
 use Rattle.base.specs.Extent.{Extent}
 use Rattle.base.specs.declared.fault.NoMemory.{NoMemory}
@@ -23,7 +24,8 @@ use Rattle.floor.specs.Closing.{HaveOwners}
 use Rattle.floor.specs.inner.Keeping.{IsKeptUp, Advances}
 use Rattle.floor.proofs.Lists.{get_push, take_whole}
 
-state_push : (tables : Tables) (s : State) (xs : List Step) (step : Step) → state_after tables s (xs ++ step ∷ []) ≡ (next tables (state_after tables s xs) step).state
+state_push : (tables : Tables) (s : State) (xs : List Step) (step : Step) →
+    state_after tables s (xs ++ step ∷ []) ≡ (next tables (state_after tables s xs) step).state
 state_push tables s [] step = refl
 state_push tables s (x ∷ xs) step = state_push tables (next tables s x).state xs step
 
@@ -49,7 +51,8 @@ owned_push f es os e o h lt mine = record {
       | inr b ↦
           let front : take k (es ++ e ∷ []) ≡ es = ap (λ n. take n (es ++ e ∷ [])) a.0 ∙ take_whole es (e ∷ []) in
           subst (λ (l : List Entry). (p < f.seats) × (is_its f l p x.step ≡ true)) (sym front)
-          (subst (λ (q : ℕ). (q < f.seats) × (is_its f es q x.step ≡ true)) b.1 (subst (λ (y : Entry). (o < f.seats) × (is_its f es o y.step ≡ true)) a.1 (lt, mine)))
+          (subst (λ (q : ℕ). (q < f.seats) × (is_its f es q x.step ≡ true)) b.1
+          (subst (λ (y : Entry). (o < f.seats) × (is_its f es o y.step ≡ true)) a.1 (lt, mine)))
     ]
   ];
 }
@@ -93,7 +96,8 @@ kept_push f world new watch watch' recording os violation e o seen h lt mine mad
       state = ap (λ (n : Next). n.state) (sym here) ∙ (sym (state_push setup.tables s before e.step) ∙ ap (state_after setup.tables s) (sym steps));
       seen = subst (λ (l : List Step). HasSeen new setup.opening l watch') (sym steps) (sees setup.opening before has_seen leads);
       first = subst (λ (l : List Step). AnswersFirst setup.shape setup.tables setup.opening l (first_seen violation (length es) seen)) (sym steps)
-          (first-push setup.shape setup.tables setup.opening before e.step (length es) violation seen (sym (length-map es (λ (e : Entry). e.step))) h.first scene);
+          (first-push setup.shape setup.tables setup.opening before e.step (length es) violation seen
+          (sym (length-map es (λ (e : Entry). e.step))) h.first scene);
       owned = owned_push f es os e o h.owned lt mine;
     }
 
@@ -107,13 +111,15 @@ as_told world mid new step told (Ok what) tables state is ok made =
     here ∙ ap (stepped new.state) (sym (is ∙ ap (λ (n : Next). n.outcome) here))
 as_told world mid new step told (Err fault) tables state is ok made = absurd (cc ok)
 
-pub kept_more : (f : FloorId) (world new : View) (watch watch' : List ℕ) (recording recording' : Kept) (os os' : List ℕ) (violation violation' : Option (ℕ × Violation))
+pub kept_more : (f : FloorId) (world new : View) (watch watch' : List ℕ) (recording recording' : Kept) (os os' : List ℕ)
+    (violation violation' : Option (ℕ × Violation))
     (step : Step) (e : Entry) (o n : ℕ) (seen : Option Violation) →
     IsKeptUp f world watch recording os violation → o < f.seats → is_its f recording.entries o step ≡ true →
     Advances world new recording recording' step e → AnswersHistory new watch step e.outcome seen → SeesNext new watch step e.outcome watch' →
     os' ≡ os ++ o ∷ [] → n ≡ length recording.entries → violation' ≡ first_seen violation n seen →
     IsKeptUp f new watch' recording' os' violation'
-kept_more f world new watch watch' recording recording' os os' violation violation' step e o n seen h lt mine advances answers sees same_owners number same_violation =
+kept_more f world new watch watch' recording recording' os os' violation violation' step e o n seen
+    h lt mine advances answers sees same_owners number same_violation =
     let a = advances in
     let is : step ≡ e.step = sym a.step_is in
     let kept = kept_push f world new watch watch' recording os violation e o seen h lt
@@ -125,9 +131,11 @@ kept_more f world new watch watch' recording recording' os os' violation violati
     rw (same, same_owners, same_violation, number) kept
 
 -- there was room for one entry more
-pub fits_more : (recording recording' : Kept) (es : List Entry) (e : Entry) (capacity : ℕ) → recording' ≡ with_entry recording e → recording.entries ≡ es → length es < capacity →
+pub fits_more : (recording recording' : Kept) (es : List Entry) (e : Entry) (capacity : ℕ) → recording' ≡ with_entry recording e →
+    recording.entries ≡ es → length es < capacity →
     length recording'.entries ≤ capacity
 fits_more recording recording' es e capacity same is room =
-    let count : length recording'.entries ≡ length recording.entries + 1 = ap (λ (k : Kept). length k.entries) same ∙ length-append recording.entries (e ∷ []) in
+    let count : length recording'.entries ≡ length recording.entries + 1 =
+    ap (λ (k : Kept). length k.entries) same ∙ length-append recording.entries (e ∷ []) in
     let low : length recording.entries < capacity = subst (λ (l : List Entry). length l < capacity) (sym is) room in
     omega (arith, count, low)

@@ -12,7 +12,8 @@ own_is : {X : Type 0} (a : ℕ) (x y : X) → cond (eqb a a) x y ≡ x
 own_is a x y = grind (arith, nat_tests)
 
 -- what is owned stands at its number
-stands_from : (seat k : ℕ) (es : List Entry) (os : List ℕ) (i n : ℕ) (e : Entry) → slice_get (owned_from seat k es os) i ≡ Some (n, e) → (m : ℕ) × (n ≡ k + m) × (slice_get es m ≡ Some e)
+stands_from : (seat k : ℕ) (es : List Entry) (os : List ℕ) (i n : ℕ) (e : Entry) → slice_get (owned_from seat k es os) i ≡ Some (n, e) →
+    (m : ℕ) × (n ≡ k + m) × (slice_get es m ≡ Some e)
 stands_from seat k [] os i n e p = absurd (cc p)
 stands_from seat k (x ∷ es) [] i n e p = absurd (cc p)
 stands_from seat k (x ∷ es) (o ∷ os) i n e p = by_case (eqb o seat) i (λ j q. later j (stands_from seat (k + 1) es os j n e q)) p
@@ -20,8 +21,10 @@ stands_from seat k (x ∷ es) (o ∷ os) i n e p = by_case (eqb o seat) i (λ j 
     later : ℕ → ((m : ℕ) × (n ≡ (k + 1) + m) × (slice_get es m ≡ Some e)) → (m : ℕ) × (n ≡ k + m) × (slice_get (x ∷ es) m ≡ Some e)
     later j q = (suc q.0, omega (arith, q.1), q.2)
 
-    by_case : (b : Bool) (j : ℕ) → ((l : ℕ) → slice_get (owned_from seat (k + 1) es os) l ≡ Some (n, e) → (m : ℕ) × (n ≡ k + m) × (slice_get (x ∷ es) m ≡ Some e)) →
-        slice_get (cond b ((k, x) ∷ owned_from seat (k + 1) es os) (owned_from seat (k + 1) es os)) j ≡ Some (n, e) → (m : ℕ) × (n ≡ k + m) × (slice_get (x ∷ es) m ≡ Some e)
+    by_case : (b : Bool) (j : ℕ) → ((l : ℕ) → slice_get (owned_from seat (k + 1) es os) l ≡ Some (n, e) →
+        (m : ℕ) × (n ≡ k + m) × (slice_get (x ∷ es) m ≡ Some e)) →
+        slice_get (cond b ((k, x) ∷ owned_from seat (k + 1) es os) (owned_from seat (k + 1) es os)) j ≡ Some (n, e) →
+        (m : ℕ) × (n ≡ k + m) × (slice_get (x ∷ es) m ≡ Some e)
     by_case true zero rest q = let f = some_pair_parts k n x e q in (zero, omega (arith, f.0), ap Some f.1)
     by_case true (suc j) rest q = rest j q
     by_case false j rest q = rest j q
@@ -53,7 +56,8 @@ owner_from k (x ∷ es) (o ∷ os) (suc m) e even p =
     further false a i at = (i, at)
 
 -- what is said of all seats, of the seat at a place
-made_at : (es : List Entry) (os : List ℕ) (row : List SeatView) (j : ℕ) (s : SeatView) → AreHistories es os row → slice_get row j ≡ Some s → s.made ≡ history s.number es os
+made_at : (es : List Entry) (os : List ℕ) (row : List SeatView) (j : ℕ) (s : SeatView) → AreHistories es os row → slice_get row j ≡ Some s →
+    s.made ≡ history s.number es os
 made_at es os row j s all at =
     let here = get_or_from_slice_get row j s s at in
     subst (λ (x : SeatView). x.made ≡ history x.number es os) here (all j s (slice_get_within row j s at))
@@ -63,7 +67,8 @@ all_stand es os row all n e has =
     let s : SeatView = has.1 in
     stands s.number es os has.3 n e (ap (λ l. slice_get l has.3) (sym (made_at es os row has.0 s all has.2)) ∙ has.4)
 
-pub all_received : (f : FloorId) (es : List Entry) (os : List ℕ) (row : List SeatView) → HaveOwners f es os → AllThere f.seats row → AreHistories es os row → AllReceived es row
+pub all_received : (f : FloorId) (es : List Entry) (os : List ℕ) (row : List SeatView) → HaveOwners f es os → AllThere f.seats row →
+    AreHistories es os row → AllReceived es row
 all_received f es os row h there all n e at =
     let q = owner_from 0 es os n e h.each at in
     let t = there q.0 (h.belonged n e q.0 at q.1).0 in

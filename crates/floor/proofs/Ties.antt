@@ -1,5 +1,6 @@
 -- The tokens' rule, kept by each step.
-use Rattle.std.proofs.Common.{◌≡◌, ◌≢◌, ◌⊎◌, inl, inr, ℕ, zero, suc, ◌+◌, cond, eqb, List, [], ◌∷◌, ◌++◌, length, slice_set, Bool, true, false, refl, sym, ap, ◌∙◌, arith, length-append}
+use Rattle.std.proofs.Common.{◌≡◌, ◌≢◌, ◌⊎◌, inl, inr, ℕ, zero, suc, ◌+◌, cond, eqb, List, []}
+use Rattle.std.proofs.Common.{◌∷◌, ◌++◌, length, slice_set, Bool, true, false, refl, sym, ap, ◌∙◌, arith, length-append}
 use Rattle.std.proofs.lemmas.Bool.Decides.{nat_tests}
 use mathlib.Core.Option.{Option, some}
 use lib.ListN.{get_elem?}
@@ -9,7 +10,8 @@ use Rattle.floor.specs.declared.tokens.TokenView.{TokenView}
 use Rattle.floor.specs.Histories.{history, owned_from}
 use Rattle.floor.specs.inner.Tokens.{keeper, sitting, idle, Fits, Fitting, seated, stood, risen, dealt, newcomer, grown, Adds, Compares}
 
-set_get : (views : List TokenView) (id by : ℕ) (w v : TokenView) → get_elem? (slice_set views id w) by ≡ some v → ((by ≡ id) × (v ≡ w)) ⊎ ((by ≢ id) × (get_elem? views by ≡ some v))
+set_get : (views : List TokenView) (id by : ℕ) (w v : TokenView) → get_elem? (slice_set views id w) by ≡ some v →
+    ((by ≡ id) × (v ≡ w)) ⊎ ((by ≢ id) × (get_elem? views by ≡ some v))
 set_get [] id by w v e = absurd (cc e)
 set_get (u ∷ us) zero zero w v e = inl (refl, cc e)
 set_get (u ∷ us) zero (suc by) w v e = inr ((λ p. absurd (omega (arith, p))), e)
@@ -19,13 +21,15 @@ set_get (u ∷ us) (suc id) (suc by) w v e = elim (set_get us id by w v e) [
   | inr a ↦ inr ((λ p. a.0 (omega (arith, p))), a.1)
 ]
 
-set_same : (views : List TokenView) (id by : ℕ) (w v : TokenView) → get_elem? views id ≡ some w → get_elem? (slice_set views id w) by ≡ some v → get_elem? views by ≡ some v
+set_same : (views : List TokenView) (id by : ℕ) (w v : TokenView) → get_elem? views id ≡ some w → get_elem? (slice_set views id w) by ≡ some v →
+    get_elem? views by ≡ some v
 set_same views id by w v at e = elim (set_get views id by w v e) [
   | inl q ↦ rw (q.0, q.1) at
   | inr q ↦ q.1
 ]
 
-snoc_get : (views : List TokenView) (w v : TokenView) (by : ℕ) → get_elem? (views ++ w ∷ []) by ≡ some v → (get_elem? views by ≡ some v) ⊎ ((by ≡ length views) × (v ≡ w))
+snoc_get : (views : List TokenView) (w v : TokenView) (by : ℕ) → get_elem? (views ++ w ∷ []) by ≡ some v →
+    (get_elem? views by ≡ some v) ⊎ ((by ≡ length views) × (v ≡ w))
 snoc_get [] w v zero e = inr (refl, cc e)
 snoc_get [] w v (suc by) e = absurd (cc e)
 snoc_get (u ∷ us) w v zero e = inl e
@@ -51,7 +55,8 @@ cond_yes : {X : Type 0} (a : ℕ) (x y : X) → cond (eqb a a) x y ≡ x
 cond_yes a x y = grind (arith, nat_tests)
 
 -- an entry of another seat
-owned_other : (seat k : ℕ) (es : List Entry) (os : List ℕ) (e : Entry) (o : ℕ) → length os ≡ length es → o ≢ seat → owned_from seat k (es ++ e ∷ []) (os ++ o ∷ []) ≡ owned_from seat k es os
+owned_other : (seat k : ℕ) (es : List Entry) (os : List ℕ) (e : Entry) (o : ℕ) → length os ≡ length es → o ≢ seat →
+    owned_from seat k (es ++ e ∷ []) (os ++ o ∷ []) ≡ owned_from seat k es os
 owned_other seat k [] [] e o even ne = cond_no o seat _ _ ne
 owned_other seat k [] (p ∷ os) e o even ne = absurd (omega (arith, even))
 owned_other seat k (x ∷ es) [] e o even ne = absurd (omega (arith, even))
@@ -59,7 +64,8 @@ owned_other seat k (x ∷ es) (p ∷ os) e o even ne =
     let rest = owned_other seat (k + 1) es os e o (omega (arith, even)) ne in ap (λ l. cond (eqb p seat) ((k, x) ∷ l) l) rest
 
 -- an entry of its own
-owned_own : (seat k : ℕ) (es : List Entry) (os : List ℕ) (e : Entry) → length os ≡ length es → owned_from seat k (es ++ e ∷ []) (os ++ seat ∷ []) ≡ owned_from seat k es os ++ (k + length es, e) ∷ []
+owned_own : (seat k : ℕ) (es : List Entry) (os : List ℕ) (e : Entry) → length os ≡ length es →
+    owned_from seat k (es ++ e ∷ []) (os ++ seat ∷ []) ≡ owned_from seat k es os ++ (k + length es, e) ∷ []
 owned_own seat k [] [] e even = cond_yes seat _ _ ∙ ap (λ n. (n, e) ∷ []) (omega arith)
 owned_own seat k [] (p ∷ os) e even = absurd (omega (arith, even))
 owned_own seat k (x ∷ es) [] e even = absurd (omega (arith, even))
@@ -113,7 +119,8 @@ sits id other v w sit s h at apart got =
             (h.fits b x r.1).0,
             (λ k.
                 let f = (h.fits b x r.1).1 k in
-                let ne : x.number ≢ w.number = λ eq. q.0 (f.0 ∙ (ap h.place eq ∙ sym mine.0)) in (f.0 ∙ sym (moved_other h.place w.number id x.number ne), f.1, f.2)),
+                let ne : x.number ≢ w.number = λ eq. q.0 (f.0 ∙ (ap h.place eq ∙ sym mine.0)) in
+                (f.0 ∙ sym (moved_other h.place w.number id x.number ne), f.1, f.2)),
           )
         ]
       ];
@@ -137,7 +144,8 @@ stands id v keep sit s h at =
             (h.fits b x r.1).0,
             (λ k.
                 let f = (h.fits b x r.1).1 k in
-                let ne : x.number ≢ v.number = λ eq. r.0 (f.0 ∙ (ap h.place eq ∙ sym mine.0)) in (f.0 ∙ sym (moved_other h.place v.number here x.number ne), f.1, f.2)),
+                let ne : x.number ≢ v.number = λ eq. r.0 (f.0 ∙ (ap h.place eq ∙ sym mine.0)) in
+                (f.0 ∙ sym (moved_other h.place v.number here x.number ne), f.1, f.2)),
           )
         ]
         | inr q ↦ rw (q.0, q.1) ((λ k. absurd (cc k)), (λ k. (sym (moved_same h.place v.number here), mine.1, mine.2)))
@@ -162,7 +170,8 @@ deals id v keep none_yet s h at =
             (λ k. absurd (r.0 (((h.fits b x r.1).0 k).0 ∙ sym own.0))),
             (λ k.
                 let f = (h.fits b x r.1).1 k in
-                let ne : x.number ≢ v.next = λ eq. absurd (omega (arith, f.1, eq, own.3)) in (f.0 ∙ sym (moved_other h.place v.next here x.number ne), omega (arith, f.1), f.2)),
+                let ne : x.number ≢ v.next = λ eq. absurd (omega (arith, f.1, eq, own.3)) in
+                (f.0 ∙ sym (moved_other h.place v.next here x.number ne), omega (arith, f.1), f.2)),
           )
         ]
         | inr q ↦ rw (q.0, q.1) (
@@ -210,21 +219,25 @@ adds slots id me a b f e keep sit s h len at fits =
             (λ k. (
               mine.0,
               mine.1,
-              ap (λ l. l ++ (length v.entries, e) ∷ []) mine.2 ∙ (ap (λ n. history v.number h.es h.os ++ (n, e) ∷ []) (ap (λ (l : List Entry). length l) kept.1 ∙ (omega arith)) ∙ sym (owned_own v.number 0 h.es h.os e h.even)),
+              ap (λ l. l ++ (length v.entries, e) ∷ []) mine.2
+                  ∙ (ap (λ n. history v.number h.es h.os ++ (n, e) ∷ []) (ap (λ (l : List Entry). length l) kept.1 ∙ (omega arith))
+                  ∙ sym (owned_own v.number 0 h.es h.os e h.even)),
             )),
           )
           | inr q ↦ (
             (λ k. absurd (q.0 (((h.fits b x q.1).0 k).0 ∙ sym kept.0))),
             (λ k.
                 let g = (h.fits b x q.1).1 k in
-                let ne : v.number ≢ x.number = λ eq. q.0 (g.0 ∙ (ap h.place (sym eq) ∙ sym mine.0)) in (g.0, g.1, g.2 ∙ sym (owned_other x.number 0 h.es h.os e v.number h.even ne))),
+                let ne : v.number ≢ x.number = λ eq. q.0 (g.0 ∙ (ap h.place (sym eq) ∙ sym mine.0)) in
+                (g.0, g.1, g.2 ∙ sym (owned_other x.number 0 h.es h.os e v.number h.even ne))),
           )
         ];
       },
       ((λ x same. ap (λ y. grown v y) (cc same)), refl),
     )
 
-pub compares : (slots id : ℕ) (me : Me Entry TokenView) (a b : ℕ) (o : Option Entry) → me.0.keeps ≡ true → me.0.sits ≡ true → Allows Fitting slots id me 0 (λ n. n) (Compares (step slots 0 a b o) me)
+pub compares : (slots id : ℕ) (me : Me Entry TokenView) (a b : ℕ) (o : Option Entry) → me.0.keeps ≡ true → me.0.sits ≡ true →
+    Allows Fitting slots id me 0 (λ n. n) (Compares (step slots 0 a b o) me)
 compares slots id me a b o keep sit s h len at fits =
     let own = h.fits id me.0 at in
     let kept = own.0 keep in (
@@ -236,13 +249,16 @@ compares slots id me a b o keep sit s h len at fits =
     )
 
 -- what is left behind where the keeper took a seat, added an entry, and let the seat go
-pub added : (h t u a b x hall seat : Me Entry TokenView) (e : Entry) → h ≡ (keeper h.0.entries h.0.owners h.0.next, []) → u ≡ t → a ≡ (h.0, h.1) → b ≡ (seated a.0 u.0, a.1) →
+pub added : (h t u a b x hall seat : Me Entry TokenView) (e : Entry) → h ≡ (keeper h.0.entries h.0.owners h.0.next, []) → u ≡ t → a ≡ (h.0, h.1) →
+    b ≡ (seated a.0 u.0, a.1) →
     x.0 ≡ grown b.0 e → x.1 ≡ b.1 → hall ≡ (stood x.0, x.1) → seat ≡ (risen x.0, []) →
     (hall ≡ (keeper (h.0.entries ++ e ∷ []) (h.0.owners ++ t.0.number ∷ []) h.0.next, []))
     × (seat ≡ (sitting t.0.number (t.0.made ++ (length h.0.entries, e) ∷ []), []))
 added h t u a b x hall seat e keep taken spared joined grew kept stood' risen' =
     let same : x.0 ≡ grown (seated h.0 t.0) e =
-    grew ∙ ap (λ (m : Me Entry TokenView). grown m.0 e) (joined ∙ (ap (λ (m : Me Entry TokenView). let n : Me Entry TokenView = (seated m.0 u.0, m.1) in n) spared ∙ ap (λ (m : Me Entry TokenView). let n : Me Entry TokenView = (seated h.0 m.0, h.1) in n) taken)) in
+    grew ∙ ap (λ (m : Me Entry TokenView). grown m.0 e)
+    (joined ∙ (ap (λ (m : Me Entry TokenView). let n : Me Entry TokenView = (seated m.0 u.0, m.1) in n) spared
+    ∙ ap (λ (m : Me Entry TokenView). let n : Me Entry TokenView = (seated h.0 m.0, h.1) in n) taken)) in
     let lent : x.1 ≡ [] =
     kept ∙ (ap (λ (m : Me Entry TokenView). m.1) joined ∙ (ap (λ (m : Me Entry TokenView). m.1) spared ∙ ap (λ (m : Me Entry TokenView). m.1) keep)) in (
       stood' ∙ (ap (λ v. (stood v, x.1)) same ∙ ap (λ l. (stood (grown (seated h.0 t.0) e), l)) lent),

@@ -270,7 +270,9 @@ pub fn crew<
         thread::scope_env(),
         rt,
         |scope| -> Vec<(Seat<F>, Option<TurnFault>)>
-            requires { (length refused.now ≡ length members.items) × (running.items ≡ []) × (length members.items ≤ vec_capacity running) × (back.items ≡ []) × (length members.items ≤ vec_capacity back) }
+            requires flags { length refused.now ≡ length members.items }
+            requires running { (running.items ≡ []) × (length members.items ≤ vec_capacity running) }
+            requires back { (back.items ≡ []) × (length members.items ≤ vec_capacity back) }
             ensures { ComeBack (map (λ m. m.0) members.items) result.items }
         {
             let running = start_all(scope, rt, floor, gate, refused, members, running);

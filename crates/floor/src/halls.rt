@@ -99,7 +99,8 @@ impl<F: Naming> Hall<F> {
         ensures full { length self.old.entries ≡ F.floor.capacity → IsErrOf result TurnFault.Full }
         ensures room { length self.old.entries < F.floor.capacity → IsOkUnless result TurnFault.NoMemory }
         ensures within { length self.old.entries ≤ F.floor.capacity }
-        ensures none { IfOk result (λ made. IfNone made ((its_ready F.floor self.old.entries seat.old.number ≡ []) × (self.new ≡ self.old) × (seat.new ≡ seat.old))) }
+        ensures none { IfOk result (λ made. IfNone made (its_ready F.floor self.old.entries seat.old.number ≡ [])) }
+        ensures unturned { IfOk result (λ made. IfNone made ((self.new ≡ self.old) × (seat.new ≡ seat.old))) }
         ensures some { IfOk result (λ made. IfSome made (λ receipt. (step : Step) × Draws F.floor self.old.entries seat.old.number word step
             × Turns F.floor self.old self.new seat.old seat.new step receipt)) }
         ensures err { OnErr result ((self.new ≡ self.old) × (seat.new ≡ seat.old)) }

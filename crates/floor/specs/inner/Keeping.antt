@@ -27,7 +27,8 @@ pub record IsKeptUp (floor : FloorId) (world : View) (watch : List ℕ) (recordi
   pub owned : HaveOwners floor recording.entries owners
 
 -- a hall has the seats and the capacity of its floor, and the token that keeps the recording
-pub record IsHall (floor : FloorId) (entries : List Entry) (owners : List ℕ) (capacity seats : ℕ) (table token : TableId) (me : Me Entry TokenView) : Type 0 where
+pub record IsHall (floor : FloorId) (entries : List Entry) (owners : List ℕ) (capacity seats : ℕ)
+    (table token : TableId) (me : Me Entry TokenView) : Type 0 where
   pub capacity_is : capacity ≡ floor.capacity
   pub seats_is : seats ≡ floor.seats
   pub some : 0 < floor.seats

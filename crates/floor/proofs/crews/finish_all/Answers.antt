@@ -11,4 +11,5 @@ pub returns : goal.returns
 returns g c =
     let i = c.loop-running.invariant in
     let empty : c.loop-running.running.items ≡ [] = no_items c.loop-running.running.items (search rules) in
-    subst (λ rs. ComeBack c.args.running.items rs) (append-nil c.loop-running.back.items) (i.0 [] (subst (λ (xs : List SeatView). ComeBack xs []) (sym empty) tt))
+    subst (λ rs. ComeBack c.args.running.items rs) (append-nil c.loop-running.back.items)
+    (i.0 [] (subst (λ (xs : List SeatView). ComeBack xs []) (sym empty) tt))

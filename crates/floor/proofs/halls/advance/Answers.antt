@@ -9,7 +9,8 @@ returns-clause-ok c =
     let s = c.step.ensures in
     record {
       step_is = refl;
-      made = as_told c.args.world.now c.ready.new.self c.step.new.self c.args.step c.in_ok-outcome.outcome c.step.result r.tables r.state told.outcome (s.succeeds told.room) s.ok;
+      made = as_told c.args.world.now c.ready.new.self c.step.new.self c.args.step c.in_ok-outcome.outcome c.step.result
+          r.tables r.state told.outcome (s.succeeds told.room) s.ok;
       shape = s.shape ∙ r.shape;
       tables = s.tables ∙ r.tables;
       recorded = c.in_default.ensures.ok;

@@ -17,7 +17,8 @@ join_seat-requires c =
       ap (λ t. t.table_id) same ∙ r.same,
       ap (λ t. t.me.1) same ∙ ap (λ m. m.1) r.sits,
       omega (arith, r.one),
-      sits c.split_seat-spare.new.seat.id c.replace-token.result.id c.split_seat-spare.new.seat.me.0 c.replace-token.result.me.0 (ap (λ t. t.me.0.sits) same ∙ ap (λ m. m.0.sits) r.sits),
+      sits c.split_seat-spare.new.seat.id c.replace-token.result.id c.split_seat-spare.new.seat.me.0 c.replace-token.result.me.0
+          (ap (λ t. t.me.0.sits) same ∙ ap (λ m. m.0.sits) r.sits),
     )
 
 pub compare_exchange_with-requires : goal.compare_exchange_with-requires
@@ -46,8 +47,16 @@ split_seat-token-requires c =
     )
 
 left_behind : (c : After-drop-seat) →
-    (c.split_seat-token.new.seat.me ≡ (keeper (c.args.hall.now.me.0.entries ++ c.args.entry.now ∷ []) (c.args.hall.now.me.0.owners ++ c.args.seat.now.me.0.number ∷ []) c.args.hall.now.me.0.next, []))
-    × (c.split_seat-token.result.me ≡ (sitting c.args.seat.now.me.0.number (c.args.seat.now.me.0.made ++ (length c.args.hall.now.me.0.entries, c.args.entry.now) ∷ []), []))
+    (c.split_seat-token.new.seat.me ≡ (
+      keeper (c.args.hall.now.me.0.entries ++ c.args.entry.now ∷ [])
+          (c.args.hall.now.me.0.owners ++ c.args.seat.now.me.0.number ∷ []) c.args.hall.now.me.0.next,
+      [],
+    ))
+    × (c.split_seat-token.result.me ≡ (
+      sitting c.args.seat.now.me.0.number
+          (c.args.seat.now.me.0.made ++ (length c.args.hall.now.me.0.entries, c.args.entry.now) ∷ []),
+      [],
+    ))
 left_behind c =
     let x = c.compare_exchange_with.ensures.2 in
     let k = c.split_seat-token.ensures in

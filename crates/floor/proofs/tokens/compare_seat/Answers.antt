@@ -15,7 +15,8 @@ join_seat-requires c =
       ap (λ t. t.table_id) same ∙ r.same,
       ap (λ t. t.me.1) same ∙ ap (λ m. m.1) r.sits,
       omega (arith, r.one),
-      sits c.split_seat-spare.new.seat.id c.replace-token.result.id c.split_seat-spare.new.seat.me.0 c.replace-token.result.me.0 (ap (λ t. t.me.0.sits) same ∙ ap (λ m. m.0.sits) r.sits),
+      sits c.split_seat-spare.new.seat.id c.replace-token.result.id c.split_seat-spare.new.seat.me.0 c.replace-token.result.me.0
+          (ap (λ t. t.me.0.sits) same ∙ ap (λ m. m.0.sits) r.sits),
     )
 
 pub load-requires : goal.load-requires

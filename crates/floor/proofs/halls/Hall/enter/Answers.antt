@@ -10,7 +10,8 @@ kept : (g : Over) (c : After-push_reserved g) →
     IsKeptUp g.F.Naming.floor c.advance.new.world c.see-seen.new.self c.advance.new.recording c.push_reserved.new.self.items c.or-self-inside.result
 kept g c =
     let i = c.self.inside in
-    kept_more g.F.Naming.floor i.world c.advance.new.world i.watch _ i.recording c.advance.new.recording i.owners.items _ i.violation _ c.args.step c.in-Ok.entry c.seat.inside.number
+    kept_more g.F.Naming.floor i.world c.advance.new.world i.watch _ i.recording c.advance.new.recording i.owners.items _ i.violation _
+    c.args.step c.in-Ok.entry c.seat.inside.number
     (length c.entries.result.now) c.see-seen.result
     c.self.invariant.0
     c.seat.invariant.within

@@ -12,7 +12,8 @@ drew g c =
     let i = c.self.inside in
     let es = ap (λ s. s.entries) c.self.view_is in
     let number = ap (λ s. s.number) c.seat.view_is in
-    drawn g.F.Naming.floor i.world i.watch i.recording i.owners.items i.violation i.seats c.args.self.now.entries c.seat.inside.number c.args.seat.now.number c.args.word c.in-Ok.ready.items c.index-step.result.now
+    drawn g.F.Naming.floor i.world i.watch i.recording i.owners.items i.violation i.seats
+    c.args.self.now.entries c.seat.inside.number c.args.seat.now.number c.args.word c.in-Ok.ready.items c.index-step.result.now
     c.self.invariant.0
     es
     number
@@ -25,4 +26,5 @@ pub enter-requires-clause-yours : goal.enter-requires-clause-yours
 enter-requires-clause-yours g c = (drew g (goal.at.enter-requires-clause-yours g c).After-index-step).1
 
 pub returns-in-Ok-enter-clause-some : goal.returns-in-Ok-enter-clause-some
-returns-in-Ok-enter-clause-some g c = (c.index-step.result.now, (drew g (goal.at.returns-in-Ok-enter-clause-some g c).After-index-step).0, c.in-Ok-enter.ensures.ok)
+returns-in-Ok-enter-clause-some g c =
+    (c.index-step.result.now, (drew g (goal.at.returns-in-Ok-enter-clause-some g c).After-index-step).0, c.in-Ok-enter.ensures.ok)
