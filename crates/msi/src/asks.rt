@@ -31,8 +31,7 @@ fn ask_of(line: &[u8], shape: Shape) -> Option<CoreAsk> {
     }
     match Step::read(line) {
         Some(Step::Ask { cache, block, ask })
-            if cache.0 < shape.caches() && block.0 < shape.blocks() =>
-        {
+            if cache.0 < shape.caches() && block.0 < shape.blocks() => {
             Some(CoreAsk {
                 core: cache,
                 block,

@@ -29,8 +29,16 @@ pub fn race<R: Threads + Wait + Sync, I: Read + Drop, O: Write + Drop>(
     let asks = read_asks(alloc, setup.shape(), input)?;
     let ground = Ground::new(alloc)?;
     let capacity = seats.saturating_mul(turns);
-    let recording =
-        recorded::<Brand, R>(rt, alloc, ground, setup, seats, turns, capacity, asks.as_slice())?;
+    let recording = recorded::<Brand, R>(
+        rt,
+        alloc,
+        ground,
+        setup,
+        seats,
+        turns,
+        capacity,
+        asks.as_slice(),
+    )?;
     print_replayed(alloc, &recording, output)
 }
 

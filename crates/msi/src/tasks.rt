@@ -61,11 +61,7 @@ fn trying<F: Files>(
 }
 
 /// A race, whose turns are counted before a file is read.
-fn racing<F: Files>(
-    alloc: Global,
-    options: &ArgMatches<'_>,
-    files: &mut F,
-) -> Result<Task, Fault> {
+fn racing<F: Files>(alloc: Global, options: &ArgMatches<'_>, files: &mut F) -> Result<Task, Fault> {
     let seats = number(options, "seats");
     let turns = number(options, "turns");
     if seats.saturating_mul(turns) as usize > MOST_ENTRIES {

@@ -95,7 +95,15 @@ fn serve_line<R: Threads + Wait + Sync, I: Read + Drop, O: Write + Drop>(
     let words = words(alloc, line)?;
     let mut files = OneFile { alloc, text };
     let mut errors = Vec::new(alloc);
-    let status = serve(rt, alloc, &Ok(words), &mut files, input, output, &mut errors);
+    let status = serve(
+        rt,
+        alloc,
+        &Ok(words),
+        &mut files,
+        input,
+        output,
+        &mut errors,
+    );
     Ok((status, errors))
 }
 
@@ -253,7 +261,12 @@ fn what_is_not_a_step(rt: HostRuntime) -> Result<(), Fail> {
     let alloc = rt.alloc();
     let first = run(&rt, alloc, "msi play --caches 2", "asc 0 0 load\n")?;
     expect(&rt, &first, 2, "", "msi: line 1: not a step\n");
-    let third = run(&rt, alloc, "msi play --caches 2", "ask 0 0 load\n\nrequest 0\n")?;
+    let third = run(
+        &rt,
+        alloc,
+        "msi play --caches 2",
+        "ask 0 0 load\n\nrequest 0\n",
+    )?;
     expect(&rt, &third, 2, "sent\n", "msi: line 3: not a step\n");
     let mut long = String::from_str(alloc, "request 0 0\n")?;
     for _ in 0..201 {
@@ -330,7 +343,13 @@ fn recordings_are_replayed(rt: HostRuntime) -> Result<(), Fail> {
     let broken =
         "msi-recording 1\nshape 2 1\nopening 0\ncells 1\ncell cache I Load act S\nentries 4\nask 0 0 store 7 = sent\nrequest 0 0 = moved\nresponse 0 0 = store 0 7\nask 1 0 load = load 1 0\nend\n";
     let violation = "same 4\nviolation 3 writer 0 beside reader 1 block 0\n";
-    expect(&rt, &run(&rt, alloc, "msi replay", broken)?, 1, violation, "");
+    expect(
+        &rt,
+        &run(&rt, alloc, "msi replay", broken)?,
+        1,
+        violation,
+        "",
+    );
     Ok(())
 }
 

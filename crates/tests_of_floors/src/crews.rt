@@ -146,7 +146,9 @@ fn compare<F: Naming, R: Abort>(rt: &R, seat: &Seat<F>, ended: &Option<TurnFault
     same(rt, ended, &None);
     let receipts = seat.receipts();
     for call in 0..STEPS {
-        let found = receipts.get(call as usize).map(|receipt| receipt.entry().step);
+        let found = receipts
+            .get(call as usize)
+            .map(|receipt| receipt.entry().step);
         same(rt, &found, &Some(wished(seat.number(), call)));
     }
     receipts.len()
@@ -179,7 +181,9 @@ fn race<F: Naming + Send + Sync, R: Threads + Wait + Abort + Sync>(
     let mistaken = AtomicBool::new(false);
     let gate = Meeting::of(count);
     let members = cast(alloc, seats, &mistaken)?;
-    let back = crew(rt, alloc, &floor, &gate, members).ok().ok_or("no crew")?;
+    let back = crew(rt, alloc, &floor, &gate, members)
+        .ok()
+        .ok_or("no crew")?;
     same(rt, &mistaken.load(Ordering::SeqCst), &false);
     same(rt, &gate.mistaken.load(Ordering::SeqCst), &false);
     let mut made = 0usize;
@@ -216,7 +220,9 @@ fn nobody<F: Naming + Send + Sync, R: Threads + Wait + Abort + Sync>(
     let (floor, seats) = Floor::<F>::open(ground, alloc, setup, 2, 600)?;
     let mistaken = AtomicBool::new(false);
     let members = cast(alloc, Vec::new(alloc), &mistaken)?;
-    let back = crew(rt, alloc, &floor, &Meeting::of(0), members).ok().ok_or("no crew")?;
+    let back = crew(rt, alloc, &floor, &Meeting::of(0), members)
+        .ok()
+        .ok_or("no crew")?;
     assert!(rt; back.is_empty());
     let closed = floor.close(seats).ok().ok_or("not closed")?;
     compare_closed(rt, alloc, &closed, 0)

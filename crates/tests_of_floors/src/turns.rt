@@ -175,7 +175,11 @@ fn foreign_steps<F: Naming, R: Wait + Abort>(
         same(rt, &answer, &refused);
         // There is no such response yet, so it is everybody's.
         let receipt = floor.turn(rt, seat, RESPONSE)?;
-        same(rt, &Some(receipt.entry()), &entry_of("response 0 0 = absent"));
+        same(
+            rt,
+            &Some(receipt.entry()),
+            &entry_of("response 0 0 = absent"),
+        );
     }
     let closed = floor.close(seats).ok().ok_or("not closed")?;
     same(rt, &closed.owners.as_slice(), &[0u32, 0, 1, 2].as_slice());
@@ -188,7 +192,13 @@ fn steps_of_other_seats(rt: HostRuntime) -> Result<(), Fail> {
     foreign_steps::<Brand, _>(&rt, rt.alloc(), Ground::new(rt.alloc())?, &setup)
 }
 
-fn refusal<F: Naming>(alloc: Global, ground: Ground, setup: &Setup, seats: u32, capacity: u32) -> Option<FloorFault>
+fn refusal<F: Naming>(
+    alloc: Global,
+    ground: Ground,
+    setup: &Setup,
+    seats: u32,
+    capacity: u32,
+) -> Option<FloorFault>
     requires { F.floor ≡ names ground setup.now seats capacity }
 {
     Floor::<F>::open(ground, alloc, setup, seats, capacity).err()

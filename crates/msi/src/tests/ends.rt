@@ -67,7 +67,13 @@ fn run_torn<R: Threads + Wait + Sync>(
 fn an_input_that_fails(rt: HostRuntime) -> Result<(), Fail> {
     let alloc = rt.alloc();
     for line in [PLAY, TRIAL, BATCH, "msi replay"] {
-        expect(&rt, &run_torn(&rt, alloc, line, "{}")?, 3, "", "msi: device\n");
+        expect(
+            &rt,
+            &run_torn(&rt, alloc, line, "{}")?,
+            3,
+            "",
+            "msi: device\n",
+        );
     }
     Ok(())
 }
@@ -121,7 +127,15 @@ fn run_without_words<R: Threads + Wait + Sync>(
     let mut files = OneFile { alloc, text: "{}" };
     let mut output = Vec::new(alloc);
     let mut errors = Vec::new(alloc);
-    let status = serve(rt, alloc, &words, &mut files, Torn, &mut output, &mut errors);
+    let status = serve(
+        rt,
+        alloc,
+        &words,
+        &mut files,
+        Torn,
+        &mut output,
+        &mut errors,
+    );
     Served {
         status,
         output,
