@@ -1,5 +1,6 @@
 use base::{MOST_BLOCKS, MOST_CACHES};
 use clap::{Arg, ArgAction, Command, value_parser};
+use floor::MOST_SEATS;
 use std::alloc::{AllocError, Global};
 use trials::{MOST_STEPS, MOST_TRIALS};
 
@@ -111,6 +112,30 @@ fn options_of_trials<'a>(alloc: Global, own: Arg<'a>) -> Result<Vec<Arg<'a>>, Al
     Ok(options)
 }
 
+fn seats<'a>(alloc: Global) -> Arg<'a> {
+    Arg::new(alloc, "seats")
+        .long("seats")
+        .value_name("N")
+        .help("How many seats take turns, a thread each, 1 to 64")
+        .required(true)
+        .action(ArgAction::Set)
+        .value_parser(value_parser!(u32).range(1..=MOST_SEATS as i64))
+}
+
+fn floor<'a>(alloc: Global) -> Result<Command<'a>, AllocError> {
+    let about = "Reads asks, one a line, and has threads put them in a race";
+    let help = "How many turns each seat tries to make";
+    let options = vec![in alloc;
+        caches(alloc),
+        blocks(alloc),
+        overrides(alloc),
+        seats(alloc),
+        number_of(alloc, "turns", "T", help, u32::MAX as i64),
+        seed(alloc),
+    ]?;
+    command(alloc, "floor", about, options)
+}
+
 fn tables<'a>(alloc: Global) -> Result<Command<'a>, AllocError> {
     let about = "Prints the cells of both controller tables, one a line";
     command(alloc, "tables", about, vec![in alloc; overrides(alloc)]?)
@@ -132,6 +157,7 @@ pub fn msi<'a>(alloc: Global) -> Result<Command<'a>, AllocError> {
     let msi = with(msi, trial(alloc));
     let msi = with(msi, batch(alloc));
     let msi = with(msi, Ok(replay(alloc)));
+    let msi = with(msi, floor(alloc));
     with(msi, tables(alloc))
 }
 

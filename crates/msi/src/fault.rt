@@ -17,6 +17,12 @@ pub enum Fault {
     /// A line of the input, counted from 1, isn't a step.
     #[error("msi: line {0}: not a step")]
     NotAStep(u64),
+    /// A line of the input, counted from 1, isn't an ask of the world's caches and blocks.
+    #[error("msi: line {0}: not an ask of this shape")]
+    NotAnAsk(u64),
+    /// All seats together would make more than 1,000,000 turns.
+    #[error("msi: too many turns")]
+    TooManyTurns,
     /// The numbers of caches and blocks aren't a shape.
     #[error("msi: {0}")]
     Shape(ShapeFault),
@@ -54,6 +60,8 @@ impl Fault {
         match self {
             Fault::BadWord
             | Fault::NotAStep(_)
+            | Fault::NotAnAsk(_)
+            | Fault::TooManyTurns
             | Fault::Shape(_)
             | Fault::Setup(_)
             | Fault::Tables(_)

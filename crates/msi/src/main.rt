@@ -1,12 +1,15 @@
 //! `msi`: plays, tries out and replays a directory MSI protocol.
 #![tactic(auto)]
 
+mod asks;
 mod commands;
 mod fault;
 mod files;
 mod finding;
 mod lines;
 mod play;
+mod players;
+mod racing;
 mod replay;
 mod serve;
 mod tables;
@@ -34,6 +37,7 @@ fn main(rt: HostRuntime) -> ExitCode {
     let words = words(&rt);
     let mut disk = Disk::new(&rt);
     let code = serve(
+        &rt,
         rt.alloc(),
         &words,
         &mut disk,

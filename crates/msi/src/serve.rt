@@ -3,6 +3,7 @@ use crate::fault::Fault;
 use crate::files::Files;
 use crate::finding::Finding;
 use crate::play::play;
+use crate::racing::race;
 use crate::replay::replay;
 use crate::tables::print_tables;
 use crate::tasks::Task;
@@ -12,12 +13,16 @@ use clap::{ArgMatches, Error};
 use std::alloc::Global;
 use std::io;
 use std::io::{Read, Write};
+use std::sync::Wait;
+use std::thread::Threads;
 
-/// Serves the words of a command line over these files and streams, and answers the exit status:
+/// Serves the words of a command line over these files and streams, and answers the exit status. It may wait where threads
+/// race at a floor. The status is
 /// 0 where all went well, 1 where a violation or a difference was found, 2 for bad words or input, 3 for device and memory.
 ///
 /// Where the words couldn't be had, it says why.
-pub fn serve<F: Files, I: Read + Drop, O: Write + Drop, E: Write + Drop>(
+pub fn serve<R: Threads + Wait + Sync, F: Files, I: Read + Drop, O: Write + Drop, E: Write + Drop>(
+    rt: &R,
     alloc: Global,
     words: &io::Result<Vec<String>>,
     files: &mut F,
@@ -35,7 +40,7 @@ pub fn serve<F: Files, I: Read + Drop, O: Write + Drop, E: Write + Drop>(
         Err(_) => return refuse(&Fault::NoMemory, &mut errors),
     };
     match read {
-        Ok(matches) => match run(alloc, &matches, files, input, output, &mut errors) {
+        Ok(matches) => match run(rt, alloc, &matches, files, input, output, &mut errors) {
             Ok(finding) => finding.status(),
             Err(fault) => refuse(&fault, &mut errors),
         },
@@ -65,7 +70,8 @@ fn refuse<E: Write>(fault: &Fault, errors: &mut E) -> u8 {
     fault.status()
 }
 
-fn run<F: Files, I: Read + Drop, O: Write + Drop, E: Write>(
+fn run<R: Threads + Wait + Sync, F: Files, I: Read + Drop, O: Write + Drop, E: Write>(
+    rt: &R,
     alloc: Global,
     matches: &ArgMatches<'_>,
     files: &mut F,
@@ -74,13 +80,14 @@ fn run<F: Files, I: Read + Drop, O: Write + Drop, E: Write>(
     errors: &mut E,
 ) -> Result<Finding, Fault> {
     match Task::of(alloc, matches, files) {
-        Ok(Some(task)) => carry_out(alloc, &task, input, output, errors),
+        Ok(Some(task)) => carry_out(rt, alloc, &task, input, output, errors),
         Ok(None) => Ok(Finding::Nothing),
         Err(fault) => Err(fault),
     }
 }
 
-fn carry_out<I: Read + Drop, O: Write + Drop, E: Write>(
+fn carry_out<R: Threads + Wait + Sync, I: Read + Drop, O: Write + Drop, E: Write>(
+    rt: &R,
     alloc: Global,
     task: &Task,
     input: I,
@@ -91,6 +98,7 @@ fn carry_out<I: Read + Drop, O: Write + Drop, E: Write>(
         Task::Play(shape, tables) => play(alloc, *shape, *tables, input, output),
         Task::Trial(setup, number) => one_trial(alloc, setup, *number, input, output, errors),
         Task::Batch(setup, trials) => batch(alloc, setup, *trials, input, output),
+        Task::Floor(setup, seats, turns) => race(rt, alloc, setup, *seats, *turns, input, output),
         Task::Replay => replay(alloc, input, output),
         Task::Tables(tables) => print_tables(alloc, tables, output),
     }

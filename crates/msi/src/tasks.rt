@@ -2,6 +2,7 @@ use crate::fault::Fault;
 use crate::files::Files;
 use base::Shape;
 use clap::ArgMatches;
+use record::MOST_ENTRIES;
 use std::alloc::Global;
 use trials::Setup;
 use world::Tables;
@@ -15,6 +16,8 @@ pub enum Task {
     Trial(Setup, u32),
     /// Make so many trials.
     Batch(Setup, u32),
+    /// Have so many seats race at a floor, with so many turns each.
+    Floor(Setup, u32, u32),
     /// Replay a recording.
     Replay,
     /// Print the cells of these tables.
@@ -35,8 +38,9 @@ impl Task {
         };
         Ok(match name {
             "play" => Some(Task::Play(shape(options)?, tables(alloc, options, files)?)),
-            "trial" => Some(Task::Trial(setup(alloc, options, files)?, number(options, "number"))),
-            "batch" => Some(Task::Batch(setup(alloc, options, files)?, number(options, "trials"))),
+            "trial" => Some(Task::Trial(trying(alloc, options, files)?, number(options, "number"))),
+            "batch" => Some(Task::Batch(trying(alloc, options, files)?, number(options, "trials"))),
+            "floor" => Some(racing(alloc, options, files)?),
             "replay" => Some(Task::Replay),
             "tables" => Some(Task::Tables(tables(alloc, options, files)?)),
             _ => None,
@@ -48,13 +52,35 @@ fn shape(options: &ArgMatches<'_>) -> Result<Shape, Fault> {
     Ok(Shape::new(number(options, "caches"), number(options, "blocks"))?)
 }
 
-/// What trials are made under. Every block opens at 0.
-fn setup<F: Files>(alloc: Global, options: &ArgMatches<'_>, files: &mut F) -> Result<Setup, Fault> {
+fn trying<F: Files>(
+    alloc: Global,
+    options: &ArgMatches<'_>,
+    files: &mut F,
+) -> Result<Setup, Fault> {
+    setup(alloc, options, files, number(options, "limit"))
+}
+
+/// A race, whose turns are counted before a file is read.
+fn racing<F: Files>(alloc: Global, options: &ArgMatches<'_>, files: &mut F) -> Result<Task, Fault> {
+    let seats = number(options, "seats");
+    let turns = number(options, "turns");
+    if seats.saturating_mul(turns) as usize > MOST_ENTRIES {
+        return Err(Fault::TooManyTurns);
+    }
+    Ok(Task::Floor(setup(alloc, options, files, 0)?, seats, turns))
+}
+
+/// What trials and races are made under. Every block opens at 0.
+fn setup<F: Files>(
+    alloc: Global,
+    options: &ArgMatches<'_>,
+    files: &mut F,
+    limit: u32,
+) -> Result<Setup, Fault> {
     let shape = shape(options)?;
     let tables = tables(alloc, options, files)?;
     let opening = vec![in alloc; 0; shape.blocks() as usize]?;
     let seed = options.get_one::<u64>("seed").unwrap_or(0);
-    let limit = number(options, "limit");
     Ok(Setup::new(shape, tables, opening, seed, limit)?)
 }
 

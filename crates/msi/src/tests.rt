@@ -4,11 +4,14 @@ use crate::serve::serve;
 use std::alloc::{AllocError, Global};
 use std::io::{Read, Write};
 use std::process::Abort;
+use std::sync::Wait;
 use std::test::Fail;
+use std::thread::Threads;
 
 mod broken;
 mod cells;
 mod ends;
+mod racing;
 mod rows;
 mod trying;
 
@@ -54,19 +57,25 @@ fn words(alloc: Global, line: &str) -> Result<Vec<String>, AllocError> {
     Ok(words)
 }
 
-fn run(alloc: Global, line: &str, input: &str) -> Result<Served, AllocError> {
-    run_over(alloc, line, "{}", input)
+fn run<R: Threads + Wait + Sync>(
+    rt: &R,
+    alloc: Global,
+    line: &str,
+    input: &str,
+) -> Result<Served, AllocError> {
+    run_over(rt, alloc, line, "{}", input)
 }
 
 /// What a command line comes to where the file `table.json` has this text.
-fn run_over(
+fn run_over<R: Threads + Wait + Sync>(
+    rt: &R,
     alloc: Global,
     line: &str,
     text: &'static str,
     input: &str,
 ) -> Result<Served, AllocError> {
     let mut output = Vec::new(alloc);
-    let (status, errors) = serve_line(alloc, line, text, input.as_bytes(), &mut output)?;
+    let (status, errors) = serve_line(rt, alloc, line, text, input.as_bytes(), &mut output)?;
     Ok(Served {
         status,
         output,
@@ -75,7 +84,8 @@ fn run_over(
 }
 
 /// The exit status of a command line over this file, input and output, and what it says on the errors.
-fn serve_line<I: Read + Drop, O: Write + Drop>(
+fn serve_line<R: Threads + Wait + Sync, I: Read + Drop, O: Write + Drop>(
+    rt: &R,
     alloc: Global,
     line: &str,
     text: &'static str,
@@ -85,7 +95,15 @@ fn serve_line<I: Read + Drop, O: Write + Drop>(
     let words = words(alloc, line)?;
     let mut files = OneFile { alloc, text };
     let mut errors = Vec::new(alloc);
-    let status = serve(alloc, &Ok(words), &mut files, input, output, &mut errors);
+    let status = serve(
+        rt,
+        alloc,
+        &Ok(words),
+        &mut files,
+        input,
+        output,
+        &mut errors,
+    );
     Ok((status, errors))
 }
 
@@ -100,7 +118,7 @@ fn rows_are_played(rt: HostRuntime) -> Result<(), Fail> {
     let alloc = rt.alloc();
     for row in ROWS {
         let line = format!(in alloc; "msi play --caches {}", row.caches)?;
-        let served = run(alloc, line.as_str(), row.steps)?;
+        let served = run(&rt, alloc, line.as_str(), row.steps)?;
         expect(&rt, &served, 0, row.outcomes, "");
     }
     Ok(())
@@ -109,7 +127,7 @@ fn rows_are_played(rt: HostRuntime) -> Result<(), Fail> {
 #[test]
 fn empty_lines_are_skipped(rt: HostRuntime) -> Result<(), Fail> {
     let steps = "\n\nask 0 0 replace\n\nask 0 0 store 1";
-    let served = run(rt.alloc(), "msi play --caches 2", steps)?;
+    let served = run(&rt, rt.alloc(), "msi play --caches 2", steps)?;
     expect(&rt, &served, 0, "idle\nsent\n", "");
     Ok(())
 }
@@ -118,7 +136,7 @@ fn empty_lines_are_skipped(rt: HostRuntime) -> Result<(), Fail> {
 fn blocks_of_a_world(rt: HostRuntime) -> Result<(), Fail> {
     let steps =
         "ask 0 4095 store 3\nask 0 4096 load\nrequest 4095 0\nresponse 4095 0\nask 0 4095 load\n";
-    let served = run(rt.alloc(), "msi play --caches 1 --blocks 4096", steps)?;
+    let served = run(&rt, rt.alloc(), "msi play --caches 1 --blocks 4096", steps)?;
     expect(
         &rt,
         &served,
@@ -134,9 +152,10 @@ fn cells_of_the_tables(rt: HostRuntime) -> Result<(), Fail> {
     let alloc = rt.alloc();
     assert_eq!(rt; CELLS.lines().count(), 160);
     for line in ["msi tables", "msi tables --tables table.json"] {
-        expect(&rt, &run(alloc, line, "")?, 0, CELLS, "");
+        expect(&rt, &run(&rt, alloc, line, "")?, 0, CELLS, "");
     }
     let served = run_over(
+        &rt,
         alloc,
         "msi tables --tables table.json",
         r#"{"cache":[{"state":"M","event":"Fwd-GetS","entry":"blank"}]}"#,
@@ -162,7 +181,7 @@ fn broken_tables_are_found_out(rt: HostRuntime) -> Result<(), Fail> {
     let alloc = rt.alloc();
     for broken in BROKEN {
         let line = format!(in alloc; "msi play --caches {} --tables table.json", broken.caches)?;
-        let served = run_over(alloc, line.as_str(), broken.table, broken.steps)?;
+        let served = run_over(&rt, alloc, line.as_str(), broken.table, broken.steps)?;
         assert_eq!(rt; served.status, 1, "at {}", broken.table);
         let Ok(text) = str::from_utf8(served.output.as_slice()) else {
             return Err(Fail::from("the outcomes aren't text"));
@@ -171,7 +190,7 @@ fn broken_tables_are_found_out(rt: HostRuntime) -> Result<(), Fail> {
         assert_eq!(rt; text.lines().count(), broken.steps.lines().count() + 1);
         let own = format!(in alloc; "msi play --caches {}", broken.caches)?;
         assert_eq!(rt;
-            run(alloc, own.as_str(), broken.steps)?.status,
+            run(&rt, alloc, own.as_str(), broken.steps)?.status,
             0,
             "at {}",
             broken.table
@@ -183,6 +202,7 @@ fn broken_tables_are_found_out(rt: HostRuntime) -> Result<(), Fail> {
 #[test]
 fn what_follows_a_violation_is_not_read(rt: HostRuntime) -> Result<(), Fail> {
     let served = run_over(
+        &rt,
         rt.alloc(),
         "msi play --caches 1 --tables table.json",
         r#"{"cache":[{"state":"I","event":"Load","entry":"blank"}]}"#,
@@ -229,7 +249,7 @@ fn refused_tables(rt: HostRuntime) -> Result<(), Fail> {
     ] {
         for command in ["msi play --caches 2", "msi tables"] {
             let line = format!(in alloc; "{command} --tables {file}")?;
-            let served = run_over(alloc, line.as_str(), text, "no step\n")?;
+            let served = run_over(&rt, alloc, line.as_str(), text, "no step\n")?;
             expect(&rt, &served, status, "", errors);
         }
     }
@@ -239,15 +259,20 @@ fn refused_tables(rt: HostRuntime) -> Result<(), Fail> {
 #[test]
 fn what_is_not_a_step(rt: HostRuntime) -> Result<(), Fail> {
     let alloc = rt.alloc();
-    let first = run(alloc, "msi play --caches 2", "asc 0 0 load\n")?;
+    let first = run(&rt, alloc, "msi play --caches 2", "asc 0 0 load\n")?;
     expect(&rt, &first, 2, "", "msi: line 1: not a step\n");
-    let third = run(alloc, "msi play --caches 2", "ask 0 0 load\n\nrequest 0\n")?;
+    let third = run(
+        &rt,
+        alloc,
+        "msi play --caches 2",
+        "ask 0 0 load\n\nrequest 0\n",
+    )?;
     expect(&rt, &third, 2, "sent\n", "msi: line 3: not a step\n");
     let mut long = String::from_str(alloc, "request 0 0\n")?;
     for _ in 0..201 {
         long.push_str("1")?;
     }
-    let second = run(alloc, "msi play --caches 2", long.as_str())?;
+    let second = run(&rt, alloc, "msi play --caches 2", long.as_str())?;
     expect(&rt, &second, 2, "absent\n", "msi: line 2: not a step\n");
     Ok(())
 }
@@ -266,13 +291,13 @@ fn bad_words_and_help(rt: HostRuntime) -> Result<(), Fail> {
         "msi play --caches 2 --blocks 4097",
         "msi play --caches 2 --colour",
     ] {
-        let served = run(alloc, line, "")?;
+        let served = run(&rt, alloc, line, "")?;
         assert_eq!(rt; served.status, 2, "at {line}");
         assert!(rt; served.output.is_empty());
         assert!(rt; !served.errors.is_empty());
     }
     for line in ["msi --help", "msi play --help"] {
-        let served = run(alloc, line, "")?;
+        let served = run(&rt, alloc, line, "")?;
         assert_eq!(rt; served.status, 0, "at {line}");
         assert!(rt; !served.output.is_empty());
         assert!(rt; served.errors.is_empty());
@@ -280,7 +305,7 @@ fn bad_words_and_help(rt: HostRuntime) -> Result<(), Fail> {
     let version = format!(in alloc; "msi {VERSION}\n")?;
     expect(
         &rt,
-        &run(alloc, "msi --version", "")?,
+        &run(&rt, alloc, "msi --version", "")?,
         0,
         version.as_str(),
         "",
@@ -301,7 +326,7 @@ fn recordings_are_replayed(rt: HostRuntime) -> Result<(), Fail> {
     let same = recording(alloc, "load 1 7")?;
     expect(
         &rt,
-        &run(alloc, "msi replay", same.as_str())?,
+        &run(&rt, alloc, "msi replay", same.as_str())?,
         0,
         "same 8\n",
         "",
@@ -310,7 +335,7 @@ fn recordings_are_replayed(rt: HostRuntime) -> Result<(), Fail> {
     let differs = "differs 6 told load 1 6 found load 1 7\n";
     expect(
         &rt,
-        &run(alloc, "msi replay", other.as_str())?,
+        &run(&rt, alloc, "msi replay", other.as_str())?,
         1,
         differs,
         "",
@@ -318,7 +343,13 @@ fn recordings_are_replayed(rt: HostRuntime) -> Result<(), Fail> {
     let broken =
         "msi-recording 1\nshape 2 1\nopening 0\ncells 1\ncell cache I Load act S\nentries 4\nask 0 0 store 7 = sent\nrequest 0 0 = moved\nresponse 0 0 = store 0 7\nask 1 0 load = load 1 0\nend\n";
     let violation = "same 4\nviolation 3 writer 0 beside reader 1 block 0\n";
-    expect(&rt, &run(alloc, "msi replay", broken)?, 1, violation, "");
+    expect(
+        &rt,
+        &run(&rt, alloc, "msi replay", broken)?,
+        1,
+        violation,
+        "",
+    );
     Ok(())
 }
 
@@ -342,13 +373,13 @@ fn refused_recordings(rt: HostRuntime) -> Result<(), Fail> {
         let errors = format!(in alloc; "msi: recording {refusal}\n")?;
         expect(
             &rt,
-            &run(alloc, "msi replay", text)?,
+            &run(&rt, alloc, "msi replay", text)?,
             2,
             "",
             errors.as_str(),
         );
     }
-    let served = run(alloc, "msi replay --caches 2", "")?;
+    let served = run(&rt, alloc, "msi replay --caches 2", "")?;
     assert_eq!(rt; served.status, 2);
     Ok(())
 }

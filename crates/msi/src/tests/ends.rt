@@ -6,7 +6,9 @@ use crate::serve::serve;
 use std::alloc::{AllocError, Global};
 use std::io;
 use std::io::{Read, Write};
+use std::sync::Wait;
 use std::test::Fail;
+use std::thread::Threads;
 
 const PLAY: &str = "msi play --caches 2";
 
@@ -46,9 +48,14 @@ impl Write for Short {
 }
 
 /// What a command line comes to over an input that fails, where the file `table.json` has this text.
-fn run_torn(alloc: Global, line: &str, text: &'static str) -> Result<Served, AllocError> {
+fn run_torn<R: Threads + Wait + Sync>(
+    rt: &R,
+    alloc: Global,
+    line: &str,
+    text: &'static str,
+) -> Result<Served, AllocError> {
     let mut output = Vec::new(alloc);
-    let (status, errors) = serve_line(alloc, line, text, Torn, &mut output)?;
+    let (status, errors) = serve_line(rt, alloc, line, text, Torn, &mut output)?;
     Ok(Served {
         status,
         output,
@@ -60,7 +67,13 @@ fn run_torn(alloc: Global, line: &str, text: &'static str) -> Result<Served, All
 fn an_input_that_fails(rt: HostRuntime) -> Result<(), Fail> {
     let alloc = rt.alloc();
     for line in [PLAY, TRIAL, BATCH, "msi replay"] {
-        expect(&rt, &run_torn(alloc, line, "{}")?, 3, "", "msi: device\n");
+        expect(
+            &rt,
+            &run_torn(&rt, alloc, line, "{}")?,
+            3,
+            "",
+            "msi: device\n",
+        );
     }
     Ok(())
 }
@@ -77,7 +90,7 @@ fn an_output_that_fails(rt: HostRuntime) -> Result<(), Fail> {
         ("msi tables", ""),
     ] {
         let output = Short { left: 3 };
-        let (status, errors) = serve_line(alloc, line, "{}", input.as_bytes(), output)?;
+        let (status, errors) = serve_line(&rt, alloc, line, "{}", input.as_bytes(), output)?;
         assert_eq!(rt;
             (status, errors.as_slice()),
             (3, b"msi: device\n".as_slice()),
@@ -97,7 +110,7 @@ fn tables_come_before_the_input(rt: HostRuntime) -> Result<(), Fail> {
     ] {
         for command in [PLAY, TRIAL, BATCH] {
             let line = format!(in alloc; "{command} --tables {file}")?;
-            let served = run_torn(alloc, line.as_str(), text)?;
+            let served = run_torn(&rt, alloc, line.as_str(), text)?;
             expect(&rt, &served, status, "", said);
         }
     }
@@ -105,12 +118,24 @@ fn tables_come_before_the_input(rt: HostRuntime) -> Result<(), Fail> {
 }
 
 /// What comes of words that couldn't be had.
-fn run_without_words(alloc: Global, kind: io::ErrorKind) -> Served {
+fn run_without_words<R: Threads + Wait + Sync>(
+    rt: &R,
+    alloc: Global,
+    kind: io::ErrorKind,
+) -> Served {
     let words = Err(io::Error::from(kind));
     let mut files = OneFile { alloc, text: "{}" };
     let mut output = Vec::new(alloc);
     let mut errors = Vec::new(alloc);
-    let status = serve(alloc, &words, &mut files, Torn, &mut output, &mut errors);
+    let status = serve(
+        rt,
+        alloc,
+        &words,
+        &mut files,
+        Torn,
+        &mut output,
+        &mut errors,
+    );
     Served {
         status,
         output,
@@ -121,9 +146,9 @@ fn run_without_words(alloc: Global, kind: io::ErrorKind) -> Served {
 #[test]
 fn words_that_cannot_be_had(rt: HostRuntime) -> Result<(), Fail> {
     let alloc = rt.alloc();
-    let bad = run_without_words(alloc, io::ErrorKind::InvalidData);
+    let bad = run_without_words(&rt, alloc, io::ErrorKind::InvalidData);
     expect(&rt, &bad, 2, "", "msi: a word isn't UTF-8\n");
-    let none = run_without_words(alloc, io::ErrorKind::OutOfMemory);
+    let none = run_without_words(&rt, alloc, io::ErrorKind::OutOfMemory);
     expect(&rt, &none, 3, "", "msi: no memory\n");
     Ok(())
 }

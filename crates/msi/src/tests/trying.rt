@@ -18,13 +18,13 @@ fn a_racing_pair(rt: HostRuntime) -> Result<(), Fail> {
     let six = format!(in alloc; "{line} 6")?;
     expect(
         &rt,
-        &run(alloc, six.as_str(), RACING_PAIR)?,
+        &run(&rt, alloc, six.as_str(), RACING_PAIR)?,
         0,
         recording,
         "verdict cut 6\n",
     );
     let hundred = format!(in alloc; "{line} 100")?;
-    let served = run(alloc, hundred.as_str(), RACING_PAIR)?;
+    let served = run(&rt, alloc, hundred.as_str(), RACING_PAIR)?;
     assert_eq!(rt;
         (served.status, served.errors.as_slice()),
         (0, b"verdict quiet 8\n".as_slice())
@@ -82,15 +82,15 @@ fn one_load(rt: HostRuntime) -> Result<(), Fail> {
             row.limit
         )?;
         let trial = format!(in alloc; "msi trial {common} --number 8")?;
-        let made = run_over(alloc, trial.as_str(), row.table, ONE_LOAD)?;
+        let made = run_over(&rt, alloc, trial.as_str(), row.table, ONE_LOAD)?;
         assert_eq!(rt; made.status, row.status);
         assert_eq!(rt; made.errors.as_slice(), row.verdict.as_bytes());
         let batch = format!(in alloc; "msi batch {common} --trials 3")?;
-        let served = run_over(alloc, batch.as_str(), row.table, ONE_LOAD)?;
+        let served = run_over(&rt, alloc, batch.as_str(), row.table, ONE_LOAD)?;
         expect(&rt, &served, row.status, row.lines, "");
     }
     let line = "msi trial --caches 1 --seed 5 --limit 9 --number 8";
-    let made = run(alloc, line, ONE_LOAD)?;
+    let made = run(&rt, alloc, line, ONE_LOAD)?;
     expect(&rt, &made, 0, ONE_LOAD_TEXT, "verdict quiet 3\n");
     Ok(())
 }
@@ -100,14 +100,14 @@ fn what_a_trial_recorded_is_replayed(rt: HostRuntime) -> Result<(), Fail> {
     let alloc = rt.alloc();
     let early = r#"{"cache":[{"state":"I","event":"Load","entry":{"next":"S","do":[]}}]}"#;
     let batch = "msi batch --caches 2 --tables table.json --seed 1 --limit 100 --trials 20";
-    let served = run_over(alloc, batch, early, RACING_PAIR)?;
+    let served = run_over(&rt, alloc, batch, early, RACING_PAIR)?;
     assert_eq!(rt; served.status, 1);
     let trial = "msi trial --caches 2 --tables table.json --seed 1 --limit 100 --number 0";
-    let served = run_over(alloc, trial, early, RACING_PAIR)?;
+    let served = run_over(&rt, alloc, trial, early, RACING_PAIR)?;
     let Ok(recording) = str::from_utf8(served.output.as_slice()) else {
         return Err(Fail::from("the recording isn't text"));
     };
-    let replayed = run(alloc, "msi replay", recording)?;
+    let replayed = run(&rt, alloc, "msi replay", recording)?;
     assert_eq!(rt;
         (replayed.status, replayed.errors.is_empty()),
         (served.status, true)
@@ -127,7 +127,7 @@ fn a_scenario_too_deep(rt: HostRuntime) -> Result<(), Fail> {
         text.push_str("]}")?;
     }
     let line = "msi trial --caches 2 --seed 1 --number 0 --limit 9";
-    let served = run(alloc, line, text.as_str())?;
+    let served = run(&rt, alloc, line, text.as_str())?;
     expect(&rt, &served, 2, "", "msi: scenario refused 4 TooDeep\n");
     Ok(())
 }
@@ -155,10 +155,10 @@ fn refused_scenarios(rt: HostRuntime) -> Result<(), Fail> {
         (none, 0, "0 quiet 0\n1 quiet 0\ntotal quiet 2\n", ""),
     ] {
         let line = "msi batch --caches 2 --seed 1 --trials 2 --limit 9";
-        expect(&rt, &run(alloc, line, text)?, status, output, errors);
+        expect(&rt, &run(&rt, alloc, line, text)?, status, output, errors);
     }
     let nothing = "msi batch --caches 2 --seed 1 --trials 0 --limit 9";
-    expect(&rt, &run(alloc, nothing, none)?, 0, "", "");
+    expect(&rt, &run(&rt, alloc, nothing, none)?, 0, "", "");
     for words in [
         "--seed 1 --limit 9",
         "--seed 1 --trials 1",
@@ -168,7 +168,7 @@ fn refused_scenarios(rt: HostRuntime) -> Result<(), Fail> {
         "--seed -1 --trials 1 --limit 9",
     ] {
         let line = format!(in alloc; "msi batch --caches 2 {words}")?;
-        let served = run(alloc, line.as_str(), none)?;
+        let served = run(&rt, alloc, line.as_str(), none)?;
         assert_eq!(rt;
             (served.status, served.output.is_empty()),
             (2, true),

@@ -1,0 +1,6 @@
+pub mod Lists
+pub mod Ties
+pub mod Entering
+pub mod Drawing
+pub mod Owned
+pub mod Crewing

@@ -1,0 +1,17 @@
+use Rattle.std.proofs.Common.{subst}
+use Rattle.floor.specs.Closing.{AllThere}
+use Rattle.floor.proofs.Owned.{all_stand, all_received}
+use Rattle.floor.proofs.floors.Floor.close.Goals as goal
+
+pub returns-clause-missing : goal.returns-clause-missing
+returns-clause-missing g c =
+    subst (λ n. AllThere n c.args.seats.items) c.args.self.seats_is
+    (subst (λ row. AllThere c.args.self.seats row) c.deref.ensures.value c.if-not-all_there.ensures)
+
+pub returns-clause-stand : goal.returns-clause-stand
+returns-clause-stand g c = all_stand c.end.result.recording.entries c.end.result.owners.items c.args.seats.items c.end.ensures.histories
+
+pub returns-clause-received : goal.returns-clause-received
+returns-clause-received g c =
+    all_received g.F.Naming.floor c.end.result.recording.entries c.end.result.owners.items c.args.seats.items
+    c.end.ensures.owners (returns-clause-missing g c) c.end.ensures.histories

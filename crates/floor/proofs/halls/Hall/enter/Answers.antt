@@ -1,0 +1,51 @@
+use Rattle.std.proofs.Common.{rules, ap, length}
+use Rattle.floor.specs.inner.Keeping.{IsKeptUp}
+use Rattle.floor.proofs.Entering.{kept_more, fits_more}
+use Rattle.floor.proofs.halls.Hall.enter.Goals as goal
+use Rattle.floor.proofs.halls.Hall.enter.Given.{Over}
+use Rattle.floor.proofs.halls.Hall.enter.Goals.{After-push_reserved}
+
+-- the hall keeps up
+kept : (g : Over) (c : After-push_reserved g) →
+    IsKeptUp g.F.Naming.floor c.advance.new.world c.see-seen.new.self c.advance.new.recording c.push_reserved.new.self.items c.or-self-inside.result
+kept g c =
+    let i = c.self.inside in
+    kept_more g.F.Naming.floor i.world c.advance.new.world i.watch _ i.recording c.advance.new.recording i.owners.items _ i.violation _
+    c.args.step c.in-Ok.entry c.seat.inside.number
+    (length c.entries.result.now) c.see-seen.result
+    c.self.invariant.0
+    c.seat.invariant.within
+    (search rules)
+    c.in-Ok.ensures.ok
+    c.see-seen.ensures.history
+    c.see-seen.ensures.seen
+    (search rules)
+    (ap length c.entries.ensures.value)
+    (search rules)
+
+pub invariant_of-self-2 : goal.invariant_of-self-2
+invariant_of-self-2 g c =
+    let h = c.self.invariant.1 in (
+      kept g (goal.at.invariant_of-self-2 g c).After-push_reserved,
+      record {
+        capacity_is = h.capacity_is;
+        seats_is = h.seats_is;
+        some = h.some;
+        within = fits_more c.self.inside.recording c.advance.new.recording c.args.self.now.entries c.in-Ok.entry g.F.Naming.floor.capacity
+            c.in-Ok.ensures.ok.recorded (ap (λ s. s.entries) c.self.view_is) c.requires.room;
+        table_is = h.table_is;
+        one = h.one;
+        token_is = search rules;
+        keeps = search rules;
+      },
+    )
+
+pub returns-clause-ok : goal.returns-clause-ok
+returns-clause-ok g c = record {
+  number = search rules;
+  entry = search rules;
+  entries = search rules;
+  owners = search rules;
+  violation = (kept g (goal.at.returns-clause-ok g c).After-push_reserved).first;
+  added = search rules;
+}

@@ -1,0 +1,59 @@
+-- What the lock keeps, and what a seat keeps.
+use Rattle.std.specs.Prelude.{◌≡◌, ◌<◌, ◌≤◌, ℕ, List, [], Option, length}
+use Rattle.atomic_table.specs.Table.{Me}
+use Rattle.atomic_table.specs.Seated.{TableId}
+use Rattle.base.specs.declared.step.Step.{Step}
+use Rattle.machine.specs.Machine.{next}
+use Rattle.monitor.specs.declared.violation.Violation.{Violation}
+use Rattle.monitor.specs.Watching.{HasSeen}
+use Rattle.record.specs.declared.recording.Entry.{Entry}
+use Rattle.record.specs.Kept.{Kept, IsLegal, steps_of, with_entry}
+use Rattle.world.specs.View.{View, stepped}
+use Rattle.floor.specs.declared.tokens.TokenView.{TokenView}
+use Rattle.floor.specs.FloorId.{FloorId}
+use Rattle.floor.specs.Turning.{recorded, state_of, IsFirstOf}
+use Rattle.floor.specs.Closing.{HaveOwners}
+use Rattle.floor.specs.inner.Tokens.{keeper, sitting}
+
+-- a world, a watch, owners and a violation are those of a recording of these entries, which is legal
+pub record IsKeptUp (floor : FloorId) (world : View) (watch : List ℕ) (recording : Kept) (owners : List ℕ) (violation : Option (ℕ × Violation)) : Type 0 where
+  pub recorded_is : recording ≡ recorded floor.setup recording.entries
+  pub legal : IsLegal (recorded floor.setup recording.entries)
+  pub shape : world.shape ≡ floor.setup.shape
+  pub tables : world.tables ≡ floor.setup.tables
+  pub state : world.state ≡ state_of floor.setup recording.entries
+  pub seen : HasSeen world floor.setup.opening (steps_of (recorded floor.setup recording.entries)) watch
+  pub first : IsFirstOf floor.setup recording.entries violation
+  pub owned : HaveOwners floor recording.entries owners
+
+-- a hall has the seats and the capacity of its floor, and the token that keeps the recording
+pub record IsHall (floor : FloorId) (entries : List Entry) (owners : List ℕ) (capacity seats : ℕ)
+    (table token : TableId) (me : Me Entry TokenView) : Type 0 where
+  pub capacity_is : capacity ≡ floor.capacity
+  pub seats_is : seats ≡ floor.seats
+  pub some : 0 < floor.seats
+  pub within : length entries ≤ floor.capacity
+  pub table_is : table ≡ floor.ground
+  pub one : floor.ground.words ≡ 1
+  pub token_is : token ≡ floor.ground
+  pub keeps : me ≡ (keeper entries owners floor.seats, [])
+
+-- a seat has a number of its floor, and the token that has its receipts
+pub record IsSeat (floor : FloorId) (number : ℕ) (made : List (ℕ × Entry)) (token : TableId) (me : Me Entry TokenView) : Type 0 where
+  pub within : number < floor.seats
+  pub token_is : token ≡ floor.ground
+  pub sits : me ≡ (sitting number made, [])
+
+-- a world is as it was, but for its room
+pub record IsSame (old new : View) : Type 0 where
+  pub shape : new.shape ≡ old.shape
+  pub tables : new.tables ≡ old.tables
+  pub state : new.state ≡ old.state
+
+-- a world has made a step, and a recording has one more entry of it
+pub record Advances (old new : View) (before after : Kept) (step : Step) (entry : Entry) : Type 0 where
+  pub step_is : entry.step ≡ step
+  pub made : next old.tables old.state step ≡ stepped new.state entry.outcome
+  pub shape : new.shape ≡ old.shape
+  pub tables : new.tables ≡ old.tables
+  pub recorded : after ≡ with_entry before entry

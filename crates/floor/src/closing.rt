@@ -1,0 +1,104 @@
+//! The end of a floor.
+
+ghost use Rattle.std.specs.Prelude.{◌≡◌, ◌≢◌, ◌<◌, None, All, MatchBool};
+ghost use Rattle.machine.specs.Tables.{baseline};
+ghost use Rattle.record.specs.Kept.{IsLegal};
+ghost use Rattle.floor.specs.Turning.{IsFirstOf, recorded};
+ghost use Rattle.floor.specs.Closing.{AllThere, AreHistories, HaveOwners, IsMissing, IsThere};
+
+use crate::grounds::Naming;
+use crate::halls::Hall;
+use crate::seats::Seat;
+use monitor::{Violation, no_violation_under_the_own_tables};
+use record::Recording;
+use thiserror::Error;
+
+/// Why a floor wasn't closed.
+#[derive(Clone, Copy, Debug, PartialEq, Eq, Error)]
+pub enum CloseFault {
+    /// One of the floor's seats wasn't handed in.
+    #[error("a seat of the floor is missing")]
+    SeatMissing,
+}
+
+/// What was done at a floor.
+#[derive(Drop)]
+pub struct Closed<F: Naming> {
+    /// The steps of all turns with their outcomes, in order.
+    pub recording: Recording,
+    /// The number of the seat that owns each entry.
+    pub owners: Vec<u32>,
+    /// The seats, as they were handed in.
+    pub seats: Vec<Seat<F>>,
+    /// The first violation, with the number of its entry.
+    pub violation: Option<(u64, Violation)>,
+}
+
+/// Whether the seat of this number is there.
+fn is_there<F: Naming>(seats: &[Seat<F>], number: u32) -> bool
+    ensures { MatchBool result (IsThere seats.now number) (All (λ seat. seat.number ≢ number) seats.now) }
+{
+    for seat in seats {
+        if seat.number() == number {
+            return true;
+        }
+    }
+    false
+}
+
+/// Whether the seats of all numbers below this one are there.
+pub(crate) fn all_there<F: Naming>(seats: &[Seat<F>], count: u32) -> bool
+    ensures { MatchBool result (AllThere count seats.now) (IsMissing count seats.now) }
+{
+    for number in 0..count {
+        if !is_there(seats, number) {
+            return false;
+        }
+    }
+    true
+}
+
+/// What a hall has done, once its entries were compared with what the seats have.
+pub(crate) fn end<F: Naming>(mut hall: Hall<F>, mut seats: Vec<Seat<F>>) -> Closed<F>
+    ensures setup { result.recording ≡ recorded F.floor.setup result.recording.entries }
+    ensures legal { IsLegal result.recording }
+    ensures owners { HaveOwners F.floor result.recording.entries result.owners.items }
+    ensures histories { AreHistories result.recording.entries result.owners.items seats.items }
+    ensures violation { IsFirstOf F.floor.setup result.recording.entries result.violation }
+    ensures clean { F.floor.setup.tables ≡ baseline → result.violation ≡ None }
+    ensures seats { result.seats.items ≡ seats.items }
+{
+    no_violation_under_the_own_tables();
+    compare_all(&mut hall, &mut seats);
+    let Hall {
+        alloc: _,
+        world: _,
+        watch: _,
+        recording,
+        owners,
+        violation,
+        seats: _,
+        capacity: _,
+        log: _,
+        token: _,
+        of: _,
+    } = hall;
+    // Called for its contract: there is one opening value for each block.
+    let _opening = recording.opening();
+    Closed {
+        recording,
+        owners,
+        seats,
+        violation,
+    }
+}
+
+/// The receipts of each seat are its history.
+fn compare_all<F: Naming>(hall: &mut Hall<F>, seats: &mut Vec<Seat<F>>)
+    ensures histories { AreHistories hall.old.entries hall.old.owners seats.old.items }
+    ensures same { (hall.new ≡ hall.old) × (seats.new.items ≡ seats.old.items) }
+{
+    for seat in seats.iter_mut() {
+        hall.compare(seat);
+    }
+}

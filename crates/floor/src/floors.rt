@@ -1,0 +1,218 @@
+//! The floor: a hall behind its lock.
+
+ghost use Rattle.std.specs.Prelude.{◌≡◌, ◌<◌, map, IfOk};
+ghost use Rattle.std.specs.List.{range_with_len};
+ghost use Rattle.floor.specs.FloorId.{names};
+ghost use Rattle.floor.specs.Turning.{new_seat};
+ghost use Rattle.record.specs.Kept.{opened_recording};
+ghost use Rattle.machine.specs.Machine.{opened};
+
+use crate::closing::{CloseFault, Closed, all_there, end};
+use crate::grounds::{Ground, Naming};
+use crate::halls::{Hall, TurnFault};
+use crate::seats::{Receipt, Seat};
+use crate::tokens::deal_seat;
+use base::{NoMemory, Step};
+use monitor::Watch;
+use record::{MOST_ENTRIES, Recording};
+use std::alloc::Global;
+use std::marker::PhantomData;
+use std::sync::{Mutex, Wait};
+use thiserror::Error;
+use trials::Setup;
+use world::World;
+
+/// The most seats of a floor.
+pub const MOST_SEATS: u32 = 64;
+
+/// Why a floor wasn't opened. The faults are tested in this order.
+#[derive(Clone, Copy, Debug, PartialEq, Eq, Error)]
+pub enum FloorFault {
+    /// There is no seat.
+    #[error("a floor has at least one seat")]
+    NoSeats,
+    /// There are more than 64 seats.
+    #[error("a floor has at most {MOST_SEATS} seats")]
+    TooManySeats,
+    /// The capacity is over 1,000,000.
+    #[error("a floor takes at most {MOST_ENTRIES} entries")]
+    OverLimit,
+    /// A growth was refused.
+    #[error("no memory")]
+    NoMemory,
+}
+
+/// A world at which the threads that have its seats take turns, one step a turn, under one lock.
+#[derive(Drop)]
+pub struct Floor<F: Naming> {
+    hall: Mutex<Hall<F>>,
+    seats: u32,
+    ghost seats_is: { seats ≡ F.floor.seats },
+}
+
+impl<F: Naming> Floor<F> {
+    ghost use Rattle.std.specs.Prelude.{◌≡◌, ◌<◌, ◌≤◌, ◌++◌, ◌∷◌, ◌↔◌, ℕ, None, map, IfErr, IfNone, IfOk, IfSome, IsErrOf, MatchResult, OnErr};
+    ghost use Rattle.std.specs.List.{range_with_len};
+    ghost use Rattle.machine.specs.Tables.{baseline};
+    ghost use Rattle.record.specs.Kept.{IsLegal};
+    ghost use Rattle.floor.specs.FloorId.{names};
+    ghost use Rattle.floor.specs.Turning.{IsFirstOf, new_seat, recorded, with_receipt};
+    ghost use Rattle.floor.specs.Closing.{AllReceived, AllStand, AllThere, AreHistories, HaveOwners, IsMissing};
+
+    /// Opens a world under a setup, with so many seats round it and room for so many entries. The seats come in the order of
+    /// their numbers, without receipts.
+    ///
+    /// It is refused `NoSeats` exactly where there are none, else `TooManySeats` exactly where there are over 64, else
+    /// `OverLimit` exactly where the capacity is over 1,000,000.
+    pub fn open(
+        ground: Ground,
+        alloc: Global,
+        setup: &Setup,
+        seats: u32,
+        capacity: u32,
+    ) -> Result<(Floor<F>, Vec<Seat<F>>), FloorFault>
+        requires { F.floor ≡ names ground setup.now seats capacity }
+        ensures no_seats { IsErrOf result FloorFault.NoSeats ↔ (seats ≡ 0) }
+        ensures too_many_seats { IsErrOf result FloorFault.TooManySeats ↔ (64 < seats) }
+        ensures over_limit { IsErrOf result FloorFault.OverLimit ↔ ((0 < seats) × (seats ≤ 64) × (1000000 < capacity)) }
+        ensures seats { IfOk result (λ opened. opened.1.items ≡ map new_seat (range_with_len 0 seats)) }
+    {
+        if seats == 0 {
+            return Err(FloorFault::NoSeats);
+        }
+        if seats > MOST_SEATS {
+            return Err(FloorFault::TooManySeats);
+        }
+        if capacity as usize > MOST_ENTRIES {
+            return Err(FloorFault::OverLimit);
+        }
+        match open_all(ground, alloc, setup, seats, capacity) {
+            Ok(opened) => Ok(opened),
+            Err(_) => Err(FloorFault::NoMemory),
+        }
+    }
+
+    /// Takes the lock, and makes the hall's [`turn`](Hall::turn).
+    pub fn turn(
+        &self,
+        wait: &impl Wait,
+        seat: &mut Seat<F>,
+        step: Step,
+    ) -> Result<Receipt<F>, TurnFault>
+        ensures step { IfOk result (λ receipt. receipt.1.step ≡ step) }
+        ensures added { IfOk result (λ receipt. seat.new ≡ with_receipt seat.old receipt) }
+        ensures err { OnErr result (seat.new ≡ seat.old) }
+    {
+        self.hall.lock(wait).turn(seat, step)
+    }
+
+    /// Takes the lock, and makes the hall's [`turn_any`](Hall::turn_any).
+    pub fn turn_any(
+        &self,
+        wait: &impl Wait,
+        seat: &mut Seat<F>,
+        word: u32,
+    ) -> Result<Option<Receipt<F>>, TurnFault>
+        ensures added { IfOk result (λ made. IfSome made (λ receipt. seat.new ≡ with_receipt seat.old receipt)) }
+        ensures none { IfOk result (λ made. IfNone made (seat.new ≡ seat.old)) }
+        ensures err { OnErr result (seat.new ≡ seat.old) }
+    {
+        self.hall.lock(wait).turn_any(seat, word)
+    }
+
+    /// Ends the floor, where all its seats are handed in. It waits for nobody, and takes no memory.
+    ///
+    /// It is refused `SeatMissing` exactly where a seat is missing. Then floor and seats come back as they were.
+    pub fn close(
+        self,
+        seats: Vec<Seat<F>>,
+    ) -> Result<Closed<F>, (CloseFault, Floor<F>, Vec<Seat<F>>)>
+        ensures missing { MatchResult result (λ _. AllThere F.floor.seats seats.items) (λ _. IsMissing F.floor.seats seats.items) }
+        ensures back { IfErr result (λ refused. (refused.0 ≡ CloseFault.SeatMissing) × (refused.1 ≡ self) × (refused.2.items ≡ seats.items)) }
+        ensures setup { IfOk result (λ closed. closed.recording ≡ recorded F.floor.setup closed.recording.entries) }
+        ensures legal { IfOk result (λ closed. IsLegal closed.recording) }
+        ensures owners { IfOk result (λ closed. HaveOwners F.floor closed.recording.entries closed.owners.items) }
+        ensures histories { IfOk result (λ closed. AreHistories closed.recording.entries closed.owners.items seats.items) }
+        ensures stand { IfOk result (λ closed. AllStand closed.recording.entries seats.items) }
+        ensures received { IfOk result (λ closed. AllReceived closed.recording.entries seats.items) }
+        ensures violation { IfOk result (λ closed. IsFirstOf F.floor.setup closed.recording.entries closed.violation) }
+        ensures clean { F.floor.setup.tables ≡ baseline → IfOk result (λ closed. closed.violation ≡ None) }
+        ensures seats { IfOk result (λ closed. closed.seats.items ≡ seats.items) }
+    {
+        if !all_there(&seats, self.seats) {
+            return Err((CloseFault::SeatMissing, self, seats));
+        }
+        let Floor { hall, seats: _ } = self;
+        Ok(end(hall.into_inner(), seats))
+    }
+}
+
+/// The floor on its ground, and its seats, where the numbers are within the limits.
+fn open_all<F: Naming>(
+    ground: Ground,
+    alloc: Global,
+    setup: &Setup,
+    seats: u32,
+    capacity: u32,
+) -> Result<(Floor<F>, Vec<Seat<F>>), NoMemory>
+    requires name { F.floor ≡ names ground setup.now seats capacity }
+    requires some { 0 < seats }
+    ensures { IfOk result (λ opened. opened.1.items ≡ map new_seat (range_with_len 0 seats)) }
+{
+    let mut row = Vec::with_capacity(alloc, seats as usize)?;
+    let world = open_world(alloc, setup)?;
+    let watch = Watch::open(alloc, setup.opening())?;
+    let recording = open_recording(alloc, setup)?;
+    let Ground { log, mut token } = ground;
+    for number in 0..seats {
+        let dealt = deal_seat(&log, &mut token);
+        row.push_reserved(Seat {
+            number,
+            receipts: Vec::new(alloc),
+            token: dealt,
+            of: PhantomData,
+        });
+    }
+    let hall = Hall {
+        alloc,
+        world,
+        watch,
+        recording,
+        owners: Vec::new(alloc),
+        violation: None,
+        seats,
+        capacity,
+        log,
+        token,
+        of: PhantomData,
+    };
+    Ok((
+        Floor {
+            hall: Mutex::new(hall),
+            seats,
+        },
+        row,
+    ))
+}
+
+fn open_world(alloc: Global, setup: &Setup) -> Result<World, NoMemory>
+    ensures shape { IfOk result (λ world. world.shape ≡ setup.now.shape) }
+    ensures tables { IfOk result (λ world. world.tables ≡ setup.now.tables) }
+    ensures state { IfOk result (λ world. world.state ≡ opened setup.now.shape setup.now.opening) }
+{
+    let opening = Vec::from_slice(alloc, setup.opening())?;
+    match World::open(alloc, setup.shape(), setup.tables(), opening) {
+        Ok(world) => Ok(world),
+        Err(_) => Err(NoMemory),
+    }
+}
+
+fn open_recording(alloc: Global, setup: &Setup) -> Result<Recording, NoMemory>
+    ensures { IfOk result (λ recording. recording ≡ opened_recording setup.now.shape setup.now.tables setup.now.opening) }
+{
+    let opening = Vec::from_slice(alloc, setup.opening())?;
+    match Recording::open(alloc, setup.shape(), setup.tables(), opening) {
+        Ok(recording) => Ok(recording),
+        Err(_) => Err(NoMemory),
+    }
+}

@@ -1,0 +1,43 @@
+use crate::fault::Fault;
+use crate::lines::{Lines, MOST_BYTES};
+use base::{CoreAsk, Shape, Step};
+use std::alloc::Global;
+use std::io::Read;
+
+/// The asks that the input is, one a line, for caches and blocks of this shape. Empty lines are left out.
+pub fn read_asks<I: Read + Drop>(
+    alloc: Global,
+    shape: Shape,
+    input: I,
+) -> Result<Vec<CoreAsk>, Fault> {
+    let mut lines = Lines::new(alloc, input)?;
+    let mut asks = Vec::new(alloc);
+    for _ in 0..u64::MAX {
+        if !lines.advance()? {
+            break;
+        }
+        if lines.line().is_empty() {
+            continue;
+        }
+        let ask = ask_of(lines.line(), shape).ok_or(Fault::NotAnAsk(lines.number()))?;
+        asks.push(ask)?;
+    }
+    Ok(asks)
+}
+
+fn ask_of(line: &[u8], shape: Shape) -> Option<CoreAsk> {
+    if line.len() > MOST_BYTES {
+        return None;
+    }
+    match Step::read(line) {
+        Some(Step::Ask { cache, block, ask })
+            if cache.0 < shape.caches() && block.0 < shape.blocks() => {
+            Some(CoreAsk {
+                core: cache,
+                block,
+                ask,
+            })
+        }
+        _ => None,
+    }
+}

@@ -1,0 +1,222 @@
+ghost use Rattle.std.specs.Prelude.{◌≡◌};
+ghost use Rattle.floor.specs.FloorId.{names};
+
+use crate::asserting::same;
+use crate::entries::entry_of;
+use crate::setups::setup;
+use base::{Ask, BlockId, CacheId, Step};
+use floor::{CloseFault, Closed, Floor, FloorFault, Ground, Naming, Seat, TurnFault};
+use record::replay;
+use std::alloc::Global;
+use std::marker::Brand;
+use std::process::Abort;
+use std::sync::Wait;
+use std::test::Fail;
+use trials::Setup;
+
+const ONE_LOAD: [&str; 2] = ["ask 0 0 load = sent", "request 0 0 = moved"];
+
+const STORE_AND_LOAD: [&str; 4] = [
+    "ask 0 0 store 7 = sent",
+    "request 0 0 = moved",
+    "response 0 0 = store 0 7",
+    "ask 0 0 load = load 0 7",
+];
+
+const LOAD: Step = Step::Ask {
+    cache: CacheId(0),
+    block: BlockId(0),
+    ask: Ask::Load,
+};
+
+const RESPONSE: Step = Step::Response {
+    block: BlockId(0),
+    index: 0,
+};
+
+/// Makes the steps of entries by a floor's only seat, and compares their receipts.
+fn make<F: Naming, R: Wait + Abort>(
+    rt: &R,
+    floor: &Floor<F>,
+    seat: &mut Seat<F>,
+    lines: &[&str],
+) -> Result<(), Fail> {
+    for (number, line) in lines.iter().enumerate() {
+        let entry = entry_of(line).ok_or("not an entry")?;
+        let receipt = floor.turn(rt, seat, entry.step)?;
+        same(rt, &receipt.number(), &(number as u64));
+        same(rt, &receipt.entry(), &entry);
+    }
+    same(rt, &seat.made(), &lines.len());
+    Ok(())
+}
+
+/// Compares what is closed with the entries of a floor's only seat.
+fn compare<F: Naming, R: Abort>(
+    rt: &R,
+    alloc: Global,
+    closed: &Closed<F>,
+    lines: &[&str],
+) -> Result<(), Fail> {
+    let entries = closed.recording.entries();
+    same(rt, &entries.len(), &lines.len());
+    same(rt, &closed.owners.len(), &lines.len());
+    for ((entry, owner), line) in entries.iter().zip(closed.owners.iter()).zip(lines) {
+        same(rt, &Some(*entry), &entry_of(line));
+        same(rt, owner, &0);
+    }
+    same(rt, &closed.violation, &None);
+    let replayed = replay(alloc, &closed.recording)?;
+    same(rt, &replayed.entries.len(), &lines.len());
+    Ok(())
+}
+
+fn closes<F: Naming, R: Wait + Abort>(
+    rt: &R,
+    alloc: Global,
+    floor: Floor<F>,
+    seat: Seat<F>,
+    lines: &[&str],
+) -> Result<(), Fail> {
+    let mut seats = Vec::new(alloc);
+    let Err((fault, floor, _)) = floor.close(Vec::new(alloc)) else {
+        return Err(Fail::from("closed without its seat"));
+    };
+    same(rt, &fault, &CloseFault::SeatMissing);
+    seats.push(seat)?;
+    let closed = floor.close(seats).ok().ok_or("not closed")?;
+    compare(rt, alloc, &closed, lines)
+}
+
+fn one_load<F: Naming, R: Wait + Abort>(
+    rt: &R,
+    alloc: Global,
+    ground: Ground,
+    setup: &Setup,
+) -> Result<(), Fail>
+    requires { F.floor ≡ names ground setup.now 1 2 }
+{
+    let (floor, mut seats) = Floor::<F>::open(ground, alloc, setup, 1, 2)?;
+    let mut seat = seats.pop().ok_or("no seat")?;
+    make(rt, &floor, &mut seat, &ONE_LOAD)?;
+    let refused = floor.turn(rt, &mut seat, RESPONSE).err();
+    same(rt, &refused, &Some(TurnFault::Full));
+    let refused = floor.turn_any(rt, &mut seat, 0).err();
+    same(rt, &refused, &Some(TurnFault::Full));
+    closes(rt, alloc, floor, seat, &ONE_LOAD)
+}
+
+#[test]
+fn a_floor_that_is_full(rt: HostRuntime) -> Result<(), Fail> {
+    let setup = setup(rt.alloc(), 2)?;
+    one_load::<Brand, _>(&rt, rt.alloc(), Ground::new(rt.alloc())?, &setup)
+}
+
+fn store_and_load<F: Naming, R: Wait + Abort>(
+    rt: &R,
+    alloc: Global,
+    ground: Ground,
+    setup: &Setup,
+) -> Result<(), Fail>
+    requires { F.floor ≡ names ground setup.now 1 9 }
+{
+    let (floor, mut seats) = Floor::<F>::open(ground, alloc, setup, 1, 9)?;
+    let mut seat = seats.pop().ok_or("no seat")?;
+    make(rt, &floor, &mut seat, &STORE_AND_LOAD)?;
+    closes(rt, alloc, floor, seat, &STORE_AND_LOAD)
+}
+
+#[test]
+fn a_store_and_a_load(rt: HostRuntime) -> Result<(), Fail> {
+    let setup = setup(rt.alloc(), 1)?;
+    store_and_load::<Brand, _>(&rt, rt.alloc(), Ground::new(rt.alloc())?, &setup)
+}
+
+fn draws<F: Naming, R: Wait + Abort>(
+    rt: &R,
+    alloc: Global,
+    ground: Ground,
+    setup: &Setup,
+) -> Result<(), Fail>
+    requires { F.floor ≡ names ground setup.now 1 4 }
+{
+    let (floor, mut seats) = Floor::<F>::open(ground, alloc, setup, 1, 4)?;
+    let mut seat = seats.pop().ok_or("no seat")?;
+    assert!(rt; floor.turn_any(rt, &mut seat, 5)?.is_none());
+    make(rt, &floor, &mut seat, &["ask 0 0 load = sent"])?;
+    let receipt = floor.turn_any(rt, &mut seat, 5)?.ok_or("nothing is drawn")?;
+    same(rt, &receipt.number(), &1);
+    same(rt, &Some(receipt.entry()), &entry_of("request 0 0 = moved"));
+    closes(rt, alloc, floor, seat, &ONE_LOAD)
+}
+
+#[test]
+fn a_drawn_delivery(rt: HostRuntime) -> Result<(), Fail> {
+    let setup = setup(rt.alloc(), 2)?;
+    draws::<Brand, _>(&rt, rt.alloc(), Ground::new(rt.alloc())?, &setup)
+}
+
+fn foreign_steps<F: Naming, R: Wait + Abort>(
+    rt: &R,
+    alloc: Global,
+    ground: Ground,
+    setup: &Setup,
+) -> Result<(), Fail>
+    requires { F.floor ≡ names ground setup.now 3 4 }
+{
+    let (floor, mut seats) = Floor::<F>::open(ground, alloc, setup, 3, 4)?;
+    for seat in seats.iter_mut() {
+        let answer = floor.turn(rt, seat, LOAD).err();
+        let refused = if seat.number() == 0 {
+            None
+        } else {
+            Some(TurnFault::NotYours)
+        };
+        same(rt, &answer, &refused);
+        // There is no such response yet, so it is everybody's.
+        let receipt = floor.turn(rt, seat, RESPONSE)?;
+        same(
+            rt,
+            &Some(receipt.entry()),
+            &entry_of("response 0 0 = absent"),
+        );
+    }
+    let closed = floor.close(seats).ok().ok_or("not closed")?;
+    same(rt, &closed.owners.as_slice(), &[0u32, 0, 1, 2].as_slice());
+    Ok(())
+}
+
+#[test]
+fn steps_of_other_seats(rt: HostRuntime) -> Result<(), Fail> {
+    let setup = setup(rt.alloc(), 2)?;
+    foreign_steps::<Brand, _>(&rt, rt.alloc(), Ground::new(rt.alloc())?, &setup)
+}
+
+fn refusal<F: Naming>(
+    alloc: Global,
+    ground: Ground,
+    setup: &Setup,
+    seats: u32,
+    capacity: u32,
+) -> Option<FloorFault>
+    requires { F.floor ≡ names ground setup.now seats capacity }
+{
+    Floor::<F>::open(ground, alloc, setup, seats, capacity).err()
+}
+
+#[test]
+fn floors_that_are_not_opened(rt: HostRuntime) -> Result<(), Fail> {
+    let alloc = rt.alloc();
+    let setup = setup(alloc, 1)?;
+    let rows = [
+        (0, 1_000_001, Some(FloorFault::NoSeats)),
+        (65, 1_000_001, Some(FloorFault::TooManySeats)),
+        (64, 1_000_001, Some(FloorFault::OverLimit)),
+        (64, 1_000_000, None),
+    ];
+    for (seats, capacity, fault) in rows {
+        let found = refusal::<Brand>(alloc, Ground::new(alloc)?, &setup, seats, capacity);
+        same(&rt, &found, &fault);
+    }
+    Ok(())
+}
