@@ -18,13 +18,13 @@ actions_of (Act next actions) = actions
 actions_of other = []
 
 -- an entry has at most eight actions
-abbrev pub HasRoom : {S A : Type 0} → Entry S A → Type 0
-HasRoom (Act next actions) = length actions ≤ 8
-HasRoom other = ⊤
+abbrev pub HasFewActions : {S A : Type 0} → Entry S A → Type 0
+HasFewActions (Act next actions) = length actions ≤ 8
+HasFewActions other = ⊤
 
 -- these words spell no entry
 abbrev pub IsNoEntry : {S A : Type 0} → (S → List ℕ) → (A → List ℕ) → List (List ℕ) → Type 0
-IsNoEntry {S} {A} state action line = (entry : Entry S A) → HasRoom entry → line ≢ entry_words state action entry
+IsNoEntry {S} {A} state action line = (entry : Entry S A) → HasFewActions entry → line ≢ entry_words state action entry
 
 -- the word for a side
 abbrev pub side_word : Side → List ℕ
@@ -39,7 +39,7 @@ change_words state event action side c =
 -- these words spell no change of a cell of this side's table
 abbrev pub IsNoChange : {S E A : Type 0} → (S → List ℕ) → (E → List ℕ) → (A → List ℕ) → Side → List (List ℕ) → Type 0
 IsNoChange {S} {E} {A} state event action side line =
-    (c : Change S E A) → HasRoom c.entry → line ≢ change_words state event action side c
+    (c : Change S E A) → HasFewActions c.entry → line ≢ change_words state event action side c
 
 -- a line is the text of one change at most
 abbrev pub SpellsOneChange : {S E A : Type 0} → (S → List ℕ) → (E → List ℕ) → (A → List ℕ) → Type 0

@@ -14,7 +14,7 @@ use Rattle.base.specs.declared.step.Step.TheVariants as step
 use Rattle.base.specs.declared.step.Outcome.{Outcome}
 use Rattle.base.specs.declared.step.Outcome.TheVariants as outcome
 use Rattle.base.specs.Spelling.{ask_words, step_words, outcome_words, is_name, FitsAsk, FitsStep, FitsOutcome}
-use Rattle.base.specs.Entries.{HasRoom}
+use Rattle.base.specs.Entries.{HasFewActions}
 use Rattle.base.specs.Entries as entries
 use Rattle.base.specs.declared.controller.entry.Entry as table_cell
 use Rattle.base.specs.declared.controller.entry.Entry.TheVariants as table_entry
@@ -80,7 +80,7 @@ names-words name plain [] = tt
 names-words name plain (x ∷ xs) = (name-word (name x) (plain x), names-words name plain xs)
 
 table_entry-line : {S A : Type 0} (state : S → List ℕ) (action : A → List ℕ) → ((s : S) → is_name (state s) ≡ true) →
-    ((a : A) → is_name (action a) ≡ true) → (x : table_cell.Entry S A) → HasRoom x →
+    ((a : A) → is_name (action a) ≡ true) → (x : table_cell.Entry S A) → HasFewActions x →
     AllByRecursion IsWord (entries.entry_words state action x) × (length (entries.entry_words state action x) ≤ 10)
 table_entry-line state action plain_states plain_actions table_entry.Blank f = ((text-word _ refl (omega arith), tt), omega arith)
 table_entry-line state action plain_states plain_actions table_entry.Stall f = ((text-word _ refl (omega arith), tt), omega arith)

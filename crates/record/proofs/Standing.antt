@@ -5,7 +5,7 @@ use Rattle.std.proofs.lemmas.List.{get_or_default}
 use Rattle.std.proofs.lemmas.Bool.Decides.{nat_tests}
 use Rattle.cache_table.specs.Table as cache_table
 use Rattle.cache_table.specs.Table.{CacheEntry}
-use Rattle.base.specs.Entries.{HasRoom}
+use Rattle.base.specs.Entries.{HasFewActions}
 use Rattle.base.specs.declared.controller.entry.Entry as table_cell
 use Rattle.base.specs.declared.controller.entry.Entry.TheVariants as table_entry
 use Rattle.cache_table.specs.declared.state.CacheState.{CacheState}
@@ -84,7 +84,7 @@ few : Cell → Bool
 few (cell.Cache s e x) = few_of x
 few (cell.Directory s e x) = few_of x
 
-few_of-fits : {S A : Type 0} (x : table_cell.Entry S A) → few_of x ≡ true → HasRoom x
+few_of-fits : {S A : Type 0} (x : table_cell.Entry S A) → few_of x ≡ true → HasFewActions x
 unfolding few_of
 few_of-fits table_entry.Blank h = tt
 few_of-fits table_entry.Stall h = tt

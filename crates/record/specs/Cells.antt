@@ -1,7 +1,7 @@
 -- The cells of both tables, in the order in which they are printed, how they are spelled, and when two hold the same.
 use Rattle.std.specs.Prelude.{ℕ, Bool, false, ◌+◌, ◌*◌, List, ◌++◌, map}
 use Rattle.std.specs.List.{flat_map}
-use Rattle.base.specs.Entries.{change_words, same_entry, HasRoom}
+use Rattle.base.specs.Entries.{change_words, same_entry, HasFewActions}
 use Rattle.base.specs.declared.controller.entry.Side.TheVariants.{Cache, Directory}
 use Rattle.cache_table.specs.Table as cache_table
 use Rattle.cache_table.specs.Baseline as cache_baseline
@@ -52,8 +52,8 @@ cell_words (cell.Directory state event entry) =
 
 -- a cell has at most eight actions
 abbrev pub FitsCell : Cell → Type 0
-FitsCell (cell.Cache state event entry) = HasRoom entry
-FitsCell (cell.Directory state event entry) = HasRoom entry
+FitsCell (cell.Cache state event entry) = HasFewActions entry
+FitsCell (cell.Directory state event entry) = HasFewActions entry
 
 -- whether two cells of one place hold the same
 abbrev pub is_same : Cell → Cell → Bool

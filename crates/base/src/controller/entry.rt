@@ -28,12 +28,12 @@ impl<S: Listed, A: Listed> Clone for Entry<S, A> {
 
 impl<S: Listed, A: Listed> Entry<S, A> {
     ghost use Rattle.std.specs.Prelude.{◌≡◌, ◌↔◌, [], ◌∷◌, IsTrue};
-    ghost use Rattle.base.specs.Entries.{actions_of, same_entry, HasRoom};
+    ghost use Rattle.base.specs.Entries.{actions_of, same_entry, HasFewActions};
 
     /// What is done, in order: nothing where there is no rule or the event waits.
     pub fn actions(&self) -> &[A]
         ensures actions { result.now ≡ actions_of self.now }
-        ensures room { HasRoom self.now }
+        ensures room { HasFewActions self.now }
     {
         match self {
             Entry::Act { actions, .. } => actions.as_slice(),
@@ -45,7 +45,7 @@ impl<S: Listed, A: Listed> Entry<S, A> {
     pub fn is_same(&self, other: &Entry<S, A>) -> bool
         ensures same { result ≡ same_entry S.place A.place self.now other.now }
         ensures equal { IsTrue result ↔ (self.now ≡ other.now) }
-        ensures room { HasRoom self.now }
+        ensures room { HasFewActions self.now }
     {
         let actions_are = are_same(self.actions(), other.actions());
         match (self, other) {

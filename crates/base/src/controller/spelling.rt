@@ -1,7 +1,7 @@
 //! Entries of a table, and changes of its cells, as text.
 
 ghost use Rattle.std.specs.Prelude.{◌≡◌, ◌≢◌, ◌≤◌, ◌+◌, ◌*◌, ◌++◌, ◌∷◌, [], List, IfSome, MatchOption, codes, map, length};
-ghost use Rattle.base.specs.Entries.{change_words, entry_words, HasRoom, IsNoChange, IsNoEntry, SpellsOneChange};
+ghost use Rattle.base.specs.Entries.{change_words, entry_words, HasFewActions, IsNoChange, IsNoEntry, SpellsOneChange};
 ghost use Rattle.base.specs.Spelling.{joined, spaced, words};
 ghost use Rattle.base.specs.inner.Behind.{words_behind, IsNoActions};
 
@@ -31,7 +31,7 @@ impl<S: Listed, E: Listed, A: Listed> Change<S, E, A> {
     pub fn text(&self, side: Side) -> Text
         ensures text { result ≡ joined (change_words S.spelling E.spelling A.spelling side self.now) }
         ensures short { length result ≤ 180 }
-        ensures fits { HasRoom self.now.entry }
+        ensures fits { HasFewActions self.now.entry }
     {
         let mut text = Text::new();
         text.push(b"cell");
@@ -45,7 +45,7 @@ impl<S: Listed, E: Listed, A: Listed> Change<S, E, A> {
     /// The change of a cell of this side's table that a line is the text of: words with exactly one blank between two and
     /// none at the ends. `None` comes for every line that is the text of no such change.
     pub fn read(side: Side, line: &[u8]) -> Option<Change<S, E, A>>
-        ensures fits { IfSome result (λ c. HasRoom c.entry) }
+        ensures fits { IfSome result (λ c. HasFewActions c.entry) }
         ensures change { MatchOption result (IsNoChange {S = S} {E = E} {A = A} S.spelling E.spelling A.spelling side (words line.now))
             (λ c. words line.now ≡ change_words S.spelling E.spelling A.spelling side c) }
     {
@@ -70,7 +70,7 @@ fn push_entry<S: Listed, A: Listed>(text: &mut Text, entry: Entry<S, A>)
     requires { length text.old ≤ 42 }
     ensures text { text.new ≡ text.old ++ spaced (entry_words S.spelling A.spelling entry) }
     ensures short { length text.new ≤ 180 }
-    ensures fits { HasRoom entry }
+    ensures fits { HasFewActions entry }
 {
     match entry {
         Entry::Blank => text.push_word(b"blank"),
@@ -97,7 +97,7 @@ fn push_actions<A: Listed>(text: &mut Text, actions: &[A])
 /// The entry that these words spell.
 #[tactic(auto, using(crate::proofs::Lines::not_one))]
 fn entry_of<S: Listed, A: Listed>(line: &[u8]) -> Option<Entry<S, A>>
-    ensures fits { IfSome result HasRoom }
+    ensures fits { IfSome result HasFewActions }
     ensures entry { MatchOption result (IsNoEntry {S = S} {A = A} S.spelling A.spelling (words line.now))
         (λ entry. words line.now ≡ entry_words S.spelling A.spelling entry) }
 {
@@ -117,7 +117,7 @@ fn entry_of<S: Listed, A: Listed>(line: &[u8]) -> Option<Entry<S, A>>
 
 /// The entry that this one word spells.
 fn bare_entry<S: Listed, A: Listed>(word: &[u8]) -> Option<Entry<S, A>>
-    ensures fits { IfSome result HasRoom }
+    ensures fits { IfSome result HasFewActions }
     ensures entry { MatchOption result (IsNoEntry {S = S} {A = A} S.spelling A.spelling (word.now ∷ []))
         (λ entry. word.now ∷ [] ≡ entry_words S.spelling A.spelling entry) }
 {
