@@ -31,7 +31,8 @@ use Rattle.machine.proofs.ResponseTransitions.{nothing-added}
 use Rattle.machine.proofs.Sound.{Sound, Fine, Bounded}
 use Rattle.machine.proofs.Homes.{sole-only}
 use Rattle.machine.proofs.Invitations.{invited}
-use Rattle.machine.proofs.GetTransitions.{req, home_block, gets-shared, getm-invalid, getm-shared, gets-forwarded, getm-forwarded, at-i, at-m}
+use Rattle.machine.proofs.GetTransitions.{req, home_block, gets-shared, getm-invalid, gets-forwarded, getm-forwarded, at-i, at-m}
+use Rattle.machine.proofs.SharedTransitions.{getm-shared}
 use Rattle.machine.proofs.PutTransitions.{Without, without-kept, without-set, put-below, puts-served, putm-served, putm-owner}
 use Rattle.machine.proofs.Cases.{by-test}
 

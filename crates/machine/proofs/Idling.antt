@@ -29,7 +29,8 @@ use Rattle.machine.proofs.StallRules.{Idle}
 use Rattle.machine.proofs.StallRules.{idle_pending}
 use Rattle.machine.proofs.StallRules.{idle_load, idle_store, idle_replace}
 use Rattle.machine.proofs.Cases.{by-test}
-use Rattle.machine.proofs.Moves.{line-moves, find-link}
+use Rattle.machine.proofs.Moves.{line-moves}
+use Rattle.machine.proofs.HeadMoves.{find-link}
 
 -- a block without messages is idle
 no-total : (f : Forward → ℕ) (w : Traffic) → ((c : ℕ) → link w c ≡ []) → total f w.links ≡ 0

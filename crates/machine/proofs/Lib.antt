@@ -19,9 +19,11 @@ pub mod Settling
 pub mod AskTransitions
 pub mod ResponseTransitions
 pub mod ForwardTransitions
+pub mod ForwardFine
 pub mod Homes
 pub mod Invitations
 pub mod GetTransitions
+pub mod SharedTransitions
 pub mod PutTransitions
 pub mod HomeTransitions
 pub mod StepTransitions
@@ -34,6 +36,7 @@ pub mod ForwardSettling
 pub mod ResponseSettling
 pub mod Values
 pub mod LineValues
+pub mod ResponseValues
 pub mod HomeValues
 pub mod StepValues
 pub mod Due
@@ -44,6 +47,7 @@ pub mod Quiet
 pub mod StallRules
 pub mod Ranks
 pub mod Moves
+pub mod HeadMoves
 pub mod Idling
 pub mod Invariant
 pub mod Safety

@@ -14,7 +14,8 @@ use Rattle.machine.specs.Machine.{State, Next, IsRefusal, next, next_at, is_blan
 use Rattle.machine.specs.Unstuck.{Unstuck}
 use Rattle.machine.proofs.Runs.{EachBlock, guarded, next-each}
 use Rattle.machine.proofs.Idling.{quiet-done, quiet-ready}
-use Rattle.machine.proofs.Moves.{Moves, Found, some-move}
+use Rattle.machine.proofs.Moves.{Moves, Found}
+use Rattle.machine.proofs.HeadMoves.{some-move}
 use Rattle.machine.proofs.Quiet.{quiet-told, quiet-tells}
 use Rattle.machine.proofs.Invariant.{Keeps, guards}
 use Rattle.machine.proofs.Safety.{few-enough}

@@ -35,7 +35,7 @@ use Rattle.machine.proofs.Sound.{Sound, Fine, local-at}
 use Rattle.machine.proofs.Seen.{seen}
 use Rattle.machine.proofs.CellRules.{load_rule, store_rule, replace_rule}
 use Rattle.machine.proofs.AskTransitions.{ask-fine}
-use Rattle.machine.proofs.ForwardTransitions.{forward-fine}
+use Rattle.machine.proofs.ForwardFine.{forward-fine}
 use Rattle.machine.proofs.ResponseTransitions.{dir-data-fine, owner-data-fine, inv-ack-fine}
 use Rattle.machine.proofs.HomeTransitions.{request-fine, data-fine}
 use Rattle.machine.proofs.Cases.{by-test}

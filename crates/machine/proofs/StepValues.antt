@@ -33,7 +33,8 @@ use Rattle.machine.proofs.Sound.{Sound, local-at}
 use Rattle.machine.proofs.ValueRules.{put_rule}
 use Rattle.machine.proofs.AskSettling.{load_settles, store_settles, replace_settles}
 use Rattle.machine.proofs.Values.{Valued}
-use Rattle.machine.proofs.LineValues.{Right, value-at, waits-at, ask-right, forward-right, dir-data-right, owner-data-right, inv-ack-right}
+use Rattle.machine.proofs.LineValues.{Right, value-at, waits-at, ask-right, forward-right}
+use Rattle.machine.proofs.ResponseValues.{dir-data-right, owner-data-right, inv-ack-right}
 use Rattle.machine.proofs.HomeValues.{request-right, data-right}
 use Rattle.machine.proofs.StepTransitions.{not-idle}
 use Rattle.cache_table.specs.Baseline.{baseline_entry}
@@ -42,7 +43,7 @@ use Rattle.machine.proofs.Seen.{seen}
 use Rattle.machine.proofs.Views.{View, Local}
 use Rattle.machine.proofs.CellRules.{load_rule, store_rule, replace_rule}
 use Rattle.machine.proofs.AskTransitions.{ask-fine}
-use Rattle.machine.proofs.ForwardTransitions.{forward-fine}
+use Rattle.machine.proofs.ForwardFine.{forward-fine}
 use Rattle.machine.proofs.ResponseTransitions.{dir-data-fine, owner-data-fine, inv-ack-fine}
 use Rattle.machine.proofs.Cases.{by-test}
 
