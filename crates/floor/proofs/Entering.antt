@@ -1,5 +1,5 @@
 -- One entry more keeps what the lock keeps.
-use Rattle.std.proofs.Common.{◌≡◌, ◌<◌, ◌≤◌, ℕ, List, [], ◌∷◌, ◌++◌, ◌+◌, Option, Result, Ok, Err}
+use Rattle.std.proofs.Common.{◌≡◌, ◌<◌, ◌≤◌, ℕ, List, [], ◌∷◌, ◌++◌, ◌+◌, Option, None, Result, Ok, Err}
 use Rattle.std.proofs.Common.{IsOk, IfOk, true, length, take, refl, sym, ap, ◌∙◌, subst, inl, inr, arith, length-append}
 use Rattle.std.proofs.lemmas.List.{map_push, length-map, take-append-le}
 use Rattle.base.specs.Extent.{Extent}
@@ -16,12 +16,12 @@ use Rattle.monitor.specs.Violations.{AnswersFirst}
 use Rattle.monitor.specs.Watching.{HasSeen, LeadTo, AnswersHistory, SeesNext, AreDue, made_after, scene_after}
 use Rattle.monitor.proofs.FirstViolations.{first_seen, first-push}
 use Rattle.record.specs.declared.recording.Entry.{Entry}
-use Rattle.record.specs.Kept.{Kept, steps_of, with_entry}
+use Rattle.record.specs.Kept.{Kept, opened_recording, steps_of, with_entry}
 use Rattle.trials.specs.Terms.{Terms}
 use Rattle.floor.specs.FloorId.{FloorId}
 use Rattle.floor.specs.Turning.{recorded, is_its}
 use Rattle.floor.specs.Closing.{HaveOwners}
-use Rattle.floor.specs.inner.Keeping.{IsKeptUp, Advances}
+use Rattle.floor.specs.inner.Keeping.{IsKeptUp, IsStart, Advances}
 use Rattle.floor.proofs.Lists.{get_push, take_whole}
 
 state_push : (tables : Tables) (s : State) (xs : List Step) (step : Step) →
@@ -139,3 +139,18 @@ fits_more recording recording' es e capacity same is room =
     ap (λ (k : Kept). length k.entries) same ∙ length-append recording.entries (e ∷ []) in
     let low : length recording.entries < capacity = subst (λ (l : List Entry). length l < capacity) (sym is) room in
     omega (arith, count, low)
+
+-- a world, a watch and a recording that are opened under the floor's setup are kept up
+pub kept_first : (f : FloorId) (world : View) (watch : List ℕ) (recording : Kept) → IsStart f.setup world →
+    ((w : View) → HasSeen w f.setup.opening [] watch) → recording ≡ opened_recording f.setup.shape f.setup.tables f.setup.opening →
+    IsKeptUp f world watch recording [] None
+kept_first f world watch recording starts seen opens = subst (λ (r : Kept). IsKeptUp f world watch r [] None) (sym opens) (record {
+  recorded_is = refl;
+  legal = refl;
+  shape = starts.shape;
+  tables = starts.tables;
+  state = starts.state;
+  seen = seen world;
+  first = λ number step at. absurd (cc at);
+  owned = record { each = refl; belonged = λ number entry owner at by. absurd (cc at) };
+})

@@ -1,17 +1,20 @@
 //! The floor: a hall behind its lock.
 
-ghost use Rattle.std.specs.Prelude.{◌≡◌, ◌<◌, map, IfOk};
+ghost use Rattle.std.specs.Prelude.{◌≡◌, ◌<◌, [], map, IfOk, OnOk};
 ghost use Rattle.std.specs.List.{range_with_len};
 ghost use Rattle.floor.specs.FloorId.{names};
 ghost use Rattle.floor.specs.Turning.{new_seat};
+ghost use Rattle.floor.specs.inner.Keeping.{IsStart};
+ghost use Rattle.floor.specs.inner.Tokens.{keeper};
+ghost use Rattle.monitor.specs.Watching.{HasSeen};
 ghost use Rattle.record.specs.Kept.{opened_recording};
-ghost use Rattle.machine.specs.Machine.{opened};
+ghost use Rattle.world.specs.View.{View};
 
 use crate::closing::{CloseFault, Closed, all_there, end};
 use crate::grounds::{Ground, Naming};
 use crate::halls::{Hall, TurnFault};
 use crate::seats::{Receipt, Seat};
-use crate::tokens::deal_seat;
+use crate::tokens::{Log, Token, deal_seat};
 use base::{NoMemory, Step};
 use monitor::Watch;
 use record::{MOST_ENTRIES, Recording};
@@ -159,20 +162,9 @@ fn open_all<F: Naming>(
     requires some { 0 < seats }
     ensures { IfOk result (λ opened. opened.1.items ≡ map new_seat (range_with_len 0 seats)) }
 {
-    let mut row = Vec::with_capacity(alloc, seats as usize)?;
-    let world = open_world(alloc, setup)?;
-    let watch = Watch::open(alloc, setup.opening())?;
-    let recording = open_recording(alloc, setup)?;
+    let (world, watch, recording) = open_parts(alloc, setup)?;
     let Ground { log, mut token } = ground;
-    for number in 0..seats {
-        let dealt = deal_seat(&log, &mut token);
-        row.push_reserved(Seat {
-            number,
-            receipts: Vec::new(alloc),
-            token: dealt,
-            of: PhantomData,
-        });
-    }
+    let row = deal_row(alloc, &log, &mut token, seats)?;
     let hall = Hall {
         alloc,
         world,
@@ -195,24 +187,43 @@ fn open_all<F: Naming>(
     ))
 }
 
-fn open_world(alloc: Global, setup: &Setup) -> Result<World, NoMemory>
-    ensures shape { IfOk result (λ world. world.shape ≡ setup.now.shape) }
-    ensures tables { IfOk result (λ world. world.tables ≡ setup.now.tables) }
-    ensures state { IfOk result (λ world. world.state ≡ opened setup.now.shape setup.now.opening) }
+/// A world before its first step, a watch that has seen none, and a recording without entries.
+fn open_parts(alloc: Global, setup: &Setup) -> Result<(World, Watch, Recording), NoMemory>
+    ensures world { IfOk result (λ parts. IsStart setup.now parts.0) }
+    ensures watch { IfOk result (λ parts. (world : View) → HasSeen world setup.now.opening [] parts.1) }
+    ensures recording { IfOk result (λ parts. parts.2 ≡ opened_recording setup.now.shape setup.now.tables setup.now.opening) }
 {
-    let opening = Vec::from_slice(alloc, setup.opening())?;
-    match World::open(alloc, setup.shape(), setup.tables(), opening) {
-        Ok(world) => Ok(world),
-        Err(_) => Err(NoMemory),
-    }
+    let world = setup.open_world(alloc)?;
+    let watch = Watch::open(alloc, setup.opening())?;
+    let recording = setup.open_recording(alloc)?;
+    Ok((world, watch, recording))
 }
 
-fn open_recording(alloc: Global, setup: &Setup) -> Result<Recording, NoMemory>
-    ensures { IfOk result (λ recording. recording ≡ opened_recording setup.now.shape setup.now.tables setup.now.opening) }
+/// So many seats, each with its number and a token of its own.
+fn deal_row<F: Naming>(
+    alloc: Global,
+    log: &Log,
+    token: &mut Token,
+    seats: u32,
+) -> Result<Vec<Seat<F>>, NoMemory>
+    requires ground { F.floor.ground ≡ log.now.shared.table_id }
+    requires seats { F.floor.seats ≡ seats }
+    requires one { log.now.shared.table_id.words ≡ 1 }
+    requires table { token.old.table_id ≡ log.now.shared.table_id }
+    requires keeps { token.old.me ≡ (keeper [] [] 0, []) }
+    ensures row { IfOk result (λ row. row.items ≡ map new_seat (range_with_len 0 seats)) }
+    ensures dealt { OnOk result (token.new.me ≡ (keeper [] [] seats, [])) }
+    ensures same { token.new.table_id ≡ token.old.table_id }
 {
-    let opening = Vec::from_slice(alloc, setup.opening())?;
-    match Recording::open(alloc, setup.shape(), setup.tables(), opening) {
-        Ok(recording) => Ok(recording),
-        Err(_) => Err(NoMemory),
+    let mut row = Vec::with_capacity(alloc, seats as usize)?;
+    for number in 0..seats {
+        let dealt = deal_seat(log, token);
+        row.push_reserved(Seat {
+            number,
+            receipts: Vec::new(alloc),
+            token: dealt,
+            of: PhantomData,
+        });
     }
+    Ok(row)
 }

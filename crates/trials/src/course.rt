@@ -1,8 +1,6 @@
 //! A trial on its way, step by step.
 
-ghost use Rattle.std.specs.Prelude.{◌≡◌, IfOk, OnOk};
-ghost use Rattle.machine.specs.Machine.{opened};
-ghost use Rattle.record.specs.Kept.{opened_recording};
+ghost use Rattle.std.specs.Prelude.{OnOk};
 ghost use Rattle.scenario.specs.Alike.{Alike};
 ghost use Rattle.scenario.specs.Tree.{plain};
 ghost use Rattle.trials.specs.Going.{IsOffered};
@@ -49,9 +47,9 @@ impl<'b> Course<'b> {
     ) -> Result<Course<'b>, NoMemory>
         ensures { IfOk result (λ course. Starts setup.now (plain scenario.now) number (parts_of course)) }
     {
-        let world = open_world(alloc, setup)?;
+        let world = setup.open_world(alloc)?;
         let watch = Watch::open(alloc, setup.opening())?;
-        let recording = open_recording(alloc, setup)?;
+        let recording = setup.open_recording(alloc)?;
         Ok(Course {
             world,
             watch,
@@ -135,28 +133,6 @@ impl<'b> Course<'b> {
         ensures { result ≡ self.entry.recording }
     {
         self.recording
-    }
-}
-
-fn open_world(alloc: Global, setup: &Setup) -> Result<World, NoMemory>
-    ensures shape { IfOk result (λ world. world.shape ≡ setup.now.shape) }
-    ensures tables { IfOk result (λ world. world.tables ≡ setup.now.tables) }
-    ensures state { IfOk result (λ world. world.state ≡ opened setup.now.shape setup.now.opening) }
-{
-    let opening = Vec::from_slice(alloc, setup.opening())?;
-    match World::open(alloc, setup.shape(), setup.tables(), opening) {
-        Ok(world) => Ok(world),
-        Err(_) => Err(NoMemory),
-    }
-}
-
-fn open_recording(alloc: Global, setup: &Setup) -> Result<Recording, NoMemory>
-    ensures { IfOk result (λ recording. recording ≡ opened_recording setup.now.shape setup.now.tables setup.now.opening) }
-{
-    let opening = Vec::from_slice(alloc, setup.opening())?;
-    match Recording::open(alloc, setup.shape(), setup.tables(), opening) {
-        Ok(recording) => Ok(recording),
-        Err(_) => Err(NoMemory),
     }
 }
 

@@ -1,7 +1,9 @@
-use base::Shape;
+use base::{NoMemory, Shape};
+use record::Recording;
+use std::alloc::Global;
 use std::marker::Model;
 use thiserror::Error;
-use world::Tables;
+use world::{Tables, World};
 
 /// The most steps that a trial may make.
 pub const MOST_STEPS: u32 = 1_000_000;
@@ -40,6 +42,8 @@ impl Model for Setup {
 
 impl Setup {
     ghost use Rattle.std.specs.Prelude.{◌≡◌, ◌≢◌, ◌≤◌, ◌<◌, ◌↔◌, IfOk, IsErrOf, length};
+    ghost use Rattle.machine.specs.Machine.{opened};
+    ghost use Rattle.record.specs.Kept.{opened_recording};
     ghost use Rattle.trials.specs.Terms.{AreLawful};
 
     /// It is refused `OpeningLength` exactly where there is another number of values than blocks, and else `OverLimit`
@@ -105,5 +109,29 @@ impl Setup {
         ensures lawful { AreLawful self.now }
     {
         self.limit
+    }
+
+    /// A world under this setup that has made no step.
+    pub fn open_world(&self, alloc: Global) -> Result<World, NoMemory>
+        ensures shape { IfOk result (λ world. world.shape ≡ self.now.shape) }
+        ensures tables { IfOk result (λ world. world.tables ≡ self.now.tables) }
+        ensures state { IfOk result (λ world. world.state ≡ opened self.now.shape self.now.opening) }
+    {
+        let opening = Vec::from_slice(alloc, self.opening())?;
+        match World::open(alloc, self.shape(), self.tables(), opening) {
+            Ok(world) => Ok(world),
+            Err(_) => Err(NoMemory),
+        }
+    }
+
+    /// A recording under this setup, without entries.
+    pub fn open_recording(&self, alloc: Global) -> Result<Recording, NoMemory>
+        ensures { IfOk result (λ recording. recording ≡ opened_recording self.now.shape self.now.tables self.now.opening) }
+    {
+        let opening = Vec::from_slice(alloc, self.opening())?;
+        match Recording::open(alloc, self.shape(), self.tables(), opening) {
+            Ok(recording) => Ok(recording),
+            Err(_) => Err(NoMemory),
+        }
     }
 }

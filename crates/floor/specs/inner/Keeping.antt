@@ -3,12 +3,13 @@ use Rattle.std.specs.Prelude.{◌≡◌, ◌<◌, ◌≤◌, ℕ, List, [], Opti
 use Rattle.atomic_table.specs.Table.{Me}
 use Rattle.atomic_table.specs.Seated.{TableId}
 use Rattle.base.specs.declared.step.Step.{Step}
-use Rattle.machine.specs.Machine.{next}
+use Rattle.machine.specs.Machine.{next, opened}
 use Rattle.monitor.specs.declared.violation.Violation.{Violation}
 use Rattle.monitor.specs.Watching.{HasSeen}
 use Rattle.record.specs.declared.recording.Entry.{Entry}
 use Rattle.record.specs.Kept.{Kept, IsLegal, steps_of, with_entry}
 use Rattle.world.specs.View.{View, stepped}
+use Rattle.trials.specs.Terms.{Terms}
 use Rattle.floor.specs.declared.tokens.TokenView.{TokenView}
 use Rattle.floor.specs.FloorId.{FloorId}
 use Rattle.floor.specs.Turning.{recorded, state_of, IsFirstOf}
@@ -43,6 +44,12 @@ pub record IsSeat (floor : FloorId) (number : ℕ) (made : List (ℕ × Entry)) 
   pub within : number < floor.seats
   pub token_is : token ≡ floor.ground
   pub sits : me ≡ (sitting number made, [])
+
+-- a world under a setup, before its first step
+pub record IsStart (setup : Terms) (world : View) : Type 0 where
+  pub shape : world.shape ≡ setup.shape
+  pub tables : world.tables ≡ setup.tables
+  pub state : world.state ≡ opened setup.shape setup.opening
 
 -- a world is as it was, but for its room
 pub record IsSame (old new : View) : Type 0 where

@@ -1,21 +1,30 @@
-use Rattle.std.proofs.Common.{◌++◌, ◌∷◌, ◌+◌, [], ℕ, List, arith, ap, sym, ◌∙◌}
-use Rattle.std.proofs.lemmas.List.FromFn.{map-range_with_len_more}
-use Rattle.record.specs.declared.recording.Entry.{Entry}
-use Rattle.floor.specs.Turning.{SeatView, new_seat}
-use Rattle.floor.specs.inner.Tokens.{keeper}
+use Rattle.std.proofs.Common.{◌≡◌, ap, sym, subst, rules, [], ℕ, List, None}
+use Rattle.monitor.specs.Watching.{HasSeen}
+use Rattle.record.specs.Kept.{opened_recording}
+use Rattle.trials.specs.Terms.{Terms}
+use Rattle.world.specs.View.{View}
+use Rattle.floor.specs.FloorId.{FloorId}
+use Rattle.floor.specs.inner.Keeping.{IsKeptUp, IsStart}
+use Rattle.floor.proofs.Entering.{kept_first}
 use Rattle.floor.proofs.floors.open_all.Goals as goal
 
-pub loop-number-preserved : goal.loop-number-preserved
-loop-number-preserved g c =
-    let i = c.loop-number.invariant in
-    let n : ℕ = c.loop-number.number in
-    record {
-      row =
-          c.push_reserved.ensures.items
-          ∙ (ap (λ (made : List (ℕ × Entry)). c.loop-number.row.items ++ record { number = n; made = made } ∷ []) c.new.ensures.items
-          ∙ (ap (λ (l : List SeatView). l ++ new_seat n ∷ []) i.row ∙ sym (map-range_with_len_more new_seat 0 n n (omega arith))));
-      count = omega (arith, i.count, c.push_reserved.ensures.len);
-      room = omega (arith, i.room, c.push_reserved.ensures.capacity);
-      table = c.deal_seat-dealt.ensures.hall.1 ∙ i.table;
-      dealt = c.deal_seat-dealt.ensures.hall.0 ∙ ap (λ k. (keeper [] [] (k + 1), [])) (ap (λ m. m.0.next) i.dealt);
-    }
+pub invariant_of-hall : goal.invariant_of-hall
+invariant_of-hall g c =
+    let parts = c.in_ok-world.ensures in
+    let setup : c.args.setup.now ≡ g.F.Naming.floor.setup = ap (λ (f : FloorId). f.setup) (sym c.requires.name) in (
+      subst (λ (owners : List ℕ). IsKeptUp g.F.Naming.floor c.in_ok-world.world c.in_ok-world.watch c.in_ok-world.recording owners None)
+          (sym c.new.ensures.items) (kept_first g.F.Naming.floor c.in_ok-world.world c.in_ok-world.watch c.in_ok-world.recording
+          (subst (λ (t : Terms). IsStart t c.in_ok-world.world) setup parts.world)
+          (subst (λ (t : Terms). (w : View) → HasSeen w t.opening [] c.in_ok-world.watch) setup parts.watch)
+          (subst (λ (t : Terms). c.in_ok-world.recording ≡ opened_recording t.shape t.tables t.opening) setup parts.recording)),
+      record {
+        capacity_is = search rules;
+        seats_is = search rules;
+        some = search rules;
+        within = search rules;
+        table_is = search rules;
+        one = search rules;
+        token_is = search rules;
+        keeps = search rules;
+      },
+    )

@@ -2,7 +2,7 @@ use Rattle.std.proofs.Common.{◌≡◌, ◌≤◌, [], map, vec_len, vec_capaci
 use Rattle.std.specs.List.{range_with_len}
 use Rattle.floor.specs.Turning.{new_seat}
 use Rattle.floor.specs.inner.Tokens.{keeper}
-use Rattle.floor.proofs.floors.open_all.Given as goal
+use Rattle.floor.proofs.floors.deal_row.Given as goal
 
 abbrev pub invariant-loop-number : goal.invariant-loop-number
 invariant-loop-number g l = record {

@@ -1,0 +1,24 @@
+use Rattle.std.proofs.Common.{◌≡◌, ◌++◌, ◌∷◌, ◌+◌, [], ℕ, List, map, arith, ap, sym, ◌∙◌}
+use Rattle.std.specs.List.{range_with_len}
+use Rattle.std.proofs.lemmas.List.FromFn.{map-range_with_len_more}
+use Rattle.record.specs.declared.recording.Entry.{Entry}
+use Rattle.floor.specs.Turning.{SeatView, new_seat}
+use Rattle.floor.specs.inner.Tokens.{keeper}
+use Rattle.floor.proofs.floors.deal_row.Goals as goal
+
+pub loop-number-preserved : goal.loop-number-preserved
+loop-number-preserved g c =
+    let i = c.loop-number.invariant in
+    let n : ℕ = c.loop-number.number in
+    let row : List SeatView = c.loop-number.row.items in
+    let fresh : row ++ record { number = n; made = c.new.result.items } ∷ [] ≡ row ++ new_seat n ∷ [] =
+    ap (λ (made : List (ℕ × Entry)). row ++ record { number = n; made = made } ∷ []) c.new.ensures.items in
+    let listed : row ++ new_seat n ∷ [] ≡ map new_seat (range_with_len 0 (n + 1)) =
+    ap (λ (l : List SeatView). l ++ new_seat n ∷ []) i.row ∙ sym (map-range_with_len_more new_seat 0 n n (omega arith)) in
+    record {
+      row = c.push_reserved.ensures.items ∙ (fresh ∙ listed);
+      count = omega (arith, i.count, c.push_reserved.ensures.len);
+      room = omega (arith, i.room, c.push_reserved.ensures.capacity);
+      table = c.deal_seat-dealt.ensures.hall.1 ∙ i.table;
+      dealt = c.deal_seat-dealt.ensures.hall.0 ∙ ap (λ k. (keeper [] [] (k + 1), [])) (ap (λ m. m.0.next) i.dealt);
+    }
