@@ -5,29 +5,16 @@ use Rattle.base.specs.declared.step.CoreAsk.{CoreAsk}
 use Rattle.scenario.specs.Tree.{Tree, Trees, One, Seq, Any, Times, Both, Nil, Cons}
 use Rattle.scenario.specs.Taking.{ends, all_end, some_ends, offers, offers_in_turn, offers_of_all, left, left_in_turn, left_of_one, left_of_all}
 use Rattle.scenario.specs.Alike.{Alike, Takes, followed, seen}
-use Rattle.scenario.specs.Rests.{rest, rest_in_turn, rest_of_one, rest_of_all, row_of, Leaves}
+use Rattle.scenario.specs.Rests.{flat, flats, rest, rest_in_turn, rest_of_one, rest_of_all, row_of, Leaves}
 use Rattle.scenario.proofs.Alikes.{follow_if}
 use Rattle.scenario.proofs.Places.{is_below, by_test}
 
--- the tree without rows of one child
-abbrev mutual
-  flat : Tree → Tree
-  flat (One ask) = One ask
-  flat (Seq ts) = row_of (flats ts)
-  flat (Any ts) = Any (flats ts)
-  flat (Times n t) = Times n (flat t)
-  flat (Both ts) = Both (flats ts)
-
-  flats : Trees → Trees
-  flats Nil = Nil
-  flats (Cons t ts) = Cons (flat t) (flats ts)
-
-append-neither : {X : Type 0} (b : Bool) (xs : List X) → xs ++ cond b [] [] ≡ xs
+pub append-neither : {X : Type 0} (b : Bool) (xs : List X) → xs ++ cond b [] [] ≡ xs
 append-neither true [] = refl
 append-neither false [] = refl
 append-neither b (x ∷ xs) = ap (λ ys. x ∷ ys) (append-neither b xs)
 
-and_true : (b : Bool) → (b && true) ≡ b
+pub and_true : (b : Bool) → (b && true) ≡ b
 and_true true = refl
 and_true false = refl
 

@@ -2,6 +2,7 @@ pub mod Alikes
 pub mod Answering
 pub mod Built
 pub mod Children
+pub mod Cursors
 pub mod Depths
 pub mod Distinct
 pub mod Failing
@@ -12,6 +13,7 @@ pub mod Places
 pub mod Reached
 pub mod Refusing
 pub mod Shown
+pub mod Sought
 pub mod Texts
 pub mod Values
 pub mod Visits
