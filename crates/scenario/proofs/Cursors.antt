@@ -1,49 +1,36 @@
 -- How far a cursor is, by its place and its parts.
-use Rattle.std.proofs.Common.{◌≡◌, ℕ, zero, suc, List, [], ◌∷◌, ◌++◌, Option, Some, None, Bool, true, false, ◌&&◌, cond, map, slice_get, take, min, length, ◌+◌, ◌<◌, ◌≤◌, refl, sym, ap, ◌∙◌, arith}
+use Rattle.std.proofs.Common.{◌≡◌, ℕ, zero, suc, List, [], ◌∷◌, ◌++◌, Option, Some, None, Bool, true, false, ◌&&◌, cond, Result, Ok, Err, append_assoc, map, drop, slice_get, take, min, length, ◌+◌, ◌<◌, ◌≤◌, refl, sym, ap, ◌∙◌, arith}
 use Rattle.std.specs.declared.vec.Vec.{Vec}
-use Rattle.scenario.specs.declared.cursor.Cursor.{Cursor, Cursor', Cursor-F, Row_of-Cursor, end_of-Cursor, more_of-Cursor, back-Cursor-parts}
-use Rattle.scenario.specs.declared.cursor.Cursor.{out-Cursor, roll-Cursor, is-Cursor', rolls-Cursor', items-the_row-Cursor, items_hidden-the_row-Cursor-0}
-use Rattle.scenario.specs.declared.cursor.Cursor.TheBlock.{hidden-the_row-Cursor-0}
-use Rattle.scenario.specs.declared.cursor.Place.{Place}
-use Rattle.scenario.specs.declared.cursor.Place.TheVariants as place
+use Rattle.scenario.specs.declared.part.Part.{Part, Fresh, Begun', Row_of-Part, end_of-Part, more_of-Part}
+use Rattle.scenario.specs.declared.part.Part.{items-the_row-Part, items_hidden-the_row-Part-0}
+use Rattle.scenario.specs.declared.part.Part.TheBlock.{hidden-the_row-Part-0}
+use Rattle.scenario.specs.declared.part.Part.TheVariants.{Begun}
+use Rattle.scenario.specs.declared.part.Place.{Place}
+use Rattle.scenario.specs.declared.part.Place.TheVariants as place
 use Rattle.base.specs.declared.step.CoreAsk.{CoreAsk}
 use Rattle.scenario.specs.Tree as tree
 use Rattle.scenario.specs.Tree.{Tree, trees_of}
 use Rattle.scenario.specs.Taking.{ends, all_end, offers, offers_of_all}
-use Rattle.scenario.specs.Cursors.{Progress, Parts, Nothing, Whole, InSeq, InTimes, InBoth, Nil, Cons, first_part, first_parts, progress, progress_at, progress_held, progress_row, tree_left, trees_left, remaining}
-use Rattle.scenario.specs.Parts.{all_left, behind, count_at, height, height_of_all, highest, parts_of, place_of}
+use Rattle.scenario.specs.Cursors.{Progress, Parts, Nothing, Whole, InSeq, InTimes, InBoth, Nil, Cons, first_part, first_parts, progress, progress_at, progress_row, tree_left, trees_left}
+use Rattle.scenario.specs.Parts.{all_left, behind, count_at, height, height_of_all, highest, part_left, parts_of, place_of, sought}
+use Rattle.scenario.proofs.Sought.{found-all, passed-all, sought-front, sought-behind}
 use Rattle.scenario.proofs.Flat.{and_true, append-neither}
 
-row_items : (A B : Type 0) {n : _} (k : Row_of-Cursor A B n) → progress_row k ≡ map progress (items-the_row-Cursor A B n k)
-row_items A B end_of-Cursor = refl
-row_items A B (more_of-Cursor c row) = ap (λ ps. progress c ∷ ps) (row_items A B row)
+row_items : (A B : Type 0) {n : _} (k : Row_of-Part A B n) → progress_row k ≡ map progress (items-the_row-Part A B n k)
+row_items A B end_of-Part = refl
+row_items A B (more_of-Part p row) = ap (λ ps. progress p ∷ ps) (row_items A B row)
 
--- the parts that a cursor has, from the field
-abbrev pub held : {A B : Type 0} → Option (Vec (Cursor A B) B) → List Progress
-held None = []
-held (Some v) = map progress v.items
+pub parts-Begun : {A B : Type 0} (at : Place A) (v : Vec (Part A B) B) → parts_of (Begun at v) ≡ map progress v.items
+parts-Begun {A} {B} at v = row_items A B (hidden-the_row-Part-0 A B v) ∙ ap (map progress) (items_hidden-the_row-Part-0 A B v)
 
-held-back : (A B : Type 0) (o : Option (Vec (Cursor A B) B)) → progress_held (back-Cursor-parts A B o) ≡ held o
-held-back A B None = refl
-held-back A B (Some v) = row_items A B (hidden-the_row-Cursor-0 A B v) ∙ ap (map progress) (items_hidden-the_row-Cursor-0 A B v)
+pub place-Begun : {A B : Type 0} (at : Place A) (v : Vec (Part A B) B) → place_of (Begun at v) ≡ at
+place-Begun at v = refl
 
--- a cursor by its fields
-pub place-out : {A B : Type 0} (c : Cursor A B) → place_of c ≡ (out-Cursor A B c).place
-place-out {A} {B} c = ap place_of (is-Cursor' c)
+pub progress-is : {A B : Type 0} (p : Part A B) → progress p ≡ progress_at (place_of p) (parts_of p)
+progress-is (Fresh at) = refl
+progress-is (Begun' at shape row) = refl
 
-pub parts-out : {A B : Type 0} (c : Cursor A B) → parts_of c ≡ held (out-Cursor A B c).parts
-parts-out {A} {B} c = ap parts_of (is-Cursor' c) ∙ held-back A B (out-Cursor A B c).parts
-
-pub place-roll : {A B : Type 0} (f : Cursor-F A B (Cursor A B)) → place_of (roll-Cursor A B f) ≡ f.place
-place-roll {A} {B} f = ap place_of (rolls-Cursor' f)
-
-pub parts-roll : {A B : Type 0} (f : Cursor-F A B (Cursor A B)) → parts_of (roll-Cursor A B f) ≡ held f.parts
-parts-roll {A} {B} f = ap parts_of (rolls-Cursor' f) ∙ held-back A B f.parts
-
-pub progress-is : {A B : Type 0} (c : Cursor A B) → progress c ≡ progress_at (place_of c) (parts_of c)
-progress-is (Cursor' at parts) = refl
-
-pub ruleset cursors = (place-out, parts-out, place-roll, parts-roll, progress-is)
+pub ruleset parts = (parts-Begun, place-Begun, progress-is)
 
 -- ---- how far the parts of a cursor go down
 
@@ -138,25 +125,69 @@ take-cut f (suc n) (x ∷ xs) =
     let e : min (suc n) (suc (length xs)) ≡ suc (min n (length xs)) = omega arith in rw e (ap (λ ys. f x ∷ ys) (take-cut f n xs))
 
 -- the same of a cursor, where its parts in use are known
-pub cursor-ends : {A B : Type 0} (c : Cursor A B) (ps : List Progress) → ps ≡ take (count_at (place_of c)) (parts_of c)
-    → ends (remaining c) ≡ (all_end (all_left ps) && ends (behind (out-Cursor A B c).place))
-cursor-ends {A} {B} c ps e =
-    ap (λ p. ends (tree_left p)) (progress-is c)
-    ∙ (ends-parts (place_of c) (parts_of c) ∙ (ap (λ qs. all_end (all_left qs) && ends (behind (place_of c))) (sym e)
-    ∙ ap (λ at. all_end (all_left ps) && ends (behind at)) (place-out c)))
+pub cursor-ends : {A B : Type 0} (p : Part A B) (ps : List Progress) → ps ≡ take (count_at (place_of p)) (parts_of p)
+    → ends (part_left p) ≡ (all_end (all_left ps) && ends (behind (place_of p)))
+cursor-ends p ps e =
+    ap (λ q. ends (tree_left q)) (progress-is p)
+    ∙ (ends-parts (place_of p) (parts_of p) ∙ (ap (λ qs. all_end (all_left qs) && ends (behind (place_of p))) (sym e)))
 
-pub cursor-ends-then : {A B : Type 0} (c : Cursor A B) (ps : List Progress) → ps ≡ take (count_at (place_of c)) (parts_of c)
-    → all_end (all_left ps) ≡ true → ends (remaining c) ≡ ends (behind (out-Cursor A B c).place)
-cursor-ends-then {A} {B} c ps e end = cursor-ends c ps e ∙ ap (λ b. b && ends (behind (out-Cursor A B c).place)) end
+pub cursor-ends-then : {A B : Type 0} (p : Part A B) (ps : List Progress) → ps ≡ take (count_at (place_of p)) (parts_of p)
+    → all_end (all_left ps) ≡ true → ends (part_left p) ≡ ends (behind (place_of p))
+cursor-ends-then p ps e end = cursor-ends p ps e ∙ ap (λ b. b && ends (behind (place_of p))) end
 
-pub cursor-ends-else : {A B : Type 0} (c : Cursor A B) (ps : List Progress) → ps ≡ take (count_at (place_of c)) (parts_of c)
-    → all_end (all_left ps) ≡ false → ends (remaining c) ≡ false
-cursor-ends-else {A} {B} c ps e more = cursor-ends c ps e ∙ ap (λ b. b && ends (behind (out-Cursor A B c).place)) more
+pub cursor-ends-else : {A B : Type 0} (p : Part A B) (ps : List Progress) → ps ≡ take (count_at (place_of p)) (parts_of p)
+    → all_end (all_left ps) ≡ false → ends (part_left p) ≡ false
+cursor-ends-else p ps e more = cursor-ends p ps e ∙ ap (λ b. b && ends (behind (place_of p))) more
 
-pub cursor-offers : {A B : Type 0} (c : Cursor A B) (ps : List Progress) → ps ≡ take (count_at (place_of c)) (parts_of c)
-    → offers (remaining c) ≡ offers_of_all (all_left ps) ++ cond (all_end (all_left ps)) (offers (behind (out-Cursor A B c).place)) []
-cursor-offers {A} {B} c ps e =
-    ap (λ p. offers (tree_left p)) (progress-is c)
-    ∙ (offers-parts (place_of c) (parts_of c)
-    ∙ (ap (λ qs. offers_of_all (all_left qs) ++ cond (all_end (all_left qs)) (offers (behind (place_of c))) []) (sym e)
-    ∙ ap (λ at. offers_of_all (all_left ps) ++ cond (all_end (all_left ps)) (offers (behind at)) []) (place-out c)))
+pub cursor-offers : {A B : Type 0} (p : Part A B) (ps : List Progress) → ps ≡ take (count_at (place_of p)) (parts_of p)
+    → offers (part_left p) ≡ offers_of_all (all_left ps) ++ cond (all_end (all_left ps)) (offers (behind (place_of p))) []
+cursor-offers p ps e =
+    ap (λ q. offers (tree_left q)) (progress-is p)
+    ∙ (offers-parts (place_of p) (parts_of p)
+    ∙ (ap (λ qs. offers_of_all (all_left qs) ++ cond (all_end (all_left qs)) (offers (behind (place_of p))) []) (sym e)))
+
+-- what is appended, step by step
+pub cursor-appends : {A B : Type 0} (p : Part A B) (ps : List Progress) → ps ≡ take (count_at (place_of p)) (parts_of p)
+    → (old new : List CoreAsk) → new ≡ old ++ offers_of_all (all_left ps) → all_end (all_left ps) ≡ true
+    → new ++ offers (behind (place_of p)) ≡ old ++ offers (part_left p)
+cursor-appends p ps e old new h end =
+    let all = cursor-offers p ps e ∙ ap (λ b. offers_of_all (all_left ps) ++ cond b (offers (behind (place_of p))) []) end in
+    rw (h, all) (append_assoc old _ _)
+
+pub cursor-stops : {A B : Type 0} (p : Part A B) (ps : List Progress) → ps ≡ take (count_at (place_of p)) (parts_of p)
+    → (old new : List CoreAsk) → new ≡ old ++ offers_of_all (all_left ps) → all_end (all_left ps) ≡ false → new ≡ old ++ offers (part_left p)
+cursor-stops p ps e old new h more =
+    let all = cursor-offers p ps e ∙ ap (λ b. offers_of_all (all_left ps) ++ cond b (offers (behind (place_of p))) []) more in
+    h ∙ ap (λ os. old ++ os) (sym (all ∙ append-neither true _))
+
+-- ---- where an offer is
+
+pub sought-cursor : {A B : Type 0} (p : Part A B) (ps : List Progress) → ps ≡ take (count_at (place_of p)) (parts_of p)
+    → (i : ℕ) (ask : CoreAsk) → sought (offers_of_all (all_left ps)) i ≡ Ok ask → sought (offers (part_left p)) i ≡ Ok ask
+sought-cursor p ps e i ask h = ap (λ os. sought os i) (cursor-offers p ps e) ∙ sought-front _ _ i ask h
+
+pub sought-cursor-else : {A B : Type 0} (p : Part A B) (ps : List Progress) → ps ≡ take (count_at (place_of p)) (parts_of p)
+    → (i r : ℕ) → sought (offers_of_all (all_left ps)) i ≡ Err r → all_end (all_left ps) ≡ false → sought (offers (part_left p)) i ≡ Err r
+sought-cursor-else p ps e i r h stop =
+    ap (λ os. sought os i) (cursor-offers p ps e) ∙ (sought-behind _ _ i r h ∙ ap (λ b. sought (cond b (offers (behind (place_of p))) []) r) stop)
+
+pub sought-cursor-then : {A B : Type 0} (p : Part A B) (ps : List Progress) → ps ≡ take (count_at (place_of p)) (parts_of p)
+    → (i r : ℕ) → sought (offers_of_all (all_left ps)) i ≡ Err r → all_end (all_left ps) ≡ true
+    → sought (offers (part_left p)) i ≡ sought (offers (behind (place_of p))) r
+sought-cursor-then p ps e i r h end =
+    ap (λ os. sought os i) (cursor-offers p ps e) ∙ (sought-behind _ _ i r h ∙ ap (λ b. sought (cond b (offers (behind (place_of p))) []) r) end)
+
+-- what is left of several, either way
+pub map-left : {A B : Type 0} (ps : List (Part A B)) → map part_left ps ≡ map tree_left (map progress ps)
+map-left [] = refl
+map-left (p ∷ ps) = ap (λ ts. part_left p ∷ ts) (map-left ps)
+
+pub found-in-parts : {A B : Type 0} (xs : List (Part A B)) (i k : ℕ) (x : Part A B) (ask : CoreAsk) → slice_get xs i ≡ Some x
+    → sought (offers (part_left x)) k ≡ Ok ask → sought (offers_of_all (all_left (map progress (drop i xs)))) k ≡ Ok ask
+found-in-parts xs i k x ask e h = ap (λ ts. sought (offers_of_all (trees_of ts)) k) (sym (map-left (drop i xs))) ∙ found-all part_left xs i k x ask e h
+
+pub passed-in-parts : {A B : Type 0} (xs : List (Part A B)) (i k r : ℕ) (x : Part A B) → slice_get xs i ≡ Some x → sought (offers (part_left x)) k ≡ Err r
+    → sought (offers_of_all (all_left (map progress (drop i xs)))) k ≡ sought (offers_of_all (all_left (map progress (drop (i + 1) xs)))) r
+passed-in-parts xs i k r x e h =
+    ap (λ ts. sought (offers_of_all (trees_of ts)) k) (sym (map-left (drop i xs)))
+    ∙ (passed-all part_left xs i k r x e h ∙ ap (λ ts. sought (offers_of_all (trees_of ts)) r) (map-left (drop (i + 1) xs)))

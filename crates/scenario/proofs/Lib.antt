@@ -8,6 +8,7 @@ pub mod Distinct
 pub mod Failing
 pub mod Flat
 pub mod Fronts
+pub mod Growing
 pub mod Lengths
 pub mod Places
 pub mod Reached

@@ -3,9 +3,10 @@ use Rattle.std.specs.Prelude.{ℕ, zero, suc, ◌+◌, List, [], ◌∷◌}
 use Rattle.std.specs.Prelude as std
 use Rattle.scenario.specs.Tree.{Tree, Trees, plain, plain_all}
 use Rattle.scenario.specs.Tree as tree
-use Rattle.scenario.specs.declared.cursor.Cursor.{Cursor, Cursor', Held-Cursor-parts, None', Some', Row_of-Cursor, end_of-Cursor, more_of-Cursor}
-use Rattle.scenario.specs.declared.cursor.Place.{Place}
-use Rattle.scenario.specs.declared.cursor.Place.TheVariants as place
+use Rattle.scenario.specs.declared.cursor.Cursor.{Cursor}
+use Rattle.scenario.specs.declared.part.Part.{Part, Fresh, Begun', Row_of-Part, end_of-Part, more_of-Part}
+use Rattle.scenario.specs.declared.part.Place.{Place}
+use Rattle.scenario.specs.declared.part.Place.TheVariants as place
 
 mutual
   -- nothing is left; a whole tree; what is left of a child, before the others of its row;
@@ -41,17 +42,14 @@ progress_at (place.InTimes n t) ps = InTimes (first_part ps) n (plain t.now)
 progress_at (place.InBoth n) ps = InBoth (first_parts n ps)
 
 abbrev mutual
-  -- how far a cursor is, wherever it lies
-  pub progress : {A B : Type 0} → Cursor A B → Progress
-  progress (Cursor' at parts) = progress_at at (progress_held parts)
+  -- how far a part is, wherever it lies
+  pub progress : {A B : Type 0} → Part A B → Progress
+  progress (Fresh at) = progress_at at []
+  progress (Begun' at shape row) = progress_at at (progress_row row)
 
-  pub progress_held : {A B : Type 0} → Held-Cursor-parts A B → List Progress
-  progress_held None' = []
-  progress_held (Some' shape row) = progress_row row
-
-  pub progress_row : {A B : Type 0} {n : _} → Row_of-Cursor A B n → List Progress
-  progress_row end_of-Cursor = []
-  progress_row (more_of-Cursor c row) = progress c ∷ progress_row row
+  pub progress_row : {A B : Type 0} {n : _} → Row_of-Part A B n → List Progress
+  progress_row end_of-Part = []
+  progress_row (more_of-Part p row) = progress p ∷ progress_row row
 
 abbrev mutual
   -- the tree that is left
@@ -66,9 +64,13 @@ abbrev mutual
   trees_left Nil = tree.Nil
   trees_left (Cons p ps) = tree.Cons (tree_left p) (trees_left ps)
 
+-- how far a cursor is
+abbrev pub standing : {A B : Type 0} → Cursor A B → Progress
+standing c = progress c.root
+
 -- what is left of a cursor's tree
 abbrev pub remaining : {A B : Type 0} → Cursor A B → Tree
-remaining c = tree_left (progress c)
+remaining c = tree_left (standing c)
 
 abbrev mutual
   -- how many nodes a tree has

@@ -1,15 +1,15 @@
 -- For private clauses: where an offer is found, the parts that a cursor has, and how far it comes by an offer.
-use Rattle.std.specs.Prelude.{◌≡◌, ◌≤◌, ◌<◌, ◌+◌, ℕ, zero, suc, List, [], ◌∷◌, ◌++◌, length, replicate, take, map, Option, Some, IfSome, slice_get, slice_set, Result, Ok, Err}
+use Rattle.std.specs.Prelude.{◌≡◌, ◌≤◌, ◌<◌, ◌+◌, ℕ, zero, suc, List, [], ◌∷◌, length, take, map, Option, Some, IfSome, slice_get, slice_set, Result, Ok, Err}
 use Rattle.std.specs.Prelude as std
 use Rattle.base.specs.declared.step.CoreAsk.{CoreAsk}
 use Rattle.scenario.specs.Tree.{Tree, Trees, plain, plain_all, trees_of}
 use Rattle.scenario.specs.Tree as tree
 use Rattle.scenario.specs.Taking.{offers, offers_of_all}
 use Rattle.scenario.specs.Rests.{flat, rest}
-use Rattle.scenario.specs.Cursors.{Progress, Parts, Nothing, Whole, InSeq, InTimes, InBoth, Nil, Cons, greatest_nodes, most_nodes, nodes, progress_held, tree_left}
-use Rattle.scenario.specs.declared.cursor.Cursor.{Cursor, Cursor'}
-use Rattle.scenario.specs.declared.cursor.Place.{Place}
-use Rattle.scenario.specs.declared.cursor.Place.TheVariants as place
+use Rattle.scenario.specs.Cursors.{Progress, Parts, Nothing, Whole, InSeq, InTimes, InBoth, Nil, Cons, greatest_nodes, most_nodes, nodes, progress, progress_row, tree_left}
+use Rattle.scenario.specs.declared.part.Part.{Part, Fresh, Begun'}
+use Rattle.scenario.specs.declared.part.Place.{Place}
+use Rattle.scenario.specs.declared.part.Place.TheVariants as place
 
 -- the ask at a place of a list, or how far behind its end the place is
 abbrev pub sought : List CoreAsk → ℕ → Result CoreAsk ℕ
@@ -21,13 +21,19 @@ sought (ask ∷ asks) (suc i) = sought asks i
 abbrev pub IsOfferOf : List Tree → ℕ → ℕ → ℕ → Type 0
 IsOfferOf ts i j k = (t : Tree) × (slice_get ts j ≡ Some t) × (k < length (offers t)) × (i ≡ length (offers_of_all (trees_of (take j ts))) + k)
 
--- all parts that a cursor has, also those that are kept for later
-abbrev pub parts_of : {A B : Type 0} → Cursor A B → List Progress
-parts_of (Cursor' at parts) = progress_held parts
+-- all parts of a part, also those that are kept for later
+abbrev pub parts_of : {A B : Type 0} → Part A B → List Progress
+parts_of (Fresh at) = []
+parts_of (Begun' at shape row) = progress_row row
 
--- where in its tree a cursor is
-abbrev pub place_of : {A B : Type 0} → Cursor A B → Place A
-place_of (Cursor' at parts) = at
+-- where in its tree a part is
+abbrev pub place_of : {A B : Type 0} → Part A B → Place A
+place_of (Fresh at) = at
+place_of (Begun' at shape row) = at
+
+-- what is left of a part's tree
+abbrev pub part_left : {A B : Type 0} → Part A B → Tree
+part_left p = tree_left (progress p)
 
 -- how many parts are in use at a place
 abbrev pub count_at : {A : Type 0} → Place A → ℕ
@@ -85,7 +91,10 @@ most_behind (place.InBoth n) = 1
 
 -- some parts more, of which nothing is left
 abbrev pub Grows : List Progress → List Progress → Type 0
-Grows old new = (n : ℕ) × (new ≡ old ++ replicate n Nothing)
+Grows [] [] = Unit {0}
+Grows [] (q ∷ qs) = (q ≡ Nothing) × Grows [] qs
+Grows (p ∷ ps) [] = ⊥
+Grows (p ∷ ps) (q ∷ qs) = (q ≡ p) × Grows ps qs
 
 -- the first parts are these trees, all of each, but for the part of this number, which stays as it was
 abbrev pub IsWholeBut : ℕ → List Tree → List Progress → List Progress → Type 0

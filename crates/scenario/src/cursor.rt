@@ -1,77 +1,54 @@
 //! What is left of a scenario that is borrowed.
 
-ghost use Rattle.std.specs.Prelude.{◌≡◌};
-ghost use Rattle.scenario.specs.Cursors.{progress_at};
-ghost use Rattle.scenario.specs.Parts.{parts_of};
-
-mod looking;
-mod starting;
-mod taking;
-
-pub(crate) use looking::cursor_may_end;
-
+use crate::part::{Part, Place, take_from};
+use crate::seeking::find_offer;
 use crate::tree::Scenario;
+use base::{CoreAsk, NoMemory};
 use std::alloc::Allocator;
 
-/// What is left of a scenario, which it borrows. Its parts are in memory of the allocator `B`, and memory that a part no
-/// longer needs is used for the next.
+/// What is left of a scenario, which it borrows.
+///
+/// It keeps how far it is in each tree that it has begun, in memory of the allocator `B`. Memory that is no longer needed
+/// is used again, so it never has more parts at a time than its scenario has nodes.
 #[derive(Drop)]
 pub struct Cursor<'t, A: Allocator, B: Allocator> {
-    place: Place<'t, A>,
-    /// Those in use first. Parts behind them are kept for later, and mean nothing.
-    parts: Option<Vec<Cursor<'t, A, B>, B>>,
-}
-
-/// Where a cursor is in its tree.
-#[derive(Drop)]
-pub(crate) enum Place<'t, A: Allocator> {
-    /// Nothing is left.
-    Nothing,
-    /// All of this tree is left.
-    Whole(&'t Scenario<A>),
-    /// The first part is left, and then these children of its row.
-    InSeq(&'t [Scenario<A>]),
-    /// The first part is left, and then so many turns of the child.
-    InTimes(u32, &'t Scenario<A>),
-    /// So many parts are left, all at once.
-    InBoth(usize),
+    pub(crate) root: Part<'t, A, B>,
 }
 
 impl<'t, A: Allocator, B: Allocator> Cursor<'t, A, B> {
     ghost use Rattle.std.specs.Prelude.{◌≡◌, ◌≤◌};
-    ghost use Rattle.scenario.specs.Cursors.{Nothing, most_nodes, nodes, progress, progress_at, remaining};
-    ghost use Rattle.scenario.specs.Parts.{parts_of};
+    ghost use Rattle.scenario.specs.Cursors.{most_nodes, nodes, remaining, standing};
     ghost use Rattle.scenario.specs.Tree.{plain};
 
     /// All of the tree is left. It takes no memory.
-    #[tactic(auto, using(crate::proofs::Cursors::cursors))]
     pub fn open(tree: &'t Scenario<A>) -> Cursor<'t, A, B>
         ensures left { remaining result ≡ plain tree.entry.now }
-        ensures nodes { most_nodes (progress result) ≤ nodes (plain tree.entry.now) }
+        ensures nodes { most_nodes (standing result) ≤ nodes (plain tree.entry.now) }
     {
         Cursor {
-            place: Place::Whole(tree),
-            parts: None,
+            root: Part::Fresh(Place::Whole(tree)),
         }
     }
+}
 
-    /// Nothing is left.
-    #[tactic(auto, using(crate::proofs::Cursors::cursors))]
-    fn ended() -> Cursor<'t, A, B>
-        ensures { progress result ≡ Nothing }
-    {
-        Cursor {
-            place: Place::Nothing,
-            parts: None,
-        }
-    }
+impl<'t, A: Allocator, B: Allocator + Clone> Cursor<'t, A, B> {
+    ghost use Rattle.std.specs.Prelude.{◌≡◌, ◌≤◌, IfOk, OnErr};
+    ghost use Rattle.scenario.specs.Alike.{Takes};
+    ghost use Rattle.scenario.specs.Cursors.{most_nodes, remaining, standing};
 
-    /// It is at this place from now on. Its parts stay.
-    #[tactic(auto, using(crate::proofs::Cursors::cursors))]
-    fn move_to(&mut self, place: Place<'t, A>)
-        ensures place { progress self.new ≡ progress_at place.entry (parts_of self.old) }
-        ensures parts { parts_of self.new ≡ parts_of self.old }
+    /// Takes offer `at`, counted from 0 in the order of [`Rest::offers`](crate::Rest::offers): answers its ask, and what is
+    /// then left of the tree is left. `None` comes where there is no such offer, and then nothing has changed.
+    ///
+    /// What is made anew is `alloc`'s. Where memory is refused, nothing has changed.
+    pub fn take(&mut self, alloc: B, at: usize) -> Result<Option<CoreAsk>, NoMemory>
+        ensures ok { IfOk result (λ taken. Takes (remaining self.old) at taken (remaining self.new)) }
+        ensures err { OnErr result (remaining self.new ≡ remaining self.old) }
+        ensures nodes { most_nodes (standing self.new) ≤ most_nodes (standing self.old) }
     {
-        self.place = place;
+        let Some(ask) = find_offer(&self.root, at) else {
+            return Ok(None);
+        };
+        take_from(&mut self.root, &alloc, at)?;
+        Ok(Some(ask))
     }
 }

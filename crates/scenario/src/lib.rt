@@ -9,6 +9,7 @@ mod laws;
 mod looking;
 mod making;
 mod measuring;
+mod part;
 mod reading;
 mod rests;
 mod seeking;

@@ -1,7 +1,8 @@
 //! What is left of a scenario, however it is kept.
 
-use crate::cursor::{Cursor, cursor_may_end};
+use crate::cursor::Cursor;
 use crate::looking::tree_may_end;
+use crate::part::part_may_end;
 use crate::seeking::{count_offers, find_offer, list_offers};
 use crate::tree::Scenario;
 use base::{CoreAsk, NoMemory};
@@ -84,19 +85,19 @@ impl<'t, A: Allocator, B: Allocator + Clone> Rest for Cursor<'t, A, B> {
     ghost left = { remaining };
 
     fn may_end(&self) -> bool {
-        cursor_may_end(self)
+        part_may_end(&self.root)
     }
 
     fn offers(&self, out: &mut Vec<CoreAsk>) -> Result<(), NoMemory> {
-        list_offers(self, out)
+        list_offers(&self.root, out)
     }
 
     fn offer_count(&self) -> usize {
-        count_offers(self)
+        count_offers(&self.root)
     }
 
     fn offer_at(&self, at: usize) -> Option<CoreAsk> {
-        find_offer(self, at)
+        find_offer(&self.root, at)
     }
 
     fn take(&mut self, alloc: B, at: usize) -> Result<Option<CoreAsk>, NoMemory> {
