@@ -20,8 +20,11 @@ row_items : (A B : Type 0) {n : _} (k : Row_of-Part A B n) → progress_row k �
 row_items A B end_of-Part = refl
 row_items A B (more_of-Part p row) = ap (λ ps. progress p ∷ ps) (row_items A B row)
 
+pub parts-row : {A B : Type 0} (v : Vec (Part A B) B) → progress_row (hidden-the_row-Part-0 A B v) ≡ map progress v.items
+parts-row {A} {B} v = row_items A B (hidden-the_row-Part-0 A B v) ∙ ap (map progress) (items_hidden-the_row-Part-0 A B v)
+
 pub parts-Begun : {A B : Type 0} (at : Place A) (v : Vec (Part A B) B) → parts_of (Begun at v) ≡ map progress v.items
-parts-Begun {A} {B} at v = row_items A B (hidden-the_row-Part-0 A B v) ∙ ap (map progress) (items_hidden-the_row-Part-0 A B v)
+parts-Begun at v = parts-row v
 
 pub place-Begun : {A B : Type 0} (at : Place A) (v : Vec (Part A B) B) → place_of (Begun at v) ≡ at
 place-Begun at v = refl
@@ -30,7 +33,7 @@ pub progress-is : {A B : Type 0} (p : Part A B) → progress p ≡ progress_at (
 progress-is (Fresh at) = refl
 progress-is (Begun' at shape row) = refl
 
-pub ruleset parts = (parts-Begun, place-Begun, progress-is)
+pub ruleset parts = (parts-Begun, parts-row, place-Begun, progress-is)
 
 -- ---- how far the parts of a cursor go down
 

@@ -60,7 +60,7 @@ mutual
   of_all-flats Nil = refl
   of_all-flats (Cons t ts) = rw (offers-flat t, of_all-flats ts) refl
 
-flat-row : (ts : Trees) → flat (row_of ts) ≡ row_of (flats ts)
+pub flat-row : (ts : Trees) → flat (row_of ts) ≡ row_of (flats ts)
 flat-row Nil = refl
 flat-row (Cons t Nil) = refl
 flat-row (Cons t (Cons u us)) = refl
@@ -79,7 +79,7 @@ mutual
 
 -- the rest is the same
 mutual
-  flat-rest : (t : Tree) (i : ℕ) → flat (rest t i) ≡ flat (left t i)
+  pub flat-rest : (t : Tree) (i : ℕ) → flat (rest t i) ≡ flat (left t i)
   flat-rest (One ask) i = refl
   flat-rest (Seq ts) i = flat-rest_in_turn ts i
   flat-rest (Any ts) i = flat-rest_of_one ts i
@@ -190,7 +190,7 @@ mutual
       (λ h. rw (flat-flat t, flats-of_all ts (i - length (offers t))) refl))
 
 -- trees that are the same without such rows are alike
-alike-flat : (s t : Tree) → flat s ≡ flat t → Alike s t
+pub alike-flat : (s t : Tree) → flat s ≡ flat t → Alike s t
 alike-flat s t e [] =
     let same_offers : offers s ≡ offers t = sym (offers-flat s) ∙ (ap offers e ∙ offers-flat t) in
     let same_end : ends s ≡ ends t = sym (ends-flat s) ∙ (ap ends e ∙ ends-flat t) in

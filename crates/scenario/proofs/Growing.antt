@@ -1,10 +1,12 @@
 -- Parts more, of which nothing is left, change nothing that means anything.
-use Rattle.std.proofs.Common.{◌≡◌, ℕ, zero, suc, List, [], ◌∷◌, ◌++◌, map, refl, sym, ap, ◌∙◌}
-use Rattle.scenario.specs.Cursors.{Progress, Nothing, InSeq, InTimes, InBoth, Cons, first_part, first_parts, progress_at}
+use Rattle.std.proofs.Common.{◌≡◌, ℕ, zero, suc, List, [], ◌∷◌, ◌++◌, ◌≤◌, length, map, arith, refl, sym, ap, ◌∙◌}
+use Rattle.scenario.specs.Cursors.{Progress, Nothing, InSeq, InTimes, InBoth, Cons, first_part, first_parts, progress, progress_at}
 use Rattle.scenario.specs.Tree.{plain, plain_all}
+use Rattle.scenario.specs.declared.part.Part.{Part}
 use Rattle.scenario.specs.declared.part.Place.{Place}
 use Rattle.scenario.specs.declared.part.Place.TheVariants as place
-use Rattle.scenario.specs.Parts.{Grows}
+use Rattle.scenario.specs.Parts.{Grows, parts_of, place_of}
+use Rattle.scenario.proofs.Cursors.{progress-is}
 
 pub grows-none : (ps : List Progress) → Grows ps ps
 grows-none [] = tt
@@ -38,3 +40,14 @@ progress-same (place.Whole t) ps qs h = refl
 progress-same (place.InSeq ts) ps qs h = ap (λ p. InSeq p (plain_all ts.now)) (first-same ps qs h)
 progress-same (place.InTimes n t) ps qs h = ap (λ p. InTimes p n (plain t.now)) (first-same ps qs h)
 progress-same (place.InBoth n) ps qs h = ap InBoth (firsts-same n ps qs h)
+
+map-push : {X : Type 0} (f : X → Progress) (xs : List X) (x : X) → map f (xs ++ x ∷ []) ≡ map f xs ++ f x ∷ []
+map-push f [] x = refl
+map-push f (y ∷ xs) x = ap (λ ps. f y ∷ ps) (map-push f xs x)
+
+pub grows-push : {X : Type 0} (f : X → Progress) (ps : List Progress) (xs : List X) (x : X) → f x ≡ Nothing → Grows ps (map f xs) → Grows ps (map f (xs ++ x ∷ []))
+grows-push f ps xs x e h = rw (map-push f xs x) (grows-more ps (map f xs) (f x) e h)
+
+pub grown-same : {A B : Type 0} (p q : Part A B) → place_of q ≡ place_of p → Grows (parts_of p) (parts_of q) → progress q ≡ progress p
+grown-same p q e h =
+    progress-is q ∙ (ap (λ at. progress_at at (parts_of q)) e ∙ (progress-same (place_of p) (parts_of p) (parts_of q) h ∙ sym (progress-is p)))

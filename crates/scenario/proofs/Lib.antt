@@ -9,6 +9,7 @@ pub mod Failing
 pub mod Flat
 pub mod Fronts
 pub mod Growing
+pub mod Leading
 pub mod Lengths
 pub mod Places
 pub mod Reached

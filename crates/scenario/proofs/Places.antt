@@ -168,12 +168,12 @@ row_of_others [] others = refl
 row_of_others (s ∷ []) others = absurd (others refl)
 row_of_others (s ∷ t ∷ ss) others = refl
 
-abbrev HereInTurn : {A : Type 0} → List (Scenario A) → ℕ → ℕ → ℕ → Scenario A → Type 0
+abbrev pub HereInTurn : {A : Type 0} → List (Scenario A) → ℕ → ℕ → ℕ → Scenario A → Type 0
 HereInTurn ss i j k s = (k < length (offers (plain s)))
     × (slice_get (offers_in_turn (plain_all ss)) i ≡ slice_get (offers (plain s)) k)
     × (rest_in_turn (plain_all ss) i ≡ row_of (Cons (rest (plain s) k) (plain_all (drop (j + 1) ss))))
 
-abbrev HereAmong : {A : Type 0} → List (Scenario A) → ℕ → ℕ → ℕ → Scenario A → Type 0
+abbrev pub HereAmong : {A : Type 0} → List (Scenario A) → ℕ → ℕ → ℕ → Scenario A → Type 0
 HereAmong ss i j k s = (k < length (offers (plain s)))
     × (slice_get (offers_of_all (plain_all ss)) i ≡ slice_get (offers (plain s)) k)
     × (rest_of_one (plain_all ss) i ≡ rest (plain s) k)

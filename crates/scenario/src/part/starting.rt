@@ -3,7 +3,7 @@
 
 ghost use Rattle.std.specs.Prelude.{◌≡◌, ◌<◌, ◌≤◌, ◌+◌, OnErr, OnOk, length, map, slice_get, slice_set, take};
 ghost use Rattle.scenario.specs.Cursors.{Whole, greatest_nodes, nodes, progress, total_nodes};
-ghost use Rattle.scenario.specs.Parts.{Begins, Grows, IsWholeBut, Leads, parts_of};
+ghost use Rattle.scenario.specs.Parts.{Begins, Grows, IsWholeBut, Leads, parts_of, place_of};
 ghost use Rattle.scenario.specs.Taking.{offers, offers_in_turn, offers_of_all};
 ghost use Rattle.scenario.specs.Tree as tree;
 ghost use Rattle.scenario.specs.Tree.{plain, plain_all};
@@ -167,11 +167,13 @@ fn make_room<A: Allocator, B: Allocator + Clone>(
     alloc: &B,
     count: usize,
 ) -> Result<(), NoMemory>
+    ensures place { place_of part.new ≡ place_of part.old }
+    ensures grown { Grows (parts_of part.old) (parts_of part.new) }
     ensures same { progress part.new ≡ progress part.old }
     ensures room { OnOk result (count ≤ length (parts_of part.new)) }
 {
     match part {
-        Part::Begun(_, parts) => push_ended(parts, count),
+        Part::Begun(_place, parts) => push_ended(parts, count),
         Part::Fresh(place) => {
             let place = *place;
             let mut parts = Vec::new(alloc.clone()?);

@@ -1,0 +1,99 @@
+-- What is left, and how many nodes are to come, once an offer is taken by way of parts.
+use Rattle.std.proofs.Common.{◌≡◌, ℕ, zero, suc, ◌+◌, ◌-◌, ◌<◌, ◌≤◌, List, [], ◌∷◌, ◌++◌, Option, Some, None, IfSome, Bool, true, false}
+use Rattle.std.proofs.Common.{cond, nat_lt, length, drop, take, map, max, slice_get, slice_set, refl, sym, ap, ◌∙◌, subst, arith, add-one, length-append}
+use Rattle.scenario.specs.declared.tree.Scenario.{Scenario}
+use Rattle.scenario.specs.declared.part.Place.{Place}
+use Rattle.scenario.specs.declared.part.Place.TheVariants as place
+use Rattle.scenario.specs.Tree as tree
+use Rattle.scenario.specs.Tree.{Tree, Trees, plain, plain_all, trees_of}
+use Rattle.scenario.specs.Taking.{offers, offers_in_turn, offers_of_all, ends, all_end}
+use Rattle.scenario.specs.Rests.{flat, flats, rest, rest_in_turn, rest_of_one, rest_of_all, row_of, IsPlaceInTurn, IsPlaceAmong}
+use Rattle.scenario.specs.Cursors.{Progress, Parts, Nothing, Whole, InSeq, InTimes, InBoth, Nil, Cons, first_part, first_parts, progress_at}
+use Rattle.scenario.specs.Cursors.{tree_left, trees_left, nodes, total_nodes, greatest_nodes, most_nodes, total_most_nodes}
+use Rattle.scenario.specs.Parts.{Begins, Leads, IsOfferOf, all_left, behind, count_at, most_behind}
+use Rattle.scenario.proofs.Flat.{flat-row}
+use Rattle.scenario.proofs.Places.{HereInTurn, HereAmong, is_below, isnt_below}
+
+-- ---- counts of nodes
+
+greatest-total : (ts : Trees) → greatest_nodes ts ≤ total_nodes ts
+greatest-total tree.Nil = omega arith
+greatest-total (tree.Cons t ts) = let h = greatest-total ts in omega (arith, h)
+
+nodes-greatest : {A : Type 0} (ss : List (Scenario A)) (j : ℕ) (s : Scenario A) → slice_get ss j ≡ Some s → nodes (plain s) ≤ greatest_nodes (plain_all ss)
+nodes-greatest [] j s e = absurd (cc e)
+nodes-greatest (u ∷ ss) zero s e = let e' : u ≡ s = cc e in rw (sym e') (omega arith)
+nodes-greatest (u ∷ ss) (suc j) s e = let h = nodes-greatest ss j s e in omega (arith, h)
+
+drop-greatest : {A : Type 0} (ss : List (Scenario A)) (j : ℕ) → greatest_nodes (plain_all (drop j ss)) ≤ greatest_nodes (plain_all ss)
+drop-greatest [] zero = omega arith
+drop-greatest [] (suc j) = omega arith
+drop-greatest (u ∷ ss) zero = omega arith
+drop-greatest (u ∷ ss) (suc j) = let h = drop-greatest ss j in omega (arith, h)
+
+-- ---- beginning
+
+-- a row's tree becomes the first part of the rest
+pub leads-row : {A : Type 0} (ss : List (Scenario A)) (at j k : ℕ) (s : Scenario A) (old new : List Progress) → slice_get ss j ≡ Some s → 1 ≤ length old
+    → IsPlaceInTurn ss at j k → Begins old 0 (plain s) k new
+    → Leads (tree.Seq (plain_all ss)) at (1 + greatest_nodes (plain_all ss)) (InSeq (first_part new) (plain_all (drop (j + 1) ss)))
+leads-row ss at j k s [] new e room place b = absurd (omega (arith, room))
+leads-row ss at j k s (o ∷ old) new e room place b =
+    let here = subst (λ (o : Option _). IfSome o (λ u. HereInTurn ss at j k u)) e place in
+    let first : first_part new ≡ b.0 = ap first_part b.1 in
+    let one = nodes-greatest ss j s e in
+    let others = drop-greatest ss (j + 1) in
+    rw first (
+      ap (λ u. row_of (tree.Cons u (flats (plain_all (drop (j + 1) ss))))) b.2.0
+      ∙ sym (ap flat here.2 ∙ flat-row (tree.Cons (rest (plain s) k) (plain_all (drop (j + 1) ss)))),
+      omega (arith, b.2.1, one, others),
+    )
+
+pub leads-turn : (n : ℕ) (t : Tree) (at : ℕ) (old new : List Progress) → 1 ≤ length old → Begins old 0 t at new
+    → Leads (tree.Times n t) at (1 + nodes t) (InTimes (first_part new) (n - 1) t)
+leads-turn n t at [] new room b = absurd (omega (arith, room))
+leads-turn n t at (o ∷ old) new room b =
+    let first : first_part new ≡ b.0 = ap first_part b.1 in
+    rw first (ap (λ u. tree.Seq (tree.Cons u (tree.Cons (tree.Times (n - 1) (flat t)) tree.Nil))) b.2.0, omega (arith, b.2.1))
+
+pub leads-any : {A : Type 0} (ss : List (Scenario A)) (at j k : ℕ) (s : Scenario A) (p : Progress) → slice_get ss j ≡ Some s → IsPlaceAmong ss at j k
+    → Leads (plain s) k (nodes (plain s)) p → Leads (tree.Any (plain_all ss)) at (nodes (tree.Any (plain_all ss))) p
+leads-any ss at j k s p e place h =
+    let here = subst (λ (o : Option _). IfSome o (λ u. HereAmong ss at j k u)) e place in
+    let one = nodes-greatest ss j s e in
+    let most = greatest-total (plain_all ss) in
+    (h.0 ∙ sym (ap flat here.2), omega (arith, h.1, one, most))
+
+pub leads-seq : (ts : Trees) (at : ℕ) (p : Progress) → Leads (tree.Seq ts) at (1 + greatest_nodes ts) p → Leads (tree.Seq ts) at (nodes (tree.Seq ts)) p
+leads-seq ts at p h = let most = greatest-total ts in (h.0, omega (arith, h.1, most))
+
+-- ---- children at once, all whole but one
+
+first-take : (n : ℕ) (ps : List Progress) → first_parts n ps ≡ first_parts n (take n ps)
+first-take zero [] = refl
+first-take zero (p ∷ ps) = refl
+first-take (suc n) [] = refl
+first-take (suc n) (p ∷ ps) = ap (Cons p) (first-take n ps)
+
+wholes-left : (ts : List Tree) → trees_left (first_parts (length ts) (map Whole ts)) ≡ trees_of ts
+wholes-left [] = refl
+wholes-left (t ∷ ts) = ap (tree.Cons t) (wholes-left ts)
+
+wholes-most : (ts : List Tree) → total_most_nodes (first_parts (length ts) (map Whole ts)) ≡ total_nodes (trees_of ts)
+wholes-most [] = refl
+wholes-most (t ∷ ts) = ap (λ n. nodes t + n) (wholes-most ts)
+
+set-left : (ts : List Tree) (j : ℕ) (p : Progress) (u : Tree) → flat (tree_left p) ≡ flat u
+    → flats (trees_left (first_parts (length ts) (slice_set (map Whole ts) j p))) ≡ flats (trees_of (slice_set ts j u))
+set-left [] j p u h = refl
+set-left (t ∷ ts) zero p u h = rw (h, wholes-left ts) refl
+set-left (t ∷ ts) (suc j) p u h = ap (tree.Cons (flat t)) (set-left ts j p u h)
+
+set-most : (ts : List Tree) (j : ℕ) (p : Progress) (t : Tree) → slice_get ts j ≡ Some t → most_nodes p ≤ nodes t
+    → total_most_nodes (first_parts (length ts) (slice_set (map Whole ts) j p)) ≤ total_nodes (trees_of ts)
+set-most [] j p t e h = absurd (cc e)
+set-most (u ∷ ts) zero p t e h =
+    let e' : u ≡ t = cc e in
+    let others = wholes-most ts in
+    rw e' (omega (arith, h, others))
+set-most (u ∷ ts) (suc j) p t e h = let more = set-most ts j p t e h in omega (arith, more)
