@@ -10,7 +10,9 @@ use Rattle.scenario.specs.Taking.{offers, offers_in_turn, offers_of_all, ends, a
 use Rattle.scenario.specs.Rests.{flat, flats, rest, rest_in_turn, rest_of_one, rest_of_all, row_of, IsPlaceInTurn, IsPlaceAmong}
 use Rattle.scenario.specs.Cursors.{Progress, Parts, Nothing, Whole, InSeq, InTimes, InBoth, Nil, Cons, first_part, first_parts, progress_at}
 use Rattle.scenario.specs.Cursors.{tree_left, trees_left, nodes, total_nodes, greatest_nodes, most_nodes, total_most_nodes}
-use Rattle.scenario.specs.Parts.{Begins, Leads, IsOfferOf, all_left, behind, count_at, most_behind}
+use Rattle.scenario.specs.Parts.{Begins, IsWholeBut, Leads, IsOfferOf, all_left, behind, count_at, most_behind}
+use Rattle.scenario.specs.Limits.{depth, deepest}
+use Rattle.std.proofs.lemmas.List.{length-map}
 use Rattle.scenario.proofs.Flat.{flat-row}
 use Rattle.scenario.proofs.Places.{HereInTurn, HereAmong, is_below, isnt_below}
 
@@ -97,3 +99,48 @@ set-most (u ∷ ts) zero p t e h =
     let others = wholes-most ts in
     rw e' (omega (arith, h, others))
 set-most (u ∷ ts) (suc j) p t e h = let more = set-most ts j p t e h in omega (arith, more)
+
+get-map : {X Y : Type 0} (f : X → Y) (xs : List X) (i : ℕ) (x : X) → slice_get xs i ≡ Some x → slice_get (map f xs) i ≡ Some (f x)
+get-map f [] i x e = absurd (cc e)
+get-map f (y ∷ xs) zero x e = let e' : y ≡ x = cc e in ap (λ z. Some (f z)) e'
+get-map f (y ∷ xs) (suc i) x e = get-map f xs i x e
+
+get-set : {X : Type 0} (xs : List X) (i : ℕ) (y : X) → i < length xs → slice_get (slice_set xs i y) i ≡ Some y
+get-set [] i y h = absurd (omega (arith, h))
+get-set (x ∷ xs) zero y h = refl
+get-set (x ∷ xs) (suc i) y h = get-set xs i y (omega (arith, h))
+
+get-within : {X : Type 0} (xs : List X) (i : ℕ) (x : X) → slice_get xs i ≡ Some x → i < length xs
+get-within [] i x e = absurd (cc e)
+get-within (y ∷ xs) zero x e = omega arith
+get-within (y ∷ xs) (suc i) x e = let h = get-within xs i x e in omega (arith, h)
+
+pub leads-both : {A : Type 0} (ss : List (Scenario A)) (at j k : ℕ) (s : Scenario A) (old mid new : List Progress) → slice_get ss j ≡ Some s
+    → length ss ≤ length old → IsPlaceAmong ss at j k → Begins old j (plain s) k mid → IsWholeBut j (map plain ss) mid new
+    → Leads (tree.Both (plain_all ss)) at (1 + total_nodes (plain_all ss)) (InBoth (first_parts (length ss) new))
+leads-both ss at j k s old mid new e room place b whole =
+    let here = subst (λ (o : Option _). IfSome o (λ u. HereAmong ss at j k u)) e place in
+    let ts = map plain ss in
+    let inside = get-within ss j s e in
+    let there : slice_get mid j ≡ Some b.0 = ap (λ ps. slice_get ps j) b.1 ∙ get-set old j b.0 (omega (arith, inside, room)) in
+    let all : take (length ts) new ≡ slice_set (map Whole ts) j b.0 =
+    subst (λ (o : Option Progress). IfSome o (λ p. take (length ts) new ≡ slice_set (map Whole ts) j p)) there whole in
+    let used : first_parts (length ss) new ≡ first_parts (length ts) (slice_set (map Whole ts) j b.0) =
+    ap (λ n. first_parts n new) (sym (length-map ss plain)) ∙ (first-take (length ts) new ∙ ap (first_parts (length ts)) all) in
+    let most = set-most ts j b.0 (plain s) (get-map plain ss j s e) b.2.1 in
+    rw used (
+      ap tree.Both (set-left ts j b.0 (rest (plain s) k) b.2.0 ∙ ap flats (sym here.3)),
+      omega (arith, most),
+    )
+
+-- a child goes less deep than what it is in
+pub depth-deepest : {A : Type 0} (ss : List (Scenario A)) (j : ℕ) (s : Scenario A) → slice_get ss j ≡ Some s → depth (plain s) ≤ deepest (plain_all ss)
+depth-deepest [] j s e = absurd (cc e)
+depth-deepest (u ∷ ss) zero s e = let e' : u ≡ s = cc e in rw (sym e') (omega arith)
+depth-deepest (u ∷ ss) (suc j) s e = let h = depth-deepest ss j s e in omega (arith, h)
+
+-- where an item is set that stands for the same
+pub same-set : {X Y : Type 0} (f : X → Y) (xs : List X) (i : ℕ) (x y : X) → slice_get xs i ≡ Some x → f y ≡ f x → map f (slice_set xs i y) ≡ map f xs
+same-set f [] i x y e h = absurd (cc e)
+same-set f (z ∷ xs) zero x y e h = let e' : z ≡ x = cc e in ap (λ w. w ∷ map f xs) (h ∙ ap f (sym e'))
+same-set f (z ∷ xs) (suc i) x y e h = ap (λ ws. f z ∷ ws) (same-set f xs i x y e h)

@@ -20,4 +20,5 @@ pub mod Texts
 pub mod Values
 pub mod Visits
 pub mod Walking
+pub mod Wholes
 pub mod Written

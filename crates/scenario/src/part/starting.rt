@@ -121,7 +121,7 @@ fn start_part<'t, A: Allocator, B: Allocator + Clone>(
     ensures err { OnErr result (progress part.new ≡ progress part.old) }
 {
     match part {
-        Part::Begun(_, parts) => start(&mut parts[number], tree, alloc, at),
+        Part::Begun(_place, parts) => start(&mut parts[number], tree, alloc, at),
         Part::Fresh(_) => unreachable!(),
     }
 }
@@ -138,7 +138,7 @@ fn keep_others<'t, A: Allocator, B: Allocator>(
     ensures { IsWholeBut number (map plain children.now) (parts_of part.old) (parts_of part.new) }
 {
     match part {
-        Part::Begun(_, parts) => make_whole_but(parts, children, number),
+        Part::Begun(_place, parts) => make_whole_but(parts, children, number),
         Part::Fresh(_) => unreachable!(),
     }
 }

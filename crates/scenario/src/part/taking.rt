@@ -25,7 +25,7 @@ pub(crate) fn take_from<A: Allocator, B: Allocator + Clone>(
 {
     match find_among(part.in_use(), at) {
         Ok(offer) => match part {
-            Part::Begun(_, parts) => take_from(&mut parts[offer.child], alloc, offer.at),
+            Part::Begun(_place, parts) => take_from(&mut parts[offer.child], alloc, offer.at),
             Part::Fresh(_) => unreachable!(),
         },
         Err(further) => go_on(part, alloc, further),
