@@ -100,7 +100,7 @@ set-most (u ∷ ts) zero p t e h =
     rw e' (omega (arith, h, others))
 set-most (u ∷ ts) (suc j) p t e h = let more = set-most ts j p t e h in omega (arith, more)
 
-get-map : {X Y : Type 0} (f : X → Y) (xs : List X) (i : ℕ) (x : X) → slice_get xs i ≡ Some x → slice_get (map f xs) i ≡ Some (f x)
+pub get-map : {X Y : Type 0} (f : X → Y) (xs : List X) (i : ℕ) (x : X) → slice_get xs i ≡ Some x → slice_get (map f xs) i ≡ Some (f x)
 get-map f [] i x e = absurd (cc e)
 get-map f (y ∷ xs) zero x e = let e' : y ≡ x = cc e in ap (λ z. Some (f z)) e'
 get-map f (y ∷ xs) (suc i) x e = get-map f xs i x e
@@ -110,7 +110,7 @@ get-set [] i y h = absurd (omega (arith, h))
 get-set (x ∷ xs) zero y h = refl
 get-set (x ∷ xs) (suc i) y h = get-set xs i y (omega (arith, h))
 
-get-within : {X : Type 0} (xs : List X) (i : ℕ) (x : X) → slice_get xs i ≡ Some x → i < length xs
+pub get-within : {X : Type 0} (xs : List X) (i : ℕ) (x : X) → slice_get xs i ≡ Some x → i < length xs
 get-within [] i x e = absurd (cc e)
 get-within (y ∷ xs) zero x e = omega arith
 get-within (y ∷ xs) (suc i) x e = let h = get-within xs i x e in omega (arith, h)

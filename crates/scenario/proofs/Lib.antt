@@ -8,6 +8,7 @@ pub mod Distinct
 pub mod Failing
 pub mod Flat
 pub mod Fronts
+pub mod Going
 pub mod Growing
 pub mod Leading
 pub mod Lengths

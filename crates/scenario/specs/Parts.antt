@@ -81,6 +81,14 @@ Leads t i most new = (flat (tree_left new) ≡ flat (rest t i)) × (most_nodes n
 abbrev pub Begins : List Progress → ℕ → Tree → ℕ → List Progress → Type 0
 Begins old k t i new = (p : Progress) × (new ≡ slice_set old k p) × Leads t i (nodes t) p
 
+-- there is a part of this number, and it has an offer k
+abbrev pub OffersAt : List Progress → ℕ → ℕ → Type 0
+OffersAt ps j k = (p : Progress) × (slice_get ps j ≡ Some p) × (k < length (offers (tree_left p)))
+
+-- offer k of part j is taken. The other parts stay as they were
+abbrev pub LeadsPart : List Progress → ℕ → ℕ → List Progress → Type 0
+LeadsPart old j k new = (p q : Progress) × (slice_get old j ≡ Some p) × (new ≡ slice_set old j q) × Leads (tree_left p) k (most_nodes p) q
+
 -- the most nodes that come of what is behind the parts in use
 abbrev pub most_behind : {A : Type 0} → Place A → ℕ
 most_behind place.Nothing = 1

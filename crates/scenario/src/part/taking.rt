@@ -2,7 +2,7 @@
 
 ghost use Rattle.std.specs.Prelude.{◌≡◌, ◌<◌, OnErr, OnOk, length};
 ghost use Rattle.scenario.specs.Cursors.{most_nodes, progress};
-ghost use Rattle.scenario.specs.Parts.{Leads, behind, most_behind, part_left, place_of};
+ghost use Rattle.scenario.specs.Parts.{Leads, LeadsPart, OffersAt, behind, most_behind, part_left, parts_of, place_of};
 ghost use Rattle.scenario.specs.Taking.{offers};
 
 use super::starting::{start, start_row, start_turn};
@@ -24,11 +24,28 @@ pub(crate) fn take_from<A: Allocator, B: Allocator + Clone>(
     ensures err { OnErr result (progress part.new ≡ progress part.old) }
 {
     match find_among(part.in_use(), at) {
-        Ok(offer) => match part {
-            Part::Begun(_place, parts) => take_from(&mut parts[offer.child], alloc, offer.at),
-            Part::Fresh(_) => unreachable!(),
-        },
+        Ok(offer) => take_from_part(part, offer.child, alloc, offer.at),
         Err(further) => go_on(part, alloc, further),
+    }
+}
+
+/// Takes an offer of the part of this number.
+#[cycle(taking_from_parts)]
+#[tactic(auto, using(crate::proofs::Cursors::parts))]
+fn take_from_part<A: Allocator, B: Allocator + Clone>(
+    part: &mut Part<'_, A, B>,
+    number: usize,
+    alloc: &B,
+    at: usize,
+) -> Result<(), NoMemory>
+    requires { OffersAt (parts_of part.old) number at }
+    ensures place { place_of part.new ≡ place_of part.old }
+    ensures ok { OnOk result (LeadsPart (parts_of part.old) number at (parts_of part.new)) }
+    ensures err { OnErr result (progress part.new ≡ progress part.old) }
+{
+    match part {
+        Part::Begun(_place, parts) => take_from(&mut parts[number], alloc, at),
+        Part::Fresh(_) => unreachable!(),
     }
 }
 
