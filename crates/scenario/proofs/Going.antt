@@ -94,7 +94,7 @@ leads-part (place.InSeq ts) (r ∷ ps) i zero k p q e within h is l =
     let l' : Leads (tree_left r) k (most_nodes r) q = subst (λ (x : Progress). Leads (tree_left x) k (most_nodes x) q) e' l in
     rw i' (
       ap (λ u. row_of (tree.Cons u (flats (plain_all ts.now)))) l'.0
-      ∙ sym (ap flat (here (tree_left r) (plain_all ts.now) k low) ∙ flat-row (tree.Cons (rest (tree_left r) k) (plain_all ts.now))),
+          ∙ sym (ap flat (here (tree_left r) (plain_all ts.now) k low) ∙ flat-row (tree.Cons (rest (tree_left r) k) (plain_all ts.now))),
       omega (arith, l'.1),
     )
 leads-part (place.InSeq ts) (r ∷ ps) i (suc j) k p q e within h is l = absurd (omega (arith, within))
@@ -106,7 +106,7 @@ leads-part (place.InTimes n t) (r ∷ ps) i zero k p q e within h is l =
     let l' : Leads (tree_left r) k (most_nodes r) q = subst (λ (x : Progress). Leads (tree_left x) k (most_nodes x) q) e' l in
     rw i' (
       ap (λ u. row_of (tree.Cons u (flats more))) l'.0
-      ∙ sym (ap flat (here (tree_left r) more k low) ∙ flat-row (tree.Cons (rest (tree_left r) k) more)),
+          ∙ sym (ap flat (here (tree_left r) more k low) ∙ flat-row (tree.Cons (rest (tree_left r) k) more)),
       omega (arith, l'.1),
     )
 leads-part (place.InTimes n t) (r ∷ ps) i (suc j) k p q e within h is l = absurd (omega (arith, within))

@@ -47,7 +47,7 @@ leads-row ss at j k s (o ∷ old) new e room place b =
     let others = drop-greatest ss (j + 1) in
     rw first (
       ap (λ u. row_of (tree.Cons u (flats (plain_all (drop (j + 1) ss))))) b.2.0
-      ∙ sym (ap flat here.2 ∙ flat-row (tree.Cons (rest (plain s) k) (plain_all (drop (j + 1) ss)))),
+          ∙ sym (ap flat here.2 ∙ flat-row (tree.Cons (rest (plain s) k) (plain_all (drop (j + 1) ss)))),
       omega (arith, b.2.1, one, others),
     )
 

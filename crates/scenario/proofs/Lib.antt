@@ -16,6 +16,7 @@ pub mod Places
 pub mod Reached
 pub mod Refusing
 pub mod Shown
+pub mod Small
 pub mod Sought
 pub mod Texts
 pub mod Values

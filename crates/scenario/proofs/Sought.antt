@@ -108,3 +108,8 @@ pub sought-get : (xs : List CoreAsk) (i : ℕ) → result_ok (sought xs i) ≡ s
 sought-get [] i = refl
 sought-get (x ∷ xs) zero = refl
 sought-get (x ∷ xs) (suc i) = sought-get xs i
+
+pub none-there : {X : Type 0} (xs : List X) (i : ℕ) → slice_get xs i ≡ None → length xs ≤ i
+none-there [] i e = omega arith
+none-there (x ∷ xs) zero e = absurd (cc e)
+none-there (x ∷ xs) (suc i) e = let h = none-there xs i e in omega (arith, h)

@@ -43,7 +43,10 @@ pub(crate) fn tree_may_end<A: Allocator>(tree: &Scenario<A>) -> bool
 
 #[cycle(offering)]
 #[tactic(auto, using(crate::proofs::Children::children, crate::proofs::Fronts::fronts))]
-pub(crate) fn offers_of_tree<A: Allocator>(tree: &Scenario<A>, out: &mut Vec<CoreAsk>) -> Result<(), NoMemory>
+pub(crate) fn offers_of_tree<A: Allocator>(
+    tree: &Scenario<A>,
+    out: &mut Vec<CoreAsk>,
+) -> Result<(), NoMemory>
     ensures ok { OnOk result (out.new.items ≡ out.old.items ++ offers (plain tree.now)) }
     ensures front { take (length out.old.items) out.new.items ≡ out.old.items }
 {

@@ -4,11 +4,10 @@ mod looking;
 mod starting;
 mod taking;
 
-pub(crate) use looking::part_may_end;
-pub(crate) use taking::take_from;
-
 use crate::tree::Scenario;
+pub(crate) use looking::part_may_end;
 use std::alloc::{AllocError, Allocator};
+pub(crate) use taking::take_from;
 
 /// How far a cursor is in a tree. Its own parts are in memory of the allocator `B`, and memory that one no longer needs is
 /// used for the next.

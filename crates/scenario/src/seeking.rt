@@ -128,10 +128,7 @@ pub(crate) fn find_among<S: HasOffers>(items: &[S], at: usize) -> Result<Offer, 
 /// The offer of this number, or how far behind the last one the number is.
 #[cycle(seeking)]
 #[tactic(auto, using(crate::proofs::Children::children))]
-pub(crate) fn seek_in_tree<A: Allocator>(
-    tree: &Scenario<A>,
-    at: usize,
-) -> Result<CoreAsk, usize>
+pub(crate) fn seek_in_tree<A: Allocator>(tree: &Scenario<A>, at: usize) -> Result<CoreAsk, usize>
     ensures { result ≡ sought (offers (plain tree.now)) at }
 {
     match tree {

@@ -169,10 +169,7 @@ fn offers_of_parts<A: Allocator, B: Allocator>(
 }
 
 #[tactic(auto, using(crate::proofs::Fronts::fronts))]
-fn offers_behind<A: Allocator>(
-    place: Place<'_, A>,
-    out: &mut Vec<CoreAsk>,
-) -> Result<(), NoMemory>
+fn offers_behind<A: Allocator>(place: Place<'_, A>, out: &mut Vec<CoreAsk>) -> Result<(), NoMemory>
     ensures ok { OnOk result (out.new.items ≡ out.old.items ++ offers (behind place.entry)) }
     ensures front { take (length out.old.items) out.new.items ≡ out.old.items }
 {

@@ -11,10 +11,11 @@ use Rattle.scenario.proofs.part.starting.make_whole_but.Goals as goal
 pub loop-i-preserved : goal.loop-i-preserved
 loop-i-preserved g c =
     let at = slice_get-get_or c.args.children.now c.loop-i.i c.index-children-i.result c.loop-i-test.true ∙ ap Some (sym c.index-children-i.is) in
-    let within : c.loop-i.i < length c.loop-i.parts.items = grind (arith, common_steps) in
-    (whole-more progress c.loop-i.parts.items c.args.children.now c.loop-i.i c.move_to.new.self c.index-children-i.result within at
-    c.move_to.ensures.place c.loop-i.invariant.0,
-    grind (arith, common_steps))
+    let within : c.loop-i.i < length c.loop-i.parts.items = grind (arith, common_steps) in (
+      whole-more progress c.loop-i.parts.items c.args.children.now c.loop-i.i c.move_to.new.self c.index-children-i.result within at
+          c.move_to.ensures.place c.loop-i.invariant.0,
+      grind (arith, common_steps),
+    )
 
 pub returns : goal.returns
 returns g c =

@@ -80,12 +80,12 @@ take_from_part-returns-clause-ok g t c =
       progress c.index_mut.result.now,
       progress c.take_from.new.part,
       (let items = c.in-Begun.parts.items in
-      let inside = get-within (parts_of c.args.part.now) c.args.number c.requires.0 c.requires.1 in
-      let within : c.args.number < length items = grind (arith, common_steps, parts, length-map, inside) in
-      let old = c.index_mut.result.now in
-      let at : slice_get items c.args.number ≡ Some old = slice_get-get_or items c.args.number old within ∙ ap Some (search rules) in
-      ap (λ qs. slice_get qs c.args.number) (ap parts_of c.in-Begun.is ∙ parts-Begun c.in-Begun._place c.in-Begun.parts)
-      ∙ get-map progress items c.args.number old at),
+          let inside = get-within (parts_of c.args.part.now) c.args.number c.requires.0 c.requires.1 in
+          let within : c.args.number < length items = grind (arith, common_steps, parts, length-map, inside) in
+          let old = c.index_mut.result.now in
+          let at : slice_get items c.args.number ≡ Some old = slice_get-get_or items c.args.number old within ∙ ap Some (search rules) in
+          ap (λ qs. slice_get qs c.args.number) (ap parts_of c.in-Begun.is ∙ parts-Begun c.in-Begun._place c.in-Begun.parts)
+          ∙ get-map progress items c.args.number old at),
       grind (arith, common_steps, parts, map-set),
       h,
     )) c.take_from.ensures.ok
