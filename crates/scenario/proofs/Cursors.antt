@@ -1,5 +1,5 @@
 -- How far a cursor is, by its place and its parts.
-use Rattle.std.proofs.Common.{◌≡◌, ℕ, zero, suc, List, [], ◌∷◌, ◌++◌, Option, Some, None, Bool, true, false, ◌&&◌, cond, Result, Ok, Err, append_assoc, map, drop, slice_get, take, min, length, ◌+◌, ◌<◌, ◌≤◌, refl, sym, ap, ◌∙◌, arith}
+use Rattle.std.proofs.Common.{◌≡◌, ℕ, zero, suc, List, [], ◌∷◌, ◌++◌, Some, Bool, true, false, ◌&&◌, cond, Ok, Err, append_assoc, map, drop, slice_get, take, min, length, ◌+◌, ◌<◌, ◌≤◌, refl, sym, ap, ◌∙◌, arith}
 use Rattle.std.specs.declared.vec.Vec.{Vec}
 use Rattle.scenario.specs.declared.part.Part.{Part, Fresh, Begun', Row_of-Part, end_of-Part, more_of-Part}
 use Rattle.scenario.specs.declared.part.Part.{items-the_row-Part, items_hidden-the_row-Part-0}
@@ -8,10 +8,9 @@ use Rattle.scenario.specs.declared.part.Part.TheVariants.{Begun}
 use Rattle.scenario.specs.declared.part.Place.{Place}
 use Rattle.scenario.specs.declared.part.Place.TheVariants as place
 use Rattle.base.specs.declared.step.CoreAsk.{CoreAsk}
-use Rattle.scenario.specs.Tree as tree
-use Rattle.scenario.specs.Tree.{Tree, trees_of}
+use Rattle.scenario.specs.Tree.{trees_of}
 use Rattle.scenario.specs.Taking.{ends, all_end, offers, offers_of_all}
-use Rattle.scenario.specs.Cursors.{Progress, Parts, Nothing, Whole, InSeq, InTimes, InBoth, Nil, Cons, first_part, first_parts, progress, progress_at, progress_row, tree_left, trees_left}
+use Rattle.scenario.specs.Cursors.{Progress, first_parts, progress, progress_at, progress_row, tree_left, trees_left}
 use Rattle.scenario.specs.Parts.{all_left, behind, count_at, height, height_of_all, highest, part_left, parts_of, place_of, sought}
 use Rattle.scenario.proofs.Sought.{found-all, passed-all, sought-front, sought-behind}
 use Rattle.scenario.proofs.Flat.{and_true, append-neither}

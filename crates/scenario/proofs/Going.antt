@@ -1,18 +1,18 @@
 -- What is left, and how many nodes are to come, once an offer is taken of a part, or of what is behind the parts in use.
 use Rattle.std.proofs.Common.{◌≡◌, ℕ, zero, suc, ◌+◌, ◌-◌, ◌<◌, ◌≤◌, List, [], ◌∷◌, ◌++◌, Some, Bool, true, false}
-use Rattle.std.proofs.Common.{cond, nat_lt, length, take, map, slice_get, slice_set, refl, sym, ap, ◌∙◌, subst, arith, length-append}
+use Rattle.std.proofs.Common.{cond, length, take, map, slice_get, slice_set, refl, sym, ap, ◌∙◌, subst, arith, length-append}
 use Rattle.base.specs.declared.step.CoreAsk.{CoreAsk}
 use Rattle.scenario.specs.declared.part.Part.{Part, Fresh}
 use Rattle.scenario.specs.declared.part.Place.{Place}
 use Rattle.scenario.specs.declared.part.Place.TheVariants as place
 use Rattle.scenario.specs.Tree as tree
 use Rattle.scenario.specs.Tree.{Tree, Trees, plain, plain_all, trees_of}
-use Rattle.scenario.specs.Taking.{offers, offers_in_turn, offers_of_all, ends, all_end}
+use Rattle.scenario.specs.Taking.{offers, offers_of_all, all_end}
 use Rattle.scenario.specs.Rests.{flat, flats, rest, rest_in_turn, rest_of_all, row_of}
-use Rattle.scenario.specs.Cursors.{Progress, Nothing, InSeq, Cons, first_parts, progress, progress_at}
-use Rattle.scenario.specs.Cursors.{tree_left, trees_left, nodes, greatest_nodes, most_nodes, total_most_nodes}
+use Rattle.scenario.specs.Cursors.{Progress, first_parts, progress, progress_at}
+use Rattle.scenario.specs.Cursors.{tree_left, trees_left, most_nodes, total_most_nodes}
 use Rattle.scenario.specs.Parts.{Leads, LeadsPart, IsOfferOf, all_left, behind, count_at, highest, height, most_behind, part_left, parts_of, place_of}
-use Rattle.scenario.proofs.Cursors.{cursor-offers, map-left, offers-parts, progress-is}
+use Rattle.scenario.proofs.Cursors.{cursor-offers, map-left, progress-is}
 use Rattle.scenario.proofs.Flat.{flat-row}
 use Rattle.scenario.proofs.Places.{is_below, isnt_below}
 

@@ -1,5 +1,5 @@
 -- Parts more, of which nothing is left, change nothing that means anything.
-use Rattle.std.proofs.Common.{◌≡◌, ℕ, zero, suc, List, [], ◌∷◌, ◌++◌, ◌≤◌, length, map, arith, refl, sym, ap, ◌∙◌}
+use Rattle.std.proofs.Common.{◌≡◌, ℕ, zero, suc, List, [], ◌∷◌, ◌++◌, map, refl, sym, ap, ◌∙◌}
 use Rattle.scenario.specs.Cursors.{Progress, Nothing, InSeq, InTimes, InBoth, Cons, first_part, first_parts, progress, progress_at}
 use Rattle.scenario.specs.Tree.{plain, plain_all}
 use Rattle.scenario.specs.declared.part.Part.{Part}

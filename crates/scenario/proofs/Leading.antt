@@ -1,20 +1,17 @@
 -- What is left, and how many nodes are to come, once an offer is taken by way of parts.
-use Rattle.std.proofs.Common.{◌≡◌, ℕ, zero, suc, ◌+◌, ◌-◌, ◌<◌, ◌≤◌, List, [], ◌∷◌, ◌++◌, Option, Some, None, IfSome, Bool, true, false}
-use Rattle.std.proofs.Common.{cond, nat_lt, length, drop, take, map, max, slice_get, slice_set, refl, sym, ap, ◌∙◌, subst, arith, add-one, length-append}
+use Rattle.std.proofs.Common.{◌≡◌, ℕ, zero, suc, ◌+◌, ◌-◌, ◌<◌, ◌≤◌, List, [], ◌∷◌, Option, Some, IfSome}
+use Rattle.std.proofs.Common.{length, drop, take, map, slice_get, slice_set, refl, sym, ap, ◌∙◌, subst, arith}
 use Rattle.scenario.specs.declared.tree.Scenario.{Scenario}
-use Rattle.scenario.specs.declared.part.Place.{Place}
-use Rattle.scenario.specs.declared.part.Place.TheVariants as place
 use Rattle.scenario.specs.Tree as tree
 use Rattle.scenario.specs.Tree.{Tree, Trees, plain, plain_all, trees_of}
-use Rattle.scenario.specs.Taking.{offers, offers_in_turn, offers_of_all, ends, all_end}
-use Rattle.scenario.specs.Rests.{flat, flats, rest, rest_in_turn, rest_of_one, rest_of_all, row_of, IsPlaceInTurn, IsPlaceAmong}
-use Rattle.scenario.specs.Cursors.{Progress, Parts, Nothing, Whole, InSeq, InTimes, InBoth, Nil, Cons, first_part, first_parts, progress_at}
+use Rattle.scenario.specs.Rests.{flat, flats, rest, row_of, IsPlaceInTurn, IsPlaceAmong}
+use Rattle.scenario.specs.Cursors.{Progress, Whole, InSeq, InTimes, InBoth, Cons, first_part, first_parts}
 use Rattle.scenario.specs.Cursors.{tree_left, trees_left, nodes, total_nodes, greatest_nodes, most_nodes, total_most_nodes}
-use Rattle.scenario.specs.Parts.{Begins, IsWholeBut, Leads, IsOfferOf, all_left, behind, count_at, most_behind}
+use Rattle.scenario.specs.Parts.{Begins, IsWholeBut, Leads}
 use Rattle.scenario.specs.Limits.{depth, deepest}
 use Rattle.std.proofs.lemmas.List.{length-map}
 use Rattle.scenario.proofs.Flat.{flat-row}
-use Rattle.scenario.proofs.Places.{HereInTurn, HereAmong, is_below, isnt_below}
+use Rattle.scenario.proofs.Places.{HereInTurn, HereAmong}
 
 -- ---- counts of nodes
 

@@ -1,5 +1,5 @@
 -- A cursor has no more parts in use than it can come to have.
-use Rattle.std.proofs.Common.{ℕ, ◌≤◌, ◌+◌, arith}
+use Rattle.std.proofs.Common.{◌≤◌, arith}
 use Rattle.scenario.specs.Tree as tree
 use Rattle.scenario.specs.Tree.{Tree}
 use Rattle.scenario.specs.Cursors.{Progress, Parts, Nothing, Whole, InSeq, InTimes, InBoth, Nil, Cons}

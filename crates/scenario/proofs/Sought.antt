@@ -1,6 +1,6 @@
 -- What is found where an offer is sought.
-use Rattle.std.proofs.Common.{◌≡◌, ℕ, zero, suc, ◌+◌, ◌-◌, ◌<◌, ◌≤◌, List, [], ◌∷◌, ◌++◌, Option, Some, None, Result, Ok, Err, true, false, cond, nat_lt}
-use Rattle.std.proofs.Common.{length, length-append, slice_get, take, drop, map, min, refl, sym, ap, ◌∙◌, subst, arith, add-one}
+use Rattle.std.proofs.Common.{◌≡◌, ℕ, zero, suc, ◌+◌, ◌-◌, ◌<◌, ◌≤◌, List, [], ◌∷◌, ◌++◌, Some, None, Ok, Err, true, false, cond}
+use Rattle.std.proofs.Common.{length, length-append, slice_get, take, drop, map, refl, ap, ◌∙◌, arith, add-one}
 use Rattle.std.specs.Result.{result_ok}
 use Rattle.base.specs.declared.step.CoreAsk.{CoreAsk}
 use Rattle.scenario.specs.declared.tree.Scenario.{Scenario}

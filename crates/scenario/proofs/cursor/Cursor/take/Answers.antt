@@ -1,8 +1,8 @@
-use Rattle.std.proofs.Common.{ap, arith, refl, rules, sym, ◌∙◌}
+use Rattle.std.proofs.Common.{ap, arith, refl, sym, ◌∙◌}
 use Rattle.scenario.specs.Cursors.{most_nodes, progress, tree_left}
 use Rattle.scenario.specs.Parts.{part_left}
 use Rattle.scenario.specs.Taking.{left, offers}
-use Rattle.scenario.proofs.Failing.{if_ok-failed, on_err-always}
+use Rattle.scenario.proofs.Failing.{on_err-always}
 use Rattle.scenario.proofs.Flat.{alike-flat, flat-rest}
 use Rattle.scenario.proofs.Reached.{offer_below}
 use Rattle.scenario.proofs.Sought.{none-there}

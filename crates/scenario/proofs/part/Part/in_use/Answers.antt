@@ -1,6 +1,6 @@
-use Rattle.std.proofs.Common.{◌≡◌, ◌<◌, map, min, take, length, ap, sym, ◌∙◌}
+use Rattle.std.proofs.Common.{map, take, ap, ◌∙◌}
 use Rattle.scenario.specs.Cursors.{progress}
-use Rattle.scenario.specs.Parts.{count_at, height, highest, parts_of, place_of}
+use Rattle.scenario.specs.Parts.{count_at, parts_of, place_of}
 use Rattle.scenario.proofs.Cursors.{parts-lower, progress-is, take-cut}
 use Rattle.scenario.proofs.part.Part.in_use.Goals as goal
 

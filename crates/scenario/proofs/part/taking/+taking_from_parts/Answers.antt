@@ -1,9 +1,9 @@
-use Rattle.std.proofs.Common.{◌≡◌, ◌+◌, ◌<◌, length, map, slice_get, Some, ap, sym, subst, ◌∙◌, arith, rules}
+use Rattle.std.proofs.Common.{◌≡◌, ◌+◌, ◌<◌, length, slice_get, Some, ap, subst, ◌∙◌, arith, rules}
 use Rattle.std.proofs.lemmas.Grind.{common_steps}
 use Rattle.std.proofs.lemmas.List.{length-map}
 use Rattle.std.proofs.lemmas.Option.{slice_get-get_or}
 use Rattle.scenario.specs.Cursors.{Progress, progress, tree_left}
-use Rattle.scenario.specs.Parts.{LeadsPart, count_at, parts_of, place_of}
+use Rattle.scenario.specs.Parts.{count_at, parts_of, place_of}
 use Rattle.scenario.specs.Taking.{offers, offers_of_all}
 use Rattle.scenario.specs.Tree.{trees_of}
 use Rattle.scenario.proofs.Cursors.{map-left, parts, parts-Begun, parts-row}
