@@ -162,7 +162,7 @@ fn make_whole_but<'t, A: Allocator, B: Allocator>(
 
 /// It has so many parts at least. Nothing is left of those that come new.
 #[tactic(auto, using(crate::proofs::Cursors::parts))]
-fn make_room<A: Allocator, B: Allocator + Clone>(
+pub(super) fn make_room<A: Allocator, B: Allocator + Clone>(
     part: &mut Part<'_, A, B>,
     alloc: &B,
     count: usize,
