@@ -17,3 +17,7 @@ on_err-always (Err e) P p = p
 pub on_err-map : {T E : Type 0} (r : Result T E) (P Q : Type 0) → (P → Q) → OnErr r P → OnErr r Q
 on_err-map (Ok x) P Q f h = tt
 on_err-map (Err e) P Q f h = f h
+
+pub on_ok-map : {T E : Type 0} (r : Result T E) (P Q : Type 0) → (P → Q) → OnOk r P → OnOk r Q
+on_ok-map (Ok x) P Q f h = f h
+on_ok-map (Err e) P Q f h = tt

@@ -5,29 +5,16 @@ use Rattle.base.specs.declared.step.CoreAsk.{CoreAsk}
 use Rattle.scenario.specs.Tree.{Tree, Trees, One, Seq, Any, Times, Both, Nil, Cons}
 use Rattle.scenario.specs.Taking.{ends, all_end, some_ends, offers, offers_in_turn, offers_of_all, left, left_in_turn, left_of_one, left_of_all}
 use Rattle.scenario.specs.Alike.{Alike, Takes, followed, seen}
-use Rattle.scenario.specs.Rests.{rest, rest_in_turn, rest_of_one, rest_of_all, row_of, Leaves}
+use Rattle.scenario.specs.Rests.{flat, flats, rest, rest_in_turn, rest_of_one, rest_of_all, row_of, Leaves}
 use Rattle.scenario.proofs.Alikes.{follow_if}
 use Rattle.scenario.proofs.Places.{is_below, by_test}
 
--- the tree without rows of one child
-abbrev mutual
-  flat : Tree → Tree
-  flat (One ask) = One ask
-  flat (Seq ts) = row_of (flats ts)
-  flat (Any ts) = Any (flats ts)
-  flat (Times n t) = Times n (flat t)
-  flat (Both ts) = Both (flats ts)
-
-  flats : Trees → Trees
-  flats Nil = Nil
-  flats (Cons t ts) = Cons (flat t) (flats ts)
-
-append-neither : {X : Type 0} (b : Bool) (xs : List X) → xs ++ cond b [] [] ≡ xs
+pub append-neither : {X : Type 0} (b : Bool) (xs : List X) → xs ++ cond b [] [] ≡ xs
 append-neither true [] = refl
 append-neither false [] = refl
 append-neither b (x ∷ xs) = ap (λ ys. x ∷ ys) (append-neither b xs)
 
-and_true : (b : Bool) → (b && true) ≡ b
+pub and_true : (b : Bool) → (b && true) ≡ b
 and_true true = refl
 and_true false = refl
 
@@ -73,7 +60,7 @@ mutual
   of_all-flats Nil = refl
   of_all-flats (Cons t ts) = rw (offers-flat t, of_all-flats ts) refl
 
-flat-row : (ts : Trees) → flat (row_of ts) ≡ row_of (flats ts)
+pub flat-row : (ts : Trees) → flat (row_of ts) ≡ row_of (flats ts)
 flat-row Nil = refl
 flat-row (Cons t Nil) = refl
 flat-row (Cons t (Cons u us)) = refl
@@ -92,7 +79,7 @@ mutual
 
 -- the rest is the same
 mutual
-  flat-rest : (t : Tree) (i : ℕ) → flat (rest t i) ≡ flat (left t i)
+  pub flat-rest : (t : Tree) (i : ℕ) → flat (rest t i) ≡ flat (left t i)
   flat-rest (One ask) i = refl
   flat-rest (Seq ts) i = flat-rest_in_turn ts i
   flat-rest (Any ts) i = flat-rest_of_one ts i
@@ -203,7 +190,7 @@ mutual
       (λ h. rw (flat-flat t, flats-of_all ts (i - length (offers t))) refl))
 
 -- trees that are the same without such rows are alike
-alike-flat : (s t : Tree) → flat s ≡ flat t → Alike s t
+pub alike-flat : (s t : Tree) → flat s ≡ flat t → Alike s t
 alike-flat s t e [] =
     let same_offers : offers s ≡ offers t = sym (offers-flat s) ∙ (ap offers e ∙ offers-flat t) in
     let same_end : ends s ≡ ends t = sym (ends-flat s) ∙ (ap ends e ∙ ends-flat t) in

@@ -1,5 +1,6 @@
 -- A list whose front is another.
-use Rattle.std.proofs.Common.{◌≡◌, List, [], ◌∷◌, ◌++◌, length, take, refl, ap, ◌∙◌}
+use Rattle.std.proofs.Common.{◌≡◌, ℕ, ◌-◌, List, [], ◌∷◌, ◌++◌, length, drop, take, refl, sym, ap, ◌∙◌}
+use Rattle.std.proofs.lemmas.List.{length-drop}
 
 pub front-whole : {X : Type 0} (xs : List X) → take (length xs) xs ≡ xs
 front-whole [] = refl
@@ -25,3 +26,7 @@ front-front (x ∷ xs) (y ∷ ys) (z ∷ zs) e f =
     ∙ ap (λ us. x ∷ us) (front-front xs ys zs (same-tail y x _ _ e) (same-tail z y _ _ f))
 
 pub ruleset fronts = (front-whole, front-append)
+
+-- from an item on, to the end
+pub rest-whole : {X : Type 0} (xs : List X) (n : ℕ) → take (length xs - n) (drop n xs) ≡ drop n xs
+rest-whole xs n = ap (λ m. take m (drop n xs)) (sym (length-drop n xs)) ∙ front-whole (drop n xs)

@@ -6,6 +6,7 @@ use Rattle.base.specs.declared.step.CoreAsk.{CoreAsk}
 use Rattle.scenario.specs.declared.tree.Scenario.{Scenario}
 use Rattle.scenario.specs.Tree.{Tree, Trees, Cons, Seq, Any, Both, plain, plain_all, trees_of}
 use Rattle.scenario.specs.Taking.{offers, offers_in_turn, offers_of_all, ends}
+use Rattle.scenario.specs.Parts.{IsOfferOf}
 use Rattle.scenario.specs.Rests.{rest, rest_in_turn, rest_of_one, rest_of_all, row_of, past, IsPlaceInTurn, IsPlaceAmong, Leaves, LeavesInTurn}
 
 pub past_none : (n i : ℕ) → past n i ≡ None → i < n
@@ -129,84 +130,24 @@ behind_some_child t ts i h =
       ap (λ b. cond b (Cons (rest t i) ts) (Cons t (rest_of_all ts (i - length (offers t))))) e,
     )
 
--- the first children stay before what is made of the others
-abbrev pub before : List Tree → Trees → Trees
-before [] ts = ts
-before (t ∷ front) ts = Cons t (before front ts)
+if_some-map : {X : Type 0} (o : Option X) (P Q : X → Type 0) → ((x : X) → P x → Q x) → IfSome o P → IfSome o Q
+if_some-map None P Q f h = h
+if_some-map (Some x) P Q f h = f x h
 
-before-set : (front : List Tree) (t u : Tree) (behind : List Tree)
-    → before front (Cons u (trees_of behind)) ≡ trees_of (slice_set (front ++ t ∷ behind) (length front) u)
-before-set [] t u behind = refl
-before-set (x ∷ front) t u behind = ap (Cons x) (before-set front t u behind)
-
-take_next : {X : Type 0} (xs : List X) (i : ℕ) (x : X) → slice_get xs i ≡ Some x → take (suc i) xs ≡ take i xs ++ x ∷ []
-take_next [] i x e = absurd (cc e)
-take_next (y ∷ xs) zero x e = let e' : y ≡ x = cc e in ap (λ z. z ∷ []) e'
-take_next (y ∷ xs) (suc i) x e = ap (λ zs. y ∷ zs) (take_next xs i x e)
-
-before-more : (front : List Tree) (t : Tree) (ts : Trees) → before (front ++ t ∷ []) ts ≡ before front (Cons t ts)
-before-more [] t ts = refl
-before-more (x ∷ front) t ts = ap (Cons x) (before-more front t ts)
-
-split_here : {X : Type 0} (xs : List X) (i : ℕ) (x : X) → slice_get xs i ≡ Some x → take i xs ++ x ∷ drop (suc i) xs ≡ xs
-split_here [] i x e = absurd (cc e)
-split_here (y ∷ xs) zero x e = let e' : y ≡ x = cc e in ap (λ z. z ∷ xs) (sym e')
-split_here (y ∷ xs) (suc i) x e = ap (λ zs. y ∷ zs) (split_here xs i x e)
-
-short_front : {X : Type 0} (xs : List X) (i : ℕ) (x : X) → slice_get xs i ≡ Some x → length (take i xs) ≡ i
-short_front [] i x e = absurd (cc e)
-short_front (y ∷ xs) zero x e = refl
-short_front (y ∷ xs) (suc i) x e = ap suc (short_front xs i x e)
-
-map_split : {A : Type 0} (front : List (Scenario A)) (s : Scenario A) (behind : List (Scenario A)) (u : Tree)
-    → before (map plain front) (Cons u (plain_all behind)) ≡ trees_of (slice_set (map plain (front ++ s ∷ behind)) (length front) u)
-map_split [] s behind u = refl
-map_split (x ∷ front) s behind u = ap (Cons (plain x)) (map_split front s behind u)
-
-map_more : {A : Type 0} (front : List (Scenario A)) (s : Scenario A) (ts : Trees)
-    → before (map plain (front ++ s ∷ [])) ts ≡ before (map plain front) (Cons (plain s) ts)
-map_more [] s ts = refl
-map_more (x ∷ front) s ts = ap (Cons (plain x)) (map_more front s ts)
-
--- as far as the children before i: what offer `at` of all is, is what offer further of the children from i on is
-abbrev pub AtAmong : {A : Type 0} → List (Scenario A) → ℕ → ℕ → ℕ → Type 0
-AtAmong ss at i further = (slice_get (offers_of_all (plain_all ss)) at ≡ slice_get (offers_of_all (plain_all (drop i ss))) further)
-    × (rest_of_one (plain_all ss) at ≡ rest_of_one (plain_all (drop i ss)) further)
-    × (rest_of_all (plain_all ss) at ≡ before (map plain (take i ss)) (rest_of_all (plain_all (drop i ss)) further))
-
-pub found_among : {A : Type 0} (ss : List (Scenario A)) (at i further : ℕ) (s : Scenario A) → slice_get ss i ≡ Some s
-    → past (length (offers (plain s))) further ≡ None → AtAmong ss at i further → IsPlaceAmong ss at i further
-found_among ss at i further s e none h =
-    let here = ap plain_all (drop_here ss i s e) in
-    let low = past_none (length (offers (plain s))) further none in
-    let c = in_some_child (plain s) (plain_all (drop (i + 1) ss)) further low in
-    let whole : before (map plain (take i ss)) (Cons (rest (plain s) further) (plain_all (drop (i + 1) ss)))
-    ≡ trees_of (slice_set (map plain ss) i (rest (plain s) further)) =
-    rw add-one (map_split (take i ss) s (drop (suc i) ss) (rest (plain s) further)
-    ∙ (ap (λ xs. trees_of (slice_set (map plain xs) (length (take i ss)) (rest (plain s) further))) (split_here ss i s e)
-    ∙ ap (λ n. trees_of (slice_set (map plain ss) n (rest (plain s) further))) (short_front ss i s e))) in
-    rw e (
-      low,
-      h.0 ∙ (ap (λ ts. slice_get (offers_of_all ts) further) here ∙ c.0),
-      h.1 ∙ (ap (λ ts. rest_of_one ts further) here ∙ c.1),
-      h.2 ∙ (ap (λ ts. before (map plain (take i ss)) (rest_of_all ts further)) here ∙ (ap (before (map plain (take i ss))) c.2 ∙ whole)),
-    )
-
-pub passed_among : {A : Type 0} (ss : List (Scenario A)) (at i further r : ℕ) (s : Scenario A) → slice_get ss i ≡ Some s
-    → past (length (offers (plain s))) further ≡ Some r → AtAmong ss at i further → AtAmong ss at (i + 1) r
-passed_among ss at i further r s e some h =
-    let here = ap plain_all (drop_here ss i s e) in
-    let high = past_some (length (offers (plain s))) further r some in
-    let c = behind_some_child (plain s) (plain_all (drop (i + 1) ss)) further high.0 in
-    let longer : take (i + 1) ss ≡ take i ss ++ s ∷ [] = rw add-one (take_next ss i s e) in
-    rw high.1 (
-      h.0 ∙ (ap (λ ts. slice_get (offers_of_all ts) further) here ∙ c.0),
-      h.1 ∙ (ap (λ ts. rest_of_one ts further) here ∙ c.1),
-      h.2 ∙ (ap (λ ts. before (map plain (take i ss)) (rest_of_all ts further)) here
-          ∙ (ap (before (map plain (take i ss))) c.2
-          ∙ (sym (map_more (take i ss) s (rest_of_all (plain_all (drop (i + 1) ss)) (further - length (offers (plain s)))))
-          ∙ ap (λ xs. before (map plain xs) (rest_of_all (plain_all (drop (i + 1) ss)) (further - length (offers (plain s))))) (sym longer)))),
-    )
+-- where an offer of all the children is, it is that child's, and what is left is what this child leaves, with the others or alone
+pub among : {A : Type 0} (ss : List (Scenario A)) (i j k : ℕ) → IsOfferOf (map plain ss) i j k → IsPlaceAmong ss i j k
+among [] i j k h = absurd (cc h.1)
+among (s ∷ ss) i zero k h =
+    let here : plain s ≡ h.0 = cc h.1 in
+    let low : k < length (offers (plain s)) = rw here h.2 in
+    let is : i ≡ k = omega (arith, h.3) in
+    let c = in_some_child (plain s) (plain_all ss) k low in
+    rw is (low, c.0, c.1, c.2)
+among (s ∷ ss) i (suc j) k h =
+    let more = length-append (offers (plain s)) (offers_of_all (trees_of (take j (map plain ss)))) in
+    let c = behind_some_child (plain s) (plain_all ss) i (omega (arith, h.3, more)) in
+    if_some-map (slice_get ss j) _ _ (λ u p. (p.0, c.0 ∙ p.1, c.1 ∙ p.2, c.2 ∙ ap (Cons (plain s)) p.3))
+    (among ss (i - length (offers (plain s))) j k (h.0, h.1, h.2, omega (arith, h.3, more)))
 
 -- ---- what stands after a child's offer is taken
 
@@ -227,12 +168,12 @@ row_of_others [] others = refl
 row_of_others (s ∷ []) others = absurd (others refl)
 row_of_others (s ∷ t ∷ ss) others = refl
 
-abbrev HereInTurn : {A : Type 0} → List (Scenario A) → ℕ → ℕ → ℕ → Scenario A → Type 0
+abbrev pub HereInTurn : {A : Type 0} → List (Scenario A) → ℕ → ℕ → ℕ → Scenario A → Type 0
 HereInTurn ss i j k s = (k < length (offers (plain s)))
     × (slice_get (offers_in_turn (plain_all ss)) i ≡ slice_get (offers (plain s)) k)
     × (rest_in_turn (plain_all ss) i ≡ row_of (Cons (rest (plain s) k) (plain_all (drop (j + 1) ss))))
 
-abbrev HereAmong : {A : Type 0} → List (Scenario A) → ℕ → ℕ → ℕ → Scenario A → Type 0
+abbrev pub HereAmong : {A : Type 0} → List (Scenario A) → ℕ → ℕ → ℕ → Scenario A → Type 0
 HereAmong ss i j k s = (k < length (offers (plain s)))
     × (slice_get (offers_of_all (plain_all ss)) i ≡ slice_get (offers (plain s)) k)
     × (rest_of_one (plain_all ss) i ≡ rest (plain s) k)

@@ -1,6 +1,8 @@
 pub mod Alike
+pub mod Cursors
 pub mod Limits
 pub mod Nodes
+pub mod Parts
 pub mod Refusals
 pub mod Rests
 pub mod Saving

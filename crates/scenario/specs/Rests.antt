@@ -59,3 +59,16 @@ IsPlaceAmong ss i j k = IfSome (slice_get ss j) (λ s.
     × (slice_get (offers_of_all (plain_all ss)) i ≡ slice_get (offers (plain s)) k)
     × (rest_of_one (plain_all ss) i ≡ rest (plain s) k)
     × (rest_of_all (plain_all ss) i ≡ trees_of (slice_set (map plain ss) j (rest (plain s) k))))
+
+abbrev mutual
+  -- the tree without rows of one child: each becomes its child
+  pub flat : Tree → Tree
+  flat (One ask) = One ask
+  flat (Seq ts) = row_of (flats ts)
+  flat (Any ts) = Any (flats ts)
+  flat (Times n t) = Times n (flat t)
+  flat (Both ts) = Both (flats ts)
+
+  pub flats : Trees → Trees
+  flats Nil = Nil
+  flats (Cons t ts) = Cons (flat t) (flats ts)

@@ -5,6 +5,7 @@ ghost use Rattle.serde_json.specs.Data.{Data};
 ghost use Rattle.base.specs.Extent.{Extent};
 ghost use Rattle.base.specs.declared.step.CoreAsk.{CoreAsk};
 ghost use Rattle.scenario.specs.Alike.{Alike};
+ghost use Rattle.scenario.specs.Cursors.{Progress, cursor_nodes, most_nodes};
 ghost use Rattle.scenario.specs.Limits.{Fits, IsWithin, Throughout, depth, peak_depth};
 ghost use Rattle.scenario.specs.Refusals.{IsRefusal, first_fault};
 ghost use Rattle.scenario.specs.Says.{IsTextOf, Says};
@@ -40,6 +41,13 @@ pub fn alike_trees_have_the_same_words()
 pub fn trees_stay_shallow()
     ensures deep { (t : Tree) → depth t ≤ peak_depth t }
     ensures shallow { (t : Tree) → peak_depth t ≤ 1 + depth t }
+{}
+
+/// A cursor never has more nodes than its tree, whatever is taken: it never has more than it can come to have, which
+/// is at most the number of its tree's nodes where it is opened ([`Cursor::open`](crate::Cursor::open)), and which no
+/// [`Cursor::take`](crate::Cursor::take) raises.
+pub fn cursors_stay_small()
+    ensures { (p : Progress) → cursor_nodes p ≤ most_nodes p }
 {}
 
 /// A value says one tree at most, and a text is the text of one tree at most, whatever the shape. The value that a tree is

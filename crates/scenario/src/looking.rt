@@ -4,6 +4,7 @@ ghost use Rattle.std.specs.Prelude.{◌≡◌, ◌++◌, OnErr, OnOk, length, ta
 ghost use Rattle.scenario.specs.Tree.{plain, plain_all};
 ghost use Rattle.scenario.specs.Taking.{ends, all_end, some_ends, offers, offers_in_turn, offers_of_all};
 
+use crate::seeking::list_offers;
 use crate::tree::Scenario;
 use base::{CoreAsk, NoMemory};
 use std::alloc::Allocator;
@@ -19,19 +20,11 @@ impl<A: Allocator> Scenario<A> {
     /// Appends what may be asked next, in order. An ask that is offered twice is listed twice.
     ///
     /// Where memory is refused, the list is as it was.
-    #[tactic(auto, using(crate::proofs::Fronts::fronts))]
     pub fn offers(&self, out: &mut Vec<CoreAsk>) -> Result<(), NoMemory>
         ensures ok { OnOk result (out.new.items ≡ out.old.items ++ offers (plain self.now)) }
         ensures err { OnErr result (out.new.items ≡ out.old.items) }
     {
-        let before = out.len();
-        match offers_of_tree(self, out) {
-            Ok(()) => Ok(()),
-            Err(refused) => {
-                out.truncate(before);
-                Err(refused)
-            }
-        }
+        list_offers(self, out)
     }
 }
 
@@ -50,7 +43,10 @@ pub(crate) fn tree_may_end<A: Allocator>(tree: &Scenario<A>) -> bool
 
 #[cycle(offering)]
 #[tactic(auto, using(crate::proofs::Children::children, crate::proofs::Fronts::fronts))]
-fn offers_of_tree<A: Allocator>(tree: &Scenario<A>, out: &mut Vec<CoreAsk>) -> Result<(), NoMemory>
+pub(crate) fn offers_of_tree<A: Allocator>(
+    tree: &Scenario<A>,
+    out: &mut Vec<CoreAsk>,
+) -> Result<(), NoMemory>
     ensures ok { OnOk result (out.new.items ≡ out.old.items ++ offers (plain tree.now)) }
     ensures front { take (length out.old.items) out.new.items ≡ out.old.items }
 {
@@ -70,7 +66,7 @@ fn offers_of_tree<A: Allocator>(tree: &Scenario<A>, out: &mut Vec<CoreAsk>) -> R
 }
 
 #[cycle(ending)]
-fn all_may_end<A: Allocator>(children: &[Scenario<A>]) -> bool
+pub(crate) fn all_may_end<A: Allocator>(children: &[Scenario<A>]) -> bool
     ensures { result ≡ all_end (plain_all children.now) }
 {
     for child in children {
@@ -95,7 +91,7 @@ fn some_may_end<A: Allocator>(children: &[Scenario<A>]) -> bool
 
 #[cycle(offering)]
 #[tactic(auto, using(crate::proofs::Fronts::fronts))]
-fn offers_in_turn<A: Allocator>(
+pub(crate) fn offers_in_turn<A: Allocator>(
     children: &[Scenario<A>],
     out: &mut Vec<CoreAsk>,
 ) -> Result<(), NoMemory>

@@ -6,24 +6,15 @@ ghost use Rattle.scenario.specs.Tree.{plain, plain_all};
 ghost use Rattle.scenario.specs.Taking.{offers, offers_in_turn, offers_of_all};
 ghost use Rattle.scenario.specs.Alike.{Takes};
 ghost use Rattle.scenario.specs.Limits.{peak_depth};
-ghost use Rattle.scenario.specs.Rests.{IsPlaceAmong, IsPlaceInTurn, Leaves, LeavesInTurn, past, row_of};
+ghost use Rattle.scenario.specs.Rests.{IsPlaceAmong, IsPlaceInTurn, Leaves, LeavesInTurn, row_of};
 
 use crate::copying::copy_one;
-use crate::looking::tree_may_end;
 use crate::making::children_in;
+use crate::seeking::{Offer, find_among, seek_in_tree};
 use crate::tree::Scenario;
 use base::{CoreAsk, NoMemory};
 use std::alloc::Allocator;
 use std::mem;
-
-/// Where an offer of a list of children is.
-#[derive(Clone, Copy)]
-struct Offer {
-    /// The child that offers it.
-    child: usize,
-    /// Which of that child's offers it is.
-    at: usize,
-}
 
 impl<A: Allocator + Clone> Scenario<A> {
     /// Takes offer `at`, counted from 0 in the order of [`Scenario::offers`]: answers its ask, and the scenario becomes
@@ -35,7 +26,7 @@ impl<A: Allocator + Clone> Scenario<A> {
         ensures err { OnErr result (plain self.new ≡ plain self.old) }
         ensures shallow { peak_depth (plain self.new) ≤ peak_depth (plain self.old) }
     {
-        if skip(self, at).is_some() {
+        if let Err(_) = seek_in_tree(self, at) {
             return Ok(None);
         }
         Ok(Some(take_one(self, alloc, at)?))
@@ -195,84 +186,32 @@ fn drop_front<T: Drop, A: Allocator>(items: &mut Vec<T, A>, n: usize)
 
 /// Where offer `at` of the children in turn is.
 #[tactic(auto, using(crate::proofs::Children::children))]
-fn place_in_turn<A: Allocator>(children: &[Scenario<A>], at: usize) -> Offer
+pub(crate) fn place_in_turn<A: Allocator>(children: &[Scenario<A>], at: usize) -> Offer
     requires { at < length (offers_in_turn (plain_all children.now)) }
     ensures within { result.child < length children.now }
     ensures place { IsPlaceInTurn children.now at result.child result.at }
 {
     let mut further = at;
     for (i, child) in children.iter().enumerate() {
-        match skip(child, further) {
-            None => return Offer {
+        match seek_in_tree(child, further) {
+            Ok(_) => return Offer {
                 child: i,
                 at: further,
             },
-            Some(behind) => further = behind,
+            Err(behind) => further = behind,
         }
     }
     unreachable!()
 }
 
 /// Where offer `at` of all the children is.
-#[tactic(auto, using(crate::proofs::Children::children))]
-fn place_among<A: Allocator>(children: &[Scenario<A>], at: usize) -> Offer
+pub(crate) fn place_among<A: Allocator>(children: &[Scenario<A>], at: usize) -> Offer
     requires { at < length (offers_of_all (plain_all children.now)) }
     ensures within { result.child < length children.now }
     ensures place { IsPlaceAmong children.now at result.child result.at }
 {
-    let mut further = at;
-    for (i, child) in children.iter().enumerate() {
-        match skip(child, further) {
-            None => return Offer {
-                child: i,
-                at: further,
-            },
-            Some(behind) => further = behind,
-        }
+    match find_among(children, at) {
+        Ok(offer) => offer,
+        Err(_) => unreachable!(),
     }
-    unreachable!()
-}
-
-/// How far offer `at` is behind the tree's offers. `None` where it is one of them.
-#[cycle(skipping)]
-#[tactic(auto, using(crate::proofs::Children::children))]
-fn skip<A: Allocator>(tree: &Scenario<A>, at: usize) -> Option<usize>
-    ensures { result ≡ past (length (offers (plain tree.now))) at }
-{
-    match tree {
-        Scenario::One(_) => at.checked_sub(1),
-        Scenario::Seq(children) => skip_in_turn(children.as_slice(), at),
-        Scenario::Any(children) | Scenario::Both(children) => skip_all(children.as_slice(), at),
-        Scenario::Times(turns, child) => {
-            if *turns == 0 {
-                return Some(at);
-            }
-            skip(child, at)
-        }
-    }
-}
-
-#[cycle(skipping)]
-fn skip_in_turn<A: Allocator>(children: &[Scenario<A>], at: usize) -> Option<usize>
-    ensures { result ≡ past (length (offers_in_turn (plain_all children.now))) at }
-{
-    let mut further = at;
-    for child in children {
-        further = skip(child, further)?;
-        if !tree_may_end(child) {
-            return Some(further);
-        }
-    }
-    Some(further)
-}
-
-#[cycle(skipping)]
-fn skip_all<A: Allocator>(children: &[Scenario<A>], at: usize) -> Option<usize>
-    ensures { result ≡ past (length (offers_of_all (plain_all children.now))) at }
-{
-    let mut further = at;
-    for child in children {
-        further = skip(child, further)?;
-    }
-    Some(further)
 }

@@ -1,8 +1,16 @@
-use Rattle.std.proofs.Common.{Some}
+use Rattle.std.proofs.Common.{Some, arith, refl, sym, ◌∙◌}
+use Rattle.scenario.specs.Taking.{offers}
 use Rattle.scenario.specs.Tree.{plain}
 use Rattle.scenario.proofs.Depths.{leaves-peak}
 use Rattle.scenario.proofs.Flat.{leaves_takes}
+use Rattle.scenario.proofs.Sought.{sought-ok, sought-err}
 use Rattle.scenario.proofs.tree.Scenario.take.Goals as goal
+
+pub returns-in-Err-clause-ok : goal.returns-in-Err-clause-ok
+returns-in-Err-clause-ok g c = let h = sought-err (offers (plain c.args.self.now)) c.args.at c.in-Err.field-0 (sym c.seek_in_tree.ensures ∙ c.in-Err.is) in (omega (arith, h.0), refl)
+
+pub take_one-requires : goal.take_one-requires
+take_one-requires g c = (sought-ok (offers (plain c.args.self.now)) c.args.at c.in_default.field-0 (sym c.seek_in_tree.ensures ∙ c.in_default.is)).0
 
 pub returns-clause-ok : goal.returns-clause-ok
 returns-clause-ok g c =

@@ -1,0 +1,33 @@
+use Rattle.std.proofs.Common.{[], map, arith, rules}
+use Rattle.std.proofs.lemmas.Grind.{common_steps}
+use Rattle.std.proofs.lemmas.List.{length-map}
+use Rattle.scenario.specs.Cursors.{progress}
+use Rattle.scenario.proofs.Cursors.{parts, parts-row}
+use Rattle.scenario.proofs.Growing.{grown-same, progress-same}
+use Rattle.scenario.proofs.part.starting.make_room.Goals as goal
+
+pub returns-in-Begun-clause-place : goal.returns-in-Begun-clause-place
+returns-in-Begun-clause-place g c = search (rules, parts)
+
+pub returns-in-Begun-clause-grown : goal.returns-in-Begun-clause-grown
+returns-in-Begun-clause-grown g c = grind (arith, common_steps, parts)
+
+pub returns-in-Begun-clause-same : goal.returns-in-Begun-clause-same
+returns-in-Begun-clause-same g c = grown-same c.args.part.now _ (returns-in-Begun-clause-place g c) (returns-in-Begun-clause-grown g c)
+
+pub returns-in-Begun-clause-room : goal.returns-in-Begun-clause-room
+returns-in-Begun-clause-room g c = grind (arith, common_steps, parts, length-map)
+
+pub returns-in_ok-push_ended-in-Fresh-clause-place : goal.returns-in_ok-push_ended-in-Fresh-clause-place
+returns-in_ok-push_ended-in-Fresh-clause-place g c = grind (arith, common_steps, parts)
+
+pub returns-in_ok-push_ended-in-Fresh-clause-grown : goal.returns-in_ok-push_ended-in-Fresh-clause-grown
+returns-in_ok-push_ended-in-Fresh-clause-grown g c = grind (arith, common_steps, parts)
+
+pub returns-in_ok-push_ended-in-Fresh-clause-same : goal.returns-in_ok-push_ended-in-Fresh-clause-same
+returns-in_ok-push_ended-in-Fresh-clause-same g c =
+    let same = progress-same c.in-Fresh.place [] (map progress c.push_ended-in-Fresh.new.parts.items) (search rules) in
+    grind (arith, common_steps, parts-row, same)
+
+pub returns-in_ok-push_ended-in-Fresh-clause-room : goal.returns-in_ok-push_ended-in-Fresh-clause-room
+returns-in_ok-push_ended-in-Fresh-clause-room g c = grind (arith, common_steps, parts, length-map)

@@ -1,0 +1,30 @@
+use Rattle.std.proofs.Common.{◌≡◌, ◌<◌, length, map, slice_get, take, Some, ap, sym, ◌∙◌, arith, rules}
+use Rattle.std.proofs.lemmas.Grind.{common_steps}
+use Rattle.std.proofs.lemmas.List.{length-map}
+use Rattle.std.proofs.lemmas.Option.{slice_get-get_or}
+use Rattle.scenario.specs.Cursors.{Whole, progress}
+use Rattle.scenario.specs.Tree.{plain}
+use Rattle.scenario.proofs.Fronts.{front-whole}
+use Rattle.scenario.proofs.Wholes.{whole-more, whole-but}
+use Rattle.scenario.proofs.part.starting.make_whole_but.Goals as goal
+
+pub loop-i-preserved : goal.loop-i-preserved
+loop-i-preserved g c =
+    let at = slice_get-get_or c.args.children.now c.loop-i.i c.index-children-i.result c.loop-i-test.true ∙ ap Some (sym c.index-children-i.is) in
+    let within : c.loop-i.i < length c.loop-i.parts.items = grind (arith, common_steps) in (
+      whole-more progress c.loop-i.parts.items c.args.children.now c.loop-i.i c.move_to.new.self c.index-children-i.result within at
+          c.move_to.ensures.place c.loop-i.invariant.0,
+      grind (arith, common_steps),
+    )
+
+pub returns : goal.returns
+returns g c =
+    let old = c.args.parts.now.items in
+    let begun = c.replace-begun.result in
+    let there : slice_get old c.args.number ≡ Some begun = slice_get-get_or old c.args.number begun (search rules) ∙ ap Some (search rules) in
+    let ss = c.args.children.now in
+    let count : c.loop-i.i ≡ length ss = grind (arith, common_steps) in
+    let whole : map progress (take (length (map plain ss)) c.loop-i.parts.items) ≡ map Whole (map plain ss) =
+    ap (λ n. map progress (take n c.loop-i.parts.items)) (length-map ss plain ∙ sym count)
+    ∙ (c.loop-i.invariant.0 ∙ ap (λ us. map Whole (map plain us)) (ap (λ n. take n ss) count ∙ front-whole ss)) in
+    whole-but progress old c.loop-i.parts.items _ c.args.number begun (map plain c.args.children.now) there (search rules) whole

@@ -1,0 +1,7 @@
+use Rattle.std.proofs.Common.{◌≡◌, length, map}
+use Rattle.scenario.specs.Cursors.{progress}
+use Rattle.scenario.specs.Parts.{Grows}
+use Rattle.scenario.proofs.part.starting.push_ended.Given as goal
+
+abbrev pub invariant-loop : goal.invariant-loop
+invariant-loop g l = Grows (map progress l.initial.parts.items) (map progress l.parts.items) × (length l.parts.items ≡ l.counter)

@@ -1,0 +1,54 @@
+//! What is left of a scenario that is borrowed.
+
+use crate::part::{Part, Place, take_from};
+use crate::seeking::find_offer;
+use crate::tree::Scenario;
+use base::{CoreAsk, NoMemory};
+use std::alloc::Allocator;
+
+/// What is left of a scenario, which it borrows.
+///
+/// It keeps how far it is in each tree that it has begun, in memory of the allocator `B`. Memory that is no longer needed
+/// is used again, so it never has more parts at a time than its scenario has nodes.
+#[derive(Drop)]
+pub struct Cursor<'t, A: Allocator, B: Allocator> {
+    pub(crate) root: Part<'t, A, B>,
+}
+
+impl<'t, A: Allocator, B: Allocator> Cursor<'t, A, B> {
+    ghost use Rattle.std.specs.Prelude.{◌≡◌, ◌≤◌};
+    ghost use Rattle.scenario.specs.Cursors.{most_nodes, nodes, remaining, standing};
+    ghost use Rattle.scenario.specs.Tree.{plain};
+
+    /// All of the tree is left. It takes no memory.
+    pub fn open(tree: &'t Scenario<A>) -> Cursor<'t, A, B>
+        ensures left { remaining result ≡ plain tree.entry.now }
+        ensures nodes { most_nodes (standing result) ≤ nodes (plain tree.entry.now) }
+    {
+        Cursor {
+            root: Part::Fresh(Place::Whole(tree)),
+        }
+    }
+}
+
+impl<'t, A: Allocator, B: Allocator + Clone> Cursor<'t, A, B> {
+    ghost use Rattle.std.specs.Prelude.{◌≡◌, ◌≤◌, IfOk, OnErr};
+    ghost use Rattle.scenario.specs.Alike.{Takes};
+    ghost use Rattle.scenario.specs.Cursors.{most_nodes, remaining, standing};
+
+    /// Takes offer `at`, counted from 0 in the order of [`Rest::offers`](crate::Rest::offers): answers its ask, and what is
+    /// then left of the tree is left. `None` comes where there is no such offer, and then nothing has changed.
+    ///
+    /// What is made anew is `alloc`'s. Where memory is refused, nothing has changed.
+    pub fn take(&mut self, alloc: B, at: usize) -> Result<Option<CoreAsk>, NoMemory>
+        ensures ok { IfOk result (λ taken. Takes (remaining self.old) at taken (remaining self.new)) }
+        ensures err { OnErr result (remaining self.new ≡ remaining self.old) }
+        ensures nodes { most_nodes (standing self.new) ≤ most_nodes (standing self.old) }
+    {
+        let Some(ask) = find_offer(&self.root, at) else {
+            return Ok(None);
+        };
+        take_from(&mut self.root, &alloc, at)?;
+        Ok(Some(ask))
+    }
+}

@@ -1,0 +1,200 @@
+//! Beginning a tree in the memory that a part has. Growths come on the way down to the offer, where they change nothing
+//! that means anything, and changes on the way back.
+
+ghost use Rattle.std.specs.Prelude.{◌≡◌, ◌<◌, ◌≤◌, ◌+◌, OnErr, OnOk, length, map, slice_get, slice_set, take};
+ghost use Rattle.scenario.specs.Cursors.{Whole, greatest_nodes, nodes, progress, total_nodes};
+ghost use Rattle.scenario.specs.Parts.{Begins, Grows, IsWholeBut, Leads, parts_of, place_of};
+ghost use Rattle.scenario.specs.Taking.{offers, offers_in_turn, offers_of_all};
+ghost use Rattle.scenario.specs.Tree as tree;
+ghost use Rattle.scenario.specs.Tree.{plain, plain_all};
+
+use super::{Part, Place};
+use crate::taking::{place_among, place_in_turn};
+use crate::tree::Scenario;
+use base::NoMemory;
+use std::alloc::Allocator;
+use std::mem;
+
+/// Takes an offer of a tree: the part is at what is left of the tree, whatever it was at before.
+#[cycle(starting)]
+#[tactic(auto, using(crate::proofs::Children::children, crate::proofs::Cursors::parts))]
+pub(super) fn start<'t, A: Allocator, B: Allocator + Clone>(
+    part: &mut Part<'t, A, B>,
+    tree: &'t Scenario<A>,
+    alloc: &B,
+    at: usize,
+) -> Result<(), NoMemory>
+    requires { at < length (offers (plain tree.now)) }
+    ensures ok { OnOk result (Leads (plain tree.now) at (nodes (plain tree.now)) (progress part.new)) }
+    ensures err { OnErr result (progress part.new ≡ progress part.old) }
+{
+    match tree {
+        Scenario::One(_) => {
+            part.move_to(Place::Nothing);
+            Ok(())
+        }
+        Scenario::Seq(children) => start_row(part, children.as_slice(), alloc, at),
+        Scenario::Any(children) => {
+            let offer = place_among(children.as_slice(), at);
+            start(part, &children[offer.child], alloc, offer.at)
+        }
+        Scenario::Times(turns, child) => start_turn(part, *turns, child, alloc, at),
+        Scenario::Both(children) => start_both(part, children.as_slice(), alloc, at),
+    }
+}
+
+/// Takes an offer of children in turn. Those before the one that offered it go.
+#[cycle(starting)]
+#[tactic(auto, using(crate::proofs::Cursors::parts))]
+pub(super) fn start_row<'t, A: Allocator, B: Allocator + Clone>(
+    part: &mut Part<'t, A, B>,
+    children: &'t [Scenario<A>],
+    alloc: &B,
+    at: usize,
+) -> Result<(), NoMemory>
+    requires { at < length (offers_in_turn (plain_all children.now)) }
+    ensures ok { OnOk result (Leads (tree.Seq (plain_all children.now)) at (1 + greatest_nodes (plain_all children.now)) (progress part.new)) }
+    ensures err { OnErr result (progress part.new ≡ progress part.old) }
+{
+    let offer = place_in_turn(children, at);
+    make_room(part, alloc, 1)?;
+    start_part(part, 0, &children[offer.child], alloc, offer.at)?;
+    part.move_to(Place::InSeq(&children[offer.child + 1..]));
+    Ok(())
+}
+
+/// Takes an offer of the first of so many turns.
+#[cycle(starting)]
+#[tactic(auto, using(crate::proofs::Cursors::parts))]
+pub(super) fn start_turn<'t, A: Allocator, B: Allocator + Clone>(
+    part: &mut Part<'t, A, B>,
+    turns: u32,
+    child: &'t Scenario<A>,
+    alloc: &B,
+    at: usize,
+) -> Result<(), NoMemory>
+    requires turns { 0 < turns }
+    requires offer { at < length (offers (plain child.now)) }
+    ensures ok { OnOk result (Leads (tree.Times turns (plain child.now)) at (1 + nodes (plain child.now)) (progress part.new)) }
+    ensures err { OnErr result (progress part.new ≡ progress part.old) }
+{
+    make_room(part, alloc, 1)?;
+    start_part(part, 0, child, alloc, at)?;
+    part.move_to(Place::InTimes(turns - 1, child));
+    Ok(())
+}
+
+/// Takes an offer of children that go on at once. The others are still whole.
+#[cycle(starting)]
+#[tactic(auto, using(crate::proofs::Cursors::parts))]
+fn start_both<'t, A: Allocator, B: Allocator + Clone>(
+    part: &mut Part<'t, A, B>,
+    children: &'t [Scenario<A>],
+    alloc: &B,
+    at: usize,
+) -> Result<(), NoMemory>
+    requires { at < length (offers_of_all (plain_all children.now)) }
+    ensures ok { OnOk result (Leads (tree.Both (plain_all children.now)) at (1 + total_nodes (plain_all children.now)) (progress part.new)) }
+    ensures err { OnErr result (progress part.new ≡ progress part.old) }
+{
+    let offer = place_among(children, at);
+    make_room(part, alloc, children.len())?;
+    start_part(part, offer.child, &children[offer.child], alloc, offer.at)?;
+    keep_others(part, children, offer.child);
+    part.move_to(Place::InBoth(children.len()));
+    Ok(())
+}
+
+/// Takes an offer of a tree, in the part of this number.
+#[cycle(starting)]
+#[tactic(auto, using(crate::proofs::Cursors::parts))]
+fn start_part<'t, A: Allocator, B: Allocator + Clone>(
+    part: &mut Part<'t, A, B>,
+    number: usize,
+    tree: &'t Scenario<A>,
+    alloc: &B,
+    at: usize,
+) -> Result<(), NoMemory>
+    requires part { number < length (parts_of part.old) }
+    requires offer { at < length (offers (plain tree.now)) }
+    ensures ok { OnOk result (Begins (parts_of part.old) number (plain tree.now) at (parts_of part.new)) }
+    ensures err { OnErr result (progress part.new ≡ progress part.old) }
+{
+    match part {
+        Part::Begun(_place, parts) => start(&mut parts[number], tree, alloc, at),
+        Part::Fresh(_) => unreachable!(),
+    }
+}
+
+/// Each other part is all of its child.
+#[tactic(auto, using(crate::proofs::Cursors::parts))]
+fn keep_others<'t, A: Allocator, B: Allocator>(
+    part: &mut Part<'t, A, B>,
+    children: &'t [Scenario<A>],
+    number: usize,
+)
+    requires part { number < length children.now }
+    requires room { length children.now ≤ length (parts_of part.old) }
+    ensures { IsWholeBut number (map plain children.now) (parts_of part.old) (parts_of part.new) }
+{
+    match part {
+        Part::Begun(_place, parts) => make_whole_but(parts, children, number),
+        Part::Fresh(_) => unreachable!(),
+    }
+}
+
+#[tactic(auto, using(crate::proofs::Cursors::parts))]
+fn make_whole_but<'t, A: Allocator, B: Allocator>(
+    parts: &mut Vec<Part<'t, A, B>, B>,
+    children: &'t [Scenario<A>],
+    number: usize,
+)
+    requires part { number < length children.now }
+    requires room { length children.now ≤ length parts.old.items }
+    ensures { IsWholeBut number (map plain children.now) (map progress parts.old.items) (map progress parts.new.items) }
+{
+    let begun = mem::replace(&mut parts[number], Part::ended());
+    for (i, child) in children.iter().enumerate() {
+        parts[i].move_to(Place::Whole(child));
+    }
+    parts[number] = begun;
+}
+
+/// It has so many parts at least. Nothing is left of those that come new.
+#[tactic(auto, using(crate::proofs::Cursors::parts))]
+pub(super) fn make_room<A: Allocator, B: Allocator + Clone>(
+    part: &mut Part<'_, A, B>,
+    alloc: &B,
+    count: usize,
+) -> Result<(), NoMemory>
+    ensures place { place_of part.new ≡ place_of part.old }
+    ensures grown { Grows (parts_of part.old) (parts_of part.new) }
+    ensures same { progress part.new ≡ progress part.old }
+    ensures room { OnOk result (count ≤ length (parts_of part.new)) }
+{
+    match part {
+        Part::Begun(_place, parts) => push_ended(parts, count),
+        Part::Fresh(place) => {
+            let place = *place;
+            let mut parts = Vec::new(alloc.clone()?);
+            push_ended(&mut parts, count)?;
+            *part = Part::Begun(place, parts);
+            Ok(())
+        }
+    }
+}
+
+/// Adds parts up to this number, as far as there is memory.
+#[tactic(auto, using(crate::proofs::Cursors::parts))]
+fn push_ended<A: Allocator, B: Allocator>(
+    parts: &mut Vec<Part<'_, A, B>, B>,
+    count: usize,
+) -> Result<(), NoMemory>
+    ensures grown { Grows (map progress parts.old.items) (map progress parts.new.items) }
+    ensures room { OnOk result (count ≤ length parts.new.items) }
+{
+    for _ in parts.len()..count {
+        parts.push(Part::ended())?;
+    }
+    Ok(())
+}

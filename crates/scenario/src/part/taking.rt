@@ -1,0 +1,69 @@
+//! Taking an offer of what is left.
+
+ghost use Rattle.std.specs.Prelude.{◌≡◌, ◌<◌, OnErr, OnOk, length};
+ghost use Rattle.scenario.specs.Cursors.{most_nodes, progress};
+ghost use Rattle.scenario.specs.Parts.{Leads, LeadsPart, OffersAt, behind, most_behind, part_left, parts_of, place_of};
+ghost use Rattle.scenario.specs.Taking.{offers};
+
+use super::starting::{start, start_row, start_turn};
+use super::{Part, Place};
+use crate::seeking::find_among;
+use base::NoMemory;
+use std::alloc::Allocator;
+
+/// Takes an offer of one of the parts in use, or of what is behind them.
+#[cycle(taking_from_parts)]
+#[tactic(auto, using(crate::proofs::Cursors::parts))]
+pub(crate) fn take_from<A: Allocator, B: Allocator + Clone>(
+    part: &mut Part<'_, A, B>,
+    alloc: &B,
+    at: usize,
+) -> Result<(), NoMemory>
+    requires { at < length (offers (part_left part.old)) }
+    ensures ok { OnOk result (Leads (part_left part.old) at (most_nodes (progress part.old)) (progress part.new)) }
+    ensures err { OnErr result (progress part.new ≡ progress part.old) }
+{
+    match find_among(part.in_use(), at) {
+        Ok(offer) => take_from_part(part, offer.child, alloc, offer.at),
+        Err(further) => go_on(part, alloc, further),
+    }
+}
+
+/// Takes an offer of the part of this number.
+#[cycle(taking_from_parts)]
+#[tactic(auto, using(crate::proofs::Cursors::parts))]
+fn take_from_part<A: Allocator, B: Allocator + Clone>(
+    part: &mut Part<'_, A, B>,
+    number: usize,
+    alloc: &B,
+    at: usize,
+) -> Result<(), NoMemory>
+    requires { OffersAt (parts_of part.old) number at }
+    ensures place { place_of part.new ≡ place_of part.old }
+    ensures ok { OnOk result (LeadsPart (parts_of part.old) number at (parts_of part.new)) }
+    ensures err { OnErr result (progress part.new ≡ progress part.old) }
+{
+    match part {
+        Part::Begun(_place, parts) => take_from(&mut parts[number], alloc, at),
+        Part::Fresh(_) => unreachable!(),
+    }
+}
+
+/// Takes an offer of what is behind the parts in use. These go.
+#[tactic(auto, using(crate::proofs::Cursors::parts))]
+fn go_on<A: Allocator, B: Allocator + Clone>(
+    part: &mut Part<'_, A, B>,
+    alloc: &B,
+    at: usize,
+) -> Result<(), NoMemory>
+    requires { at < length (offers (behind (place_of part.old))) }
+    ensures ok { OnOk result (Leads (behind (place_of part.old)) at (most_behind (place_of part.old)) (progress part.new)) }
+    ensures err { OnErr result (progress part.new ≡ progress part.old) }
+{
+    match part.place() {
+        Place::Nothing | Place::InBoth(_) => unreachable!(),
+        Place::Whole(tree) => start(part, tree, alloc, at),
+        Place::InSeq(others) => start_row(part, others, alloc, at),
+        Place::InTimes(turns, child) => start_turn(part, turns, child, alloc, at),
+    }
+}
