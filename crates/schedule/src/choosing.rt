@@ -1,12 +1,11 @@
 ghost use Rattle.std.specs.Prelude.{◌≡◌, ◌++◌, map, IfOk, OnOk};
-ghost use Rattle.scenario.specs.Tree.{plain};
 ghost use Rattle.schedule.specs.Choices.{can_be_put, choices_of, offers_from, step_of};
 ghost use Rattle.schedule.specs.declared.choosing.Choice.TheVariants.{Deliver};
 
 use base::{CoreAsk, NoMemory, Step};
 use cores::Cores;
-use scenario::Scenario;
-use std::alloc::{Allocator, Global};
+use scenario::Rest;
+use std::alloc::Global;
 use std::marker::Model;
 use world::World;
 
@@ -19,20 +18,20 @@ pub enum Choice {
     Deliver(Step),
 }
 
-/// All that can happen next: first the scenario's offers whose core is free and whose step wouldn't be held, in their
-/// order, and then the messages that can be served and wouldn't be held, in the order of [`World::enabled`].
+/// All that can happen next: first the offers of what is left of a scenario whose core is free and whose step wouldn't be
+/// held, in their order, and then the messages that can be served and wouldn't be held, in the order of [`World::enabled`].
 ///
 /// A step that would come to nothing otherwise, or meet a blank cell, is among them. A broken world has none.
-pub fn choices<A: Allocator>(
+pub fn choices<R: Rest>(
     alloc: Global,
     world: &World,
     cores: &Cores,
-    scenario: &Scenario<A>,
+    rest: &R,
 ) -> Result<Vec<Choice>, NoMemory>
-    ensures { IfOk result (λ choices. choices.items ≡ choices_of world.now.tables world.now.state cores.now (plain scenario.now)) }
+    ensures { IfOk result (λ choices. choices.items ≡ choices_of world.now.tables world.now.state cores.now (R.left rest.now)) }
 {
     let mut menu = Menu::new(alloc);
-    menu.fill(world, cores, scenario)?;
+    menu.fill(world, cores, rest)?;
     Ok(menu.choices)
 }
 
@@ -55,7 +54,6 @@ impl Model for Menu {
 
 impl Menu {
     ghost use Rattle.std.specs.Prelude.{◌≡◌, [], false, OnErr, OnOk};
-    ghost use Rattle.scenario.specs.Tree.{plain};
     ghost use Rattle.schedule.specs.Choices.{choices_of};
 
     /// A menu without choices.
@@ -70,20 +68,20 @@ impl Menu {
     }
 
     /// Lists all that can happen next, as [`choices`] does. Where memory is refused the menu is empty.
-    pub fn fill<A: Allocator>(
+    pub fn fill<R: Rest>(
         &mut self,
         world: &World,
         cores: &Cores,
-        scenario: &Scenario<A>,
+        rest: &R,
     ) -> Result<(), NoMemory>
-        ensures ok { OnOk result (self.new ≡ choices_of world.now.tables world.now.state cores.now (plain scenario.now)) }
+        ensures ok { OnOk result (self.new ≡ choices_of world.now.tables world.now.state cores.now (R.left rest.now)) }
         ensures err { OnErr result (self.new ≡ []) }
     {
         self.choices.clear();
         if world.broken() {
             return Ok(());
         }
-        match self.list(world, cores, scenario) {
+        match self.list(world, cores, rest) {
             Ok(()) => Ok(()),
             Err(refused) => {
                 self.choices.clear();
@@ -100,18 +98,18 @@ impl Menu {
     }
 
     /// Lists what can happen next in a world that isn't broken.
-    fn list<A: Allocator>(
+    fn list<R: Rest>(
         &mut self,
         world: &World,
         cores: &Cores,
-        scenario: &Scenario<A>,
+        rest: &R,
     ) -> Result<(), NoMemory>
         requires none { self.old ≡ [] }
         requires sound { world.now.state.broken ≡ false }
-        ensures { OnOk result (self.new ≡ choices_of world.now.tables world.now.state cores.now (plain scenario.now)) }
+        ensures { OnOk result (self.new ≡ choices_of world.now.tables world.now.state cores.now (R.left rest.now)) }
     {
         self.offers.clear();
-        scenario.offers(&mut self.offers)?;
+        rest.offers(&mut self.offers)?;
         push_offers(world, cores, self.offers.as_slice(), &mut self.choices)?;
         world.list_enabled(&mut self.deliveries)?;
         push_deliveries(self.deliveries.as_slice(), &mut self.choices)?;

@@ -8,6 +8,8 @@ mod cache_cells;
 #[cfg(test)]
 mod controllers;
 #[cfg(test)]
+mod cursors;
+#[cfg(test)]
 mod directory_cells;
 #[cfg(test)]
 mod outstanding;

@@ -1,22 +1,22 @@
 use crate::asserting::same;
 use base::{Ask, BlockId, CacheId, CoreAsk, Shape};
 use bumpalo::Bump;
-use scenario::Scenario;
-use std::alloc::{Allocator, Global};
+use scenario::{Cursor, Rest, Scenario};
+use std::alloc::Global;
 use std::process::Abort;
 use std::test::Fail;
 
 /// What is offered, whether the scenario may end, which offer is then taken, and which ask that is.
-type Moment = (&'static str, bool, usize, Option<char>);
+type Moment<'m> = (&'m str, bool, usize, Option<char>);
 
-const LOAD: &str = r#"{"op":"load","core":0,"block":0}"#;
+pub const LOAD: &str = r#"{"op":"load","core":0,"block":0}"#;
 
-const STORE: &str = r#"{"op":"store","core":0,"block":0,"value":5}"#;
+pub const STORE: &str = r#"{"op":"store","core":0,"block":0,"value":5}"#;
 
 const REPLACE: &str = r#"{"op":"replace","core":1,"block":0}"#;
 
 /// An ask as a letter: L, S or R for those above.
-fn letter(ask: CoreAsk) -> Option<char> {
+pub fn letter(ask: CoreAsk) -> Option<char> {
     match (ask.core, ask.block, ask.ask) {
         (CacheId(0), BlockId(0), Ask::Load) => Some('L'),
         (CacheId(0), BlockId(0), Ask::Store(5)) => Some('S'),
@@ -25,51 +25,56 @@ fn letter(ask: CoreAsk) -> Option<char> {
     }
 }
 
-fn read(alloc: Global, text: &str) -> Result<Scenario<Global>, Fail> {
+pub fn read(alloc: Global, text: &str) -> Result<Scenario<Global>, Fail> {
     let shape = Shape::new(2, 1)?;
     Ok(Scenario::read(alloc, alloc, text.as_bytes(), shape)?)
 }
 
-/// The offers as letters.
-fn offered<A: Allocator>(alloc: Global, tree: &Scenario<A>) -> Result<String, Fail> {
-    let mut asks = Vec::new(alloc);
-    tree.offers(&mut asks)?;
-    let mut letters = String::new(alloc);
-    for ask in &asks {
+/// The offers as letters: their list has each at its place, and no more than are counted.
+pub fn offered<R: Rest>(rt: &impl Abort, heap: Global, rest: &R) -> Result<String, Fail> {
+    let mut asks = Vec::new(heap);
+    rest.offers(&mut asks)?;
+    same(&rt, &rest.offer_count(), &asks.len());
+    let mut letters = String::new(heap);
+    for (at, ask) in asks.iter().enumerate() {
+        same(&rt, &rest.offer_at(at), &Some(*ask));
         letters.push(letter(*ask).unwrap_or('?'))?;
     }
+    same(&rt, &rest.offer_at(asks.len()), &None);
     Ok(letters)
 }
 
 /// Follows the moments, and looks whether each is as it is told.
-fn follow<A: Allocator + Clone>(
+fn follow<R: Rest>(
     rt: &impl Abort,
     heap: Global,
-    tree: &mut Scenario<A>,
-    alloc: A,
-    moments: &[Moment],
+    rest: &mut R,
+    alloc: R::Alloc,
+    moments: &[Moment<'_>],
 ) -> Result<(), Fail> {
     for (offers, ends, at, taken) in moments {
-        same(&rt, &offered(heap, tree)?.as_str(), &*offers);
-        same(&rt, &tree.may_end(), &*ends);
-        let ask = tree.take(alloc.clone()?, *at)?;
+        same(&rt, &offered(rt, heap, rest)?.as_str(), &*offers);
+        same(&rt, &rest.may_end(), &*ends);
+        let ask = rest.take(alloc.clone()?, *at)?;
         same(&rt, &ask.and_then(letter), &*taken);
     }
     Ok(())
 }
 
-/// Follows the moments in the machine's memory, and then those of a copy in an arena that is dropped before it.
-fn follow_in_both(
+/// Follows the moments in a copy and by a cursor, both in an arena that is dropped before it, and then in the scenario.
+fn follow_in_all(
     rt: &impl Abort,
     heap: Global,
     text: &str,
-    moments: &[Moment],
+    moments: &[Moment<'_>],
 ) -> Result<(), Fail> {
     let source = read(heap, text)?;
     let bump = Bump::new(heap);
     {
         let mut copy = source.copy_in(&bump)?;
         follow(rt, heap, &mut copy, &bump, moments)?;
+        let mut cursor: Cursor<'_, Global, &Bump> = Cursor::open(&source);
+        follow(rt, heap, &mut cursor, &bump, moments)?;
     }
     let mut source = source;
     follow(rt, heap, &mut source, heap, moments)
@@ -83,7 +88,7 @@ fn turns_may_differ(rt: HostRuntime) -> Result<(), Fail> {
         ("LS", false, 1, Some('S')),
         ("", true, 0, None),
     ];
-    follow_in_both(&rt, rt.alloc(), text.as_str(), &moments)
+    follow_in_all(&rt, rt.alloc(), text.as_str(), &moments)
 }
 
 #[test]
@@ -95,7 +100,7 @@ fn children_of_both_go_on_at_once(rt: HostRuntime) -> Result<(), Fail> {
         ("S", false, 0, Some('S')),
         ("", true, 0, None),
     ];
-    follow_in_both(&rt, rt.alloc(), text.as_str(), &moments)
+    follow_in_all(&rt, rt.alloc(), text.as_str(), &moments)
 }
 
 #[test]
@@ -106,9 +111,9 @@ fn what_may_end_is_passed_over(rt: HostRuntime) -> Result<(), Fail> {
         ("S", false, 0, Some('S')),
         ("", true, 0, None),
     ];
-    follow_in_both(&rt, rt.alloc(), text.as_str(), &moments)?;
+    follow_in_all(&rt, rt.alloc(), text.as_str(), &moments)?;
     let text = format!(in rt.alloc(); r#"{{"any":[{{"seq":[]}},{LOAD}]}}"#)?;
-    follow_in_both(
+    follow_in_all(
         &rt,
         rt.alloc(),
         text.as_str(),
@@ -124,7 +129,7 @@ fn a_long_scenario_stays_shallow(rt: HostRuntime) -> Result<(), Fail> {
         let ask = tree.take(rt.alloc(), 0)?;
         same(&rt, &ask.and_then(letter), &Some('L'));
     }
-    same(&rt, &offered(rt.alloc(), &tree)?.as_str(), &"");
+    same(&rt, &offered(&rt, rt.alloc(), &tree)?.as_str(), &"");
     assert!(rt; tree.may_end());
     Ok(())
 }
@@ -139,11 +144,11 @@ fn a_refused_take_changes_nothing(rt: HostRuntime) -> Result<(), Fail> {
     let mut refused = false;
     for turn in 0..200 {
         bump.set_allocation_limit(Some(bump.allocated_bytes()));
-        let before = offered(heap, &tree)?;
+        let before = offered(&rt, heap, &tree)?;
         let mut taken = tree.take(&bump, 0);
         if taken.is_err() {
             refused = true;
-            same(&rt, &offered(heap, &tree)?.as_str(), &before.as_str());
+            same(&rt, &offered(&rt, heap, &tree)?.as_str(), &before.as_str());
             bump.set_allocation_limit(None);
             taken = tree.take(&bump, 0);
         }

@@ -12,7 +12,8 @@ use Rattle.monitor.specs.declared.violation.Violation.{Violation}
 use Rattle.monitor.specs.Watching.{HasSeen, AnswersHistory, SeesNext}
 use Rattle.world.specs.View.{View, stepped}
 use Rattle.cores.specs.Cores.{Core, idle, is_free}
-use Rattle.scenario.specs.Tree.{Tree, plain}
+use Rattle.scenario.specs.Tree.{Tree}
+use Rattle.scenario.specs.Cursors.{remaining}
 use Rattle.scenario.specs.Alike.{Alike}
 use Rattle.scenario.specs.Taking.{offers}
 use Rattle.schedule.specs.Choices.{chosen_step}
@@ -37,8 +38,8 @@ pub record Course : Type 0 where
   pub recording : Kept
 
 -- the parts of a trial, as its code keeps them
-abbrev pub parts_of : course.Course → Course
-parts_of c = record { world = c.world; watch = c.watch; cores = c.cores; rest = plain c.rest; dice = c.dice; recording = c.recording }
+abbrev pub parts_of : {A : Type 0} → course.Course A → Course
+parts_of c = record { world = c.world; watch = c.watch; cores = c.cores; rest = remaining c.rest; dice = c.dice; recording = c.recording }
 
 -- the moment that it is at
 abbrev pub moment_of : Course → Moment

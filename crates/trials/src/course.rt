@@ -2,7 +2,7 @@
 
 ghost use Rattle.std.specs.Prelude.{OnOk};
 ghost use Rattle.scenario.specs.Alike.{Alike};
-ghost use Rattle.scenario.specs.Tree.{plain};
+ghost use Rattle.scenario.specs.Cursors.{remaining};
 ghost use Rattle.trials.specs.Going.{IsOffered};
 ghost use Rattle.trials.specs.Moments.{rest_after};
 
@@ -15,37 +15,36 @@ use bumpalo::Bump;
 use cores::Cores;
 use monitor::{Violation, Watch};
 use record::{Entry, Recording};
-use scenario::Scenario;
+use scenario::{Cursor, Rest, Scenario};
 use schedule::{Choice, Dice, Menu};
 use std::alloc::{Allocator, Global};
 use world::World;
 
-/// A trial on its way. What is left of its scenario lies in an arena.
+/// A trial on its way. A cursor, with its parts in an arena, says what is left of its scenario.
 #[derive(Drop)]
-pub(crate) struct Course<'b> {
+pub(crate) struct Course<'s, 'b, A: Allocator> {
     world: World,
     watch: Watch,
     cores: Cores,
-    rest: Scenario<&'b Bump>,
+    rest: Cursor<'s, A, &'b Bump>,
     dice: Dice,
     recording: Recording,
     menu: Menu,
 }
 
-impl<'b> Course<'b> {
+impl<'s, 'b, A: Allocator> Course<'s, 'b, A> {
     ghost use Rattle.std.specs.Prelude.{◌≡◌, ◌<◌, IfOk, length};
     ghost use Rattle.scenario.specs.Tree.{plain};
     ghost use Rattle.trials.specs.Going.{CanBeMade, Chooses, Ends, IsStart, IsVerdictAtRest, Makes, Starts, parts_of};
 
     /// The start of the trial of this number.
-    pub(crate) fn open<A: Allocator>(
+    pub(crate) fn open(
         alloc: Global,
-        arena: &'b Bump,
-        scenario: &Scenario<A>,
+        scenario: &'s Scenario<A>,
         setup: &Setup,
         number: u32,
-    ) -> Result<Course<'b>, NoMemory>
-        ensures { IfOk result (λ course. Starts setup.now (plain scenario.now) number (parts_of course)) }
+    ) -> Result<Course<'s, 'b, A>, NoMemory>
+        ensures { IfOk result (λ course. Starts setup.now (plain scenario.entry.now) number (parts_of course)) }
     {
         let world = setup.open_world(alloc)?;
         let watch = Watch::open(alloc, setup.opening())?;
@@ -54,7 +53,7 @@ impl<'b> Course<'b> {
             world,
             watch,
             cores: Cores::open(alloc, setup.shape().caches())?,
-            rest: scenario.copy_in(arena)?,
+            rest: Cursor::open(scenario),
             dice: Dice::new(setup.seed(), u64::from(number)),
             recording,
             menu: Menu::new(alloc),
@@ -137,13 +136,13 @@ impl<'b> Course<'b> {
 }
 
 /// Takes the offer that was chosen, where the choice is one.
-fn take_chosen<'b>(
-    rest: &mut Scenario<&'b Bump>,
+fn take_chosen<'b, A: Allocator>(
+    rest: &mut Cursor<'_, A, &'b Bump>,
     arena: &'b Bump,
     choice: Choice,
 ) -> Result<(), NoMemory>
-    requires { IsOffered choice (plain rest.old) }
-    ensures { OnOk result (Alike (plain rest.new) (rest_after choice (plain rest.old))) }
+    requires { IsOffered choice (remaining rest.old) }
+    ensures { OnOk result (Alike (remaining rest.new) (rest_after choice (remaining rest.old))) }
 {
     if let Choice::Offer(at, _) = choice {
         rest.take(arena, at)?;

@@ -20,7 +20,7 @@ use std::alloc::{Allocator, Global};
 /// The trial of this number: at each moment a word of the dice chooses what happens next, until a step shows a violation,
 /// nothing can happen, or the limit is reached.
 ///
-/// It takes from a copy of the scenario, in an arena of its own. Each core has one load or store outstanding at most, and
+/// It borrows the scenario, and keeps in an arena of its own how far it has come. Each core has one load or store outstanding at most, and
 /// its completions answer its loads and stores in its order. The trial breaks exactly where its steps aren't safe: where
 /// a block has a writer beside another reader or writer, a blank cell is met, or a load doesn't return the latest store.
 /// Under the protocol's own tables it never breaks, is never stuck, and its completions are sequentially consistent.
@@ -44,7 +44,7 @@ pub fn trial<A: Allocator>(
     trials_break_where_they_arent_safe();
     trials_under_the_own_tables();
     let arena = Bump::new(alloc);
-    let mut course = Course::open(alloc, &arena, scenario, setup, number)?;
+    let mut course = Course::open(alloc, scenario, setup, number)?;
     let verdict = course.run(alloc, &arena, setup.limit())?;
     let recording = course.into_recording();
     let steps = recording.entries().len() as u32;

@@ -5,7 +5,7 @@ use Rattle.trials.specs.Terms.{Terms}
 use Rattle.trials.proofs.course.Course.run.Given as goal
 
 abbrev pub invariant-loop-made : goal.invariant-loop-made
-invariant-loop-made l =
+invariant-loop-made g l =
     ((terms : Terms) (tree : Tree) (number : ℕ) → terms.limit ≡ l.fn.limit → Starts terms tree number (parts_of l.fn.self) →
     IsGoing terms tree number (parts_of l.self))
     × (length l.self.recording.entries ≡ l.made)
