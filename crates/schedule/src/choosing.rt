@@ -68,12 +68,7 @@ impl Menu {
     }
 
     /// Lists all that can happen next, as [`choices`] does. Where memory is refused the menu is empty.
-    pub fn fill<R: Rest>(
-        &mut self,
-        world: &World,
-        cores: &Cores,
-        rest: &R,
-    ) -> Result<(), NoMemory>
+    pub fn fill<R: Rest>(&mut self, world: &World, cores: &Cores, rest: &R) -> Result<(), NoMemory>
         ensures ok { OnOk result (self.new ≡ choices_of world.now.tables world.now.state cores.now (R.left rest.now)) }
         ensures err { OnErr result (self.new ≡ []) }
     {
@@ -98,12 +93,7 @@ impl Menu {
     }
 
     /// Lists what can happen next in a world that isn't broken.
-    fn list<R: Rest>(
-        &mut self,
-        world: &World,
-        cores: &Cores,
-        rest: &R,
-    ) -> Result<(), NoMemory>
+    fn list<R: Rest>(&mut self, world: &World, cores: &Cores, rest: &R) -> Result<(), NoMemory>
         requires none { self.old ≡ [] }
         requires sound { world.now.state.broken ≡ false }
         ensures { OnOk result (self.new ≡ choices_of world.now.tables world.now.state cores.now (R.left rest.now)) }
