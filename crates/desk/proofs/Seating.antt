@@ -55,7 +55,7 @@ below_more xs k count lt below x there = by_case (at_cases x k)
 pub more_there : (xs : List ℕ) (k x : ℕ) → 0 < times x xs → 0 < times x (xs ++ k ∷ [])
 more_there xs k x there = omega (arith, there, times-append x xs (k ∷ []))
 
-true_above : (n : ℕ) → 0 < n → true ≡ nat_lt 0 n
+pub true_above : (n : ℕ) → 0 < n → true ≡ nat_lt 0 n
 true_above n p = grind (arith, nat_tests)
 
 pub above : (n : ℕ) → nat_lt 0 n ≡ true → 0 < n

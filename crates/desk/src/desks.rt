@@ -44,7 +44,7 @@ impl<'j, D: Naming> Model for Desk<'j, D> {
 }
 
 impl<'j, D: Naming> Desk<'j, D> {
-    ghost use Rattle.std.specs.Prelude.{◌≡◌, ◌<◌, ◌≤◌, ◌↔◌, ℕ, replicate, All, slice_index_or, IfOk, OnOk, IfErr, IfSome, IfNone, IsErrOf, IsErrAnd, IsSome, Some, None, true};
+    ghost use Rattle.std.specs.Prelude.{◌≡◌, ◌<◌, ◌≤◌, ◌↔◌, ℕ, replicate, All, slice_index_or, IfOk, OnOk, IfErr, IfSome, IfNone, IsErrOf, IsErrAnd, IsSome, Some, None, true, false};
     ghost use Rattle.std.specs.List.Sorted.{IsStrictlyIncreasing};
     ghost use Rattle.trials.specs.declared.verdict.TrialResult.{TrialResult};
     ghost use Rattle.desk.specs.Plans.{IsResultOf, plan_of};
@@ -136,27 +136,39 @@ impl<'j, D: Naming> Desk<'j, D> {
         ensures err { IfErr result (λ refused. (refused.1 ≡ made) × (seat.new ≡ seat.old)) }
         ensures same { seat.new.desk ≡ seat.old.desk }
     {
+        if let Some(fault) = seat.refusal(number) {
+            return Err((fault, made));
+        }
+        if !self.put(seat, number, made) {
+            return Err((PostFault::NoMemory, made));
+        }
+        Ok(())
+    }
+
+    /// Sets the cell of a number that the seat has claimed, and answers whether that was done. Else nothing has changed.
+    fn put(&self, seat: &mut DeskSeat<D>, number: u32, made: TrialResult) -> bool
+        requires seat { seat.old.desk ≡ self.now.id }
+        requires made { IsResultOf D.plan number made }
+        requires claimed { HasClaimed seat.old number }
+        ensures put { result ≡ true → seat.new ≡ with_post seat.old number made }
+        ensures posted { result ≡ true → HasPosted seat.new number }
+        ensures known { result ≡ true → Knows seat.new number made }
+        ensures first { result ≡ true → (found : TrialResult) → ¬ Knows seat.old number found }
+        ensures not_put { result ≡ false → seat.new ≡ seat.old }
+    {
         let place = number as usize;
-        if place >= seat.stages.len() {
-            return Err((PostFault::NotYours, made));
-        }
-        match seat.stages[place] {
-            Stage::Free => return Err((PostFault::NotYours, made)),
-            Stage::Posted => return Err((PostFault::Already, made)),
-            Stage::Claimed => {}
-        }
         let posted = Posted {
             result: made,
             of: PhantomData,
         };
         let Ok(posted) = Box::new(self.alloc, posted) else {
-            return Err((PostFault::NoMemory, made));
+            return false;
         };
         if !set_at(&self.cells, &mut seat.notes, place, posted) {
-            return Err((PostFault::NoMemory, made));
+            return false;
         }
         seat.stages[place] = Stage::Posted;
-        Ok(())
+        true
     }
 
     /// The result of the number's trial, where the seat has posted it, has found it before, or finds it now.
@@ -189,22 +201,34 @@ fn open_all<'j, D: Naming>(
 ) -> Result<(Desk<'j, D>, Vec<DeskSeat<D>>), NoMemory>
     requires plan { D.plan ≡ plan_of job.now }
     requires few { n ≤ 1000000 }
-    requires some { 0 < seats }
-    requires seats { seats ≤ 64 }
+    requires some { (0 < seats) × (seats ≤ 64) }
     ensures desk { IfOk result (λ made. (numbers_of made.0.id ≡ n) × (made.0.seats ≡ seats)) }
     ensures seats { IfOk result (λ made. made.1.items ≡ replicate seats (new_seat made.0.id)) }
+{
+    let (desk, token) = make_desk(alloc, job, n, seats)?;
+    let row = deal_seats(&desk, token)?;
+    Ok((desk, row))
+}
+
+/// The desk, and a token with a part for each seat.
+fn make_desk<'j, D: Naming>(
+    alloc: Global,
+    job: &'j Job,
+    n: u32,
+    seats: u32,
+) -> Result<(Desk<'j, D>, Token), NoMemory>
+    requires plan { D.plan ≡ plan_of job.now }
+    requires few { n ≤ 1000000 }
+    requires some { (0 < seats) × (seats ≤ 64) }
+    ensures desk { IfOk result (λ made. (numbers_of made.0.id ≡ n) × (made.0.seats ≡ seats)) }
+    ensures token { IfOk result (λ made. (made.1.table_id ≡ made.0.id.table) × (made.1.me ≡ (fresh seats n, []))) }
 {
     let size = Size {
         count: u64::from(n),
         parts: u64::from(seats),
     };
-    let (word, mut token) = new_word(alloc, size)?;
+    let (word, token) = new_word(alloc, size)?;
     let cells = make_cells(alloc, n as usize)?;
-    let mut row = Vec::with_capacity(alloc, seats as usize)?;
-    for _ in 0..seats {
-        let part = deal_part(&word, &mut token);
-        row.push_reserved(make_seat(alloc, part, &cells)?);
-    }
     let desk = Desk {
         alloc,
         job,
@@ -212,7 +236,21 @@ fn open_all<'j, D: Naming>(
         word,
         cells,
     };
-    Ok((desk, row))
+    Ok((desk, token))
+}
+
+/// A seat for each part of a token that nothing was drawn with.
+fn deal_seats<D: Naming>(desk: &Desk<'_, D>, mut token: Token) -> Result<Vec<DeskSeat<D>>, NoMemory>
+    requires table { token.table_id ≡ desk.now.id.table }
+    requires me { token.me ≡ (fresh desk.now.seats (numbers_of desk.now.id), []) }
+    ensures { IfOk result (λ row. row.items ≡ replicate desk.now.seats (new_seat desk.now.id)) }
+{
+    let mut row = Vec::with_capacity(desk.alloc, desk.seats as usize)?;
+    for _ in 0..desk.seats {
+        let part = deal_part(&desk.word, &mut token);
+        row.push_reserved(make_seat(desk.alloc, part, &desk.cells)?);
+    }
+    Ok(row)
 }
 
 /// A seat that has claimed nothing, with a token that has one part.

@@ -4,6 +4,7 @@ ghost use Rattle.std.specs.Prelude.{◌≡◌, replicate, IfOk};
 ghost use Rattle.desk.specs.declared.seats.Stage.TheVariants.{Free};
 
 use crate::cells::CellNote;
+use crate::faults::PostFault;
 use crate::jobs::Naming;
 use crate::word::Token;
 use base::NoMemory;
@@ -57,7 +58,23 @@ impl<D: Naming> Model for DeskSeat<D> {
 }
 
 impl<D: Naming> DeskSeat<D> {
-    ghost use Rattle.std.specs.Prelude.{◌≡◌, slice_index_or, false};
+    ghost use Rattle.std.specs.Prelude.{◌≡◌, slice_index_or, Some, None, IfNone, false};
+    ghost use Rattle.desk.specs.Seats.{HasClaimed, HasPosted};
+
+    /// Why a result of this number isn't taken.
+    pub(crate) fn refusal(&self, number: u32) -> Option<PostFault>
+        ensures not_yours { ¬ HasClaimed self.now number → result ≡ Some PostFault.NotYours }
+        ensures already { HasClaimed self.now number → HasPosted self.now number → result ≡ Some PostFault.Already }
+        ensures none { HasClaimed self.now number → ¬ HasPosted self.now number → result ≡ None }
+        ensures claimed { IfNone result (HasClaimed self.now number) }
+        ensures unposted { IfNone result (¬ HasPosted self.now number) }
+    {
+        match self.stages.get(number as usize) {
+            Some(Stage::Claimed) => None,
+            Some(Stage::Posted) => Some(PostFault::Already),
+            Some(Stage::Free) | None => Some(PostFault::NotYours),
+        }
+    }
 
     /// Whether it has posted the result of this number.
     pub(crate) fn has_posted(&self, number: usize) -> bool

@@ -1,19 +1,19 @@
-use Rattle.std.proofs.Common.{◌≡◌, ap, ◌∙◌, sym, subst, arith, length, map, ◌<◌, false, true, get_or, slice_set, Some}
+use Rattle.std.proofs.Common.{◌≡◌, ap, ◌∙◌, sym, subst, arith, length, map, ◌<◌, ℕ, List, false, true, get_or, slice_set, Some}
 use Rattle.std.proofs.lemmas.List.{length-map, get_or-set_same}
+use Rattle.desk.specs.Counting.{times}
 use Rattle.desk.specs.declared.seats.Stage.TheVariants.{Posted}
 use Rattle.desk.specs.inner.Keeping.{IsSeat, is_claimed, is_posted}
-use Rattle.desk.proofs.Lists.{long_same, seen_at}
-use Rattle.desk.proofs.Seating.{posted_kept, post_seen, posts_posted}
-use Rattle.desk.proofs.desks.Desk.post.Goals as goal
+use Rattle.desk.proofs.Lists.{long_same}
+use Rattle.desk.proofs.Seating.{posted_kept, post_seen, posts_posted, true_above}
+use Rattle.desk.proofs.desks.Desk.put.Goals as goal
 
 pub invariant_of-seat-2 : goal.invariant_of-seat-2
 invariant_of-seat-2 g c =
     let i = c.seat.inside in
     let k = c.args.number in
-    let within : k < length i.stages.items = omega (arith, c.if-place-len.false, c.len.ensures, i.stages.ok.0) in
-    let lt : k < length i.notes.items = omega (arith, within, length-map i.stages.items is_claimed, c.seat.invariant.claims_length) in
-    let mine : get_or (map is_claimed i.stages.items) k false ≡ true =
-    seen_at is_claimed i.stages.items k c.index.result.now false within c.index.ensures ∙ ap is_claimed c.in-Claimed.is in
+    let there : 0 < times k i.token.me.0.drawn = subst (λ (l : List ℕ). 0 < times k l) (sym (ap (λ s. s.claimed) c.seat.view_is)) c.requires.claimed in
+    let lt : k < length i.notes.items = c.seat.invariant.below k there in
+    let mine : get_or (map is_claimed i.stages.items) k false ≡ true = c.seat.invariant.claims_are k lt ∙ sym (true_above _ there) in
     let long = long_same (λ n. n.cell) c.set_at.new.notes.items i.notes.items c.set_at.ensures.cells in
     subst (λ n. IsSeat i.token.me n i.told (map is_claimed (slice_set i.stages.items k Posted)) (map is_posted (slice_set i.stages.items k Posted)) (map (λ n. n.known) c.set_at.new.notes.items))
     (sym long)
@@ -21,8 +21,8 @@ invariant_of-seat-2 g c =
     c.requires.made.numbered
     (c.set_at.ensures.set c.if-not-set_at.false ∙ ap (λ v. slice_set (map (λ n. n.known) i.notes.items) k (Some v)) c.in-Ok.ensures.ok))
 
-pub returns-clause-ok : goal.returns-clause-ok
-returns-clause-ok g c =
+pub returns-clause-put : goal.returns-clause-put
+returns-clause-put g c = λ _.
     let i = c.seat.inside in
     let k = c.args.number in
     post_seen i.token.table_id (map (λ n. n.cell) i.notes.items) (map (λ n. n.cell) c.set_at.new.notes.items) i.token.me.0.drawn i.told (map is_posted i.stages.items)
@@ -38,8 +38,10 @@ returns-clause-ok g c =
     (c.set_at.ensures.set c.if-not-set_at.false ∙ ap (λ v. slice_set (map (λ n. n.known) i.notes.items) k (Some v)) c.in-Ok.ensures.ok)
 
 pub returns-clause-posted : goal.returns-clause-posted
-returns-clause-posted g c =
+returns-clause-posted g c = λ _.
     let i = c.seat.inside in
     let k = c.args.number in
-    let within : k < length (map is_posted i.stages.items) = omega (arith, c.if-place-len.false, c.len.ensures, i.stages.ok.0, length-map i.stages.items is_posted) in
+    let there : 0 < times k i.token.me.0.drawn = subst (λ (l : List ℕ). 0 < times k l) (sym (ap (λ s. s.claimed) c.seat.view_is)) c.requires.claimed in
+    let lt = c.seat.invariant.below k there in
+    let within : k < length (map is_posted i.stages.items) = omega (arith, lt, c.seat.invariant.posts_length) in
     ap (λ l. get_or l k false) (posts_posted i.stages.items k) ∙ get_or-set_same (map is_posted i.stages.items) k true false within
