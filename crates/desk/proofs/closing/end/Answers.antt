@@ -1,3 +1,4 @@
+use Rattle.std.proofs.lemmas.Grind.{common_steps}
 use Rattle.std.proofs.Common.{◌≡◌, ap, sym, ◌∙◌, subst, arith, None, length, get_or, rules}
 use Rattle.std.proofs.lemmas.List.Elements.{All-same, All-weaker}
 use Rattle.once_cell.specs.Once.{cell_name}
@@ -38,3 +39,42 @@ returns-clause-places g c = λ k lt.
     let i = c.loop-seat.invariant in
     subst (λ ss. IsPlace g.D.Naming.plan ss k (get_or c.loop-seat.places.items k None)) c.deref_mut-seat-items.ensures.value
     (place_all g.D.Naming.plan c.deref_mut-seat-items.result.now c.loop-seat.seat-index k (get_or c.loop-seat.places.items k None) (let far = ap (λ l. length l) i.seats in omega (arith, c.loop-seat-test.false, far)) (i.places k lt))
+
+pub deref_mut-seat-items-requires : goal.deref_mut-seat-items-requires
+deref_mut-seat-items-requires g c κs = search rules
+
+pub loop-seat-init : goal.loop-seat-init
+loop-seat-init g c = grind (arith, common_steps)
+
+pub offset_bounds-seat-items-seat-index : goal.offset_bounds-seat-items-seat-index
+offset_bounds-seat-items-seat-index g c = grind (arith, common_steps)
+
+pub bounds-seat-items-seat-index : goal.bounds-seat-items-seat-index
+bounds-seat-items-seat-index g c = grind (arith, common_steps)
+
+pub collect-requires-clause-same : goal.collect-requires-clause-same
+collect-requires-clause-same g c = grind (arith, common_steps)
+
+pub collect-requires-clause-long : goal.collect-requires-clause-long
+collect-requires-clause-long g c = grind (arith, common_steps)
+
+pub loop-seat-smaller : goal.loop-seat-smaller
+loop-seat-smaller g c = grind (arith, common_steps)
+
+pub settle-requires-clause-one : goal.settle-requires-clause-one
+settle-requires-clause-one g c = grind (arith, common_steps)
+
+pub settle-requires-clause-enough : goal.settle-requires-clause-enough
+settle-requires-clause-enough g c = grind (arith, common_steps)
+
+pub drop-desk-inside-requires : goal.drop-desk-inside-requires
+drop-desk-inside-requires g c κs = search rules
+
+pub drop-desk-inside-requires-2 : goal.drop-desk-inside-requires-2
+drop-desk-inside-requires-2 g c κs = search rules
+
+pub returns-clause-claims : goal.returns-clause-claims
+returns-clause-claims g c = grind (arith, common_steps)
+
+pub returns-clause-length : goal.returns-clause-length
+returns-clause-length g c = grind (arith, common_steps)

@@ -1,4 +1,5 @@
-use Rattle.std.proofs.Common.{rules, sym, subst, length, map}
+use Rattle.std.proofs.lemmas.Grind.{common_steps}
+use Rattle.std.proofs.Common.{rules, sym, subst, length, map, arith}
 use Rattle.desk.specs.inner.Keeping.{IsSeat, is_claimed, is_posted}
 use Rattle.desk.proofs.Lists.{long_same}
 use Rattle.desk.proofs.Seating.{looked_kept}
@@ -13,3 +14,48 @@ invariant_of-seat g c =
     c.seat.invariant
     (search rules)
     c.get_at.ensures.value)
+
+pub len-requires : goal.len-requires
+len-requires g c κs = search rules
+
+pub returns-then-place-len-clause-some : goal.returns-then-place-len-clause-some
+returns-then-place-len-clause-some g c = grind (arith, common_steps)
+
+pub returns-then-place-len-clause-own : goal.returns-then-place-len-clause-own
+returns-then-place-len-clause-own g c = grind (arith, common_steps)
+
+pub returns-then-place-len-clause-again : goal.returns-then-place-len-clause-again
+returns-then-place-len-clause-again g c = grind (arith, common_steps)
+
+pub returns-then-place-len-clause-none : goal.returns-then-place-len-clause-none
+returns-then-place-len-clause-none g c = grind (arith, common_steps)
+
+pub returns-then-place-len-clause-others : goal.returns-then-place-len-clause-others
+returns-then-place-len-clause-others g c = grind (arith, common_steps)
+
+pub returns-then-place-len-clause-same : goal.returns-then-place-len-clause-same
+returns-then-place-len-clause-same g c = grind (arith, common_steps)
+
+pub get_at-requires-clause-same : goal.get_at-requires-clause-same
+get_at-requires-clause-same g c = grind (arith, common_steps)
+
+pub get_at-requires-clause-within : goal.get_at-requires-clause-within
+get_at-requires-clause-within g c = grind (arith, common_steps)
+
+pub returns-clause-some : goal.returns-clause-some
+returns-clause-some g c = grind (arith, common_steps)
+
+pub returns-clause-own : goal.returns-clause-own
+returns-clause-own g c = grind (arith, common_steps)
+
+pub returns-clause-again : goal.returns-clause-again
+returns-clause-again g c = grind (arith, common_steps)
+
+pub returns-clause-none : goal.returns-clause-none
+returns-clause-none g c = grind (arith, common_steps)
+
+pub returns-clause-others : goal.returns-clause-others
+returns-clause-others g c = grind (arith, common_steps)
+
+pub returns-clause-same : goal.returns-clause-same
+returns-clause-same g c = grind (arith, common_steps)

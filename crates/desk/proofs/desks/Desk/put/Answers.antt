@@ -1,4 +1,5 @@
-use Rattle.std.proofs.Common.{◌≡◌, ap, ◌∙◌, sym, subst, arith, length, map, ◌<◌, ℕ, List, false, true, get_or, slice_set, Some}
+use Rattle.std.proofs.lemmas.Grind.{common_steps}
+use Rattle.std.proofs.Common.{rules, ◌≡◌, ap, ◌∙◌, sym, subst, arith, length, map, ◌<◌, ℕ, List, false, true, get_or, slice_set, Some}
 use Rattle.std.proofs.lemmas.List.{length-map, get_or-set_same}
 use Rattle.desk.specs.Counting.{times}
 use Rattle.desk.specs.declared.seats.Stage.TheVariants.{Posted}
@@ -45,3 +46,60 @@ returns-clause-posted g c = λ _.
     let lt = c.seat.invariant.below k there in
     let within : k < length (map is_posted i.stages.items) = omega (arith, lt, c.seat.invariant.posts_length) in
     ap (λ l. get_or l k false) (posts_posted i.stages.items k) ∙ get_or-set_same (map is_posted i.stages.items) k true false within
+
+pub invariant_of-posted : goal.invariant_of-posted
+invariant_of-posted g c = grind (arith, common_steps)
+
+pub new-requires : goal.new-requires
+new-requires g c κs = search rules
+
+pub returns-in_default-clause-put : goal.returns-in_default-clause-put
+returns-in_default-clause-put g c = grind (arith, common_steps)
+
+pub returns-in_default-clause-posted : goal.returns-in_default-clause-posted
+returns-in_default-clause-posted g c = grind (arith, common_steps)
+
+pub returns-in_default-clause-known : goal.returns-in_default-clause-known
+returns-in_default-clause-known g c = grind (arith, common_steps)
+
+pub returns-in_default-clause-first : goal.returns-in_default-clause-first
+returns-in_default-clause-first g c = grind (arith, common_steps)
+
+pub returns-in_default-clause-not_put : goal.returns-in_default-clause-not_put
+returns-in_default-clause-not_put g c = grind (arith, common_steps)
+
+pub set_at-requires-clause-same : goal.set_at-requires-clause-same
+set_at-requires-clause-same g c = grind (arith, common_steps)
+
+pub set_at-requires-clause-within : goal.set_at-requires-clause-within
+set_at-requires-clause-within g c = grind (arith, common_steps)
+
+pub invariant_of-seat : goal.invariant_of-seat
+invariant_of-seat g c = grind (arith, common_steps)
+
+pub returns-then-not-set_at-clause-put : goal.returns-then-not-set_at-clause-put
+returns-then-not-set_at-clause-put g c = grind (arith, common_steps)
+
+pub returns-then-not-set_at-clause-posted : goal.returns-then-not-set_at-clause-posted
+returns-then-not-set_at-clause-posted g c = grind (arith, common_steps)
+
+pub returns-then-not-set_at-clause-known : goal.returns-then-not-set_at-clause-known
+returns-then-not-set_at-clause-known g c = grind (arith, common_steps)
+
+pub returns-then-not-set_at-clause-first : goal.returns-then-not-set_at-clause-first
+returns-then-not-set_at-clause-first g c = grind (arith, common_steps)
+
+pub returns-then-not-set_at-clause-not_put : goal.returns-then-not-set_at-clause-not_put
+returns-then-not-set_at-clause-not_put g c = grind (arith, common_steps)
+
+pub index_mut-requires : goal.index_mut-requires
+index_mut-requires g c = grind (arith, common_steps)
+
+pub returns-clause-known : goal.returns-clause-known
+returns-clause-known g c = grind (arith, common_steps)
+
+pub returns-clause-first : goal.returns-clause-first
+returns-clause-first g c = grind (arith, common_steps)
+
+pub returns-clause-not_put : goal.returns-clause-not_put
+returns-clause-not_put g c = grind (arith, common_steps)
