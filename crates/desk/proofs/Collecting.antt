@@ -13,7 +13,8 @@ pub place_none : (plan : Plan) (ss : List SeatView) (k : ℕ) → IsPlaceUpTo pl
 place_none plan ss k i s lt at posted = absurd (omega (arith, lt))
 
 -- one seat more
-pub place_more : (plan : Plan) (ss : List SeatView) (m k : ℕ) (s : SeatView) (o new : Option TrialResult) → slice_get ss m ≡ Some s → IsPlaceUpTo plan ss m k o → Collects plan s k o new → IsPlaceUpTo plan ss (m + 1) k new
+pub place_more : (plan : Plan) (ss : List SeatView) (m k : ℕ) (s : SeatView) (o new : Option TrialResult) → slice_get ss m ≡ Some s
+    → IsPlaceUpTo plan ss m k o → Collects plan s k o new → IsPlaceUpTo plan ss (m + 1) k new
 place_more plan ss m k s o new at h c = by_case (get_or s.posted k false) refl
   where
     stays : (x : Option TrialResult) → (get_or s.posted k false ≡ false) → IsPlaceUpTo plan ss m k x → IsPlaceUpTo plan ss (m + 1) k x
@@ -45,7 +46,8 @@ collects_more plan s n place olds news after long lt below others here k lt_k = 
 ]
 
 -- of a seat that posted, and of one that didn't
-pub collects_yes : (plan : Plan) (s : SeatView) (k : ℕ) (o new : Option TrialResult) → HasPosted s k → ((r : TrialResult) × (new ≡ Some r) × Knows s k r × IsResultOf plan k r) → Collects plan s k o new
+pub collects_yes : (plan : Plan) (s : SeatView) (k : ℕ) (o new : Option TrialResult) → HasPosted s k
+    → ((r : TrialResult) × (new ≡ Some r) × Knows s k r × IsResultOf plan k r) → Collects plan s k o new
 collects_yes plan s k o new did q = ((λ isnt. absurd (isnt did)), (λ _. q))
 
 pub collects_no : (plan : Plan) (s : SeatView) (k : ℕ) (o new : Option TrialResult) → get_or s.posted k false ≡ false → new ≡ o → Collects plan s k o new

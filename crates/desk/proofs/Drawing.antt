@@ -9,7 +9,8 @@ use Rattle.desk.specs.declared.word.Size.{Size}
 use Rattle.desk.specs.Counting.{times, once_below}
 use Rattle.desk.specs.inner.Drawing.{total, ended, fresh, IsDrawn, drew, merged, Draws, Totals}
 
-set_get : (views : List TokenView) (id by : ℕ) (w v : TokenView) → get_elem? (slice_set views id w) by ≡ some v → ((by ≡ id) × (v ≡ w)) ⊎ ((by ≢ id) × (get_elem? views by ≡ some v))
+set_get : (views : List TokenView) (id by : ℕ) (w v : TokenView) → get_elem? (slice_set views id w) by ≡ some v
+    → ((by ≡ id) × (v ≡ w)) ⊎ ((by ≢ id) × (get_elem? views by ≡ some v))
 set_get [] id by w v e = absurd (cc e)
 set_get (u ∷ us) zero zero w v e = inl (refl, cc e)
 set_get (u ∷ us) zero (suc by) w v e = inr ((λ p. absurd (omega (arith, p))), e)
@@ -19,7 +20,8 @@ set_get (u ∷ us) (suc id) (suc by) w v e = elim (set_get us id by w v e) [
   | inr a ↦ inr ((λ p. a.0 (omega (arith, p))), a.1)
 ]
 
-set_same : (views : List TokenView) (id by : ℕ) (w v : TokenView) → get_elem? views id ≡ some w → get_elem? (slice_set views id w) by ≡ some v → get_elem? views by ≡ some v
+set_same : (views : List TokenView) (id by : ℕ) (w v : TokenView) → get_elem? views id ≡ some w → get_elem? (slice_set views id w) by ≡ some v
+    → get_elem? views by ≡ some v
 set_same views id by w v at e = elim (set_get views id by w v e) [
   | inl q ↦ rw (q.0, q.1) at
   | inr q ↦ q.1
@@ -31,7 +33,8 @@ snoc_get [] w v (suc by) e = absurd (cc e)
 snoc_get (u ∷ us) w v zero e = inl e
 snoc_get (u ∷ us) w v (suc by) e = snoc_get us w v by e
 
-total_set : (f : TokenView → ℕ) (views : List TokenView) (port : ℕ) (v w : TokenView) → get_elem? views port ≡ some v → total f (slice_set views port w) + f v ≡ total f views + f w
+total_set : (f : TokenView → ℕ) (views : List TokenView) (port : ℕ) (v w : TokenView) → get_elem? views port ≡ some v
+    → total f (slice_set views port w) + f v ≡ total f views + f w
 total_set f [] port v w at = absurd (cc at)
 total_set f (u ∷ us) zero v w at = let e : u ≡ v = cc at in omega (arith, ap f e)
 total_set f (u ∷ us) (suc port) v w at = omega (arith, total_set f us port v w at)
@@ -41,7 +44,8 @@ total_snoc f [] w = omega arith
 total_snoc f (u ∷ us) w = omega (arith, total_snoc f us w)
 
 -- a part that isn't counted leaves room
-room : (f g : TokenView → ℕ) → ((u : TokenView) → f u ≤ g u) → (views : List TokenView) (port : ℕ) (v : TokenView) → get_elem? views port ≡ some v → total f views + g v ≤ total g views + f v
+room : (f g : TokenView → ℕ) → ((u : TokenView) → f u ≤ g u) → (views : List TokenView) (port : ℕ) (v : TokenView) → get_elem? views port ≡ some v
+    → total f views + g v ≤ total g views + f v
 room f g le [] port v at = absurd (cc at)
 room f g le (u ∷ us) zero v at = let e : u ≡ v = cc at in omega (arith, ap f e, ap g e, all_le us)
   where
@@ -88,7 +92,8 @@ ended_le : (u : TokenView) → ended u ≤ u.parts
 ended_le u = grind arith
 
 -- the next number, where it is one of them
-one_more : (x n count : ℕ) (xs : List ℕ) (a b : ℕ) → b + times x xs ≡ a + times x (cond (nat_lt n count) (xs ++ n ∷ []) xs) → a ≡ once_below x (min n count) → b ≡ once_below x (min (n + 1) count)
+one_more : (x n count : ℕ) (xs : List ℕ) (a b : ℕ) → b + times x xs ≡ a + times x (cond (nat_lt n count) (xs ++ n ∷ []) xs)
+    → a ≡ once_below x (min n count) → b ≡ once_below x (min (n + 1) count)
 one_more x n count xs a b p q = by_case (nat_lt n count) refl
   where
     by_case : (t : Bool) → nat_lt n count ≡ t → b ≡ once_below x (min (n + 1) count)
@@ -106,7 +111,8 @@ one_less n count parts a b p part q = by_case (nat_lt n count) refl
 past : (n count : ℕ) → not (nat_lt n count) ≡ true → count ≤ n
 past n count e = grind (arith, nat_tests)
 
-draws_kept : (size : Size) (s : State (Unit {0}) TokenView) (id : ℕ) (v : TokenView) → v.count ≡ size.count → 0 < v.parts → size.count + size.parts < 2 ^ 64 → v.over ≡ false
+draws_kept : (size : Size) (s : State (Unit {0}) TokenView) (id : ℕ) (v : TokenView) → v.count ≡ size.count → 0 < v.parts
+    → size.count + size.parts < 2 ^ 64 → v.over ≡ false
     → IsDrawn size s → get_elem? s.views id ≡ some v
     → IsDrawn size (stepped s 0 ((slice_index s.words 0 + 1) % 2 ^ 64) id [] (drew v.count v (slice_index s.words 0)) keeps)
 draws_kept size s id v count part small on h at =
@@ -133,13 +139,15 @@ draws_kept size s id v count part small on h at =
     }
 
 -- what a token has drawn lies below the word
-drawn_below : (size : Size) (s : State (Unit {0}) TokenView) (id : ℕ) (v : TokenView) → IsDrawn size s → get_elem? s.views id ≡ some v → (x : ℕ) → 0 < times x v.drawn → x < slice_index s.words 0
+drawn_below : (size : Size) (s : State (Unit {0}) TokenView) (id : ℕ) (v : TokenView) → IsDrawn size s → get_elem? s.views id ≡ some v → (x : ℕ)
+    → 0 < times x v.drawn → x < slice_index s.words 0
 drawn_below size s id v h at x some_there = let le = one_of (λ u. times x u.drawn) s.views id v at in let each = h.each x in below (slice_index s.words 0) size.count (omega (arith, le, each, some_there))
   where
     below : (n count : ℕ) → 0 < once_below x (min n count) → x < n
     below n count p = grind (arith, nat_tests)
 
-pub steps : (size : Size) (slots id : ℕ) (me : Me (Unit {0}) TokenView) → me.0.count ≡ size.count → 0 < me.0.parts → size.count + size.parts < 2 ^ 64 → me.0.over ≡ false
+pub steps : (size : Size) (slots id : ℕ) (me : Me (Unit {0}) TokenView) → me.0.count ≡ size.count → 0 < me.0.parts → size.count + size.parts < 2 ^ 64
+    → me.0.over ≡ false
     → Allows (IsDrawn size) slots id me 0 (λ n. (n + 1) % 2 ^ 64) (Draws (step slots 0 1 0 none) me)
 steps size slots id me count part small on s h len at fits =
     (drew me.0.count me.0 (slice_index s.words 0), keeps, tt, draws_kept size s id me.0 count part small on h at, (refl, refl, drawn_below size s id me.0 h at))
@@ -161,7 +169,8 @@ opens size = record {
     first_view zero v e = cc e
     first_view (suc id) v e = absurd (cc e)
 
-pub deals : (size : Size) (id : ℕ) (v : TokenView) → v ≡ fresh v.parts v.count → 0 < v.parts → Splits (IsDrawn size) id v (fresh (v.parts - 1) v.count) (fresh 1 v.count)
+pub deals : (size : Size) (id : ℕ) (v : TokenView) → v ≡ fresh v.parts v.count → 0 < v.parts
+    → Splits (IsDrawn size) id v (fresh (v.parts - 1) v.count) (fresh 1 v.count)
 deals size id v new part s h at =
     let left : TokenView = fresh (v.parts - 1) v.count in
     let right : TokenView = fresh 1 v.count in

@@ -5,7 +5,8 @@ use Rattle.std.specs.Result.{is_err}
 use Rattle.std.proofs.lemmas.List.{get_or-map, map-set, set-get_or, length-map, drop_all, take_all, append-nil}
 use Rattle.std.proofs.lemmas.Option.{slice_get-get_or}
 
-pub cells_meet : {N C : Type 0} (f : N → ℕ) (g : C → ℕ) (ns : List N) (cs : List C) (k : ℕ) (n : N) (c : C) → map f ns ≡ map g cs → k < length cs → n ≡ get_or ns k n → c ≡ get_or cs k c → f n ≡ g c
+pub cells_meet : {N C : Type 0} (f : N → ℕ) (g : C → ℕ) (ns : List N) (cs : List C) (k : ℕ) (n : N) (c : C) → map f ns ≡ map g cs → k < length cs
+    → n ≡ get_or ns k n → c ≡ get_or cs k c → f n ≡ g c
 cells_meet f g ns cs k n c same lt at_n at_c =
     let len : length ns ≡ length cs = sym (length-map ns f) ∙ (ap (λ l. length l) same ∙ length-map cs g) in
     ap f at_n ∙ (sym (get_or-map f ns k n 0 (omega (arith, len, lt))) ∙ (ap (λ l. get_or l k 0) same ∙ (get_or-map g cs k c 0 lt ∙ sym (ap g at_c))))

@@ -73,11 +73,13 @@ set_same xs k b e = ap (λ x. slice_set xs k x) (sym e) ∙ set-get_or xs k fals
 pub claims_claimed : (stages : List Stage) (k : ℕ) → map is_claimed (slice_set stages k Claimed) ≡ slice_set (map is_claimed stages) k true
 claims_claimed stages k = map-set is_claimed stages k Claimed
 
-pub posts_claimed : (stages : List Stage) (k : ℕ) → get_or (map is_posted stages) k false ≡ false → map is_posted (slice_set stages k Claimed) ≡ map is_posted stages
+pub posts_claimed : (stages : List Stage) (k : ℕ) → get_or (map is_posted stages) k false ≡ false
+    → map is_posted (slice_set stages k Claimed) ≡ map is_posted stages
 posts_claimed stages k e = map-set is_posted stages k Claimed ∙ set_same (map is_posted stages) k false e
 
 -- a number that is posted now
-pub claims_posted : (stages : List Stage) (k : ℕ) → get_or (map is_claimed stages) k false ≡ true → map is_claimed (slice_set stages k Posted) ≡ map is_claimed stages
+pub claims_posted : (stages : List Stage) (k : ℕ) → get_or (map is_claimed stages) k false ≡ true
+    → map is_claimed (slice_set stages k Posted) ≡ map is_claimed stages
 claims_posted stages k e = map-set is_claimed stages k Posted ∙ set_same (map is_claimed stages) k true e
 
 pub posts_posted : (stages : List Stage) (k : ℕ) → map is_posted (slice_set stages k Posted) ≡ slice_set (map is_posted stages) k true
@@ -158,7 +160,8 @@ free_posts zero = refl
 free_posts (suc n) = ap (λ l. false ∷ l) (free_posts n)
 
 -- a seat that has done nothing
-pub new_kept : (me : Me (Unit {0}) TokenView) (count : ℕ) (stages : List Stage) (known : List (Option TrialResult)) → me ≡ (fresh 1 count, []) → stages ≡ replicate count Free → known ≡ replicate count None
+pub new_kept : (me : Me (Unit {0}) TokenView) (count : ℕ) (stages : List Stage) (known : List (Option TrialResult)) → me ≡ (fresh 1 count, [])
+    → stages ≡ replicate count Free → known ≡ replicate count None
     → IsSeat me count false (map is_claimed stages) (map is_posted stages) known
 new_kept me count stages known e s n =
     let claims : map is_claimed stages ≡ replicate count false = ap (λ l. map is_claimed l) s ∙ free_claims count in
@@ -174,7 +177,8 @@ new_kept me count stages known e s n =
       posts_are = λ k p. absurd (cc (sym p ∙ (ap (λ l. get_or l k false) posts ∙ none_true count k)));
     }
 
-pub new_seen : (table : TableId) (cells mine : List ℕ) (drawn : List ℕ) (stages : List Stage) (known : List (Option TrialResult)) → drawn ≡ [] → mine ≡ cells → stages ≡ replicate (length cells) Free
+pub new_seen : (table : TableId) (cells mine : List ℕ) (drawn : List ℕ) (stages : List Stage) (known : List (Option TrialResult)) → drawn ≡ []
+    → mine ≡ cells → stages ≡ replicate (length cells) Free
     → known ≡ replicate (length cells) None
     → record { desk = record { table = table; cells = mine }; claimed = drawn; told = false; posted = map is_posted stages; known = known } ≡ new_seat (record { table = table; cells = cells })
 new_seen table cells mine drawn stages known d c s n = rw (d, c, n, ap (λ l. map is_posted l) s ∙ free_posts (length cells)) refl

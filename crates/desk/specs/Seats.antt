@@ -61,4 +61,10 @@ with_known seat number known =
 -- the seat once it has posted this result of the number
 abbrev pub with_post : SeatView → ℕ → TrialResult → SeatView
 with_post seat number result =
-    record { desk = seat.desk; claimed = seat.claimed; told = seat.told; posted = slice_set seat.posted number true; known = slice_set seat.known number (Some result) }
+    record {
+      desk = seat.desk;
+      claimed = seat.claimed;
+      told = seat.told;
+      posted = slice_set seat.posted number true;
+      known = slice_set seat.known number (Some result);
+    }

@@ -91,7 +91,8 @@ pub(crate) fn get_at<'a, D: Naming>(
     requires within { place < length cells.now.items }
     ensures cells { map (λ n. n.cell) notes.new.items ≡ map (λ n. n.cell) notes.old.items }
     ensures value { MatchOption result
-        ((slice_index_or (map (λ n. n.known) notes.old.items) place None ≡ None) × (map (λ n. n.known) notes.new.items ≡ map (λ n. n.known) notes.old.items))
+        ((slice_index_or (map (λ n. n.known) notes.old.items) place None ≡ None)
+        × (map (λ n. n.known) notes.new.items ≡ map (λ n. n.known) notes.old.items))
         (λ r. (map (λ n. n.known) notes.new.items ≡ slice_set (map (λ n. n.known) notes.old.items) place (Some r.now))
         × Agrees (slice_index_or (map (λ n. n.known) notes.old.items) place None) r.now) }
 {
@@ -106,8 +107,11 @@ pub(crate) fn peek_at<'a, D: Naming>(
 ) -> Option<&'a Posted<D>>
     requires same { map (λ n. n.cell) notes.old.items ≡ map cell_name cells.now.items }
     requires within { place < length cells.now.items }
-    ensures notes { (map (λ n. n.cell) notes.new.items ≡ map (λ n. n.cell) notes.old.items) × (map (λ n. n.known) notes.new.items ≡ map (λ n. n.known) notes.old.items) }
-    ensures value { MatchOption result (slice_index_or (map (λ n. n.known) notes.old.items) place None ≡ None) (λ r. Agrees (slice_index_or (map (λ n. n.known) notes.old.items) place None) r.now) }
+    ensures notes { (map (λ n. n.cell) notes.new.items ≡ map (λ n. n.cell) notes.old.items)
+        × (map (λ n. n.known) notes.new.items ≡ map (λ n. n.known) notes.old.items) }
+    ensures value { MatchOption result
+        (slice_index_or (map (λ n. n.known) notes.old.items) place None ≡ None)
+        (λ r. Agrees (slice_index_or (map (λ n. n.known) notes.old.items) place None) r.now) }
 {
     let mut note = notes[place].again();
     cells[place].get_as(&mut note)

@@ -134,7 +134,8 @@ pub fn count_all(word: &Word, token: &mut Token)
     requires words { word.now.shared.table_id.words ≡ 1 }
     requires count { token.old.me.0.count ≡ word.now.shared.key.count }
     requires all { word.now.shared.key.parts ≤ token.old.me.0.parts }
-    ensures { (c : ℕ) × (c ≤ token.old.me.0.count) × ((x : ℕ) → times x token.old.me.0.drawn ≡ once_below x c) × (token.old.me.0.over ≡ true → c ≡ token.old.me.0.count) }
+    ensures { (c : ℕ) × (c ≤ token.old.me.0.count) × ((x : ℕ) → times x token.old.me.0.drawn ≡ once_below x c)
+        × (token.old.me.0.over ≡ true → c ≡ token.old.me.0.count) }
 {
     word.shared.load::<Total>(token, 0);
 }
