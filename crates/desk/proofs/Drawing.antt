@@ -69,7 +69,8 @@ all_of f (u ∷ us) zero v at le idle =
     let p = ap (λ x. x.parts) e in
     omega (arith, ap f e, none_of us (omega (arith, le, p)) (λ id x g. idle (suc id) x g))
   where
-    none_of : (vs : List TokenView) → total (λ x. x.parts) vs ≡ 0 → ((id : ℕ) (x : TokenView) → get_elem? vs id ≡ some x → x.parts ≡ 0 → f x ≡ 0) → total f vs ≡ 0
+    none_of : (vs : List TokenView) → total (λ x. x.parts) vs ≡ 0 → ((id : ℕ) (x : TokenView) → get_elem? vs id ≡ some x → x.parts ≡ 0 → f x ≡ 0) →
+        total f vs ≡ 0
     none_of [] z i = refl
     none_of (x ∷ xs) z i = omega (arith, i 0 x refl (omega (arith, z)), none_of xs (omega (arith, z)) (λ id y g. i (suc id) y g))
 all_of f (u ∷ us) (suc port) v at le idle =
@@ -97,7 +98,8 @@ one_more : (x n count : ℕ) (xs : List ℕ) (a b : ℕ) → b + times x xs ≡ 
 one_more x n count xs a b p q = by_case (nat_lt n count) refl
   where
     by_case : (t : Bool) → nat_lt n count ≡ t → b ≡ once_below x (min (n + 1) count)
-    by_case true e = let p' = subst (λ t. b + times x xs ≡ a + times x (cond t (xs ++ n ∷ []) xs)) e p in grind (arith, nat_tests, times-append x xs (n ∷ []), p', q)
+    by_case true e = let p' = subst (λ t. b + times x xs ≡ a + times x (cond t (xs ++ n ∷ []) xs)) e p in grind
+        (arith, nat_tests, times-append x xs (n ∷ []), p', q)
     by_case false e = let p' = subst (λ t. b + times x xs ≡ a + times x (cond t (xs ++ n ∷ []) xs)) e p in grind (arith, nat_tests, p', q)
 
 -- who was told that there are no more counts as ended
@@ -126,8 +128,11 @@ draws_kept size s id v count part small on h at =
     record {
       one = kept_length s.words _ h.one;
       parts = let t = total_set (λ u. u.parts) s.views id v w at in omega (arith, t, h.parts);
-      each = λ x. rw here (subst (λ k. total (λ u. times x u.drawn) (slice_set s.views id w) ≡ once_below x (min (n + 1) k)) count (one_more x n v.count v.drawn _ _ (total_set (λ u. times x u.drawn) s.views id v w at) (h.each x ∙ ap (λ k. once_below x (min n k)) (sym count))));
-      bound = rw here (subst (λ k. n + 1 ≤ k + total ended (slice_set s.views id w)) count (one_less n v.count v.parts _ _ (subst (λ k. total ended (slice_set s.views id w) + k ≡ total ended s.views + ended w) off (total_set ended s.views id v w at)) part (subst (λ k. n ≤ k + total ended s.views) (sym count) h.bound)));
+      each = λ x. rw here (subst (λ k. total (λ u. times x u.drawn) (slice_set s.views id w) ≡ once_below x (min (n + 1) k)) count
+          (one_more x n v.count v.drawn _ _ (total_set (λ u. times x u.drawn) s.views id v w at) (h.each x ∙ ap (λ k. once_below x (min n k)) (sym count))));
+      bound = rw here (subst (λ k. n + 1 ≤ k + total ended (slice_set s.views id w)) count
+          (one_less n v.count v.parts _ _ (subst (λ k. total ended (slice_set s.views id w) + k ≡ total ended s.views + ended w) off
+          (total_set ended s.views id v w at)) part (subst (λ k. n ≤ k + total ended s.views) (sym count) h.bound)));
       told = λ b x got over. rw here (elim (set_get s.views id b w x got) [
         | inl q ↦ let far = past n v.count (sym (ap (λ u. u.over) q.1) ∙ over) in omega (arith, far, count)
         | inr q ↦ let far = h.told b x q.1 over in omega (arith, far)
@@ -141,7 +146,8 @@ draws_kept size s id v count part small on h at =
 -- what a token has drawn lies below the word
 drawn_below : (size : Size) (s : State (Unit {0}) TokenView) (id : ℕ) (v : TokenView) → IsDrawn size s → get_elem? s.views id ≡ some v → (x : ℕ)
     → 0 < times x v.drawn → x < slice_index s.words 0
-drawn_below size s id v h at x some_there = let le = one_of (λ u. times x u.drawn) s.views id v at in let each = h.each x in below (slice_index s.words 0) size.count (omega (arith, le, each, some_there))
+drawn_below size s id v h at x some_there = let le = one_of (λ u. times x u.drawn) s.views id v at in let each = h.each x in below
+    (slice_index s.words 0) size.count (omega (arith, le, each, some_there))
   where
     below : (n count : ℕ) → 0 < once_below x (min n count) → x < n
     below n count p = grind (arith, nat_tests)
@@ -178,7 +184,8 @@ deals size id v new part s h at =
     let over : v.over ≡ false = ap (λ u. u.over) new in
     record {
       one = h.one;
-      parts = let t = total_set (λ u. u.parts) s.views id v left at in let r = total_snoc (λ u. u.parts) (slice_set s.views id left) right in omega (arith, t, r, h.parts, part);
+      parts = let t = total_set (λ u. u.parts) s.views id v left at in let r = total_snoc (λ u. u.parts) (slice_set s.views id left) right in omega
+          (arith, t, r, h.parts, part);
       each = λ x. let t = total_set (λ u. times x u.drawn) s.views id v left at in
           let r = total_snoc (λ u. times x u.drawn) (slice_set s.views id left) right in
           let d = ap (λ l. times x l) drawn in let each = h.each x in omega (arith, t, r, d, each);
@@ -224,7 +231,8 @@ merges size id other v w s h at apart got =
     ] in
     record {
       one = h.one;
-      parts = let t = total_set (λ u. u.parts) s.views id v both at in let r = total_set (λ u. u.parts) (slice_set s.views id both) other w (fresh 0 0) got in omega (arith, t, r, h.parts);
+      parts = let t = total_set (λ u. u.parts) s.views id v both at in let r = total_set (λ u. u.parts) (slice_set s.views id both) other w
+          (fresh 0 0) got in omega (arith, t, r, h.parts);
       each = λ x. let t = total_set (λ u. times x u.drawn) s.views id v both at in
           let r = total_set (λ u. times x u.drawn) (slice_set s.views id both) other w (fresh 0 0) got in
           let a = times-append x v.drawn w.drawn in let each = h.each x in omega (arith, t, r, a, each);

@@ -33,7 +33,8 @@ stands plan n ss k (Some r) claims told posted lt place = (r, refl)
 stands plan n ss k None claims told posted lt place =
     let c = claims.all told in
     let each = claims.each k in
-    let q = claimed_by k ss (omega (arith, each, one_there k claims.c (omega (arith, c, lt)))) in absurd (place (q.0, q.1, q.2, all_at HasPostedAll ss q.0 q.1 posted q.2 k q.3))
+    let q = claimed_by k ss (omega (arith, each, one_there k claims.c (omega (arith, c, lt)))) in absurd
+    (place (q.0, q.1, q.2, all_at HasPostedAll ss q.0 q.1 posted q.2 k q.3))
 
 -- a list of which no place is empty
 gathered : (places : List (Option TrialResult)) → ((k : ℕ) (o : Option TrialResult) → slice_get places k ≡ Some o → (r : TrialResult) × (o ≡ Some r))

@@ -42,7 +42,8 @@ rises_more xs k up below j lt = by_case (at_cases (j + 1) (length xs))
 
     by_case : ((j + 1 ≡ length xs) ⊎ (j + 1 ≢ length xs)) → get_or (xs ++ k ∷ []) j 0 < get_or (xs ++ k ∷ []) (j + 1) 0
     by_case (inl e) =
-        rw (get_or_append_left xs (k ∷ []) 0 j (omega (arith, e)), get_or_push xs k 0 (j + 1) (sym e)) (below (get_or xs j 0) (times_here xs j (omega (arith, e))))
+        rw (get_or_append_left xs (k ∷ []) 0 j (omega (arith, e)), get_or_push xs k 0 (j + 1) (sym e))
+        (below (get_or xs j 0) (times_here xs j (omega (arith, e))))
     by_case (inr e) = inside (omega (arith, e, lt, length-append xs (k ∷ [])))
 
 pub below_more : (xs : List ℕ) (k count : ℕ) → k < count → ((x : ℕ) → 0 < times x xs → x < count) → (x : ℕ) → 0 < times x (xs ++ k ∷ []) → x < count
@@ -134,14 +135,18 @@ claimed_kept me me' count told stages known k h on lt below e =
     (claim_kept me me' count told (map is_claimed stages) (map is_posted stages) known k h on lt below e))
 
 -- the seat once it has claimed the number
-pub claim_seen : (table table' : TableId) (cells drawn drawn' : List ℕ) (told : Bool) (posted posted' : List Bool) (known : List (Option TrialResult)) (k : ℕ) (s : SeatView)
-    → record { desk = record { table = table; cells = cells }; claimed = drawn; told = told; posted = posted; known = known } ≡ s → table' ≡ table → drawn' ≡ drawn ++ k ∷ [] → posted' ≡ posted
+pub claim_seen : (table table' : TableId) (cells drawn drawn' : List ℕ) (told : Bool) (posted posted' : List Bool) (known : List (Option TrialResult))
+    (k : ℕ) (s : SeatView)
+    → record { desk = record { table = table; cells = cells }; claimed = drawn; told = told; posted = posted; known = known } ≡ s → table' ≡ table →
+    drawn' ≡ drawn ++ k ∷ [] → posted' ≡ posted
     → record { desk = record { table = table'; cells = cells }; claimed = drawn'; told = told; posted = posted'; known = known } ≡ with_claim s k
 claim_seen table table' cells drawn drawn' told posted posted' known k s e t d p = rw (t, d, p) (ap (λ v. with_claim v k) e)
 
 -- the seat once it has posted the result
-pub post_seen : (table : TableId) (cells cells' drawn : List ℕ) (told : Bool) (posted posted' : List Bool) (known known' : List (Option TrialResult)) (k : ℕ) (r : TrialResult) (s : SeatView)
-    → record { desk = record { table = table; cells = cells }; claimed = drawn; told = told; posted = posted; known = known } ≡ s → cells' ≡ cells → posted' ≡ slice_set posted k true → known' ≡ slice_set known k (Some r)
+pub post_seen : (table : TableId) (cells cells' drawn : List ℕ) (told : Bool) (posted posted' : List Bool) (known known' : List (Option TrialResult))
+    (k : ℕ) (r : TrialResult) (s : SeatView)
+    → record { desk = record { table = table; cells = cells }; claimed = drawn; told = told; posted = posted; known = known } ≡ s → cells' ≡ cells →
+    posted' ≡ slice_set posted k true → known' ≡ slice_set known k (Some r)
     → record { desk = record { table = table; cells = cells' }; claimed = drawn; told = told; posted = posted'; known = known' } ≡ with_post s k r
 post_seen table cells cells' drawn told posted posted' known known' k r s e c p n = rw (c, p, n) (ap (λ v. with_post v k r) e)
 
@@ -180,7 +185,8 @@ new_kept me count stages known e s n =
 pub new_seen : (table : TableId) (cells mine : List ℕ) (drawn : List ℕ) (stages : List Stage) (known : List (Option TrialResult)) → drawn ≡ []
     → mine ≡ cells → stages ≡ replicate (length cells) Free
     → known ≡ replicate (length cells) None
-    → record { desk = record { table = table; cells = mine }; claimed = drawn; told = false; posted = map is_posted stages; known = known } ≡ new_seat (record { table = table; cells = cells })
+    → record { desk = record { table = table; cells = mine }; claimed = drawn; told = false; posted = map is_posted stages; known = known } ≡ new_seat
+    (record { table = table; cells = cells })
 new_seen table cells mine drawn stages known d c s n = rw (d, c, n, ap (λ l. map is_posted l) s ∙ free_posts (length cells)) refl
 
 pub told_kept : (me me' : Me (Unit {0}) TokenView) (count : ℕ) (told : Bool) (claims posts : List Bool) (known : List (Option TrialResult))
@@ -200,7 +206,8 @@ told_kept me me' count told claims posts known h e' =
       posts_are = rw d h.posts_are;
     }
 
-pub post_kept : (me : Me (Unit {0}) TokenView) (count : ℕ) (told : Bool) (claims posts : List Bool) (known known' : List (Option TrialResult)) (k : ℕ) (r : TrialResult)
+pub post_kept : (me : Me (Unit {0}) TokenView) (count : ℕ) (told : Bool) (claims posts : List Bool) (known known' : List (Option TrialResult)) (k : ℕ)
+    (r : TrialResult)
     → IsSeat me count told claims posts known → k < count → get_or claims k false ≡ true → r.number ≡ k → known' ≡ slice_set known k (Some r)
     → IsSeat me count told claims (slice_set posts k true) known'
 post_kept me count told claims posts known known' k r h lt mine number e = record {
@@ -218,7 +225,8 @@ post_kept me count told claims posts known known' k r h lt mine number e = recor
     by_case j p (inl e') = (
       above _ (ap (λ m. nat_lt 0 (times m me.0.drawn)) e' ∙ (sym (h.claims_are k lt) ∙ mine)),
       r,
-      ap (λ l. get_or l j None) e ∙ (ap (λ m. get_or (slice_set known k (Some r)) m None) e' ∙ get_or-set_same known k (Some r) None (omega (arith, lt, h.known_length))),
+      ap (λ l. get_or l j None) e ∙ (ap (λ m. get_or (slice_set known k (Some r)) m None) e' ∙ get_or-set_same known k (Some r) None
+          (omega (arith, lt, h.known_length))),
       number ∙ sym e',
     )
     by_case j p (inr ne) =
@@ -226,7 +234,8 @@ post_kept me count told claims posts known known' k r h lt mine number e = recor
         (old.0, old.1, ap (λ l. get_or l j None) e ∙ (get_or-set_other known k j (Some r) None ne ∙ old.2), old.3)
 
 -- the same, as the stages say it
-pub posted_kept : (me : Me (Unit {0}) TokenView) (count : ℕ) (told : Bool) (stages : List Stage) (known known' : List (Option TrialResult)) (k : ℕ) (r : TrialResult)
+pub posted_kept : (me : Me (Unit {0}) TokenView) (count : ℕ) (told : Bool) (stages : List Stage) (known known' : List (Option TrialResult)) (k : ℕ)
+    (r : TrialResult)
     → IsSeat me count told (map is_claimed stages) (map is_posted stages) known → k < count → get_or (map is_claimed stages) k false ≡ true → r.number ≡ k
     → known' ≡ slice_set known k (Some r)
     → IsSeat me count told (map is_claimed (slice_set stages k Posted)) (map is_posted (slice_set stages k Posted)) known'
@@ -239,7 +248,8 @@ agrees_some : {X : Type 0} (o : Option X) (x y : X) → Agrees o y → o ≡ Som
 agrees_some (Some z) x y a e = cc (a, e)
 agrees_some None x y a e = absurd (cc e)
 
-pub look_kept : (me : Me (Unit {0}) TokenView) (count : ℕ) (told : Bool) (claims posts : List Bool) (known known' : List (Option TrialResult)) (k : ℕ) (v : TrialResult)
+pub look_kept : (me : Me (Unit {0}) TokenView) (count : ℕ) (told : Bool) (claims posts : List Bool) (known known' : List (Option TrialResult)) (k : ℕ)
+    (v : TrialResult)
     → IsSeat me count told claims posts known → k < count → Agrees (get_or known k None) v → known' ≡ slice_set known k (Some v)
     → IsSeat me count told claims posts known'
 look_kept me count told claims posts known known' k v h lt agrees e = record {
@@ -259,14 +269,16 @@ look_kept me count told claims posts known known' k v h lt agrees e = record {
         let was : get_or known k None ≡ Some old.1 = sym (ap (λ m. get_or known m None) e') ∙ old.2 in (
           old.0,
           old.1,
-          ap (λ l. get_or l j None) e ∙ (ap (λ m. get_or (slice_set known k (Some v)) m None) e' ∙ (get_or-set_same known k (Some v) None (omega (arith, lt, h.known_length)) ∙ agrees_some _ _ v agrees was)),
+          ap (λ l. get_or l j None) e ∙ (ap (λ m. get_or (slice_set known k (Some v)) m None) e' ∙
+              (get_or-set_same known k (Some v) None (omega (arith, lt, h.known_length)) ∙ agrees_some _ _ v agrees was)),
           old.3,
         )
     by_case j p (inr ne) =
         let old = h.posts_are j p in (old.0, old.1, ap (λ l. get_or l j None) e ∙ (get_or-set_other known k j (Some v) None ne ∙ old.2), old.3)
 
 -- a look that found nothing, or a value
-pub looked_kept : {X : Type 0} (val : X → TrialResult) (o : Option X) (me : Me (Unit {0}) TokenView) (count : ℕ) (told : Bool) (claims posts : List Bool) (known known' : List (Option TrialResult)) (k : ℕ)
+pub looked_kept : {X : Type 0} (val : X → TrialResult) (o : Option X) (me : Me (Unit {0}) TokenView) (count : ℕ) (told : Bool)
+    (claims posts : List Bool) (known known' : List (Option TrialResult)) (k : ℕ)
     → IsSeat me count told claims posts known → k < count
     → MatchOption o ((get_or known k None ≡ None) × (known' ≡ known)) (λ x. (known' ≡ slice_set known k (Some (val x))) × Agrees (get_or known k None) (val x))
     → IsSeat me count told claims posts known'

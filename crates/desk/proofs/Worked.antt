@@ -25,7 +25,8 @@ pub works_more : (old s new : SeatView) (mine : List ℕ) (k : ℕ) (r : TrialRe
 works_more old s new mine k r h e here fresh =
     let posted : new.posted ≡ set s.posted k true = ap (λ v. v.posted) e in
     let known : new.known ≡ set s.known k (Some r) = ap (λ v. v.known) e in
-    let kept : (x : ℕ) → x ≢ k → get_or new.posted x false ≡ get_or s.posted x false = λ x ne. ap (λ l. get_or l x false) posted ∙ get_or-set_other s.posted k x true false ne in
+    let kept : (x : ℕ) → x ≢ k → get_or new.posted x false ≡ get_or s.posted x false = λ x ne. ap (λ l. get_or l x false) posted ∙ get_or-set_other
+    s.posted k x true false ne in
     record {
       desk = ap (λ v. v.desk) e ∙ h.desk;
       claimed = ap (λ v. v.claimed) e ∙ (ap (λ l. l ++ k ∷ []) h.claimed ∙ append_assoc old.claimed mine (k ∷ []));

@@ -1,5 +1,5 @@
-//! The cells that results are posted in, one for each number, and the notes that a seat keeps of them. A cell is set once, and a
-//! note knows what was set or found there; it takes no bytes.
+//! The cells that results are posted in, one for each number, and the notes that a seat keeps of them. A cell is set
+//! once, and a note knows what was set or found there; it takes no bytes.
 
 ghost use Rattle.std.specs.Prelude.{◌≡◌, ◌<◌, length, map, replicate, slice_index_or, slice_set, MatchOption, IfOk, Some, None, true, false};
 ghost use Rattle.once_cell.specs.Once.{cell_name, Agrees};

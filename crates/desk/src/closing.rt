@@ -23,13 +23,14 @@ impl<'j, D: Naming> Desk<'j, D> {
     ghost use Rattle.desk.specs.Seats.{numbers_of};
     ghost use Rattle.desk.specs.Closing.{AreClaimed, AreFilled, ArePlaces, HasPostedAll, any_told};
 
-    /// Ends the desk, where all its seats are handed in: each posted result at the place of its number, and `None` at that of a number
-    /// that no seat has posted. It waits for nobody.
+    /// Ends the desk, where all its seats are handed in: each posted result at the place of its number, and `None` at
+    /// that of a number that no seat has posted. It waits for nobody.
     ///
-    /// Where each seat posted what it claimed, and one of them was told that there are no more, every place is filled; and where every
-    /// place is filled, the list is that of `batch`.
+    /// Where each seat posted what it claimed, and one of them was told that there are no more, every place is filled;
+    /// and where every place is filled, the list is that of `batch`.
     ///
-    /// It is refused `SeatMissing` exactly where fewer seats are handed in than the desk has. Refused, it hands all back as it was.
+    /// It is refused `SeatMissing` exactly where fewer seats are handed in than the desk has. Refused, it hands all
+    /// back as it was.
     pub fn close(
         self,
         seats: Vec<DeskSeat<D>>,

@@ -19,7 +19,8 @@ use trials::{MOST_TRIALS, TrialResult};
 /// The most seats of a desk.
 pub const MOST_SEATS: u32 = 64;
 
-/// Where the trials of a batch are shared out: their numbers are claimed, and their results are posted. No call waits for anybody.
+/// Where the trials of a batch are shared out: their numbers are claimed, and their results are posted. No call waits
+/// for anybody.
 #[derive(Drop)]
 pub struct Desk<'j, D: Naming> {
     pub(crate) alloc: Global,
@@ -44,17 +45,18 @@ impl<'j, D: Naming> Model for Desk<'j, D> {
 }
 
 impl<'j, D: Naming> Desk<'j, D> {
-    ghost use Rattle.std.specs.Prelude.{◌≡◌, ◌<◌, ◌≤◌, ◌↔◌, ℕ, replicate, All, slice_index_or, IfOk, OnOk, IfErr, IfSome, IfNone, IsErrOf, IsErrAnd, IsSome, Some, None, true, false};
+    ghost use Rattle.std.specs.Prelude.{◌≡◌, ◌<◌, ◌≤◌, ◌↔◌, ℕ, replicate, All, slice_index_or, Some, None, true, false};
+    ghost use Rattle.std.specs.Prelude.{IfOk, OnOk, IfErr, IfSome, IfNone, IsErrOf, IsErrAnd, IsSome};
     ghost use Rattle.std.specs.List.Sorted.{IsStrictlyIncreasing};
     ghost use Rattle.trials.specs.declared.verdict.TrialResult.{TrialResult};
     ghost use Rattle.desk.specs.Plans.{IsResultOf, plan_of};
     ghost use Rattle.desk.specs.Seats.{HasClaimed, HasPosted, Knows, new_seat, numbers_of, told_no_more, with_claim, with_known, with_post};
 
-    /// Makes a desk for the trials of numbers 0 to `n` - 1 of a job, and so many seats, which have claimed nothing. Room for what
-    /// a seat claims, posts and finds is made here.
+    /// Makes a desk for the trials of numbers 0 to `n` - 1 of a job, and so many seats, which have claimed nothing.
+    /// Room for what a seat claims, posts and finds is made here.
     ///
-    /// It is refused `TooMany` exactly where `n` is over 1,000,000, else `NoSeats` exactly where there is no seat, else
-    /// `TooManySeats` exactly where there are over 64.
+    /// It is refused `TooMany` exactly where `n` is over 1,000,000, else `NoSeats` exactly where there is no seat,
+    /// else `TooManySeats` exactly where there are over 64.
     pub fn new(
         alloc: Global,
         job: &'j Job,
@@ -84,8 +86,8 @@ impl<'j, D: Naming> Desk<'j, D> {
         }
     }
 
-    /// Claims the next number, which no other seat has, by one step on the desk's word. It takes no memory. It is `None` where there
-    /// are no more; a seat that was told so touches the word no more.
+    /// Claims the next number, which no other seat has, by one step on the desk's word. It takes no memory. It is
+    /// `None` where there are no more; a seat that was told so touches the word no more.
     pub fn claim(&self, seat: &mut DeskSeat<D>) -> Option<u32>
         requires { seat.old.desk ≡ self.now.id }
         ensures some { IfSome result (λ number. seat.new ≡ with_claim seat.old number) }
@@ -114,10 +116,11 @@ impl<'j, D: Naming> Desk<'j, D> {
         }
     }
 
-    /// Posts the result of a number that the seat has claimed, for all seats to find. A refused call hands the result back, and
-    /// changes nothing.
+    /// Posts the result of a number that the seat has claimed, for all seats to find. A refused call hands the result
+    /// back, and changes nothing.
     ///
-    /// It is refused `NotYours` exactly where the seat hasn't claimed the number, and else `Already` exactly where it has posted it.
+    /// It is refused `NotYours` exactly where the seat hasn't claimed the number, and else `Already` exactly where it
+    /// has posted it.
     pub fn post(
         &self,
         seat: &mut DeskSeat<D>,
@@ -145,7 +148,8 @@ impl<'j, D: Naming> Desk<'j, D> {
         Ok(())
     }
 
-    /// Sets the cell of a number that the seat has claimed, and answers whether that was done. Else nothing has changed.
+    /// Sets the cell of a number that the seat has claimed, and answers whether that was done. Else nothing has
+    /// changed.
     fn put(&self, seat: &mut DeskSeat<D>, number: u32, made: TrialResult) -> bool
         requires seat { seat.old.desk ≡ self.now.id }
         requires made { IsResultOf D.plan number made }

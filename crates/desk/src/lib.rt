@@ -1,5 +1,5 @@
-//! Workers that share out the trials of a batch: each claims numbers, makes their trials and posts what came of them. Nobody waits
-//! for another, and the close has each result at its number.
+//! Workers that share out the trials of a batch: each claims numbers, makes their trials and posts what came of them.
+//! Nobody waits for another, and the close has each result at its number.
 #![tactic(auto)]
 
 mod cells;

@@ -1,5 +1,5 @@
-//! The word that numbers are claimed by. Each step on it gives one number, and what a seat drew is known to its token alone, which
-//! is there for the proofs and takes no bytes.
+//! The word that numbers are claimed by. Each step on it gives one number, and what a seat drew is known to its token
+//! alone, which is there for the proofs and takes no bytes.
 
 ghost use Rattle.std.specs.Prelude.{◌≡◌, ℕ, ◌+◌, ◌-◌, ◌<◌, ◌≤◌, ◌^◌, [], ◌++◌, ◌∷◌, true, false, IfSome, IfNone, IfOk};
 ghost use Rattle.desk.specs.Counting.{times, once_below};

@@ -9,8 +9,8 @@ use crate::seats::DeskSeat;
 use base::NoMemory;
 use trials::trial;
 
-/// Claims numbers until there are no more, makes the trial of each, and posts its result. It answers how many it posted, which are all
-/// that it claimed. It waits for nobody.
+/// Claims numbers until there are no more, makes the trial of each, and posts its result. It answers how many it
+/// posted, which are all that it claimed. It waits for nobody.
 ///
 /// Where it is refused, what was posted stands, and the one number that it was at is claimed and not posted.
 pub fn work<D: Naming>(desk: &Desk<'_, D>, seat: &mut DeskSeat<D>) -> Result<u32, NoMemory>

@@ -15,9 +15,11 @@ loop-seat-preserved g c =
     let s : SeatView = get_or c.loop-seat.seat-items c.loop-seat.seat-index c.seat-item.result in
     let at = item_at c.loop-seat.seat-items c.deref_mut-seat-items.result.now c.loop-seat.seat-index c.seat-item.result i.seats (search rules) in
     record {
-      seats = put_back_same c.loop-seat.seat-items c.deref_mut-seat-items.result.now c.loop-seat.seat-index c.seat-item.result c.collect.new.seat i.seats c.collect.ensures.seat;
+      seats = put_back_same c.loop-seat.seat-items c.deref_mut-seat-items.result.now c.loop-seat.seat-index c.seat-item.result c.collect.new.seat
+          i.seats c.collect.ensures.seat;
       long = c.collect.ensures.long ∙ i.long;
-      places = λ k lt. place_more g.D.Naming.plan c.deref_mut-seat-items.result.now c.loop-seat.seat-index k s (get_or c.loop-seat.places.items k None) (get_or c.collect.new.places.items k None) at (i.places k lt)
+      places = λ k lt. place_more g.D.Naming.plan c.deref_mut-seat-items.result.now c.loop-seat.seat-index k s
+          (get_or c.loop-seat.places.items k None) (get_or c.collect.new.places.items k None) at (i.places k lt)
           (c.collect.ensures.places k (omega (arith, lt, cells)));
     }
 
@@ -25,9 +27,11 @@ pub settle-requires-clause-these : goal.settle-requires-clause-these
 settle-requires-clause-these g c =
     let d = c.desk.inside in
     let cells = long_as cell_name d.cells.items c.args.desk.id.cells (ap (λ x. x.id.cells) c.desk.view_is) in
-    let back = restored c.loop-seat.seat-items c.args.seats.items c.args.seats.len (c.loop-seat.invariant.seats ∙ c.deref_mut-seat-items.ensures.value) (omega (arith, c.args.seats.ok.0)) in
+    let back = restored c.loop-seat.seat-items c.args.seats.items c.args.seats.len
+    (c.loop-seat.invariant.seats ∙ c.deref_mut-seat-items.ensures.value) (omega (arith, c.args.seats.ok.0)) in
     All-same (λ (s : SeatView). (s.desk.table ≡ d.word.shared.table_id) × (length s.desk.cells ≡ d.word.shared.key.count)) _ c.args.seats.items back
-    (All-weaker (λ (s : SeatView). s.desk ≡ c.args.desk.id) (λ (s : SeatView). (s.desk.table ≡ d.word.shared.table_id) × (length s.desk.cells ≡ d.word.shared.key.count))
+    (All-weaker (λ (s : SeatView). s.desk ≡ c.args.desk.id) (λ (s : SeatView). (s.desk.table ≡ d.word.shared.table_id) ×
+    (length s.desk.cells ≡ d.word.shared.key.count))
     (λ s e. (
       ap (λ x. x.table) e ∙ sym (ap (λ x. x.id.table) c.desk.view_is),
       ap (λ x. length x.cells) e ∙ (sym cells ∙ sym (ap (λ k. k.count) c.desk.invariant.key_is)),
@@ -38,7 +42,8 @@ pub returns-clause-places : goal.returns-clause-places
 returns-clause-places g c = λ k lt.
     let i = c.loop-seat.invariant in
     subst (λ ss. IsPlace g.D.Naming.plan ss k (get_or c.loop-seat.places.items k None)) c.deref_mut-seat-items.ensures.value
-    (place_all g.D.Naming.plan c.deref_mut-seat-items.result.now c.loop-seat.seat-index k (get_or c.loop-seat.places.items k None) (let far = ap (λ l. length l) i.seats in omega (arith, c.loop-seat-test.false, far)) (i.places k lt))
+    (place_all g.D.Naming.plan c.deref_mut-seat-items.result.now c.loop-seat.seat-index k (get_or c.loop-seat.places.items k None)
+    (let far = ap (λ l. length l) i.seats in omega (arith, c.loop-seat-test.false, far)) (i.places k lt))
 
 pub deref_mut-seat-items-requires : goal.deref_mut-seat-items-requires
 deref_mut-seat-items-requires g c κs = search rules

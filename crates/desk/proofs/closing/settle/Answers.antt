@@ -13,7 +13,8 @@ loop-seat-init g c =
     let rest = c.pop.new.self.items in
     let e = c.in-Some.ensures.items in
     let t = c.into_token-token.ensures in
-    let p = All-pop (λ (v : SeatView). (v.desk.table ≡ c.args.word.now.shared.table_id) × (length v.desk.cells ≡ c.args.word.now.shared.key.count)) c.args.seats.items rest (Some s) e c.requires.these in
+    let p = All-pop (λ (v : SeatView). (v.desk.table ≡ c.args.word.now.shared.table_id) × (length v.desk.cells ≡ c.args.word.now.shared.key.count))
+    c.args.seats.items rest (Some s) e c.requires.these in
     record {
       table = t.table ∙ p.1.0;
       free = ap (λ m. m.1) t.me;
@@ -27,7 +28,8 @@ loop-seat-init g c =
 pub merge_token-requires-clause-other : goal.merge_token-requires-clause-other
 merge_token-requires-clause-other g c =
     let t = c.into_token-other.ensures in
-    let p = All-pop (λ (v : SeatView). (v.desk.table ≡ c.args.word.now.shared.table_id) × (length v.desk.cells ≡ c.args.word.now.shared.key.count)) c.loop-seat.seats.items c.pop-in-loop-seat.new.self.items (Some c.in-Some-pop.seat) c.in-Some-pop.ensures.items c.loop-seat.invariant.these in
+    let p = All-pop (λ (v : SeatView). (v.desk.table ≡ c.args.word.now.shared.table_id) × (length v.desk.cells ≡ c.args.word.now.shared.key.count))
+    c.loop-seat.seats.items c.pop-in-loop-seat.new.self.items (Some c.in-Some-pop.seat) c.in-Some-pop.ensures.items c.loop-seat.invariant.these in
     (t.table ∙ p.1.0, ap (λ m. m.1) t.me)
 
 pub loop-seat-preserved : goal.loop-seat-preserved
@@ -39,7 +41,8 @@ loop-seat-preserved g c =
     let t = c.into_token-other.ensures in
     let m = c.merge_token.ensures in
     let old = c.loop-seat.token.me.0 in
-    let p = All-pop (λ (v : SeatView). (v.desk.table ≡ c.args.word.now.shared.table_id) × (length v.desk.cells ≡ c.args.word.now.shared.key.count)) c.loop-seat.seats.items rest (Some s) e i.these in
+    let p = All-pop (λ (v : SeatView). (v.desk.table ≡ c.args.word.now.shared.table_id) × (length v.desk.cells ≡ c.args.word.now.shared.key.count))
+    c.loop-seat.seats.items rest (Some s) e i.these in
     record {
       table = m.1 ∙ i.table;
       free = ap (λ x. x.1) m.0;
@@ -49,7 +52,8 @@ loop-seat-preserved g c =
       each = λ x. let a = ap (λ y. times x y.0.drawn) m.0 in
           let n = ap (λ y. times x y.0.drawn) t.me in
           let l = ap (λ l. claims_of x l) e in
-          let b = times-append x old.drawn c.into_token-other.result.me.0.drawn in let q = claims_of-push x rest s in let was = i.each x in omega (arith, a, n, l, b, q, was);
+          let b = times-append x old.drawn c.into_token-other.result.me.0.drawn in let q = claims_of-push x rest s in let was = i.each x in omega
+          (arith, a, n, l, b, q, was);
       told =
           ap (λ x. x.0.over || any_told rest) m.0
           ∙ (ap (λ x. (old.over || x.0.over) || any_told rest) t.me ∙ (sym (told_moves old.over rest s) ∙ (ap (λ l. old.over || any_told l) (sym e) ∙ i.told)));

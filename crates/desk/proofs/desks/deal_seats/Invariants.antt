@@ -1,4 +1,4 @@
-use Rattle.std.proofs.Common.{◌≡◌, ◌≤◌, ◌-◌, [], length, replicate, vec_len, vec_capacity}
+use Rattle.std.proofs.Common.{◌≡◌, ◌≤◌, ◌-◌, [], replicate, vec_len, vec_capacity}
 use Rattle.desk.specs.inner.Drawing.{fresh}
 use Rattle.desk.specs.Seats.{new_seat, numbers_of}
 use Rattle.desk.proofs.desks.deal_seats.Given as goal

@@ -4,8 +4,12 @@ use Rattle.desk.proofs.word.count_all.Goals as goal
 
 pub load-requires : goal.load-requires
 load-requires c =
-    let r = c.requires in
-    (r.table, omega (arith, r.words), tells c.args.word.now.shared.key c.args.word.now.shared.table_id.slots c.args.token.now.id c.args.token.now.me r.count r.all)
+    let r = c.requires in (
+      r.table,
+      omega (arith, r.words),
+      tells c.args.word.now.shared.key c.args.word.now.shared.table_id.slots c.args.token.now.id c.args.token.now.me
+          r.count r.all,
+    )
 
 pub returns : goal.returns
 returns c =

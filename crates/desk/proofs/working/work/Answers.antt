@@ -47,4 +47,9 @@ loop-number-preserved g c =
     }
 
 pub returns-clause-ok : goal.returns-clause-ok
-returns-clause-ok g c = let w = c.loop-number.invariant.works in (w.0, w.1, works_told c.args.seat.now c.loop-number.seat c.claim.new.seat w.0 w.2 c.in_default.ensures.none)
+returns-clause-ok g c = let w = c.loop-number.invariant.works in (
+  w.0,
+  w.1,
+  works_told c.args.seat.now c.loop-number.seat c.claim.new.seat w.0 w.2
+      c.in_default.ensures.none,
+)

@@ -9,8 +9,10 @@ pub invariant_of-seat : goal.invariant_of-seat
 invariant_of-seat g c =
     let i = c.seat.inside in
     let long = long_same (λ n. n.cell) c.get_at.new.notes.items i.notes.items c.get_at.ensures.cells in
-    subst (λ n. IsSeat i.token.me n i.told (map is_claimed i.stages.items) (map is_posted i.stages.items) (map (λ n. n.known) c.get_at.new.notes.items)) (sym long)
-    (looked_kept (λ r. r.now) c.get_at.result i.token.me (length i.notes.items) i.told (map is_claimed i.stages.items) (map is_posted i.stages.items) (map (λ n. n.known) i.notes.items) (map (λ n. n.known) c.get_at.new.notes.items) c.args.number
+    subst (λ n. IsSeat i.token.me n i.told (map is_claimed i.stages.items) (map is_posted i.stages.items)
+    (map (λ n. n.known) c.get_at.new.notes.items)) (sym long)
+    (looked_kept (λ r. r.now) c.get_at.result i.token.me (length i.notes.items) i.told (map is_claimed i.stages.items) (map is_posted i.stages.items)
+    (map (λ n. n.known) i.notes.items) (map (λ n. n.known) c.get_at.new.notes.items) c.args.number
     c.seat.invariant
     (search rules)
     c.get_at.ensures.value)

@@ -1,6 +1,6 @@
 use Rattle.std.proofs.lemmas.Grind.{common_steps}
 use Rattle.std.proofs.Common.{rules, ◌≡◌, ap, ◌∙◌, sym, subst, arith, length, map, ◌<◌, ℕ, List, false, true, get_or, slice_set, Some}
-use Rattle.std.proofs.lemmas.List.{length-map, get_or-set_same}
+use Rattle.std.proofs.lemmas.List.{get_or-set_same}
 use Rattle.desk.specs.Counting.{times}
 use Rattle.desk.specs.declared.seats.Stage.TheVariants.{Posted}
 use Rattle.desk.specs.inner.Keeping.{IsSeat, is_claimed, is_posted}
@@ -16,9 +16,11 @@ invariant_of-seat-2 g c =
     let lt : k < length i.notes.items = c.seat.invariant.below k there in
     let mine : get_or (map is_claimed i.stages.items) k false ≡ true = c.seat.invariant.claims_are k lt ∙ sym (true_above _ there) in
     let long = long_same (λ n. n.cell) c.set_at.new.notes.items i.notes.items c.set_at.ensures.cells in
-    subst (λ n. IsSeat i.token.me n i.told (map is_claimed (slice_set i.stages.items k Posted)) (map is_posted (slice_set i.stages.items k Posted)) (map (λ n. n.known) c.set_at.new.notes.items))
+    subst (λ n. IsSeat i.token.me n i.told (map is_claimed (slice_set i.stages.items k Posted)) (map is_posted (slice_set i.stages.items k Posted))
+    (map (λ n. n.known) c.set_at.new.notes.items))
     (sym long)
-    (posted_kept i.token.me (length i.notes.items) i.told i.stages.items (map (λ n. n.known) i.notes.items) (map (λ n. n.known) c.set_at.new.notes.items) k c.args.made c.seat.invariant lt mine
+    (posted_kept i.token.me (length i.notes.items) i.told i.stages.items (map (λ n. n.known) i.notes.items)
+    (map (λ n. n.known) c.set_at.new.notes.items) k c.args.made c.seat.invariant lt mine
     c.requires.made.numbered
     (c.set_at.ensures.set c.if-not-set_at.false ∙ ap (λ v. slice_set (map (λ n. n.known) i.notes.items) k (Some v)) c.in-Ok.ensures.ok))
 
@@ -26,7 +28,8 @@ pub returns-clause-put : goal.returns-clause-put
 returns-clause-put g c = λ _.
     let i = c.seat.inside in
     let k = c.args.number in
-    post_seen i.token.table_id (map (λ n. n.cell) i.notes.items) (map (λ n. n.cell) c.set_at.new.notes.items) i.token.me.0.drawn i.told (map is_posted i.stages.items)
+    post_seen i.token.table_id (map (λ n. n.cell) i.notes.items) (map (λ n. n.cell) c.set_at.new.notes.items) i.token.me.0.drawn i.told
+    (map is_posted i.stages.items)
     (map is_posted (slice_set i.stages.items k Posted))
     (map (λ n. n.known) i.notes.items)
     (map (λ n. n.known) c.set_at.new.notes.items)
