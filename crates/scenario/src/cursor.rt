@@ -8,8 +8,8 @@ use std::alloc::Allocator;
 
 /// What is left of a scenario, which it borrows.
 ///
-/// It keeps how far it is in each tree that it has begun, in memory of the allocator `B`. Memory that is no longer needed
-/// is used again, so it never has more parts at a time than its scenario has nodes.
+/// It keeps how far it is in each tree that it has begun, in parts that lie in memory of the allocator `B`. It never has
+/// more of them in use than its scenario has nodes, and those that are no longer needed are used again.
 #[derive(Drop)]
 pub struct Cursor<'t, A: Allocator, B: Allocator> {
     pub(crate) root: Part<'t, A, B>,
