@@ -1,5 +1,6 @@
 -- A FwdGetM at its line keeps the invariant, and so does every forward at its line.
-use Rattle.std.proofs.Common.{◌≡◌, ◌≢◌, ℕ, ◌<◌, ◌+◌, List, [], ◌∷◌, refl, ap, sym, subst, ◌∙◌, arith, Some, true, false, ◌==◌, slice_get}
+use Rattle.std.proofs.Common.{◌≡◌, ◌≢◌, ℕ, ◌<◌, ◌+◌, List, [], ◌∷◌, refl, ap, sym, subst}
+use Rattle.std.proofs.Common.{◌∙◌, arith, Some, true, false, ◌==◌, slice_get}
 use Rattle.std.proofs.Common.{eq-eqb}
 use Rattle.std.proofs.lemmas.Bool.{ne_eqb}
 use Rattle.std.proofs.lemmas.List.{length-set}
@@ -40,10 +41,12 @@ use Rattle.machine.proofs.Sound.{Sound, Fine, Bounded, view-at, view-own, view-o
 use Rattle.machine.proofs.AskTransitions.{seen-after, bounded-at}
 use Rattle.machine.proofs.Cases.{by-eq}
 use Rattle.machine.proofs.Fitting.{below_read}
-use Rattle.machine.proofs.ForwardTransitions.{rest_of, own-headed, own-begins, other-headed, relinked, inv-acted, put-ack-acted, named-waits, getm-other, getm-named, gets-acted}
+use Rattle.machine.proofs.ForwardTransitions.{rest_of, own-headed, own-begins, other-headed, relinked, inv-acted, put-ack-acted}
+use Rattle.machine.proofs.ForwardTransitions.{named-waits, getm-other, getm-named, gets-acted}
 
 -- a FwdGetM at the line that holds the block
-getm-acted : (n : ℕ) (b : BlockState) (cache r : CacheId) (line : Line) (next : CacheState) (latest : ℕ) → Sound n b → Some line ≡ slice_get b.lines cache.0 →
+getm-acted : (n : ℕ) (b : BlockState) (cache r : CacheId) (line : Line) (next : CacheState) (latest : ℕ) →
+    Sound n b → Some line ≡ slice_get b.lines cache.0 →
     Some (record { kind = FwdGetM; requestor = r }) ≡ slice_get (link b.traffic cache.0) 0
     → (seen line b.home b.traffic cache.0).shares ≡ false
     → Gives line.state (seen line b.home b.traffic cache.0) next (record (seen line b.home b.traffic cache.0) { state = next; link = rest_of b cache.0 })
@@ -114,7 +117,8 @@ getm-acted n b cache r line next latest h there at unshared gives =
           (ap (λ (z : View). z.invs) is_v ∙ gives.settled)
           (record { home = refl; data_home = omega (arith, sum_by_push home_data w1.responses x); all_fwd_gets = omega (arith, taken) })
           (subst (λ z. local z) (sym after) gives.fits) (λ q. gives.given (subst (λ z. holds z) after q))
-          (ap (λ (z : View). z.shares) after ∙ ap (λ (z : View). z.shares) (sym is_v)) (ap (λ (z : View). z.owns) after ∙ ap (λ (z : View). z.owns) (sym is_v))
+          (ap (λ (z : View). z.shares) after ∙ ap (λ (z : View). z.shares) (sym is_v))
+          (ap (λ (z : View). z.owns) after ∙ ap (λ (z : View). z.owns) (sym is_v))
           (ap (λ (z : View). z.shares) is_v ∙ unshared)
           requestor others;
       bounds = bounds-set n b b' cache.0 h (subst (λ z. Bounded n z) (sym after) (record { promised = bound.promised; acks = bound.acks }))
@@ -125,7 +129,8 @@ getm-acted n b cache r line next latest h there at unshared gives =
     }
 
 -- a forward at its line is fine
-at-line : (n : ℕ) (b : BlockState) (cache : CacheId) (m : Forward) (line : Line) (next : CacheState) (actions known : List CacheAction) → actions ≡ known →
+at-line : (n : ℕ) (b : BlockState) (cache : CacheId) (m : Forward) (line : Line) (next : CacheState) (actions known : List CacheAction) →
+    actions ≡ known →
     Sound n (carried_out (AtLine cache line (line_input.Forward m) next known (origin.Head cache)) b).block
     → Fine n (carried_out (AtLine cache line (line_input.Forward m) next actions (origin.Head cache)) b)
 at-line n b cache m line next actions known e h = record {
@@ -140,7 +145,8 @@ inv-fine : (n : ℕ) (b : BlockState) (cache r : CacheId) (line : Line) (x : Cac
 inv-fine n b cache r line entry.Blank h there at rule = absurd rule
 inv-fine n b cache r line entry.Stall h there at rule = record { sound = h; met = λ e. absurd (cc) }
 inv-fine n b cache r line (entry.Act next actions) h there at rule =
-    at-line n b cache (record { kind = Inv; requestor = r }) line next actions (action.InvAck ∷ []) rule.0 (inv-acted n b cache r line next _ h there at rule.1)
+    at-line n b cache (record { kind = Inv; requestor = r }) line next actions (action.InvAck ∷ []) rule.0
+    (inv-acted n b cache r line next _ h there at rule.1)
 
 put-ack-fine : (n : ℕ) (b : BlockState) (cache r : CacheId) (line : Line) (x : CacheEntry) → Sound n b → Some line ≡ slice_get b.lines cache.0 →
     Some (record { kind = PutAck; requestor = r }) ≡ slice_get (link b.traffic cache.0) 0

@@ -1,5 +1,6 @@
 -- Transitions on the head of a link keep the invariant.
-use Rattle.std.proofs.Common.{◌≡◌, ◌≢◌, ℕ, ◌<◌, ◌+◌, List, ◌∷◌, inl, inr, refl, ap, sym, subst, ◌∙◌, arith, Some, Bool, true, false, ◌==◌, slice_get}
+use Rattle.std.proofs.Common.{◌≡◌, ◌≢◌, ℕ, ◌<◌, ◌+◌, List, ◌∷◌, inl, inr, refl, ap, sym, subst, ◌∙◌}
+use Rattle.std.proofs.Common.{arith, Some, Bool, true, false, ◌==◌, slice_get}
 use Rattle.std.proofs.Common.{eq-eqb, map}
 use Rattle.std.proofs.lemmas.Bool.{ne_eqb}
 use Rattle.std.proofs.lemmas.List.{length-set}
@@ -38,7 +39,8 @@ rest_of b c = map (λ f. f.kind) (link (head_taken c b.traffic) c)
 
 -- the head of its own link taken
 pub own-headed : (b : BlockState) (c : ℕ) (m : Forward) (line : Line) → Some m ≡ slice_get (link b.traffic c) 0
-    → named (m.requestor.0 == c) m.kind (record (seen line b.home (head_taken c b.traffic) c) { link = m.kind ∷ rest_of b c }) ≡ seen line b.home b.traffic c
+    → named (m.requestor.0 == c) m.kind (record (seen line b.home (head_taken c b.traffic) c) { link = m.kind ∷ rest_of b c })
+    ≡ seen line b.home b.traffic c
 own-headed b c m line at =
     ap (λ t. named (m.requestor.0 == c) m.kind (record (seen line b.home (head_taken c b.traffic) c) { link = headed t m.kind (rest_of b c) }))
     (sym (eq-eqb c c refl))
@@ -78,7 +80,8 @@ has-rest k l rest ne e h = elim (subst (λ x. HasFwdGetS x) e h) as (λ _. HasFw
 ]
 
 -- an Inv at its line
-pub inv-acted : (n : ℕ) (b : BlockState) (cache r : CacheId) (line : Line) (next : CacheState) (latest : ℕ) → Sound n b → Some line ≡ slice_get b.lines cache.0 →
+pub inv-acted : (n : ℕ) (b : BlockState) (cache r : CacheId) (line : Line) (next : CacheState) (latest : ℕ) →
+    Sound n b → Some line ≡ slice_get b.lines cache.0 →
     Some (record { kind = Inv; requestor = r }) ≡ slice_get (link b.traffic cache.0) 0
     → Comes line.state (seen line b.home b.traffic cache.0) next (record (seen line b.home b.traffic cache.0) { state = next; link = rest_of b cache.0 })
     → Sound n
@@ -108,14 +111,20 @@ inv-acted n b cache r line next latest h there at comes =
     (seen-after (line_input.Forward m) line next b.home w cache.0 ∙ ap
     (λ (y : View). record y { state = next; early = early_of line.acks; acks = late_of line.acks }) (response_sent-seen line b.home w1 x cache.0 ∙ mine))
     comes
-    (record { shares = refl; owns = refl; fwd_gets = refl; link = has-rest Inv v.link (rest_of b cache.0) (λ e. absurd (cc)) (own-begins b cache.0 m line at) })
+    (record {
+      shares = refl;
+      owns = refl;
+      fwd_gets = refl;
+      link = has-rest Inv v.link (rest_of b cache.0) (λ e. absurd (cc)) (own-begins b cache.0 m line at);
+    })
     (record { promised = bound.promised; acks = bound.acks })
 
 -- a Put-Ack at its line
 pub put-ack-acted : (n : ℕ) (b : BlockState) (cache r : CacheId) (line : Line) (next : CacheState) (latest : ℕ) → Sound n b →
     Some line ≡ slice_get b.lines cache.0 → Some (record { kind = PutAck; requestor = r }) ≡ slice_get (link b.traffic cache.0) 0
     → Comes line.state (seen line b.home b.traffic cache.0) next (record (seen line b.home b.traffic cache.0) { state = next; link = rest_of b cache.0 })
-    → Sound n (line_block b cache.0 (line_after (line_input.Forward (record { kind = PutAck; requestor = r })) next line) (head_taken cache.0 b.traffic) latest)
+    → Sound n (line_block b cache.0 (line_after (line_input.Forward (record { kind = PutAck; requestor = r })) next line)
+    (head_taken cache.0 b.traffic) latest)
 put-ack-acted n b cache r line next latest h there at comes =
     let m : Forward = record { kind = PutAck; requestor = r } in
     let w : Traffic = head_taken cache.0 b.traffic in
@@ -176,7 +185,8 @@ pub getm-named : (u v : View) → named true FwdGetM u ≡ v
 getm-named u v e = grind (arith)
 
 -- a FwdGetS at the line that holds the block
-pub gets-acted : (n : ℕ) (b : BlockState) (cache r : CacheId) (line : Line) (next : CacheState) (latest : ℕ) → Sound n b → Some line ≡ slice_get b.lines cache.0 →
+pub gets-acted : (n : ℕ) (b : BlockState) (cache r : CacheId) (line : Line) (next : CacheState) (latest : ℕ) →
+    Sound n b → Some line ≡ slice_get b.lines cache.0 →
     Some (record { kind = FwdGetS; requestor = r }) ≡ slice_get (link b.traffic cache.0) 0
     → Gives line.state (seen line b.home b.traffic cache.0) next (record (seen line b.home b.traffic cache.0) { state = next; link = rest_of b cache.0 })
     → Sound n
@@ -249,7 +259,8 @@ gets-acted n b cache r line next latest h there at gives =
           fwd_gets_served (block_view b) (block_view b') cache.0 r.0 h.good (counted b) apart (omega (arith, ap (λ (z : View). z.fwd_gets) headed_r)) held refl
           (omega (arith, sum_by_push home_data w1.responses x, sum_by_push home_data (response_sent x w1).responses y)) (omega (arith, taken))
           (subst (λ z. local z) (sym after) gives.fits) (λ q. gives.given (subst (λ z. holds z) after q))
-          (ap (λ (z : View). z.shares) after ∙ ap (λ (z : View). z.shares) (sym is_v)) (ap (λ (z : View). z.owns) after ∙ ap (λ (z : View). z.owns) (sym is_v))
+          (ap (λ (z : View). z.shares) after ∙ ap (λ (z : View). z.shares) (sym is_v))
+          (ap (λ (z : View). z.owns) after ∙ ap (λ (z : View). z.owns) (sym is_v))
           requestor others;
       bounds = bounds-set n b b' cache.0 h (subst (λ z. Bounded n z) (sym after) (record { promised = bound.promised; acks = bound.acks }))
           (λ d nc. by-eq d r.0 (λ e. subst (λ k. (view_of b' k).promised ≡ (view_of b k).promised) (sym e) (ap (λ (z : View). z.promised) requestor))

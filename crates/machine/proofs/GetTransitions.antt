@@ -1,5 +1,6 @@
 -- A home that serves a GetS or a GetM keeps the invariant.
-use Rattle.std.proofs.Common.{◌≡◌, ◌≢◌, ℕ, ◌<◌, ◌≤◌, ◌+◌, ◌-◌, List, [], ◌∷◌, ◌++◌, ◌⊎◌, inl, inr, refl, ap, sym, subst, ◌∙◌, arith, Option}
+use Rattle.std.proofs.Common.{◌≡◌, ◌≢◌, ℕ, ◌<◌, ◌≤◌, ◌+◌, ◌-◌, List, [], ◌∷◌, ◌++◌, ◌⊎◌, inl, inr}
+use Rattle.std.proofs.Common.{refl, ap, sym, subst, ◌∙◌, arith, Option}
 use Rattle.std.proofs.Common.{Some, None, Bool, true, false, ◌==◌, slice_get, slice_set, eq-eqb}
 use Rattle.std.proofs.lemmas.Bool.{ne_eqb}
 use Rattle.std.proofs.lemmas.List.{length-set}
@@ -61,7 +62,8 @@ data-other false sh ow acks u v p q o e = grind (arith)
 
 -- bounds where only one cache is promised acks
 pub bounds-one : (n : ℕ) (b b' : BlockState) (r : ℕ) → Sound n b → (view_of b' r).promised ≤ n →
-    ((d : ℕ) → d ≢ r → (view_of b' d).promised ≡ (view_of b d).promised) → ((d : ℕ) → (view_of b' d).acks ≡ (view_of b d).acks) → (d : ℕ) →
+    ((d : ℕ) → d ≢ r → (view_of b' d).promised ≡ (view_of b d).promised) →
+    ((d : ℕ) → (view_of b' d).acks ≡ (view_of b d).acks) → (d : ℕ) →
     Bounded n (view_of b' d)
 bounds-one n b b' r h own p a d = bounds-set n b b' r h (record { promised = own; acks = omega (arith, a r, (h.bounds r).acks) }) p (λ d ne. a d) d
 
@@ -125,8 +127,10 @@ given-own true false acks u v p q s e = absurd (cc)
 given-own false ow acks u v p q s e = absurd (cc)
 
 -- the home in I serves a GetM
-pub getm-invalid : (n : ℕ) (b : BlockState) (i : ℕ) (r : CacheId) → Sound n b → b.home.state ≡ home.I → Some (req GetM r) ≡ slice_get b.traffic.requests i
-    → Sound n (home_block b (record b.home { state = home.M; owner = Some r }) (response_sent (Data Dir (Cache r) b.home.memory 0) (request_taken i b.traffic)))
+pub getm-invalid : (n : ℕ) (b : BlockState) (i : ℕ) (r : CacheId) → Sound n b → b.home.state ≡ home.I →
+    Some (req GetM r) ≡ slice_get b.traffic.requests i
+    → Sound n (home_block b (record b.home { state = home.M; owner = Some r })
+    (response_sent (Data Dir (Cache r) b.home.memory 0) (request_taken i b.traffic)))
 getm-invalid n b i r h hs at =
     let w1 : Traffic = request_taken i b.traffic in
     let x : Response = Data Dir (Cache r) b.home.memory 0 in
@@ -162,7 +166,8 @@ getm-invalid n b i r h hs at =
 abbrev pub forwarded : ForwardKind → Bool → Bool → Bool → Bool → View → View
 forwarded kind mine to sh ow u = record (named mine kind (record u { link = pushed to kind u.link })) { shares = sh; owns = ow }
 
-gets-names : (t k sh ow : Bool) (u v : View) → t ≡ true → k ≡ false → sh ≡ true → ow ≡ false → v.owns ≡ false → request_added true GetS u ≡ v →
+gets-names : (t k sh ow : Bool) (u v : View) → t ≡ true → k ≡ false → sh ≡ true → ow ≡ false →
+    v.owns ≡ false → request_added true GetS u ≡ v →
     forwarded FwdGetS t k sh ow u ≡ name_s v
 gets-names true false true false u v a b c d o e = grind (arith)
 gets-names false k sh ow u v a b c d o e = absurd (cc)
@@ -170,14 +175,16 @@ gets-names true true sh ow u v a b c d o e = absurd (cc)
 gets-names true false false ow u v a b c d o e = absurd (cc)
 gets-names true false true true u v a b c d o e = absurd (cc)
 
-gets-passes : (t k sh ow : Bool) (u v : View) → t ≡ false → k ≡ true → sh ≡ true → ow ≡ false → u ≡ v → forwarded FwdGetS t k sh ow u ≡ pass_s v
+gets-passes : (t k sh ow : Bool) (u v : View) → t ≡ false → k ≡ true → sh ≡ true → ow ≡ false →
+    u ≡ v → forwarded FwdGetS t k sh ow u ≡ pass_s v
 gets-passes false true true false u v a b c d e = grind (arith)
 gets-passes true k sh ow u v a b c d e = absurd (cc)
 gets-passes false false sh ow u v a b c d e = absurd (cc)
 gets-passes false true false ow u v a b c d e = absurd (cc)
 gets-passes false true true true u v a b c d e = absurd (cc)
 
-getm-names : (t k ow : Bool) (u v : View) → t ≡ true → k ≡ false → ow ≡ true → request_added true GetM u ≡ v → forwarded FwdGetM t k u.shares ow u ≡ name_m v
+getm-names : (t k ow : Bool) (u v : View) → t ≡ true → k ≡ false → ow ≡ true → request_added true GetM u ≡ v →
+    forwarded FwdGetM t k u.shares ow u ≡ name_m v
 getm-names true false true u v a b c e = grind (arith)
 getm-names false k ow u v a b c e = absurd (cc)
 getm-names true true ow u v a b c e = absurd (cc)
@@ -189,7 +196,8 @@ getm-passes true k ow u v a b c e = absurd (cc)
 getm-passes false false ow u v a b c e = absurd (cc)
 getm-passes false true true u v a b c e = absurd (cc)
 
-forward-other : (kind : ForwardKind) (t k sh ow : Bool) (u v : View) → t ≡ false → k ≡ false → sh ≡ v.shares → ow ≡ false → v.owns ≡ false → u ≡ v →
+forward-other : (kind : ForwardKind) (t k sh ow : Bool) (u v : View) → t ≡ false → k ≡ false →
+    sh ≡ v.shares → ow ≡ false → v.owns ≡ false → u ≡ v →
     forwarded kind t k sh ow u ≡ v
 forward-other kind false false sh false u v a b c d o e = grind (arith)
 forward-other kind true k sh ow u v a b c d o e = absurd (cc)

@@ -1,5 +1,6 @@
 -- In a block with a message one can be delivered: the heads of links.
-use Rattle.std.proofs.Common.{◌≡◌, ℕ, ◌<◌, ◌≤◌, ◌+◌, List, [], ◌∷◌, ◌⊎◌, inl, inr, get_or, refl, ap, sym, subst, ◌∙◌, zero, suc, arith}
+use Rattle.std.proofs.Common.{◌≡◌, ℕ, ◌<◌, ◌≤◌, ◌+◌, List, [], ◌∷◌, ◌⊎◌, inl, inr, get_or, refl}
+use Rattle.std.proofs.Common.{length, ap, sym, subst, ◌∙◌, zero, suc, arith}
 use Rattle.std.proofs.Common.{Some, Bool, true, false, ◌==◌, slice_get, sum_by, map, add-one}
 use Rattle.std.proofs.lemmas.Bool.{cases_eq}
 use Rattle.std.proofs.lemmas.List.Sums.{sum_by-cons}
@@ -30,7 +31,8 @@ use Rattle.machine.proofs.StallRules.{put_ack_serves, inv_serves, fwd_gets_serve
 use Rattle.machine.proofs.Moves.{line-there, Found, found-response, found-request, found-head}
 
 -- a sum that isn't 0 has a link that isn't empty
-suc-link : (f : Forward → ℕ) (l : List Forward) (ls : List (List Forward)) (e : ℕ) → 0 < sum_by f (get_or ls e []) → 0 < sum_by f (get_or (l ∷ ls) (e + 1) [])
+suc-link : (f : Forward → ℕ) (l : List Forward) (ls : List (List Forward)) (e : ℕ) → 0 < sum_by f (get_or ls e []) →
+    0 < sum_by f (get_or (l ∷ ls) (e + 1) [])
 suc-link f l ls e h = rw (add-one) h
 
 find : (f : Forward → ℕ) (ls : List (List Forward)) → 0 < total f ls → (e : ℕ) × (0 < sum_by f (get_or ls e []))
@@ -62,7 +64,8 @@ has-inv-in (f ∷ l) d h =
     inv-or-rest f.kind (f.requestor.0 == d) (HasInvIn (map (λ f. f.kind) l)) (sum_by (names d is_inv) l) (has-inv-in l d)
     (omega (arith, sum_by-cons (names d is_inv) f l))
 
-by-kind : (k : ForwardKind) (S : ForwardKind → Type 0) (F : Type 0) → (S k → F) → (k ≡ FwdGetS → S FwdGetS ⊎ F) → (k ≡ FwdGetM → S FwdGetM ⊎ F) →
+by-kind : (k : ForwardKind) (S : ForwardKind → Type 0) (F : Type 0) → (S k → F) →
+    (k ≡ FwdGetS → S FwdGetS ⊎ F) → (k ≡ FwdGetM → S FwdGetM ⊎ F) →
     (k ≡ Inv → S Inv ⊎ F) → (k ≡ PutAck → S PutAck ⊎ F) → F
 by-kind FwdGetS S F f a b c d = elim (a refl) as (λ _. F) [ inl s ↦ f s | inr x ↦ x ]
 by-kind FwdGetM S F f a b c d = elim (b refl) as (λ _. F) [ inl s ↦ f s | inr x ↦ x ]
@@ -82,12 +85,14 @@ inv-kind : (s : CacheState) (k : ForwardKind) → k ≡ Inv → Serves (cache_ta
     Serves (cache_table.baseline_entry s (forward_event k))
 inv-kind s k e h = subst (λ (x : ForwardKind). Serves (cache_table.baseline_entry s (forward_event x))) (sym e) h
 
-found-inv : (n : ℕ) (b : BlockState) (block : BlockId) (c : ℕ) → Sound n b → b.traffic.responses ≡ [] → 0 < total (names c is_inv) b.traffic.links →
+found-inv : (n : ℕ) (b : BlockState) (block : BlockId) (c : ℕ) → Sound n b → b.traffic.responses ≡ [] →
+    0 < total (names c is_inv) b.traffic.links →
     Found b block
 found-inv n b block c h quiet some =
     let e : (e : ℕ) × (0 < sum_by (names c is_inv) (link b.traffic e)) = find-link (names c is_inv) b.traffic some in
     let x : (x : Forward) × (Some x ≡ slice_get (link b.traffic e.0) 0) = head-of (names c is_inv) (link b.traffic e.0) e.1 in
-    let l : (line : Line) × (Some line ≡ slice_get b.lines e.0) = line-there b.lines e.0 (omega (arith, link-there e.0 x.0 b.traffic x.1, h.links, h.lines)) in
+    let low : e.0 < length b.lines = omega (arith, link-there e.0 x.0 b.traffic x.1, h.links, h.lines) in
+    let l : (line : Line) × (Some line ≡ slice_get b.lines e.0) = line-there b.lines e.0 low in
     let v : View = seen l.0 b.home b.traffic e.0 in
     let local : Local l.0.state v = local-at n b e.0 l.0 h l.1 in
     let first : (rest : List ForwardKind) × (v.link ≡ Inv ∷ rest) = inv_first l.0.state v (has-inv-in (link b.traffic e.0) c e.1) local in

@@ -1,5 +1,6 @@
 -- Transitions at a home keep the invariant.
-use Rattle.std.proofs.Common.{◌≡◌, ℕ, ◌+◌, [], ◌∷◌, inl, inr, refl, sym, subst, ◌∙◌, arith, Option, Some, None, true, false, if◌then◌else◌, slice_get}
+use Rattle.std.proofs.Common.{◌≡◌, ℕ, ◌+◌, [], ◌∷◌, inl, inr, refl, sym, subst, ◌∙◌, arith}
+use Rattle.std.proofs.Common.{Option, Some, None, true, false, if◌then◌else◌, slice_get}
 use Rattle.std.proofs.Common.{slice_set, sum_by, length, replicate}
 use Rattle.base.specs.declared.ids.CacheId.{CacheId}
 use Rattle.base.specs.declared.ids.Place.{Place}
@@ -195,7 +196,8 @@ owns-seen None r = refl
 owns-seen (Some o) r = refl
 
 -- a request at its home is fine
-pub request-fine : (n : ℕ) (b : BlockState) (i : ℕ) (kind : RequestKind) (r : CacheId) → Sound n b → Some (req kind r) ≡ slice_get b.traffic.requests i
+pub request-fine : (n : ℕ) (b : BlockState) (i : ℕ) (kind : RequestKind) (r : CacheId) → Sound n b →
+    Some (req kind r) ≡ slice_get b.traffic.requests i
     → Fine n
     (carried_out
     (by_home_entry (baseline_entry b.home.state (event_at_home b.home.owner b.home.sharers (home_input.Request (req kind r))))
@@ -226,7 +228,8 @@ home-data-added Dir value acks c v = nothing-added v
 home-data-added (Cache by) value acks c v = nothing-added v
 
 -- Data comes to the home only in S^D
-stray : (n : ℕ) (b : BlockState) (i : ℕ) (by : Place) (value acks : ℕ) → Sound n b → Some (Data by Dir value acks) ≡ slice_get b.traffic.responses i →
+stray : (n : ℕ) (b : BlockState) (i : ℕ) (by : Place) (value acks : ℕ) → Sound n b →
+    Some (Data by Dir value acks) ≡ slice_get b.traffic.responses i →
     (b.home.state ≡ home.SD → Never) → ⊥
 stray n b i by value acks h at not_sd =
     let none : sum_by home_data b.traffic.responses ≡ 0 = (h.good.unblocked not_sd).1 in
@@ -260,7 +263,8 @@ data-fine-at n b i by value acks home.SD e h at =
       met = λ x. absurd (cc);
     }
 
-pub data-fine : (n : ℕ) (b : BlockState) (i : ℕ) (by : Place) (value acks : ℕ) → Sound n b → Some (Data by Dir value acks) ≡ slice_get b.traffic.responses i
+pub data-fine : (n : ℕ) (b : BlockState) (i : ℕ) (by : Place) (value acks : ℕ) → Sound n b →
+    Some (Data by Dir value acks) ≡ slice_get b.traffic.responses i
     → Fine n
     (carried_out
     (by_home_entry (baseline_entry b.home.state (event_at_home b.home.owner b.home.sharers (home_input.Data value))) (home_input.Data value)

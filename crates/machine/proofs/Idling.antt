@@ -54,7 +54,8 @@ quiet-idle b c line q = record {
   link = ap (λ l. map (λ f. f.kind) l) (q.links c);
 }
 
-pub quiet-done : (n : ℕ) (b : BlockState) → Sound n b → Valued b → IsQuiet b.traffic → (c : ℕ) (line : Line) → Some line ≡ slice_get b.lines c →
+pub quiet-done : (n : ℕ) (b : BlockState) → Sound n b → Valued b → IsQuiet b.traffic →
+    (c : ℕ) (line : Line) → Some line ≡ slice_get b.lines c →
     line.pending ≡ None
 quiet-done n b h v q c line there =
     idle_pending line.state (seen line b.home b.traffic c) line.pending (quiet-idle b c line q) (local-at n b c line h there) (waits-at b c line v there)

@@ -74,7 +74,8 @@ waits-after b c line l next w latest v there e waits d =
     ]
 
 -- a transition of a line that stores nothing
-unstored : (b : BlockState) (c : ℕ) (line l : Line) (next : CacheState) (w : Traffic) → Valued b → Some line ≡ slice_get b.lines c → l.state ≡ next →
+unstored : (b : BlockState) (c : ℕ) (line l : Line) (next : CacheState) (w : Traffic) → Valued b →
+    Some line ≡ slice_get b.lines c → l.state ≡ next →
     Waits next l.pending → ((u : View) → HasValue next u → l.value ≡ b.latest) → WiresFit b c next w
     → Valued (line_block b c l w b.latest)
 unstored b c line l next w v there e waits value wires =
@@ -83,7 +84,8 @@ unstored b c line l next w v there e waits value wires =
     record {
       lines = λ d. by-eq d c
           (λ same. subst (λ k. HasValue (line_of b'.lines k).state (view_of b' k) → (line_of b'.lines k).value ≡ b.latest) (sym same)
-          (λ p. ap (λ (x : Line). x.value) at_c ∙ value (view_of b' c) (subst (λ s. HasValue s (view_of b' c)) (ap (λ (x : Line). x.state) at_c ∙ e) p)))
+          (λ p. ap (λ (x : Line). x.value) at_c
+          ∙ value (view_of b' c) (subst (λ s. HasValue s (view_of b' c)) (ap (λ (x : Line). x.state) at_c ∙ e) p)))
           (λ ne p.
           let same : line_of b'.lines d ≡ line_of b.lines d = line_of-set_other b.lines c d l ne in
           ap (λ (x : Line). x.value) same
@@ -128,8 +130,8 @@ pub waits-at : (b : BlockState) (c : ℕ) (line : Line) → Valued b → Some li
 waits-at b c line v there = subst (λ (l : Line). Waits l.state l.pending) (line_of-there b.lines c line there) (v.waits c)
 
 -- what acts at a line is right
-pub acted-right : (n : ℕ) (b : BlockState) (cache : CacheId) (input : LineInput) (line : Line) (next : CacheState) (actions : List CacheAction) (from : Origin) →
-    FitsLatest (plain_outcome from) b.latest b.latest
+pub acted-right : (n : ℕ) (b : BlockState) (cache : CacheId) (input : LineInput) (line : Line) (next : CacheState)
+    (actions : List CacheAction) (from : Origin) → FitsLatest (plain_outcome from) b.latest b.latest
     → Sound n (carried_out (by_line_entry (entry.Act next actions) cache line input from) b).block → Valued b → Some line ≡ slice_get b.lines cache.0
     → Settles next b.latest (line_after input next line) (line_completes input next line) → WiresFit b cache.0 next
     (all_sent (line_messages cache (taken_in input line).value (requestor_of input) actions) (without from b.traffic))
@@ -197,7 +199,8 @@ link-same : (w u : Traffic) → w.links ≡ u.links → (d : ℕ) → link w d �
 link-same w u e d = ap (λ ls. get_or ls d []) e
 
 forward-wires : (b : BlockState) (cache : CacheId) (next : CacheState) (w : Traffic) → Valued b →
-    (next ≡ MiA → PutsCarry b.latest cache.0 b.traffic.requests) → w.links ≡ (head_taken cache.0 b.traffic).links → w.requests ≡ b.traffic.requests →
+    (next ≡ MiA → PutsCarry b.latest cache.0 b.traffic.requests) → w.links ≡ (head_taken cache.0 b.traffic).links →
+    w.requests ≡ b.traffic.requests →
     Carries b.latest w.responses → WiresFit b cache.0 next w
 forward-wires b cache next w v old links requests sent = record {
   links = λ d ne. link-same w (head_taken cache.0 b.traffic) links d ∙ link-taken_other b.traffic cache.0 d ne;

@@ -80,7 +80,8 @@ serves-moves b cache line input from entry.Blank h =
 serves-moves b cache line input from entry.Stall h = absurd h
 serves-moves b cache line input from (entry.Act next actions) h =
     let o : Outcome = outcome_of cache from (line_completes input next line) in
-    let c : (o ≢ outcome.Held) × (o ≢ outcome.Absent) × (o ≢ outcome.Broken) × (o ≢ outcome.Idle) = completed cache from (line_completes input next line) in
+    let c : (o ≢ outcome.Held) × (o ≢ outcome.Absent) × (o ≢ outcome.Broken) × (o ≢ outcome.Idle) =
+    completed cache from (line_completes input next line) in
     record { served = c.0; there = c.1; whole = c.2; busy = c.3 }
 
 pub line-moves : (b : BlockState) (cache : CacheId) (input : LineInput) (from : Origin) (found : Option Line) (line : Line) → Some line ≡ found →
@@ -99,7 +100,8 @@ line-there [] c h = absurd (omega arith)
 line-there (l ∷ ls) zero h = (l, refl)
 line-there (l ∷ ls) (suc c) h = line-there ls c (omega arith)
 
-receiver-below : (n : ℕ) (b : BlockState) (c : ℕ) → Sound n b → 0 < (view_of b c).dir_data + (view_of b c).owner_data + (view_of b c).invs → c < length b.lines
+receiver-below : (n : ℕ) (b : BlockState) (c : ℕ) → Sound n b → 0 < (view_of b c).dir_data + (view_of b c).owner_data + (view_of b c).invs →
+    c < length b.lines
 receiver-below n b c h some =
     elim (cases_lt c (length b.lines)) [
       | inl lt ↦ lt
@@ -232,7 +234,8 @@ pub found-response : (n : ℕ) (b : BlockState) (block : BlockId) (x : Response)
 found-response n b block x at h =
     (step.Response block 0, tt, refl, subst (λ (o : Option Response). Moves (carried_out (at_response baseline 0 b o) b)) at (response-moves n b 0 x at h))
 
-pub found-request : (b : BlockState) (block : BlockId) (r : Request) → Some r ≡ slice_get b.traffic.requests 0 → b.home.state ≢ home.SD → Found b block
+pub found-request : (b : BlockState) (block : BlockId) (r : Request) → Some r ≡ slice_get b.traffic.requests 0 →
+    b.home.state ≢ home.SD → Found b block
 found-request b block r at ne = (
   step.Request block 0,
   tt,

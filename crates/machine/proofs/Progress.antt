@@ -1,5 +1,6 @@
 -- Under the baseline no run is stuck.
-use Rattle.std.proofs.Common.{◌≡◌, ◌≢◌, ℕ, ◌≤◌, List, [], ◌∷◌, refl, ap, sym, ◌∙◌, Option, Some, None, Bool, true, false, if◌then◌else◌, slice_get}
+use Rattle.std.proofs.Common.{◌≡◌, ◌≢◌, ℕ, ◌≤◌, List, [], ◌∷◌, refl, ap, sym, ◌∙◌, Option}
+use Rattle.std.proofs.Common.{Some, None, Bool, true, false, if◌then◌else◌, slice_get}
 use Rattle.base.specs.Extent.{Extent, IsWithinLimits}
 use Rattle.base.specs.Steps.{block_of}
 use Rattle.base.specs.declared.ids.BlockId.{BlockId}
@@ -65,7 +66,8 @@ outcome-at s d b block w here e =
     ∙ outcome-in s d b (slice_get s.blocks (block_of d)) (e ∙ ap (λ k. slice_get s.blocks k) (sym here))
 
 -- what moves, on no blank cell, is no refusal
-moved : (o : Outcome) → IsRefusal o → o ≢ outcome.Held → o ≢ outcome.Absent → o ≢ outcome.Idle → o ≢ outcome.Blank → o ≢ outcome.Broken → ⊥
+moved : (o : Outcome) → IsRefusal o → o ≢ outcome.Held → o ≢ outcome.Absent → o ≢ outcome.Idle →
+    o ≢ outcome.Blank → o ≢ outcome.Broken → ⊥
 moved outcome.Sent r held absent idle blank broken = r
 moved outcome.Moved r held absent idle blank broken = r
 moved (outcome.Load cache value) r held absent idle blank broken = r
@@ -90,7 +92,8 @@ unstuck-at caches few s h w block b e =
               delivery = f.1;
               here = f.2;
               acts = λ r. moved (next baseline s f.0).outcome r (λ x. m.served (sym o ∙ x))
-                  (λ x. m.there (sym o ∙ x)) (λ x. m.busy (sym o ∙ x)) (λ x. (guards caches few).unmet f.0 b k (sym o ∙ x)) (λ x. m.whole (sym o ∙ x));
+                  (λ x. m.there (sym o ∙ x)) (λ x. m.busy (sym o ∙ x))
+                  (λ x. (guards caches few).unmet f.0 b k (sym o ∙ x)) (λ x. m.whole (sym o ∙ x));
             },
           );
       done = λ quiet c line at. quiet-done caches b k.sound k.valued (quiet-told b.traffic quiet) c line (sym at);

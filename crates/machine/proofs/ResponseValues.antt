@@ -102,7 +102,8 @@ owner-data-right n b by cache i value acks line h v there at h' =
     h'
 
 -- an Inv-Ack
-pub inv-ack-right : (n : ℕ) (b : BlockState) (by cache : CacheId) (i : ℕ) (line : Line) → Sound n b → Valued b → Some line ≡ slice_get b.lines cache.0
+pub inv-ack-right : (n : ℕ) (b : BlockState) (by cache : CacheId) (i : ℕ) (line : Line) → Sound n b →
+    Valued b → Some line ≡ slice_get b.lines cache.0
     → Sound n
     (carried_out
     (by_line_entry (baseline_entry line.state (event_at_line line.acks (line_input.Response (response.InvAck by cache)))) cache line

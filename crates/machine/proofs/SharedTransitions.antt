@@ -50,13 +50,15 @@ exclusive-own false k ow acks u v a b c e = absurd (cc)
 exclusive-own true true ow acks u v a b c e = absurd (cc)
 exclusive-own true false false acks u v a b c e = absurd (cc)
 
-exclusive-sharer : (t k ow : Bool) (acks : ℕ) (u v : View) → t ≡ false → k ≡ true → ow ≡ false → v.owns ≡ false → u ≡ v → exclusive t k acks ow u ≡ invite v
+exclusive-sharer : (t k ow : Bool) (acks : ℕ) (u v : View) → t ≡ false → k ≡ true → ow ≡ false →
+    v.owns ≡ false → u ≡ v → exclusive t k acks ow u ≡ invite v
 exclusive-sharer false true false acks u v a b c o e = grind (arith)
 exclusive-sharer true k ow acks u v a b c o e = absurd (cc)
 exclusive-sharer false false ow acks u v a b c o e = absurd (cc)
 exclusive-sharer false true true acks u v a b c o e = absurd (cc)
 
-exclusive-other : (t k ow : Bool) (acks : ℕ) (u v : View) → t ≡ false → k ≡ false → ow ≡ false → v.owns ≡ false → v.shares ≡ false → u ≡ v →
+exclusive-other : (t k ow : Bool) (acks : ℕ) (u v : View) → t ≡ false → k ≡ false → ow ≡ false →
+    v.owns ≡ false → v.shares ≡ false → u ≡ v →
     exclusive t k acks ow u ≡ v
 exclusive-other false false false acks u v a b c o s e = grind (arith)
 exclusive-other true k ow acks u v a b c o s e = absurd (cc)
@@ -89,7 +91,8 @@ promised-none SiA v p h = grind (arith)
 promised-none IiA v p h = grind (arith)
 
 -- the home in S serves a GetM
-pub getm-shared : (n : ℕ) (b : BlockState) (i : ℕ) (r : CacheId) → Sound n b → b.home.state ≡ home.S → Some (req GetM r) ≡ slice_get b.traffic.requests i
+pub getm-shared : (n : ℕ) (b : BlockState) (i : ℕ) (r : CacheId) → Sound n b → b.home.state ≡ home.S →
+    Some (req GetM r) ≡ slice_get b.traffic.requests i
     → Sound n (home_block b (record b.home { state = home.M; owner = Some r; sharers = replicate (length b.home.sharers) false })
     (invs_from r 0 b.home.sharers (response_sent (Data Dir (Cache r) b.home.memory (others_from 0 r.0 b.home.sharers)) (request_taken i b.traffic))))
 getm-shared n b i r h hs at =
