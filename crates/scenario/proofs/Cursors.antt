@@ -1,5 +1,7 @@
 -- How far a cursor is, by its place and its parts.
-use Rattle.std.proofs.Common.{◌≡◌, ℕ, zero, suc, List, [], ◌∷◌, ◌++◌, Some, Bool, true, false, ◌&&◌, cond, Ok, Err, append_assoc, map, drop, slice_get, take, min, length, ◌+◌, ◌<◌, ◌≤◌, refl, sym, ap, ◌∙◌, arith}
+use Rattle.std.proofs.Common.{◌≡◌, ℕ, zero, suc, List, [], ◌∷◌, ◌++◌, Some, Bool, true, false, ◌&&◌}
+use Rattle.std.proofs.Common.{cond, Ok, Err, append_assoc, map, drop, slice_get}
+use Rattle.std.proofs.Common.{take, min, length, ◌+◌, ◌<◌, ◌≤◌, refl, sym, ap, ◌∙◌, arith}
 use Rattle.std.specs.declared.vec.Vec.{Vec}
 use Rattle.scenario.specs.declared.part.Part.{Part, Fresh, Begun', Row_of-Part, end_of-Part, more_of-Part}
 use Rattle.scenario.specs.declared.part.Part.{items-the_row-Part, items_hidden-the_row-Part-0}
@@ -188,7 +190,8 @@ pub found-in-parts : {A B : Type 0} (xs : List (Part A B)) (i k : ℕ) (x : Part
     → sought (offers (part_left x)) k ≡ Ok ask → sought (offers_of_all (all_left (map progress (drop i xs)))) k ≡ Ok ask
 found-in-parts xs i k x ask e h = ap (λ ts. sought (offers_of_all (trees_of ts)) k) (sym (map-left (drop i xs))) ∙ found-all part_left xs i k x ask e h
 
-pub passed-in-parts : {A B : Type 0} (xs : List (Part A B)) (i k r : ℕ) (x : Part A B) → slice_get xs i ≡ Some x → sought (offers (part_left x)) k ≡ Err r
+pub passed-in-parts : {A B : Type 0} (xs : List (Part A B)) (i k r : ℕ) (x : Part A B) → slice_get xs i ≡ Some x →
+    sought (offers (part_left x)) k ≡ Err r
     → sought (offers_of_all (all_left (map progress (drop i xs)))) k ≡ sought (offers_of_all (all_left (map progress (drop (i + 1) xs)))) r
 passed-in-parts xs i k r x e h =
     ap (λ ts. sought (offers_of_all (trees_of ts)) k) (sym (map-left (drop i xs)))

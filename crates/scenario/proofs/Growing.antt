@@ -45,7 +45,8 @@ map-push : {X : Type 0} (f : X → Progress) (xs : List X) (x : X) → map f (xs
 map-push f [] x = refl
 map-push f (y ∷ xs) x = ap (λ ps. f y ∷ ps) (map-push f xs x)
 
-pub grows-push : {X : Type 0} (f : X → Progress) (ps : List Progress) (xs : List X) (x : X) → f x ≡ Nothing → Grows ps (map f xs) → Grows ps (map f (xs ++ x ∷ []))
+pub grows-push : {X : Type 0} (f : X → Progress) (ps : List Progress) (xs : List X) (x : X) → f x ≡ Nothing →
+    Grows ps (map f xs) → Grows ps (map f (xs ++ x ∷ []))
 grows-push f ps xs x e h = rw (map-push f xs x) (grows-more ps (map f xs) (f x) e h)
 
 pub grown-same : {A B : Type 0} (p q : Part A B) → place_of q ≡ place_of p → Grows (parts_of p) (parts_of q) → progress q ≡ progress p

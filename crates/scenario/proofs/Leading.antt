@@ -19,7 +19,8 @@ greatest-total : (ts : Trees) → greatest_nodes ts ≤ total_nodes ts
 greatest-total tree.Nil = omega arith
 greatest-total (tree.Cons t ts) = let h = greatest-total ts in omega (arith, h)
 
-nodes-greatest : {A : Type 0} (ss : List (Scenario A)) (j : ℕ) (s : Scenario A) → slice_get ss j ≡ Some s → nodes (plain s) ≤ greatest_nodes (plain_all ss)
+nodes-greatest : {A : Type 0} (ss : List (Scenario A)) (j : ℕ) (s : Scenario A) → slice_get ss j ≡ Some s →
+    nodes (plain s) ≤ greatest_nodes (plain_all ss)
 nodes-greatest [] j s e = absurd (cc e)
 nodes-greatest (u ∷ ss) zero s e = let e' : u ≡ s = cc e in rw (sym e') (omega arith)
 nodes-greatest (u ∷ ss) (suc j) s e = let h = nodes-greatest ss j s e in omega (arith, h)
@@ -33,7 +34,8 @@ drop-greatest (u ∷ ss) (suc j) = let h = drop-greatest ss j in omega (arith, h
 -- ---- beginning
 
 -- a row's tree becomes the first part of the rest
-pub leads-row : {A : Type 0} (ss : List (Scenario A)) (at j k : ℕ) (s : Scenario A) (old new : List Progress) → slice_get ss j ≡ Some s → 1 ≤ length old
+pub leads-row : {A : Type 0} (ss : List (Scenario A)) (at j k : ℕ) (s : Scenario A) (old new : List Progress) →
+    slice_get ss j ≡ Some s → 1 ≤ length old
     → IsPlaceInTurn ss at j k → Begins old 0 (plain s) k new
     → Leads (tree.Seq (plain_all ss)) at (1 + greatest_nodes (plain_all ss)) (InSeq (first_part new) (plain_all (drop (j + 1) ss)))
 leads-row ss at j k s [] new e room place b = absurd (omega (arith, room))
@@ -131,13 +133,15 @@ leads-both ss at j k s old mid new e room place b whole =
     )
 
 -- a child goes less deep than what it is in
-pub depth-deepest : {A : Type 0} (ss : List (Scenario A)) (j : ℕ) (s : Scenario A) → slice_get ss j ≡ Some s → depth (plain s) ≤ deepest (plain_all ss)
+pub depth-deepest : {A : Type 0} (ss : List (Scenario A)) (j : ℕ) (s : Scenario A) → slice_get ss j ≡ Some s →
+    depth (plain s) ≤ deepest (plain_all ss)
 depth-deepest [] j s e = absurd (cc e)
 depth-deepest (u ∷ ss) zero s e = let e' : u ≡ s = cc e in rw (sym e') (omega arith)
 depth-deepest (u ∷ ss) (suc j) s e = let h = depth-deepest ss j s e in omega (arith, h)
 
 -- where an item is set that stands for the same
-pub same-set : {X Y : Type 0} (f : X → Y) (xs : List X) (i : ℕ) (x y : X) → slice_get xs i ≡ Some x → f y ≡ f x → map f (slice_set xs i y) ≡ map f xs
+pub same-set : {X Y : Type 0} (f : X → Y) (xs : List X) (i : ℕ) (x y : X) → slice_get xs i ≡ Some x →
+    f y ≡ f x → map f (slice_set xs i y) ≡ map f xs
 same-set f [] i x y e h = absurd (cc e)
 same-set f (z ∷ xs) zero x y e h = let e' : z ≡ x = cc e in ap (λ w. w ∷ map f xs) (h ∙ ap f (sym e'))
 same-set f (z ∷ xs) (suc i) x y e h = ap (λ ws. f z ∷ ws) (same-set f xs i x y e h)

@@ -1,6 +1,8 @@
 -- Where an offer of several children is.
-use Rattle.std.proofs.Common.{◌≡◌, ℕ, zero, suc, ◌+◌, ◌-◌, ◌<◌, ◌≤◌, List, [], ◌∷◌, ◌++◌, Option, Some, None, Bool, true, false}
-use Rattle.std.proofs.Common.{cond, nat_lt, length, drop, take, map, slice_get, slice_set, IfSome, refl, sym, ap, ◌∙◌, subst, arith, add-one, length-append}
+use Rattle.std.proofs.Common.{◌≡◌, ℕ, zero, suc, ◌+◌, ◌-◌, ◌<◌, ◌≤◌, List, [], ◌∷◌, ◌++◌}
+use Rattle.std.proofs.Common.{Option, Some, None, Bool, true, false}
+use Rattle.std.proofs.Common.{cond, nat_lt, length, drop, take, map, slice_get, slice_set, IfSome, refl, sym}
+use Rattle.std.proofs.Common.{ap, ◌∙◌, subst, arith, add-one, length-append}
 use Rattle.std.proofs.lemmas.Bool.Decides.{nat_tests}
 use Rattle.base.specs.declared.step.CoreAsk.{CoreAsk}
 use Rattle.scenario.specs.declared.tree.Scenario.{Scenario}
@@ -197,7 +199,8 @@ leaves_in_turn ss new at j k s t ask e place takes n =
       ap row_of (left_is ∙ ap (λ x. Cons x (plain_all (drop (j + 1) ss))) takes.1) ∙ sym here.2,
     )
 
-pub leaves_among : {A : Type 0} (ss : List (Scenario A)) (at j k : ℕ) (s t : Scenario A) (ask : CoreAsk) → slice_get ss j ≡ Some s → IsPlaceAmong ss at j k
+pub leaves_among : {A : Type 0} (ss : List (Scenario A)) (at j k : ℕ) (s t : Scenario A) (ask : CoreAsk) →
+    slice_get ss j ≡ Some s → IsPlaceAmong ss at j k
     → Leaves (plain s) k (Some ask) (plain t) → Leaves (Both (plain_all ss)) at (Some ask) (Both (plain_all (slice_set ss j t)))
 leaves_among ss at j k s t ask e place takes =
     let here = subst (λ (o : Option _). IfSome o (λ u. HereAmong ss at j k u)) e place in (
@@ -205,7 +208,8 @@ leaves_among ss at j k s t ask e place takes =
       ap Both (ap trees_of (sym (map_set ss j t) ∙ ap (slice_set (map plain ss) j) takes.1) ∙ sym here.3),
     )
 
-pub leaves_of_any : {A : Type 0} (ss : List (Scenario A)) (at j k : ℕ) (s t : Scenario A) (ask : CoreAsk) → slice_get ss j ≡ Some s → IsPlaceAmong ss at j k
+pub leaves_of_any : {A : Type 0} (ss : List (Scenario A)) (at j k : ℕ) (s t : Scenario A) (ask : CoreAsk) →
+    slice_get ss j ≡ Some s → IsPlaceAmong ss at j k
     → Leaves (plain s) k (Some ask) (plain t)
     → Leaves (Any (plain_all ss)) at (Some ask) (plain t)
 leaves_of_any ss at j k s t ask e place takes =

@@ -1,5 +1,6 @@
 -- What is found where an offer is sought.
-use Rattle.std.proofs.Common.{◌≡◌, ℕ, zero, suc, ◌+◌, ◌-◌, ◌<◌, ◌≤◌, List, [], ◌∷◌, ◌++◌, Some, None, Ok, Err, true, false, cond}
+use Rattle.std.proofs.Common.{◌≡◌, ℕ, zero, suc, ◌+◌, ◌-◌, ◌<◌, ◌≤◌, List, [], ◌∷◌, ◌++◌}
+use Rattle.std.proofs.Common.{Some, None, Ok, Err, true, false, cond}
 use Rattle.std.proofs.Common.{length, length-append, slice_get, take, drop, map, refl, ap, ◌∙◌, arith, add-one}
 use Rattle.std.specs.Result.{result_ok}
 use Rattle.base.specs.declared.step.CoreAsk.{CoreAsk}
@@ -62,13 +63,15 @@ pub found-in_turn : {A : Type 0} (ss : List (Scenario A)) (i k : ℕ) (s : Scena
 found-in_turn ss i k s ask e h = rw (here-in_turn ss i s e) (sought-front (offers (plain s)) _ k ask h)
 
 -- behind a child that may end, and behind one that may not
-pub passed-in_turn : {A : Type 0} (ss : List (Scenario A)) (i k r : ℕ) (s : Scenario A) → slice_get ss i ≡ Some s → sought (offers (plain s)) k ≡ Err r
+pub passed-in_turn : {A : Type 0} (ss : List (Scenario A)) (i k r : ℕ) (s : Scenario A) →
+    slice_get ss i ≡ Some s → sought (offers (plain s)) k ≡ Err r
     → ends (plain s) ≡ true → sought (offers_in_turn (plain_all (drop i ss))) k ≡ sought (offers_in_turn (plain_all (drop (i + 1) ss))) r
 passed-in_turn ss i k r s e h end =
     ap (λ xs. sought xs k) (here-in_turn ss i s e ∙ ap (λ b. offers (plain s) ++ cond b (offers_in_turn (plain_all (drop (i + 1) ss))) []) end)
     ∙ sought-behind (offers (plain s)) _ k r h
 
-pub stopped-in_turn : {A : Type 0} (ss : List (Scenario A)) (i k r : ℕ) (s : Scenario A) → slice_get ss i ≡ Some s → sought (offers (plain s)) k ≡ Err r
+pub stopped-in_turn : {A : Type 0} (ss : List (Scenario A)) (i k r : ℕ) (s : Scenario A) →
+    slice_get ss i ≡ Some s → sought (offers (plain s)) k ≡ Err r
     → ends (plain s) ≡ false → sought (offers_in_turn (plain_all (drop i ss))) k ≡ Err r
 stopped-in_turn ss i k r s e h more =
     ap (λ xs. sought xs k) (here-in_turn ss i s e ∙ ap (λ b. offers (plain s) ++ cond b (offers_in_turn (plain_all (drop (i + 1) ss))) []) more)

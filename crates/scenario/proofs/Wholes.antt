@@ -1,5 +1,6 @@
 -- Parts that are made whole, one by one, but for one.
-use Rattle.std.proofs.Common.{◌≡◌, ℕ, zero, suc, ◌+◌, ◌<◌, List, [], ◌∷◌, Option, Some, IfSome, length, take, map, slice_get, slice_set, refl, sym, ap, ◌∙◌, subst, arith, add-one}
+use Rattle.std.proofs.Common.{◌≡◌, ℕ, zero, suc, ◌+◌, ◌<◌, List, [], ◌∷◌, Option, Some, IfSome, length, take, map, slice_get}
+use Rattle.std.proofs.Common.{slice_set, refl, sym, ap, ◌∙◌, subst, arith, add-one}
 use Rattle.scenario.specs.declared.tree.Scenario.{Scenario}
 use Rattle.scenario.specs.Tree.{Tree, plain}
 use Rattle.scenario.specs.Cursors.{Progress, Whole}

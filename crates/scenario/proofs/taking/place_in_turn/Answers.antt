@@ -9,7 +9,8 @@ pub returns-in-Ok-clause-place : goal.returns-in-Ok-clause-place
 returns-in-Ok-clause-place g c =
     let i = c.loop-i.invariant in
     let at = slice_get-get_or c.args.children.now c.loop-i.i c.index-children-i.result c.loop-i-test.true ∙ ap Some (sym c.index-children-i.is) in
-    found_in_turn c.args.children.now c.args.at c.loop-i.i c.loop-i.further c.index-children-i.result at (past-ok _ _ c.in-Ok.field-0 (sym c.seek_in_tree.ensures ∙ c.in-Ok.is)) i.1 i.2
+    found_in_turn c.args.children.now c.args.at c.loop-i.i c.loop-i.further c.index-children-i.result at
+    (past-ok _ _ c.in-Ok.field-0 (sym c.seek_in_tree.ensures ∙ c.in-Ok.is)) i.1 i.2
 
 pub loop-i-preserved : goal.loop-i-preserved
 loop-i-preserved g c =

@@ -9,7 +9,8 @@ returns-in_err-push-clause-grown g c = rw c.in_err-push.ensures.items c.loop.inv
 
 pub loop-preserved : goal.loop-preserved
 loop-preserved g c = (
-  rw c.in_ok-push.ensures.items (grows-push progress (map progress c.args.parts.now.items) c.loop.parts.items c.ended.result c.ended.ensures c.loop.invariant.0),
+  rw c.in_ok-push.ensures.items
+      (grows-push progress (map progress c.args.parts.now.items) c.loop.parts.items c.ended.result c.ended.ensures c.loop.invariant.0),
   grind (arith, common_steps),
 )
 

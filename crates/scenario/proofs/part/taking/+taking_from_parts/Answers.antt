@@ -58,9 +58,11 @@ take_from_part-take_from-requires g t c κs within =
     let short : number < length items = grind (arith, common_steps, parts, length-map, inside) in
     let old = c.index_mut.result.now in
     let at : slice_get items number ≡ Some old = slice_get-get_or items number old short ∙ ap Some (search rules) in
-    let first = ap (λ qs. slice_get qs number) (ap parts_of c.in-Begun.is ∙ parts-Begun c.in-Begun._place c.in-Begun.parts) ∙ get-map progress items number old at in
+    let own = ap parts_of c.in-Begun.is ∙ parts-Begun c.in-Begun._place c.in-Begun.parts in
+    let first = ap (λ qs. slice_get qs number) own ∙ get-map progress items number old at in
     let high = height-at ps number (progress old) first in
-    let low = subst (λ (x : Progress). c.args.at < length (offers (tree_left x))) (some-same c.requires.0 (progress old) ps number c.requires.1 first) c.requires.2 in
+    let is_old = some-same c.requires.0 (progress old) ps number c.requires.1 first in
+    let low = subst (λ (x : Progress). c.args.at < length (offers (tree_left x))) is_old c.requires.2 in
     grind (arith, common_steps, high, low)
 
 pub take_from_part-returns-clause-err : goal.take_from_part-returns-clause-err
@@ -71,7 +73,10 @@ take_from_part-returns-clause-err g t c =
     let old = c.index_mut.result.now in
     let at : slice_get items c.args.number ≡ Some old = slice_get-get_or items c.args.number old within ∙ ap Some (search rules) in
     on_err-map c.take_from.result _ _
-    (λ h. let same = same-set progress items c.args.number old c.take_from.new.part at h in grind (arith, common_steps, parts-row, same)) c.take_from.ensures.err
+    (λ h.
+    let same = same-set progress items c.args.number old c.take_from.new.part at h in
+    grind (arith, common_steps, parts-row, same))
+    c.take_from.ensures.err
 
 pub take_from_part-returns-clause-ok : goal.take_from_part-returns-clause-ok
 take_from_part-returns-clause-ok g t c =

@@ -7,7 +7,9 @@ use Rattle.scenario.proofs.Sought.{sought-ok, sought-err}
 use Rattle.scenario.proofs.tree.Scenario.take.Goals as goal
 
 pub returns-in-Err-clause-ok : goal.returns-in-Err-clause-ok
-returns-in-Err-clause-ok g c = let h = sought-err (offers (plain c.args.self.now)) c.args.at c.in-Err.field-0 (sym c.seek_in_tree.ensures ∙ c.in-Err.is) in (omega (arith, h.0), refl)
+returns-in-Err-clause-ok g c =
+    let h = sought-err (offers (plain c.args.self.now)) c.args.at c.in-Err.field-0 (sym c.seek_in_tree.ensures ∙ c.in-Err.is) in
+    (omega (arith, h.0), refl)
 
 pub take_one-requires : goal.take_one-requires
 take_one-requires g c = (sought-ok (offers (plain c.args.self.now)) c.args.at c.in_default.field-0 (sym c.seek_in_tree.ensures ∙ c.in_default.is)).0
