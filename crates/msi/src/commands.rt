@@ -96,7 +96,29 @@ fn batch<'a>(alloc: Global) -> Result<Command<'a>, AllocError> {
     let about = "Reads a scenario, makes trials of it and prints their verdicts, one a line";
     let help = "How many trials are made, at most 1000000";
     let trials = number_of(alloc, "trials", "N", help, MOST_TRIALS as i64);
-    command(alloc, "batch", about, options_of_trials(alloc, trials)?)
+    let mut options = options_of_trials(alloc, trials)?;
+    options.push(workers(alloc))?;
+    options.push(progress(alloc))?;
+    command(alloc, "batch", about, options)
+}
+
+fn workers<'a>(alloc: Global) -> Arg<'a> {
+    Arg::new(alloc, "workers")
+        .long("workers")
+        .value_name("W")
+        .help("Among how many threads the trials are shared out, 1 to 64")
+        .default_value("1")
+        .action(ArgAction::Set)
+        .value_parser(value_parser!(u32).range(1..=desk::MOST_SEATS as i64))
+}
+
+fn progress<'a>(alloc: Global) -> Arg<'a> {
+    Arg::new(alloc, "progress")
+        .long("progress")
+        .help(
+            "Tells on standard error how many trials are made, with how many steps, and how many broke",
+        )
+        .action(ArgAction::SetTrue)
 }
 
 /// The options of a command that makes trials: those that all of these have, and one of its own.

@@ -40,10 +40,13 @@ pub fn serve<R: Threads + Wait + Sync, F: Files, I: Read + Drop, O: Write + Drop
         Err(_) => return refuse(&Fault::NoMemory, &mut errors),
     };
     match read {
-        Ok(matches) => match run(rt, alloc, &matches, files, input, output, &mut errors) {
-            Ok(finding) => finding.status(),
-            Err(fault) => refuse(&fault, &mut errors),
-        },
+        Ok(matches) => {
+            let (mut errors, found) = run(rt, alloc, &matches, files, input, output, errors);
+            match found {
+                Ok(finding) => finding.status(),
+                Err(fault) => refuse(&fault, &mut errors),
+            }
+        }
         Err(said) => answer(&said, output, &mut errors),
     }
 }
@@ -70,36 +73,41 @@ fn refuse<E: Write>(fault: &Fault, errors: &mut E) -> u8 {
     fault.status()
 }
 
-fn run<R: Threads + Wait + Sync, F: Files, I: Read + Drop, O: Write + Drop, E: Write>(
+/// Carries out what the words ask for, and hands the errors back.
+fn run<R: Threads + Wait + Sync, F: Files, I: Read + Drop, O: Write + Drop, E: Write + Drop>(
     rt: &R,
     alloc: Global,
     matches: &ArgMatches<'_>,
     files: &mut F,
     input: I,
     output: O,
-    errors: &mut E,
-) -> Result<Finding, Fault> {
+    errors: E,
+) -> (E, Result<Finding, Fault>) {
     match Task::of(alloc, matches, files) {
-        Ok(Some(task)) => carry_out(rt, alloc, &task, input, output, errors),
-        Ok(None) => Ok(Finding::Nothing),
-        Err(fault) => Err(fault),
+        Ok(Some(task)) => carry_out(rt, alloc, task, input, output, errors),
+        Ok(None) => (errors, Ok(Finding::Nothing)),
+        Err(fault) => (errors, Err(fault)),
     }
 }
 
-fn carry_out<R: Threads + Wait + Sync, I: Read + Drop, O: Write + Drop, E: Write>(
+fn carry_out<R: Threads + Wait + Sync, I: Read + Drop, O: Write + Drop, E: Write + Drop>(
     rt: &R,
     alloc: Global,
-    task: &Task,
+    task: Task,
     input: I,
     output: O,
-    errors: &mut E,
-) -> Result<Finding, Fault> {
-    match task {
-        Task::Play(shape, tables) => play(alloc, *shape, *tables, input, output),
-        Task::Trial(setup, number) => one_trial(alloc, setup, *number, input, output, errors),
-        Task::Batch(setup, trials) => batch(alloc, setup, *trials, input, output),
-        Task::Floor(setup, seats, turns) => race(rt, alloc, setup, *seats, *turns, input, output),
+    errors: E,
+) -> (E, Result<Finding, Fault>) {
+    let mut errors = errors;
+    let found = match task {
+        Task::Play(shape, tables) => play(alloc, shape, tables, input, output),
+        Task::Trial(setup, number) => one_trial(alloc, &setup, number, input, output, &mut errors),
+        Task::Batch(setup, plan) => {
+            return batch(rt, alloc, setup, plan, input, output, errors);
+        }
+        Task::Floor(setup, seats, turns) => race(rt, alloc, &setup, seats, turns, input, output),
         Task::Replay => replay(alloc, input, output),
-        Task::Tables(tables) => print_tables(alloc, tables, output),
-    }
+        Task::Tables(tables) => print_tables(alloc, &tables, output),
+    };
+    (errors, found)
 }

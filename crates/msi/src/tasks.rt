@@ -14,14 +14,24 @@ pub enum Task {
     Play(Shape, Tables),
     /// Make the trial of this number.
     Trial(Setup, u32),
-    /// Make so many trials.
-    Batch(Setup, u32),
+    /// Make a batch of trials.
+    Batch(Setup, BatchPlan),
     /// Have so many seats race at a floor, with so many turns each.
     Floor(Setup, u32, u32),
     /// Replay a recording.
     Replay,
     /// Print the cells of these tables.
     Tables(Tables),
+}
+
+/// How a batch is made.
+#[derive(Clone, Copy, Debug, PartialEq, Eq)]
+pub struct BatchPlan {
+    pub trials: u32,
+    /// Among how many threads the trials are shared out.
+    pub workers: u32,
+    /// Whether it is told how far the batch has come.
+    pub progress: bool,
 }
 
 impl Task {
@@ -39,7 +49,7 @@ impl Task {
         Ok(match name {
             "play" => Some(Task::Play(shape(options)?, tables(alloc, options, files)?)),
             "trial" => Some(Task::Trial(trying(alloc, options, files)?, number(options, "number"))),
-            "batch" => Some(Task::Batch(trying(alloc, options, files)?, number(options, "trials"))),
+            "batch" => Some(Task::Batch(trying(alloc, options, files)?, plan(options))),
             "floor" => Some(racing(alloc, options, files)?),
             "replay" => Some(Task::Replay),
             "tables" => Some(Task::Tables(tables(alloc, options, files)?)),
@@ -58,6 +68,14 @@ fn trying<F: Files>(
     files: &mut F,
 ) -> Result<Setup, Fault> {
     setup(alloc, options, files, number(options, "limit"))
+}
+
+fn plan(options: &ArgMatches<'_>) -> BatchPlan {
+    BatchPlan {
+        trials: number(options, "trials"),
+        workers: number(options, "workers"),
+        progress: options.get_flag("progress"),
+    }
 }
 
 /// A race, whose turns are counted before a file is read.

@@ -13,6 +13,7 @@ mod cells;
 mod ends;
 mod racing;
 mod rows;
+mod sharing;
 mod trying;
 
 use broken::BROKEN;

@@ -1,11 +1,16 @@
 use crate::fault::Fault;
 use crate::finding::Finding;
+use crate::reporting::Report;
+use crate::sharing::share;
+use crate::tasks::BatchPlan;
 use base::{Shape, ToWrite};
-use indexmap::IndexMap;
+use desk::Job;
 use record::Recording;
 use scenario::Scenario;
 use std::alloc::Global;
 use std::io::{BufWriter, Read, Write};
+use std::marker::Brand;
+use std::thread::Threads;
 use trials::{Setup, TrialResult, Verdict, trial};
 
 /// Makes one trial of the scenario that the input is, and writes its recording on the output and its verdict on the
@@ -36,67 +41,75 @@ fn write_recording<O: Write + Drop>(
     Ok(())
 }
 
-/// Makes so many trials of the scenario that the input is, and prints a line for each as it ends, and then how many there
-/// were of each kind, in the order in which the kinds came first.
-pub fn batch<I: Read + Drop, O: Write + Drop>(
+/// Makes the trials of a batch of the scenario that the input is, and prints a line for each, and then how many there were
+/// of each kind, in the order in which the kinds came first. It hands the errors back.
+pub fn batch<R: Threads + Sync, I: Read + Drop, O: Write + Drop, E: Write + Drop>(
+    rt: &R,
     alloc: Global,
-    setup: &Setup,
-    trials: u32,
+    setup: Setup,
+    plan: BatchPlan,
     input: I,
     output: O,
-) -> Result<Finding, Fault> {
-    let scenario = read_scenario(alloc, input, setup.shape())?;
-    let mut output = BufWriter::new(alloc, output)?;
-    make_all(alloc, &scenario, setup, trials, &mut output)
-}
-
-fn make_all<W: Write>(
-    alloc: Global,
-    scenario: &Scenario<Global>,
-    setup: &Setup,
-    trials: u32,
-    output: &mut W,
-) -> Result<Finding, Fault> {
-    let mut tally: IndexMap<&'static str, u32> = IndexMap::new(alloc);
-    let mut found = Finding::Nothing;
-    for number in 0..trials {
-        let result = make_one(alloc, scenario, setup, number, output)?;
-        count(&mut tally, result.verdict.name())?;
-        if finding(result) == Finding::Violation {
-            found = Finding::Violation;
+    errors: E,
+) -> (E, Result<Finding, Fault>) {
+    match prepare(alloc, setup, input, output) {
+        Ok((job, output)) => {
+            let report = Report::new(alloc, plan, output, errors);
+            let (report, found) = make_all(rt, alloc, &job, plan.workers, report);
+            (report.into_errors(), found)
         }
+        Err(fault) => (errors, Err(fault)),
     }
-    print_totals(&tally, output)?;
-    Ok(found)
 }
 
-fn make_one<W: Write>(
+fn prepare<I: Read + Drop, O: Write + Drop>(
     alloc: Global,
-    scenario: &Scenario<Global>,
-    setup: &Setup,
-    number: u32,
-    output: &mut W,
-) -> Result<TrialResult, Fault> {
-    let result = trial(alloc, scenario, setup, number)?.result;
-    writeln!(output, "{number} {result}")?;
-    output.flush()?;
-    Ok(result)
+    setup: Setup,
+    input: I,
+    output: O,
+) -> Result<(Job, BufWriter<O>), Fault> {
+    let scenario = read_scenario(alloc, input, setup.shape())?;
+    let output = BufWriter::new(alloc, output)?;
+    Ok((Job { scenario, setup }, output))
 }
 
-fn count(tally: &mut IndexMap<&'static str, u32>, kind: &'static str) -> Result<(), Fault> {
-    let before = tally.get(&kind).copied().unwrap_or(0);
-    tally.insert(kind, before.saturating_add(1))?;
-    Ok(())
+fn make_all<R: Threads + Sync, O: Write + Drop, E: Write + Drop>(
+    rt: &R,
+    alloc: Global,
+    job: &Job,
+    workers: u32,
+    report: Report<O, E>,
+) -> (Report<O, E>, Result<Finding, Fault>) {
+    let (mut report, made) = if workers > 1 {
+        share::<Brand, R, O, E>(rt, alloc, job, workers, report)
+    } else {
+        make_alone(alloc, job, report)
+    };
+    let found = match made {
+        Ok(()) => report.finish(),
+        Err(fault) => Err(fault),
+    };
+    (report, found)
 }
 
-fn print_totals<W: Write>(
-    tally: &IndexMap<&'static str, u32>,
-    output: &mut W,
+fn make_alone<O: Write + Drop, E: Write + Drop>(
+    alloc: Global,
+    job: &Job,
+    mut report: Report<O, E>,
+) -> (Report<O, E>, Result<(), Fault>) {
+    let made = print_each(alloc, job, &mut report);
+    (report, made)
+}
+
+fn print_each<O: Write + Drop, E: Write + Drop>(
+    alloc: Global,
+    job: &Job,
+    report: &mut Report<O, E>,
 ) -> Result<(), Fault> {
-    for (kind, count) in tally.iter() {
-        writeln!(output, "total {kind} {count}")?;
+    for number in 0..report.trials() {
+        let made = trial(alloc, &job.scenario, &job.setup, number)?;
+        report.print(made.result)?;
     }
-    output.flush()?;
     Ok(())
 }
 

@@ -1,4 +1,5 @@
-//! Tests of floors: turns, closes and crews.
+//! Tests of what threads share: floors, their turns, closes and crews, desks, and batches that
+//! are spread.
 #![tactic(auto)]
 
 #[cfg(test)]
@@ -6,8 +7,14 @@ mod asserting;
 #[cfg(test)]
 mod crews;
 #[cfg(test)]
+mod desks;
+#[cfg(test)]
 mod entries;
 #[cfg(test)]
+mod jobs;
+#[cfg(test)]
 mod setups;
+#[cfg(test)]
+mod spreading;
 #[cfg(test)]
 mod turns;

@@ -18,3 +18,4 @@ pub mod Courses
 pub mod CourseSteps
 pub mod Runs
 pub mod Results
+pub mod Gathering

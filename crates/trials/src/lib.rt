@@ -8,6 +8,7 @@ mod laws;
 mod making;
 mod noting;
 mod setup;
+mod spreading;
 mod verdict;
 
 pub use batches::{BatchFault, MOST_TRIALS, batch};
@@ -17,4 +18,5 @@ pub use laws::{
 };
 pub use making::trial;
 pub use setup::{MOST_STEPS, Setup, SetupFault};
+pub use spreading::spread;
 pub use verdict::{Trial, TrialResult, Verdict};

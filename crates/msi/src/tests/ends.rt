@@ -28,8 +28,8 @@ impl Read for Torn {
 
 /// An output that takes so many bytes and then fails.
 #[derive(Drop)]
-struct Short {
-    left: usize,
+pub struct Short {
+    pub left: usize,
 }
 
 impl Write for Short {

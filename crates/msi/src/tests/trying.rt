@@ -1,7 +1,7 @@
 use super::{expect, run, run_over};
 use std::test::Fail;
 
-const RACING_PAIR: &str =
+pub const RACING_PAIR: &str =
     r#"{"both":[{"op":"load","core":0,"block":0},{"op":"store","core":1,"block":0,"value":9}]}"#;
 
 pub const ONE_LOAD: &str = r#"{"op":"load","core":0,"block":0}"#;
@@ -166,6 +166,8 @@ fn refused_scenarios(rt: HostRuntime) -> Result<(), Fail> {
         "--seed 1 --trials 1000001 --limit 9",
         "--seed 1 --trials 1 --limit 1000001",
         "--seed -1 --trials 1 --limit 9",
+        "--seed 1 --trials 1 --limit 9 --workers 0",
+        "--seed 1 --trials 1 --limit 9 --workers 65",
     ] {
         let line = format!(in alloc; "msi batch --caches 2 {words}")?;
         let served = run(&rt, alloc, line.as_str(), none)?;

@@ -1,0 +1,63 @@
+use Rattle.std.proofs.lemmas.Grind.{common_steps}
+use Rattle.std.proofs.Common.{rules, sym, subst, length, map, arith}
+use Rattle.desk.specs.inner.Keeping.{IsSeat, is_claimed, is_posted}
+use Rattle.desk.proofs.Lists.{long_same}
+use Rattle.desk.proofs.Seating.{looked_kept}
+use Rattle.desk.proofs.desks.Desk.look.Goals as goal
+
+pub invariant_of-seat : goal.invariant_of-seat
+invariant_of-seat g c =
+    let i = c.seat.inside in
+    let long = long_same (λ n. n.cell) c.get_at.new.notes.items i.notes.items c.get_at.ensures.cells in
+    subst (λ n. IsSeat i.token.me n i.told (map is_claimed i.stages.items) (map is_posted i.stages.items)
+    (map (λ n. n.known) c.get_at.new.notes.items)) (sym long)
+    (looked_kept (λ r. r.now) c.get_at.result i.token.me (length i.notes.items) i.told (map is_claimed i.stages.items) (map is_posted i.stages.items)
+    (map (λ n. n.known) i.notes.items) (map (λ n. n.known) c.get_at.new.notes.items) c.args.number
+    c.seat.invariant
+    (search rules)
+    c.get_at.ensures.value)
+
+pub len-requires : goal.len-requires
+len-requires g c κs = search rules
+
+pub returns-then-place-len-clause-some : goal.returns-then-place-len-clause-some
+returns-then-place-len-clause-some g c = grind (arith, common_steps)
+
+pub returns-then-place-len-clause-own : goal.returns-then-place-len-clause-own
+returns-then-place-len-clause-own g c = grind (arith, common_steps)
+
+pub returns-then-place-len-clause-again : goal.returns-then-place-len-clause-again
+returns-then-place-len-clause-again g c = grind (arith, common_steps)
+
+pub returns-then-place-len-clause-none : goal.returns-then-place-len-clause-none
+returns-then-place-len-clause-none g c = grind (arith, common_steps)
+
+pub returns-then-place-len-clause-others : goal.returns-then-place-len-clause-others
+returns-then-place-len-clause-others g c = grind (arith, common_steps)
+
+pub returns-then-place-len-clause-same : goal.returns-then-place-len-clause-same
+returns-then-place-len-clause-same g c = grind (arith, common_steps)
+
+pub get_at-requires-clause-same : goal.get_at-requires-clause-same
+get_at-requires-clause-same g c = grind (arith, common_steps)
+
+pub get_at-requires-clause-within : goal.get_at-requires-clause-within
+get_at-requires-clause-within g c = grind (arith, common_steps)
+
+pub returns-clause-some : goal.returns-clause-some
+returns-clause-some g c = grind (arith, common_steps)
+
+pub returns-clause-own : goal.returns-clause-own
+returns-clause-own g c = grind (arith, common_steps)
+
+pub returns-clause-again : goal.returns-clause-again
+returns-clause-again g c = grind (arith, common_steps)
+
+pub returns-clause-none : goal.returns-clause-none
+returns-clause-none g c = grind (arith, common_steps)
+
+pub returns-clause-others : goal.returns-clause-others
+returns-clause-others g c = grind (arith, common_steps)
+
+pub returns-clause-same : goal.returns-clause-same
+returns-clause-same g c = grind (arith, common_steps)

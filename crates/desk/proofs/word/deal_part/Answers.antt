@@ -1,0 +1,12 @@
+use Rattle.std.proofs.Common.{arith, ap}
+use Rattle.desk.proofs.Drawing.{deals}
+use Rattle.desk.proofs.word.deal_part.Goals as goal
+
+pub split_seat-requires : goal.split_seat-requires
+split_seat-requires c =
+    let r = c.requires in (
+      r.table,
+      omega (arith, r.words),
+      deals c.args.word.now.shared.key c.args.token.now.id c.args.token.now.me.0
+          (ap (λ m. m.0) r.fresh) r.some,
+    )

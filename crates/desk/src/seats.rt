@@ -1,0 +1,88 @@
+//! Those who claim numbers and post their results.
+
+ghost use Rattle.std.specs.Prelude.{◌≡◌, replicate, IfOk};
+ghost use Rattle.desk.specs.declared.seats.Stage.TheVariants.{Free};
+
+use crate::cells::CellNote;
+use crate::faults::PostFault;
+use crate::jobs::Naming;
+use crate::word::Token;
+use base::NoMemory;
+use std::alloc::Global;
+use std::marker::Model;
+
+/// How far a seat is with a number.
+#[derive(Clone, Copy, Debug, PartialEq, Eq)]
+pub(crate) enum Stage {
+    /// It hasn't claimed it.
+    Free,
+    /// It has claimed it, and not posted it.
+    Claimed,
+    /// It has posted its result.
+    Posted,
+}
+
+/// The stages of so many numbers, of which none is claimed.
+pub(crate) fn make_stages(alloc: Global, count: usize) -> Result<Vec<Stage>, NoMemory>
+    ensures { IfOk result (λ stages. stages.items ≡ replicate count Free) }
+{
+    Ok(vec![in alloc; Stage::Free; count]?)
+}
+
+/// One who claims numbers at a desk and posts their results.
+#[derive(Drop)]
+pub struct DeskSeat<D: Naming> {
+    pub(crate) token: Token,
+    pub(crate) told: bool,
+    pub(crate) stages: Vec<Stage>,
+    pub(crate) notes: Vec<CellNote<D>>,
+}
+
+impl<D: Naming> Model for DeskSeat<D> {
+    ghost use Rattle.std.specs.Prelude.{map, length};
+    ghost use Rattle.desk.specs.Seats.{SeatView};
+    ghost use Rattle.desk.specs.inner.Keeping.{IsSeat, is_claimed, is_posted};
+
+    ghost Value = { SeatView };
+
+    ghost view = { λ s. record {
+      desk = record { table = s.token.table_id; cells = map (λ n. n.cell) s.notes.items };
+      claimed = s.token.me.0.drawn;
+      told = s.told;
+      posted = map is_posted s.stages.items;
+      known = map (λ n. n.known) s.notes.items;
+    } };
+
+    ghost invariant = { λ s. IsSeat s.token.me (length s.notes.items) s.told
+        (map is_claimed s.stages.items) (map is_posted s.stages.items) (map (λ n. n.known) s.notes.items) };
+}
+
+impl<D: Naming> DeskSeat<D> {
+    ghost use Rattle.std.specs.Prelude.{◌≡◌, slice_index_or, Some, None, IfNone, false};
+    ghost use Rattle.desk.specs.Seats.{HasClaimed, HasPosted};
+
+    /// Why a result of this number isn't taken.
+    pub(crate) fn refusal(&self, number: u32) -> Option<PostFault>
+        ensures not_yours { ¬ HasClaimed self.now number → result ≡ Some PostFault.NotYours }
+        ensures already { HasClaimed self.now number → HasPosted self.now number → result ≡ Some PostFault.Already }
+        ensures none { HasClaimed self.now number → ¬ HasPosted self.now number → result ≡ None }
+        ensures claimed { IfNone result (HasClaimed self.now number) }
+        ensures unposted { IfNone result (¬ HasPosted self.now number) }
+    {
+        match self.stages.get(number as usize) {
+            Some(Stage::Claimed) => None,
+            Some(Stage::Posted) => Some(PostFault::Already),
+            Some(Stage::Free) | None => Some(PostFault::NotYours),
+        }
+    }
+
+    /// Whether it has posted the result of this number.
+    pub(crate) fn has_posted(&self, number: usize) -> bool
+        ensures { result ≡ slice_index_or self.now.posted number false }
+    {
+        match self.stages.get(number) {
+            Some(Stage::Posted) => true,
+            _ => false,
+        }
+    }
+}

@@ -1,0 +1,374 @@
+ghost use Rattle.std.specs.Prelude.{◌≡◌, All, IfOk};
+ghost use Rattle.desk.specs.Plans.{IsResultOf, plan_of};
+
+use crate::asserting::same;
+use crate::jobs::{compare_with_batch, racing_pair};
+use base::NoMemory;
+use desk::{CloseFault, Desk, DeskFault, DeskSeat, Job, Naming, PostFault, work};
+use std::alloc::Global;
+use std::marker::Brand;
+use std::process::Abort;
+use std::test::Fail;
+use std::thread;
+use std::thread::Threads;
+use trials::{TrialResult, trial};
+
+const LOOKS: u32 = 1_000_000_000;
+
+fn claims<D: Naming, R: Abort>(
+    rt: &R,
+    desk: &Desk<'_, D>,
+    zero: &mut DeskSeat<D>,
+    one: &mut DeskSeat<D>,
+)
+    requires { (zero.old.desk ≡ desk.now.id) × (one.old.desk ≡ desk.now.id) }
+    ensures { (zero.new.desk ≡ desk.now.id) × (one.new.desk ≡ desk.now.id) }
+{
+    same(rt, &desk.claim(zero), &Some(0));
+    same(rt, &desk.claim(one), &Some(1));
+    same(rt, &desk.claim(one), &Some(2));
+    same(rt, &desk.claim(zero), &None);
+    same(rt, &desk.claim(zero), &None);
+}
+
+fn posts<D: Naming, R: Abort>(
+    rt: &R,
+    desk: &Desk<'_, D>,
+    zero: &mut DeskSeat<D>,
+    one: &mut DeskSeat<D>,
+    two: TrialResult,
+)
+    requires seats { (zero.old.desk ≡ desk.now.id) × (one.old.desk ≡ desk.now.id) }
+    requires two { IsResultOf D.plan 2 two }
+    ensures { (zero.new.desk ≡ desk.now.id) × (one.new.desk ≡ desk.now.id) }
+{
+    same(rt, &desk.look(zero, 2), &None);
+    same(rt, &desk.look(one, 2), &None);
+    same(rt, &desk.post(one, 2, two), &Ok(()));
+    same(rt, &desk.look(one, 2), &Some(two));
+    same(rt, &desk.look(zero, 2), &Some(two));
+    same(rt, &desk.post(one, 2, two), &Err((PostFault::Already, two)));
+    same(
+        rt,
+        &desk.post(zero, 2, two),
+        &Err((PostFault::NotYours, two)),
+    );
+    same(rt, &desk.look(zero, 3), &None);
+}
+
+/// Two seats, three numbers, and one post: the other places stay empty.
+fn two_seats<D: Naming, R: Abort>(rt: &R, alloc: Global, job: &Job) -> Result<(), Fail>
+    requires { D.plan ≡ plan_of job.now }
+{
+    let (desk, mut seats) = Desk::<D>::new(alloc, job, 3, 2)?;
+    let mut one = seats.pop().ok_or("no seat")?;
+    let mut zero = seats.pop().ok_or("no seat")?;
+    claims(rt, &desk, &mut zero, &mut one);
+    let two = trial(alloc, &job.scenario, &job.setup, 2)?.result;
+    posts(rt, &desk, &mut zero, &mut one, two);
+    seats.push(zero)?;
+    seats.push(one)?;
+    let places = desk.close(seats).ok().ok_or("not closed")?;
+    same(rt, &places.as_slice(), &[None, None, Some(two)].as_slice());
+    Ok(())
+}
+
+#[test]
+fn three_numbers_and_two_seats(rt: HostRuntime) -> Result<(), Fail> {
+    let job = racing_pair(rt.alloc())?;
+    two_seats::<Brand, _>(&rt, rt.alloc(), &job)
+}
+
+/// Without one of its seats a desk isn't closed, and comes back with the seats that were handed in.
+fn without_a_seat<D: Naming, R: Abort>(rt: &R, alloc: Global, job: &Job) -> Result<(), Fail>
+    requires { D.plan ≡ plan_of job.now }
+{
+    let (desk, mut seats) = Desk::<D>::new(alloc, job, 3, 2)?;
+    let one = seats.pop().ok_or("no seat")?;
+    let Err((fault, desk, mut seats)) = desk.close(seats) else {
+        return Err(Fail::from("closed without a seat"));
+    };
+    same(rt, &fault, &CloseFault::SeatMissing);
+    seats.push(one)?;
+    let places = desk.close(seats).ok().ok_or("not closed")?;
+    same(rt, &places.as_slice(), &[None, None, None].as_slice());
+    Ok(())
+}
+
+#[test]
+fn a_seat_that_is_missing(rt: HostRuntime) -> Result<(), Fail> {
+    let job = racing_pair(rt.alloc())?;
+    without_a_seat::<Brand, _>(&rt, rt.alloc(), &job)
+}
+
+fn refusal<D: Naming>(alloc: Global, job: &Job, n: u32, seats: u32) -> Option<DeskFault>
+    requires { D.plan ≡ plan_of job.now }
+{
+    Desk::<D>::new(alloc, job, n, seats).err()
+}
+
+#[test]
+fn desks_that_are_not_made(rt: HostRuntime) -> Result<(), Fail> {
+    let job = racing_pair(rt.alloc())?;
+    for (n, seats, fault) in [
+        (1_000_001, 0, Some(DeskFault::TooMany)),
+        (1_000_000, 0, Some(DeskFault::NoSeats)),
+        (3, 65, Some(DeskFault::TooManySeats)),
+        (0, 64, None),
+        (1_000_000, 2, None),
+    ] {
+        same(&rt, &refusal::<Brand>(rt.alloc(), &job, n, seats), &fault);
+    }
+    Ok(())
+}
+
+/// Works off what there is for a seat, and hands the seat back.
+fn worked<D: Naming>(
+    desk: &Desk<'_, D>,
+    mut seat: DeskSeat<D>,
+) -> (DeskSeat<D>, Result<u32, NoMemory>)
+    requires { seat.desk ≡ desk.now.id }
+    ensures { result.0.desk ≡ desk.entry.now.id }
+{
+    let made = work(desk, &mut seat);
+    (seat, made)
+}
+
+/// One seat behind the other works: the first makes all trials, and for the others there is nothing left.
+fn work_in_turn<D: Naming, R: Abort>(
+    rt: &R,
+    alloc: Global,
+    desk: &Desk<'_, D>,
+    mut seats: Vec<DeskSeat<D>>,
+    n: u32,
+) -> Result<Vec<DeskSeat<D>>, Fail>
+    requires { All (λ seat. seat.desk ≡ desk.now.id) seats.items }
+    ensures { IfOk result (λ back. All (λ seat. seat.desk ≡ desk.now.id) back.items) }
+{
+    let mut back = Vec::new(alloc);
+    let mut left = n;
+    while let Some(seat) = seats.pop() {
+        let (seat, made) = worked(desk, seat);
+        same(rt, &made, &Ok(left));
+        left = 0;
+        back.push(seat)?;
+    }
+    Ok(back)
+}
+
+fn one_after_the_other<D: Naming, R: Abort>(
+    rt: &R,
+    alloc: Global,
+    job: &Job,
+    n: u32,
+    count: u32,
+) -> Result<(), Fail>
+    requires { D.plan ≡ plan_of job.now }
+{
+    let (desk, seats) = Desk::<D>::new(alloc, job, n, count)?;
+    let seats = work_in_turn(rt, alloc, &desk, seats, n)?;
+    let places = desk.close(seats).ok().ok_or("not closed")?;
+    compare_with_batch(rt, alloc, job, n, &places)
+}
+
+#[test]
+fn a_seat_that_works_alone(rt: HostRuntime) -> Result<(), Fail> {
+    let job = racing_pair(rt.alloc())?;
+    one_after_the_other::<Brand, _>(&rt, rt.alloc(), &job, 50, 1)
+}
+
+#[test]
+fn three_numbers_and_64_seats(rt: HostRuntime) -> Result<(), Fail> {
+    let job = racing_pair(rt.alloc())?;
+    one_after_the_other::<Brand, _>(&rt, rt.alloc(), &job, 3, 64)
+}
+
+/// A row of seats with two more.
+fn with_both<D: Naming>(
+    desk: &Desk<'_, D>,
+    mut seats: Vec<DeskSeat<D>>,
+    one: DeskSeat<D>,
+    other: DeskSeat<D>,
+) -> Result<Vec<DeskSeat<D>>, Fail>
+    requires seats { All (λ seat. seat.desk ≡ desk.now.id) seats.items }
+    requires both { (one.desk ≡ desk.now.id) × (other.desk ≡ desk.now.id) }
+    ensures { IfOk result (λ all. All (λ seat. seat.desk ≡ desk.now.id) all.items) }
+{
+    seats.push(one)?;
+    seats.push(other)?;
+    Ok(seats)
+}
+
+/// Two seats that work in two threads, and how much they did.
+fn two_work<D: Naming + Send + Sync, R: Threads + Sync>(
+    rt: &R,
+    desk: &Desk<'_, D>,
+    zero: DeskSeat<D>,
+    one: DeskSeat<D>,
+) -> (DeskSeat<D>, DeskSeat<D>, Option<u32>)
+    requires { (zero.desk ≡ desk.now.id) × (one.desk ≡ desk.now.id) }
+    ensures { (result.0.desk ≡ desk.entry.now.id) × (result.1.desk ≡ desk.entry.now.id) }
+{
+    let ((zero, first), (one, second)) = thread::join(
+        rt,
+        move || -> (DeskSeat<D>, Result<u32, NoMemory>)
+            requires { zero.desk ≡ desk.now.id }
+            ensures { result.0.desk ≡ desk.entry.now.id }
+        { worked(desk, zero) },
+        move || -> (DeskSeat<D>, Result<u32, NoMemory>)
+            requires { one.desk ≡ desk.now.id }
+            ensures { result.0.desk ≡ desk.entry.now.id }
+        { worked(desk, one) },
+    );
+    let made = match (first, second) {
+        (Ok(first), Ok(second)) => first.checked_add(second),
+        _ => None,
+    };
+    (zero, one, made)
+}
+
+/// Two threads work off a batch.
+fn two_threads<D: Naming + Send + Sync, R: Threads + Abort + Sync>(
+    rt: &R,
+    alloc: Global,
+    job: &Job,
+) -> Result<(), Fail>
+    requires { D.plan ≡ plan_of job.now }
+{
+    let (desk, mut seats) = Desk::<D>::new(alloc, job, 200, 2)?;
+    let one = seats.pop().ok_or("no seat")?;
+    let zero = seats.pop().ok_or("no seat")?;
+    let (zero, one, made) = two_work(rt, &desk, zero, one);
+    same(rt, &made, &Some(200));
+    seats.push(zero)?;
+    seats.push(one)?;
+    let places = desk.close(seats).ok().ok_or("not closed")?;
+    compare_with_batch(rt, alloc, job, 200, &places)
+}
+
+#[test]
+fn two_threads_that_work(rt: HostRuntime) -> Result<(), Fail> {
+    let job = racing_pair(rt.alloc())?;
+    two_threads::<Brand, _>(&rt, rt.alloc(), &job)
+}
+
+/// Four threads work off a batch, two and two.
+fn four_threads<D: Naming + Send + Sync, R: Threads + Abort + Sync>(
+    rt: &R,
+    alloc: Global,
+    job: &Job,
+) -> Result<(), Fail>
+    requires { D.plan ≡ plan_of job.now }
+{
+    let (desk, mut seats) = Desk::<D>::new(alloc, job, 400, 4)?;
+    let three = seats.pop().ok_or("no seat")?;
+    let two = seats.pop().ok_or("no seat")?;
+    let one = seats.pop().ok_or("no seat")?;
+    let zero = seats.pop().ok_or("no seat")?;
+    let shared = &desk;
+    let ((zero, one, front), (two, three, back)) = thread::join(
+        rt,
+        move || -> (DeskSeat<D>, DeskSeat<D>, Option<u32>)
+            requires { (zero.desk ≡ shared.now.id) × (one.desk ≡ shared.now.id) }
+            ensures { (result.0.desk ≡ shared.entry.now.id) × (result.1.desk ≡ shared.entry.now.id) }
+        { two_work(rt, shared, zero, one) },
+        move || -> (DeskSeat<D>, DeskSeat<D>, Option<u32>)
+            requires { (two.desk ≡ shared.now.id) × (three.desk ≡ shared.now.id) }
+            ensures { (result.0.desk ≡ shared.entry.now.id) × (result.1.desk ≡ shared.entry.now.id) }
+        { two_work(rt, shared, two, three) },
+    );
+    let made = match (front, back) {
+        (Some(front), Some(back)) => front.checked_add(back),
+        _ => None,
+    };
+    same(rt, &made, &Some(400));
+    let seats = with_both(&desk, seats, zero, one)?;
+    let seats = with_both(&desk, seats, two, three)?;
+    let places = desk.close(seats).ok().ok_or("not closed")?;
+    compare_with_batch(rt, alloc, job, 400, &places)
+}
+
+#[test]
+fn four_threads_that_work(rt: HostRuntime) -> Result<(), Fail> {
+    let job = racing_pair(rt.alloc())?;
+    four_threads::<Brand, _>(&rt, rt.alloc(), &job)
+}
+
+/// Makes the trial of the next number, posts it, and looks until it finds the result of the other of the first two.
+fn post_and_find<D: Naming>(
+    alloc: Global,
+    desk: &Desk<'_, D>,
+    mut seat: DeskSeat<D>,
+    job: &Job,
+) -> (DeskSeat<D>, Option<TrialResult>)
+    requires seat { seat.desk ≡ desk.now.id }
+    requires plan { D.plan ≡ plan_of job.now }
+    ensures { result.0.desk ≡ desk.entry.now.id }
+{
+    let found = find_other(alloc, desk, &mut seat, job);
+    (seat, found)
+}
+
+fn find_other<D: Naming>(
+    alloc: Global,
+    desk: &Desk<'_, D>,
+    seat: &mut DeskSeat<D>,
+    job: &Job,
+) -> Option<TrialResult>
+    requires seat { seat.old.desk ≡ desk.now.id }
+    requires plan { D.plan ≡ plan_of job.now }
+    ensures { seat.new.desk ≡ desk.now.id }
+{
+    let number = desk.claim(seat)?;
+    let made = trial(alloc, &job.scenario, &job.setup, number).ok()?;
+    if desk.post(seat, number, made.result).is_err() {
+        return None;
+    }
+    let other = if number == 0 { 1 } else { 0 };
+    for _ in 0..LOOKS {
+        if let Some(found) = desk.look(seat, other) {
+            return Some(found);
+        }
+    }
+    None
+}
+
+/// Two threads, of which each finds what the other posted.
+fn two_find<D: Naming + Send + Sync, R: Threads + Abort + Sync>(
+    rt: &R,
+    alloc: Global,
+    job: &Job,
+) -> Result<(), Fail>
+    requires { D.plan ≡ plan_of job.now }
+{
+    let (desk, mut seats) = Desk::<D>::new(alloc, job, 2, 2)?;
+    let one = seats.pop().ok_or("no seat")?;
+    let zero = seats.pop().ok_or("no seat")?;
+    let shared = &desk;
+    let ((zero, first), (one, second)) = thread::join(
+        rt,
+        move || -> (DeskSeat<D>, Option<TrialResult>)
+            requires seat { zero.desk ≡ shared.now.id }
+            requires plan { D.plan ≡ plan_of job.now }
+            ensures { result.0.desk ≡ shared.entry.now.id }
+        { post_and_find(alloc, shared, zero, job) },
+        move || -> (DeskSeat<D>, Option<TrialResult>)
+            requires seat { one.desk ≡ shared.now.id }
+            requires plan { D.plan ≡ plan_of job.now }
+            ensures { result.0.desk ≡ shared.entry.now.id }
+        { post_and_find(alloc, shared, one, job) },
+    );
+    assert!(rt; first.is_some() && second.is_some());
+    seats.push(zero)?;
+    seats.push(one)?;
+    let places = desk.close(seats).ok().ok_or("not closed")?;
+    // Which seat has which number is up to the threads.
+    assert!(rt; places.contains(&first) && places.contains(&second) && first != second);
+    compare_with_batch(rt, alloc, job, 2, &places)
+}
+
+#[test]
+fn two_threads_that_find(rt: HostRuntime) -> Result<(), Fail> {
+    let job = racing_pair(rt.alloc())?;
+    two_find::<Brand, _>(&rt, rt.alloc(), &job)
+}

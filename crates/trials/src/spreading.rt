@@ -1,0 +1,73 @@
+ghost use Rattle.std.specs.Prelude.{◌≡◌, ◌<◌, ◌↔◌, IfOk, IsErrOf};
+ghost use Rattle.machine.specs.Tables.{baseline};
+ghost use Rattle.scenario.specs.Tree.{plain};
+ghost use Rattle.trials.specs.Trial.{AreResults, AreSound, IsResult, IsSound};
+
+use crate::batches::{BatchFault, MOST_TRIALS};
+use crate::making::trial;
+use crate::setup::Setup;
+use crate::verdict::TrialResult;
+use base::NoMemory;
+use rayon::prelude::*;
+use scenario::Scenario;
+use std::alloc::Global;
+use std::thread::Threads;
+
+/// The answer of [`batch`](crate::batch), made by as many threads as there are processors, each trial by any of them.
+///
+/// It is refused `TooMany` exactly where `n` is over 1,000,000. `NoMemory` also stands for threads that can't be had.
+pub fn spread(
+    rt: &(impl Threads + Sync),
+    alloc: Global,
+    scenario: &Scenario<Global>,
+    setup: &Setup,
+    n: u32,
+) -> Result<Vec<TrialResult>, BatchFault>
+    ensures ok { IfOk result (λ results. AreResults setup.now (plain scenario.now) n results.items) }
+    ensures sound { setup.now.tables ≡ baseline → IfOk result (λ results. AreSound results.items) }
+    ensures too_many { IsErrOf result BatchFault.TooMany ↔ (1000000 < n) }
+{
+    if n > MOST_TRIALS {
+        return Err(BatchFault::TooMany);
+    }
+    match all_results(rt, alloc, scenario, setup, n) {
+        Ok(results) => Ok(results),
+        Err(_) => Err(BatchFault::NoMemory),
+    }
+}
+
+fn all_results(
+    rt: &(impl Threads + Sync),
+    alloc: Global,
+    scenario: &Scenario<Global>,
+    setup: &Setup,
+    n: u32,
+) -> Result<Vec<TrialResult>, NoMemory>
+    ensures ok { IfOk result (λ results. AreResults setup.now (plain scenario.now) n results.items) }
+    ensures sound { setup.now.tables ≡ baseline → IfOk result (λ results. AreSound results.items) }
+{
+    let made: Result<Vec<TrialResult>, NoMemory> = (0..n)
+        .into_par_iter()
+        .map(
+            |number: u32| -> Result<TrialResult, NoMemory>
+                ensures { IfOk result (λ made. IsResult setup.entry.now (plain scenario.entry.now) number made ×
+                    (setup.entry.now.tables ≡ baseline → IsSound made.verdict)) }
+            { one_result(alloc, scenario, setup, number) },
+        )
+        .collect(rt, alloc)?;
+    made
+}
+
+/// What came of the trial of one number.
+fn one_result(
+    alloc: Global,
+    scenario: &Scenario<Global>,
+    setup: &Setup,
+    number: u32,
+) -> Result<TrialResult, NoMemory>
+    ensures { IfOk result (λ made. IsResult setup.now (plain scenario.now) number made ×
+        (setup.now.tables ≡ baseline → IsSound made.verdict)) }
+{
+    let made = trial(alloc, scenario, setup, number)?;
+    Ok(made.result)
+}
