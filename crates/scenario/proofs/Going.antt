@@ -1,6 +1,6 @@
 -- What is left, and how many nodes are to come, once an offer is taken of a part, or of what is behind the parts in use.
-use Rattle.std.proofs.Common.{◌≡◌, ℕ, zero, suc, ◌+◌, ◌-◌, ◌<◌, ◌≤◌, ◌==◌, ◌⊎◌, inl, inr, List, [], ◌∷◌, ◌++◌, Some}
-use Rattle.std.proofs.Common.{Bool, true, false, cond, length, take, map, slice_get, slice_set, refl, sym, ap, ◌∙◌, subst, arith, length-append}
+use Rattle.std.proofs.Common.{◌≡◌, ℕ, zero, suc, ◌+◌, ◌-◌, ◌<◌, ◌≤◌, ◌==◌, ◌⊎◌, inl, inr, List, [], ◌∷◌, ◌++◌}
+use Rattle.std.proofs.Common.{Some, Bool, true, false, cond, length, take, map, slice_get, slice_set, refl, sym, ap, ◌∙◌, subst, arith, length-append}
 use Rattle.std.proofs.lemmas.Bool.Decides.{nat_tests}
 use Rattle.base.specs.declared.step.CoreAsk.{CoreAsk}
 use Rattle.scenario.specs.declared.part.Part.{Part, Fresh}

@@ -12,7 +12,7 @@ pub copy_all-loop-child-preserved : goal.copy_all-loop-child-preserved
 copy_all-loop-child-preserved g t c = grind (arith, common_steps)
 
 pub copy_all-loop-child-smaller : goal.copy_all-loop-child-smaller
-copy_all-loop-child-smaller g t c = grind (arith, common_steps)
+copy_all-loop-child-smaller g t c = omega arith
 
 pub copy_all-offset_bounds-children-child-index : goal.copy_all-offset_bounds-children-child-index
 copy_all-offset_bounds-children-child-index g t c = grind (arith, common_steps)

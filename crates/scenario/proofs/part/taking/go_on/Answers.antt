@@ -29,14 +29,17 @@ start_turn-requires-clause-offer g c =
 pub returns-in-Whole-clause-ok : goal.returns-in-Whole-clause-ok
 returns-in-Whole-clause-ok g c =
     let is = sym (sym c.place.ensures ∙ c.in-Whole.is) in
-    on_ok-map c.start.result _ _ (λ h. subst (λ at. Leads (behind at) c.args.at (most_behind at) (progress c.start.new.part)) is h) c.start.ensures.ok
+    let new = progress c.start.new.part in
+    on_ok-map c.start.result _ _ (λ h. subst (λ at. Leads (behind at) c.args.at (most_behind at) new) is h) c.start.ensures.ok
 
 pub returns-in-InSeq-clause-ok : goal.returns-in-InSeq-clause-ok
 returns-in-InSeq-clause-ok g c =
     let is = sym (sym c.place.ensures ∙ c.in-InSeq.is) in
-    on_ok-map c.start_row.result _ _ (λ h. subst (λ at. Leads (behind at) c.args.at (most_behind at) (progress c.start_row.new.part)) is h) c.start_row.ensures.ok
+    let new = progress c.start_row.new.part in
+    on_ok-map c.start_row.result _ _ (λ h. subst (λ at. Leads (behind at) c.args.at (most_behind at) new) is h) c.start_row.ensures.ok
 
 pub returns-in-InTimes-clause-ok : goal.returns-in-InTimes-clause-ok
 returns-in-InTimes-clause-ok g c =
     let is = sym (sym c.place.ensures ∙ c.in-InTimes.is) in
-    on_ok-map c.start_turn.result _ _ (λ h. subst (λ at. Leads (behind at) c.args.at (most_behind at) (progress c.start_turn.new.part)) is h) c.start_turn.ensures.ok
+    let new = progress c.start_turn.new.part in
+    on_ok-map c.start_turn.result _ _ (λ h. subst (λ at. Leads (behind at) c.args.at (most_behind at) new) is h) c.start_turn.ensures.ok
