@@ -120,7 +120,8 @@ start_both-returns-clause-ok g t c =
     let ss = c.args.children.now in
     let at = slice_get-get_or ss offer.child child c.place_among-offer.ensures.within ∙ ap Some (sym c.index-children-offer.is) in
     rw c.move_to.ensures.place (leads-both ss c.args.at offer.child offer.at child (parts_of c.make_room.new.part) (parts_of c.start_part.new.part)
-    (parts_of c.keep_others.new.part) at c.in_ok-make_room.ensures.room c.place_among-offer.ensures.place c.in_ok-start_part.ensures.ok c.keep_others.ensures)
+    (parts_of c.keep_others.new.part) at c.in_ok-make_room.ensures.room c.place_among-offer.ensures.place c.in_ok-start_part.ensures.ok
+    c.keep_others.ensures.whole)
 
 pub start-returns-in-One-clause-ok : goal.start-returns-in-One-clause-ok
 start-returns-in-One-clause-ok g t c =

@@ -8,11 +8,14 @@ use Rattle.scenario.proofs.part.starting.keep_others.Goals as goal
 pub make_whole_but-requires-clause-room : goal.make_whole_but-requires-clause-room
 make_whole_but-requires-clause-room g c = grind (arith, common_steps, parts, length-map)
 
-pub returns : goal.returns
-returns g c = grind (arith, common_steps, parts)
+pub returns-clause-whole : goal.returns-clause-whole
+returns-clause-whole g c = grind (arith, common_steps, parts)
 
 pub unreachable-requires : goal.unreachable-requires
 unreachable-requires g c =
     let room : length c.args.children.now ≤ 0 = subst (λ p. length c.args.children.now ≤ length (parts_of p)) c.in-Fresh.is c.requires.room in
     let low = c.requires.part in
     omega (arith, room, low)
+
+pub returns-clause-count : goal.returns-clause-count
+returns-clause-count g c = grind (arith, common_steps, parts, length-map)

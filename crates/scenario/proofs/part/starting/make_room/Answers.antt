@@ -56,3 +56,9 @@ returns-in_err-push_ended-in-Fresh-clause-same g c = grind (arith, common_steps,
 
 pub returns-in_err-push_ended-in-Fresh-clause-room : goal.returns-in_err-push_ended-in-Fresh-clause-room
 returns-in_err-push_ended-in-Fresh-clause-room g c = on_ok-failed _ _ c.from_residual-in_err-push_ended-in-Fresh.ensures.0
+
+pub returns-in-Begun-clause-most : goal.returns-in-Begun-clause-most
+returns-in-Begun-clause-most g c = grind (arith, common_steps, parts, length-map)
+
+pub returns-in_ok-push_ended-in-Fresh-clause-most : goal.returns-in_ok-push_ended-in-Fresh-clause-most
+returns-in_ok-push_ended-in-Fresh-clause-most g c = grind (arith, common_steps, parts, length-map)
