@@ -77,12 +77,6 @@ seek_in_turn-returns-then-not-tree_may_end g t c =
 pub seek_in_tree-overflow_sub-result : goal.seek_in_tree-overflow_sub-result
 seek_in_tree-overflow_sub-result g t c = grind (arith, common_steps)
 
-pub seek_in_tree-returns-then-at-eq0 : goal.seek_in_tree-returns-then-at-eq0
-seek_in_tree-returns-then-at-eq0 g t c = grind (arith, common_steps)
-
-pub seek_in_tree-returns-else-at-eq0 : goal.seek_in_tree-returns-else-at-eq0
-seek_in_tree-returns-else-at-eq0 g t c = grind (arith, common_steps)
-
 pub seek_in_tree-returns-then-turns-eq0 : goal.seek_in_tree-returns-then-turns-eq0
 seek_in_tree-returns-then-turns-eq0 g t c = grind (arith, common_steps)
 

@@ -229,6 +229,3 @@ start_row-slice_bounds-move_to-count g t c = grind (arith, common_steps)
 
 pub start_row-slice_bounds-move_to-end : goal.start_row-slice_bounds-move_to-end
 start_row-slice_bounds-move_to-end g t c = grind (arith, common_steps)
-
-pub start_turn-overflow_sub-turns : goal.start_turn-overflow_sub-turns
-start_turn-overflow_sub-turns g t c = grind (arith, common_steps)

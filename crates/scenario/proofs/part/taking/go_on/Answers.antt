@@ -37,9 +37,3 @@ returns-in-InSeq-clause-ok g c =
     let is = sym (sym c.place.ensures ∙ c.in-InSeq.is) in
     let new = progress c.start_row.new.part in
     on_ok-map c.start_row.result _ _ (λ h. subst (λ at. Leads (behind at) c.args.at (most_behind at) new) is h) c.start_row.ensures.ok
-
-pub returns-in-InTimes-clause-ok : goal.returns-in-InTimes-clause-ok
-returns-in-InTimes-clause-ok g c =
-    let is = sym (sym c.place.ensures ∙ c.in-InTimes.is) in
-    let new = progress c.start_turn.new.part in
-    on_ok-map c.start_turn.result _ _ (λ h. subst (λ at. Leads (behind at) c.args.at (most_behind at) new) is h) c.start_turn.ensures.ok
