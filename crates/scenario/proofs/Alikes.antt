@@ -1,5 +1,6 @@
 -- What alike trees have in common.
-use Rattle.std.proofs.Common.{◌≡◌, ℕ, ◌<◌, Bool, if◌then◌else◌, List, [], ◌∷◌, length, Option, Some, None, option_map, slice_get, sym, ap, ◌∙◌, subst}
+use Rattle.std.proofs.Common.{◌≡◌, ℕ, ◌<◌, Bool, if◌then◌else◌, List, [], ◌∷◌, length}
+use Rattle.std.proofs.Common.{Option, Some, None, option_map, slice_get, sym, ap, ◌∙◌, subst}
 use Rattle.base.specs.declared.step.CoreAsk.{CoreAsk}
 use Rattle.scenario.specs.Tree.{Tree}
 use Rattle.scenario.specs.Taking.{ends, offers, left}
@@ -24,7 +25,8 @@ pub alike-left : (s t : Tree) (i : ℕ) → Alike s t → i < length (offers s) 
 alike-left s t i alike h path =
     let one = is_below i (length (offers s)) h in
     let other = is_below i (length (offers t)) (subst (λ os. i < length os) (alike-offers s t alike) h) in
-    sym (ap (λ b. option_map seen (follow_if b (left s i) path)) one) ∙ (alike (i ∷ path) ∙ ap (λ b. option_map seen (follow_if b (left t i) path)) other)
+    sym (ap (λ b. option_map seen (follow_if b (left s i) path)) one)
+    ∙ (alike (i ∷ path) ∙ ap (λ b. option_map seen (follow_if b (left t i) path)) other)
 
 pub alike-words : (word : List CoreAsk) (s t : Tree) → Alike s t → IsWord s word → IsWord t word
 alike-words [] s t alike w = nothing-in t (sym (alike-ends s t alike) ∙ nothing-out s w)

@@ -14,6 +14,7 @@ use Rattle.scenario.specs.Tree.{trees_of}
 use Rattle.scenario.specs.Taking.{ends, all_end, offers, offers_of_all}
 use Rattle.scenario.specs.Cursors.{Progress, first_parts, progress, progress_at, progress_row, tree_left, trees_left}
 use Rattle.scenario.specs.Parts.{all_left, behind, count_at, height, height_of_all, highest, part_left, parts_of, place_of, sought}
+use Rattle.scenario.proofs.Places.{drop_here}
 use Rattle.scenario.proofs.Sought.{found-all, passed-all, sought-front, sought-behind}
 use Rattle.scenario.proofs.Flat.{and_true, append-neither}
 
@@ -196,3 +197,22 @@ pub passed-in-parts : {A B : Type 0} (xs : List (Part A B)) (i k r : ℕ) (x : P
 passed-in-parts xs i k r x e h =
     ap (λ ts. sought (offers_of_all (trees_of ts)) k) (sym (map-left (drop i xs)))
     ∙ (passed-all part_left xs i k r x e h ∙ ap (λ ts. sought (offers_of_all (trees_of ts)) r) (map-left (drop (i + 1) xs)))
+
+-- ---- the parts from one on
+
+pub ends-more : {A B : Type 0} (xs : List (Part A B)) (i : ℕ) (x : Part A B) → slice_get xs i ≡ Some x → ends (part_left x) ≡ true
+    → all_end (all_left (map progress (drop i xs))) ≡ all_end (all_left (map progress (drop (i + 1) xs)))
+ends-more xs i x e end =
+    ap (λ ps. all_end (all_left (map progress ps))) (drop_here xs i x e) ∙ ap (λ b. b && all_end (all_left (map progress (drop (i + 1) xs)))) end
+
+pub ends-not : {A B : Type 0} (xs : List (Part A B)) (i : ℕ) (x : Part A B) → slice_get xs i ≡ Some x → ends (part_left x) ≡ false
+    → all_end (all_left (map progress (drop i xs))) ≡ false
+ends-not xs i x e more =
+    ap (λ ps. all_end (all_left (map progress ps))) (drop_here xs i x e) ∙ ap (λ b. b && all_end (all_left (map progress (drop (i + 1) xs)))) more
+
+pub offers-more : {A B : Type 0} (xs : List (Part A B)) (i : ℕ) (x : Part A B) (out new : List CoreAsk) → slice_get xs i ≡ Some x
+    → new ≡ out ++ offers (part_left x)
+    → new ++ offers_of_all (all_left (map progress (drop (i + 1) xs))) ≡ out ++ offers_of_all (all_left (map progress (drop i xs)))
+offers-more xs i x out new e h =
+    ap (λ os. os ++ offers_of_all (all_left (map progress (drop (i + 1) xs)))) h
+    ∙ (append_assoc out _ _ ∙ ap (λ ps. out ++ offers_of_all (all_left (map progress ps))) (sym (drop_here xs i x e)))

@@ -1,5 +1,6 @@
 -- A value says one tree at most, and so does a text.
-use Rattle.std.proofs.Common.{◌≡◌, ◌≤◌, ◌+◌, ◌∙◌, ℕ, zero, suc, List, Option, Some, None, option_map, option_and_then, refl, sym, subst, arith}
+use Rattle.std.proofs.Common.{◌≡◌, ◌≤◌, ◌+◌, ◌∙◌, ℕ, zero, suc, List, Option, Some, None}
+use Rattle.std.proofs.Common.{option_map, option_and_then, refl, sym, subst, arith}
 use Rattle.serde_json.specs.Data.{Data, Items, no_items, item}
 use Rattle.scenario.specs.Tree.{Tree, Trees, One, Seq, Any, Times, Both, Nil, Cons}
 use Rattle.scenario.specs.Limits.{depth, deepest}

@@ -1,6 +1,7 @@
 -- What is left, and how many nodes are to come, once an offer is taken of a part, or of what is behind the parts in use.
-use Rattle.std.proofs.Common.{◌≡◌, ℕ, zero, suc, ◌+◌, ◌-◌, ◌<◌, ◌≤◌, List, [], ◌∷◌, ◌++◌, Some, Bool, true, false}
-use Rattle.std.proofs.Common.{cond, length, take, map, slice_get, slice_set, refl, sym, ap, ◌∙◌, subst, arith, length-append}
+use Rattle.std.proofs.Common.{◌≡◌, ℕ, zero, suc, ◌+◌, ◌-◌, ◌<◌, ◌≤◌, ◌==◌, ◌⊎◌, inl, inr, List, [], ◌∷◌, ◌++◌}
+use Rattle.std.proofs.Common.{Some, Bool, true, false, cond, length, take, map, slice_get, slice_set, refl, sym, ap, ◌∙◌, subst, arith, length-append}
+use Rattle.std.proofs.lemmas.Bool.Decides.{nat_tests}
 use Rattle.base.specs.declared.step.CoreAsk.{CoreAsk}
 use Rattle.scenario.specs.declared.part.Part.{Part, Fresh}
 use Rattle.scenario.specs.declared.part.Place.{Place}
@@ -124,6 +125,19 @@ pub offered-behind : {A B : Type 0} (p : Part A B) (ps : List Progress) → ps �
 offered-behind p ps e i k h is =
     neither-long (all_end (all_left ps)) (offers_of_all (all_left ps)) (offers (behind (place_of p))) i k
     (subst (λ os. i < length os) (cursor-offers p ps e) h) is
+
+-- at these places nothing is behind them
+pub none-behind : {A : Type 0} (at is : Place A) (k : ℕ) → is ≡ at → (is ≡ place.Nothing) ⊎ ((n : ℕ) × (is ≡ place.InBoth n))
+    → k < length (offers (behind at)) → ⊥
+none-behind at is k e (inl f) h = let low : k < 0 = subst (λ q. k < length (offers (behind q))) (sym e ∙ f) h in omega (arith, low)
+none-behind at is k e (inr f) h = let low : k < 0 = subst (λ q. k < length (offers (behind q))) (sym e ∙ f.1) h in omega (arith, low)
+
+-- what turns offer is an offer of the first
+pub turn-offered : (n : ℕ) (t : Tree) (k : ℕ) → k < length (offers (tree.Times n t)) → (0 < n) × (k < length (offers t))
+turn-offered zero t k h = absurd (omega (arith, h))
+turn-offered (suc n) t k h =
+    let some : (suc n == 0) ≡ false = grind (arith, nat_tests) in
+    (omega arith, subst (λ b. k < length (cond b [] (offers t))) some h)
 
 pub goes-behind : {A B : Type 0} (p : Part A B) (ps : List Progress) → ps ≡ take (count_at (place_of p)) (parts_of p)
     → (i k : ℕ) (new : Progress) → k < length (offers (behind (place_of p))) → i ≡ length (offers_of_all (all_left ps)) + k

@@ -10,7 +10,9 @@ use Rattle.scenario.specs.Cursors.{tree_left, trees_left, nodes, total_nodes, gr
 use Rattle.scenario.specs.Parts.{Begins, IsWholeBut, Leads}
 use Rattle.scenario.specs.Limits.{depth, deepest}
 use Rattle.std.proofs.lemmas.List.{length-map}
+use Rattle.std.proofs.lemmas.Option.{slice_get_within}
 use Rattle.scenario.proofs.Flat.{flat-row}
+use Rattle.scenario.proofs.Items.{get-map}
 use Rattle.scenario.proofs.Places.{HereInTurn, HereAmong}
 
 -- ---- counts of nodes
@@ -99,20 +101,10 @@ set-most (u ∷ ts) zero p t e h =
     rw e' (omega (arith, h, others))
 set-most (u ∷ ts) (suc j) p t e h = let more = set-most ts j p t e h in omega (arith, more)
 
-pub get-map : {X Y : Type 0} (f : X → Y) (xs : List X) (i : ℕ) (x : X) → slice_get xs i ≡ Some x → slice_get (map f xs) i ≡ Some (f x)
-get-map f [] i x e = absurd (cc e)
-get-map f (y ∷ xs) zero x e = let e' : y ≡ x = cc e in ap (λ z. Some (f z)) e'
-get-map f (y ∷ xs) (suc i) x e = get-map f xs i x e
-
 get-set : {X : Type 0} (xs : List X) (i : ℕ) (y : X) → i < length xs → slice_get (slice_set xs i y) i ≡ Some y
 get-set [] i y h = absurd (omega (arith, h))
 get-set (x ∷ xs) zero y h = refl
 get-set (x ∷ xs) (suc i) y h = get-set xs i y (omega (arith, h))
-
-pub get-within : {X : Type 0} (xs : List X) (i : ℕ) (x : X) → slice_get xs i ≡ Some x → i < length xs
-get-within [] i x e = absurd (cc e)
-get-within (y ∷ xs) zero x e = omega arith
-get-within (y ∷ xs) (suc i) x e = let h = get-within xs i x e in omega (arith, h)
 
 pub leads-both : {A : Type 0} (ss : List (Scenario A)) (at j k : ℕ) (s : Scenario A) (old mid new : List Progress) → slice_get ss j ≡ Some s
     → length ss ≤ length old → IsPlaceAmong ss at j k → Begins old j (plain s) k mid → IsWholeBut j (map plain ss) mid new
@@ -120,7 +112,7 @@ pub leads-both : {A : Type 0} (ss : List (Scenario A)) (at j k : ℕ) (s : Scena
 leads-both ss at j k s old mid new e room place b whole =
     let here = subst (λ (o : Option _). IfSome o (λ u. HereAmong ss at j k u)) e place in
     let ts = map plain ss in
-    let inside = get-within ss j s e in
+    let inside = slice_get_within ss j s e in
     let there : slice_get mid j ≡ Some b.0 = ap (λ ps. slice_get ps j) b.1 ∙ get-set old j b.0 (omega (arith, inside, room)) in
     let all : take (length ts) new ≡ slice_set (map Whole ts) j b.0 =
     subst (λ (o : Option Progress). IfSome o (λ p. take (length ts) new ≡ slice_set (map Whole ts) j p)) there whole in

@@ -10,6 +10,7 @@ pub mod Flat
 pub mod Fronts
 pub mod Going
 pub mod Growing
+pub mod Items
 pub mod Leading
 pub mod Lengths
 pub mod Places

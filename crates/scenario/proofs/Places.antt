@@ -1,8 +1,9 @@
 -- Where an offer of several children is.
 use Rattle.std.proofs.Common.{◌≡◌, ℕ, zero, suc, ◌+◌, ◌-◌, ◌<◌, ◌≤◌, List, [], ◌∷◌, ◌++◌}
-use Rattle.std.proofs.Common.{Option, Some, None, Bool, true, false}
+use Rattle.std.proofs.Common.{Option, Some, None, Bool, true, false, ◌⊎◌, inl, inr}
 use Rattle.std.proofs.Common.{cond, nat_lt, length, drop, take, map, slice_get, slice_set, IfSome, refl, sym}
 use Rattle.std.proofs.Common.{ap, ◌∙◌, subst, arith, add-one, length-append}
+use Rattle.std.proofs.lemmas.Bool.{cases_lt}
 use Rattle.std.proofs.lemmas.Bool.Decides.{nat_tests}
 use Rattle.base.specs.declared.step.CoreAsk.{CoreAsk}
 use Rattle.scenario.specs.declared.tree.Scenario.{Scenario}
@@ -109,6 +110,28 @@ passed_in_turn ss at i further r s e some end p q =
       rw high.1 (p ∙ (ap (λ ts. slice_get (offers_in_turn ts) further) here ∙ c.0)),
       rw high.1 (q ∙ (ap (λ ts. rest_in_turn ts further) here ∙ c.1)),
     )
+
+-- the same, behind so many
+past_more : (a b i r : ℕ) → a ≤ i → r ≡ i - a → past b r ≡ past (a + b) i
+past_more a b i r h e = by_side (cases_lt r b)
+  where
+    by_side : (r < b) ⊎ (b ≤ r) → past b r ≡ past (a + b) i
+    by_side (inl low) =
+        ap (λ t. cond t None (Some (r - b))) (is_below r b low)
+        ∙ sym (ap (λ t. cond t None (Some (i - (a + b)))) (is_below i (a + b) (omega (arith, h, e, low))))
+    by_side (inr high) =
+        ap (λ t. cond t None (Some (r - b))) (isnt_below r b high)
+        ∙ (ap Some (omega (arith, h, e, high)) ∙ sym (ap (λ t. cond t None (Some (i - (a + b)))) (isnt_below i (a + b) (omega (arith, h, e, high)))))
+
+pub counted_in_turn : {A : Type 0} (ss : List (Scenario A)) (i further r : ℕ) (s : Scenario A) → slice_get ss i ≡ Some s
+    → past (length (offers (plain s))) further ≡ Some r → ends (plain s) ≡ true
+    → past (length (offers_in_turn (plain_all (drop (i + 1) ss)))) r ≡ past (length (offers_in_turn (plain_all (drop i ss)))) further
+counted_in_turn ss i further r s e some end =
+    let high = past_some (length (offers (plain s))) further r some in
+    let others = offers_in_turn (plain_all (drop (i + 1) ss)) in
+    let all = ap (λ us. offers_in_turn (plain_all us)) (drop_here ss i s e) ∙ ap (λ b. offers (plain s) ++ cond b others []) end in
+    past_more (length (offers (plain s))) (length others) further r high.0 high.1
+    ∙ ap (λ n. past n further) (sym (ap length all ∙ length-append (offers (plain s)) others))
 
 -- ---- children at once
 

@@ -115,11 +115,13 @@ only_offer o ask zero e = cc e
 only_offer o ask (suc i) e = absurd (cc e)
 
 -- what is offered behind a child that may be passed over
-passed : (end : Bool) (os : List CoreAsk) (i : ℕ) (ask : CoreAsk) → slice_get (cond end os []) i ≡ Some ask → (end ≡ true) × (slice_get os i ≡ Some ask)
+passed : (end : Bool) (os : List CoreAsk) (i : ℕ) (ask : CoreAsk) → slice_get (cond end os []) i ≡ Some ask
+    → (end ≡ true) × (slice_get os i ≡ Some ask)
 passed true os i ask e = (refl, e)
 passed false os i ask e = absurd (cc e)
 
-some_turn : (none : Bool) (os : List CoreAsk) (i : ℕ) (ask : CoreAsk) → slice_get (cond none [] os) i ≡ Some ask → (none ≡ false) × (slice_get os i ≡ Some ask)
+some_turn : (none : Bool) (os : List CoreAsk) (i : ℕ) (ask : CoreAsk) → slice_get (cond none [] os) i ≡ Some ask
+    → (none ≡ false) × (slice_get os i ≡ Some ask)
 some_turn true os i ask e = absurd (cc e)
 some_turn false os i ask e = (refl, e)
 
@@ -165,8 +167,8 @@ mutual
       (λ h word. inl (ask-in t i ask w (sym (get_front (offers t) _ i h) ∙ e) word))
       (λ h word. inr (ask-of_one ts (i - length (offers t)) ask w (sym (get_behind (offers t) _ i h) ∙ e) word))
 
-  ask-interleaved : (ts : Trees) (i : ℕ) (ask : CoreAsk) (w : List CoreAsk) → slice_get (offers_of_all ts) i ≡ Some ask → IsInterleaved (left_of_all ts i) w
-      → IsInterleaved ts (ask ∷ w)
+  ask-interleaved : (ts : Trees) (i : ℕ) (ask : CoreAsk) (w : List CoreAsk) → slice_get (offers_of_all ts) i ≡ Some ask
+      → IsInterleaved (left_of_all ts i) w → IsInterleaved ts (ask ∷ w)
   ask-interleaved Nil i ask w e = λ word. absurd (cc e)
   ask-interleaved (Cons t ts) i ask w e =
       by_test
@@ -198,8 +200,8 @@ ContinuedOfAll ts ask w = (i : ℕ) × (slice_get (offers_of_all ts) i ≡ Some 
 
 -- a turn that begins with an ask, before the others
 abbrev ContinuedTurn : ℕ → Tree → CoreAsk → List CoreAsk → Type 0
-ContinuedTurn n t ask w = ((n == 0) ≡ false) × (i : ℕ) × (slice_get (offers t) i ≡ Some ask) × (u v : List CoreAsk) × (w ≡ u ++ v) × IsWord (left t i) u
-    × Repeats (n - 1) (IsWord t) v
+ContinuedTurn n t ask w = ((n == 0) ≡ false) × (i : ℕ) × (slice_get (offers t) i ≡ Some ask)
+    × (u v : List CoreAsk) × (w ≡ u ++ v) × IsWord (left t i) u × Repeats (n - 1) (IsWord t) v
 
 -- the first offers, and the others behind them
 in_front : (t : Tree) (ts : Trees) (i : ℕ) → i < length (offers t) → left_in_turn (Cons t ts) i ≡ Cons (left t i) ts
@@ -240,14 +242,16 @@ in_turn-front t ts ask w u v e here behind =
       subst (λ us. IsJoined us w) (sym (in_front t ts here.0 h)) (u, v, e, here.2, behind),
     )
 
-in_turn-behind : (t : Tree) (ts : Trees) (ask : CoreAsk) (w : List CoreAsk) → ends t ≡ true → ContinuedInTurn ts ask w → ContinuedInTurn (Cons t ts) ask w
+in_turn-behind : (t : Tree) (ts : Trees) (ask : CoreAsk) (w : List CoreAsk) → ends t ≡ true → ContinuedInTurn ts ask w
+    → ContinuedInTurn (Cons t ts) ask w
 in_turn-behind t ts ask w end there = (
   length (offers t) + there.0,
   get_far (offers t) _ there.0 ∙ (ap (λ b. slice_get (cond b (offers_in_turn ts) []) there.0) end ∙ there.1),
   subst (λ us. IsJoined us w) (sym (behind_turn t ts there.0)) there.2,
 )
 
-turn-front : (n : ℕ) (t : Tree) (ask : CoreAsk) (w u v : List CoreAsk) → w ≡ u ++ v → Continued t ask u → Repeats n (IsWord t) v → ContinuedTurn (suc n) t ask w
+turn-front : (n : ℕ) (t : Tree) (ask : CoreAsk) (w u v : List CoreAsk) → w ≡ u ++ v → Continued t ask u → Repeats n (IsWord t) v
+    → ContinuedTurn (suc n) t ask w
 turn-front n t ask w u v e here behind =
     let m : suc n - 1 ≡ n = omega arith in
     (grind (arith, nat_tests), here.0, here.1, u, v, e, here.2, subst (λ k. Repeats k (IsWord t) v) (sym m) behind)
@@ -294,7 +298,8 @@ joined-split : (t : Tree) (ts : Trees) → GoesOn t → ((ask : CoreAsk) (w : Li
     → (ask : CoreAsk) (w u v : List CoreAsk) → ask ∷ w ≡ u ++ v → IsWord t u → IsJoined ts v → ContinuedInTurn (Cons t ts) ask w
 joined-split t ts goes_on later ask w [] v e here behind = in_turn-behind t ts ask w (nothing-out t here) (later ask w (subst (IsJoined ts) (sym e) behind))
 joined-split t ts goes_on later ask w (a ∷ u) v e here behind =
-    in_turn-front t ts ask w u v (same-tail ask a w (u ++ v) e) (goes_on ask u (subst (λ b. IsWord t (b ∷ u)) (sym (same-head ask a w (u ++ v) e)) here)) behind
+    in_turn-front t ts ask w u v (same-tail ask a w (u ++ v) e)
+    (goes_on ask u (subst (λ b. IsWord t (b ∷ u)) (sym (same-head ask a w (u ++ v) e)) here)) behind
 
 -- the child that the word's first ask is of
 interleaved-split : (t : Tree) (ts : Trees) → GoesOn t → ((ask : CoreAsk) (w : List CoreAsk) → IsInterleaved ts (ask ∷ w) → ContinuedOfAll ts ask w)

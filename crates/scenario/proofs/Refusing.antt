@@ -25,10 +25,12 @@ is-in a b c d x y = grind (arith)
 
 -- no fault is found of this tree, where so many levels are left for it
 abbrev IsFaultless : Extent → Tells → ℕ → Data → Tree → Type 0
-IsFaultless shape f levels d t = depth t ≤ levels → Throughout HasChoice t → Throughout (IsInShape shape) t → Says d t → first_some f (visited levels d) ≡ None
+IsFaultless shape f levels d t = depth t ≤ levels → Throughout HasChoice t → Throughout (IsInShape shape) t → Says d t
+    → first_some f (visited levels d) ≡ None
 
 none-each : (shape : Extent) (f : Tells) (levels : ℕ) → ((d : Data) (t : Tree) → IsFaultless shape f levels d t) → (ds : Items) (ts : Trees)
-    → deepest ts ≤ levels → InEach HasChoice ts → InEach (IsInShape shape) ts → SayEach ds ts → first_some f (visited_in (visited levels) ds) ≡ None
+    → deepest ts ≤ levels → InEach HasChoice ts → InEach (IsInShape shape) ts → SayEach ds ts
+    → first_some f (visited_in (visited levels) ds) ≡ None
 none-each shape f levels none no_items Nil low choices asks say = refl
 none-each shape f levels none no_items (Cons t ts) low choices asks say = absurd say
 none-each shape f levels none (item d ds) Nil low choices asks say = absurd say
@@ -125,8 +127,8 @@ same-cause shape bytes one other (inr a) (inr b) =
     let first : first_fault shape a.0 ≡ first_fault shape b.0 = ap (first_fault shape) (json-one bytes a.0 b.0 a.1 b.1) in
     sym (refusal-first one) ∙ ap refusal_of (sym a.2 ∙ first ∙ b.2) ∙ refusal-first other
 
-pub refusal-one : (shape : Extent) (bytes : List ℕ) (one other : ScenarioFault) → IsRefusal shape bytes one → IsRefusal shape bytes other → one ≢ NoMemory
-    → other ≢ NoMemory → one ≡ other
+pub refusal-one : (shape : Extent) (bytes : List ℕ) (one other : ScenarioFault) → IsRefusal shape bytes one → IsRefusal shape bytes other
+    → one ≢ NoMemory → other ≢ NoMemory → one ≡ other
 refusal-one shape bytes one other a b x y = same-cause shape bytes one other (refusal shape bytes one a x) (refusal shape bytes other b y)
 
 -- the text of a tree within the limits has no fault that a value may have

@@ -9,6 +9,7 @@ use Rattle.scenario.specs.Tree.{Tree, plain, plain_all, trees_of}
 use Rattle.scenario.specs.Taking.{ends, offers, offers_in_turn, offers_of_all}
 use Rattle.scenario.specs.Rests.{past}
 use Rattle.scenario.specs.Parts.{IsOfferOf, sought}
+use Rattle.scenario.proofs.Items.{get-map}
 use Rattle.scenario.proofs.Places.{drop_here, is_below, isnt_below}
 
 pub sought-ok : (xs : List CoreAsk) (i : ℕ) (ask : CoreAsk) → sought xs i ≡ Ok ask → (i < length xs) × (slice_get xs i ≡ Some ask)
@@ -90,11 +91,6 @@ one-more (u ∷ ts) (suc i) t e =
     let one = length-append (offers u) (offers_of_all (trees_of (take (suc i) ts))) in
     let two = length-append (offers u) (offers_of_all (trees_of (take i ts))) in
     omega (arith, h, one, two)
-
-get-map : {X Y : Type 0} (f : X → Y) (xs : List X) (i : ℕ) (x : X) → slice_get xs i ≡ Some x → slice_get (map f xs) i ≡ Some (f x)
-get-map f [] i x e = absurd (cc e)
-get-map f (y ∷ xs) zero x e = let e' : y ≡ x = cc e in ap (λ z. Some (f z)) e'
-get-map f (y ∷ xs) (suc i) x e = get-map f xs i x e
 
 pub found-here : {X : Type 0} (f : X → Tree) (xs : List X) (at i k : ℕ) (x : X) (ask : CoreAsk) → slice_get xs i ≡ Some x
     → sought (offers (f x)) k ≡ Ok ask → at ≡ before (map f xs) i + k → IsOfferOf (map f xs) at i k

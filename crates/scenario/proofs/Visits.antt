@@ -43,7 +43,8 @@ over-fault : {X : Type 0} (make : X → Tree) (r : Result X ScenarioFault) (foun
 over-fault make (Ok x) found a = a
 over-fault make (Err fault) found a = a
 
-behind-fault : (f : Tells) (tree : Data → Result Tree ScenarioFault) (visits : Data → List Visit) → ((d : Data) → HasFault (tree d) (first_some f (visits d)))
+behind-fault : (f : Tells) (tree : Data → Result Tree ScenarioFault) (visits : Data → List Visit)
+    → ((d : Data) → HasFault (tree d) (first_some f (visits d)))
     → (before : List Tree) (ds : Items) → HasFault (trees_behind tree before ds) (first_some f (visited_in visits ds))
 behind-fault f tree visits each before no_items = refl
 behind-fault f tree visits each before (item d ds) =

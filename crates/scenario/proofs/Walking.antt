@@ -21,7 +21,8 @@ tree_of_choice shape tree [] p = absurd (omega arith)
 tree_of_choice shape tree (v ∷ vs) p = refl
 
 -- what a choice of some values is built of
-pub choice_level : (shape : Extent) (n : ℕ) (d : Data) (vs : List Value) (ts : List Tree) → 0 < n → node_of d ≡ Some (any (items_view vs)) → 0 < length vs
+pub choice_level : (shape : Extent) (n : ℕ) (d : Data) (vs : List Value) (ts : List Tree) → 0 < n
+    → node_of d ≡ Some (any (items_view vs)) → 0 < length vs
     → trees_behind (tree_at shape (n - 1)) [] (items_view vs) ≡ Ok ts → tree_at shape n d ≡ Ok (Any (trees_of ts))
 choice_level shape n d vs ts level form some below =
     tree_at_level shape n d level ∙ ap (tree_of shape (tree_at shape (n - 1))) form ∙ tree_of_choice shape (tree_at shape (n - 1)) vs some

@@ -6,6 +6,7 @@ use Rattle.scenario.specs.Tree.{Tree, plain}
 use Rattle.scenario.specs.Cursors.{Progress, Whole}
 use Rattle.scenario.specs.Parts.{IsWholeBut}
 use Rattle.scenario.proofs.Fronts.{same-head, same-tail}
+use Rattle.scenario.proofs.Items.{get-map}
 
 take-none : {X : Type 0} (xs : List X) → take 0 xs ≡ []
 take-none [] = refl
@@ -50,11 +51,6 @@ map-take f zero [] = refl
 map-take f zero (x ∷ xs) = refl
 map-take f (suc n) [] = refl
 map-take f (suc n) (x ∷ xs) = ap (λ ys. f x ∷ ys) (map-take f n xs)
-
-get-map : {X Y : Type 0} (f : X → Y) (xs : List X) (i : ℕ) (x : X) → slice_get xs i ≡ Some x → slice_get (map f xs) i ≡ Some (f x)
-get-map f [] i x e = absurd (cc e)
-get-map f (y ∷ xs) zero x e = let e' : y ≡ x = cc e in ap (λ z. Some (f z)) e'
-get-map f (y ∷ xs) (suc i) x e = get-map f xs i x e
 
 pub whole-but : {X : Type 0} (f : X → Progress) (old xs new : List X) (k : ℕ) (b : X) (ts : List Tree) → slice_get old k ≡ Some b
     → new ≡ slice_set xs k b → map f (take (length ts) xs) ≡ map Whole ts → IsWholeBut k ts (map f old) (map f new)

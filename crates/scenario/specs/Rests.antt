@@ -1,5 +1,6 @@
 -- For private clauses: what the code leaves of a tree. It differs from `left` in that a row of one child becomes the child.
-use Rattle.std.specs.Prelude.{◌≡◌, ◌≤◌, ◌<◌, ◌+◌, ◌-◌, ℕ, if◌then◌else◌, nat_lt, List, length, drop, Option, Some, None, IfSome, slice_get, slice_set, map}
+use Rattle.std.specs.Prelude.{◌≡◌, ◌≤◌, ◌<◌, ◌+◌, ◌-◌, ℕ, if◌then◌else◌, nat_lt, List, length, drop, map}
+use Rattle.std.specs.Prelude.{Option, Some, None, IfSome, slice_get, slice_set}
 use Rattle.base.specs.declared.step.CoreAsk.{CoreAsk}
 use Rattle.scenario.specs.declared.tree.Scenario.{Scenario}
 use Rattle.scenario.specs.Tree.{Tree, Trees, One, Seq, Any, Times, Both, Nil, Cons, plain, plain_all, trees_of}

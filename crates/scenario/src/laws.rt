@@ -1,6 +1,7 @@
 //! What ties offers, what is left and words together, and what the form of scenarios in JSON comes to.
 
-ghost use Rattle.std.specs.Prelude.{Err, IfErr, IfOk, List, None, Ok, Result, Some, [], length, slice_get, true, ℕ, ◌+◌, ◌<◌, ◌↔◌, ◌∷◌, ◌≡◌, ◌≢◌, ◌≤◌, ◌⊎◌};
+ghost use Rattle.std.specs.Prelude.{Err, IfErr, IfOk, List, None, Ok, Result, Some, [], length, slice_get, true};
+ghost use Rattle.std.specs.Prelude.{ℕ, ◌+◌, ◌<◌, ◌↔◌, ◌∷◌, ◌≡◌, ◌≢◌, ◌≤◌, ◌⊎◌};
 ghost use Rattle.serde_json.specs.Data.{Data};
 ghost use Rattle.base.specs.Extent.{Extent};
 ghost use Rattle.base.specs.declared.step.CoreAsk.{CoreAsk};

@@ -1,7 +1,7 @@
 //! Beginning a tree in the memory that a part has. Growths come on the way down to the offer, where they change nothing
 //! that means anything, and changes on the way back.
 
-ghost use Rattle.std.specs.Prelude.{◌≡◌, ◌<◌, ◌≤◌, ◌+◌, OnErr, OnOk, length, map, slice_get, slice_set, take};
+ghost use Rattle.std.specs.Prelude.{◌≡◌, ◌<◌, ◌≤◌, ◌+◌, OnErr, OnOk, length, map, max, slice_get, slice_set, take};
 ghost use Rattle.scenario.specs.Cursors.{Whole, greatest_nodes, nodes, progress, total_nodes};
 ghost use Rattle.scenario.specs.Parts.{Begins, Grows, IsWholeBut, Leads, parts_of, place_of};
 ghost use Rattle.scenario.specs.Taking.{offers, offers_in_turn, offers_of_all};
@@ -135,7 +135,8 @@ fn keep_others<'t, A: Allocator, B: Allocator>(
 )
     requires part { number < length children.now }
     requires room { length children.now ≤ length (parts_of part.old) }
-    ensures { IsWholeBut number (map plain children.now) (parts_of part.old) (parts_of part.new) }
+    ensures whole { IsWholeBut number (map plain children.now) (parts_of part.old) (parts_of part.new) }
+    ensures count { length (parts_of part.new) ≡ length (parts_of part.old) }
 {
     match part {
         Part::Begun(_place, parts) => make_whole_but(parts, children, number),
@@ -151,7 +152,8 @@ fn make_whole_but<'t, A: Allocator, B: Allocator>(
 )
     requires part { number < length children.now }
     requires room { length children.now ≤ length parts.old.items }
-    ensures { IsWholeBut number (map plain children.now) (map progress parts.old.items) (map progress parts.new.items) }
+    ensures whole { IsWholeBut number (map plain children.now) (map progress parts.old.items) (map progress parts.new.items) }
+    ensures count { length parts.new.items ≡ length parts.old.items }
 {
     let begun = mem::replace(&mut parts[number], Part::ended());
     for (i, child) in children.iter().enumerate() {
@@ -171,6 +173,7 @@ pub(super) fn make_room<A: Allocator, B: Allocator + Clone>(
     ensures grown { Grows (parts_of part.old) (parts_of part.new) }
     ensures same { progress part.new ≡ progress part.old }
     ensures room { OnOk result (count ≤ length (parts_of part.new)) }
+    ensures most { length (parts_of part.new) ≤ max count (length (parts_of part.old)) }
 {
     match part {
         Part::Begun(_place, parts) => push_ended(parts, count),
@@ -192,6 +195,7 @@ fn push_ended<A: Allocator, B: Allocator>(
 ) -> Result<(), NoMemory>
     ensures grown { Grows (map progress parts.old.items) (map progress parts.new.items) }
     ensures room { OnOk result (count ≤ length parts.new.items) }
+    ensures most { length parts.new.items ≤ max count (length parts.old.items) }
 {
     for _ in parts.len()..count {
         parts.push(Part::ended())?;

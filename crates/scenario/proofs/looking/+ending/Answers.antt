@@ -35,7 +35,7 @@ pub all_may_end-offset_bounds-children-child-index : goal.all_may_end-offset_bou
 all_may_end-offset_bounds-children-child-index g t c = grind (arith, common_steps)
 
 pub all_may_end-loop-child-smaller : goal.all_may_end-loop-child-smaller
-all_may_end-loop-child-smaller g t c = grind (arith, common_steps)
+all_may_end-loop-child-smaller g t c = omega arith
 
 pub some_may_end-loop-child-init : goal.some_may_end-loop-child-init
 some_may_end-loop-child-init g t c = grind (arith, common_steps)
@@ -44,7 +44,7 @@ pub some_may_end-offset_bounds-children-child-index : goal.some_may_end-offset_b
 some_may_end-offset_bounds-children-child-index g t c = grind (arith, common_steps)
 
 pub some_may_end-loop-child-smaller : goal.some_may_end-loop-child-smaller
-some_may_end-loop-child-smaller g t c = grind (arith, common_steps)
+some_may_end-loop-child-smaller g t c = omega arith
 
 pub tree_may_end-returns-in-One : goal.tree_may_end-returns-in-One
 tree_may_end-returns-in-One g t c = grind (arith, common_steps)

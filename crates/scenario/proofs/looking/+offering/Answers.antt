@@ -91,7 +91,7 @@ pub offers_in_turn-offset_bounds-children-child-index : goal.offers_in_turn-offs
 offers_in_turn-offset_bounds-children-child-index g t c = grind (arith, common_steps)
 
 pub offers_in_turn-loop-child-smaller : goal.offers_in_turn-loop-child-smaller
-offers_in_turn-loop-child-smaller g t c = grind (arith, common_steps)
+offers_in_turn-loop-child-smaller g t c = omega arith
 
 pub offers_of_all-loop-child-init : goal.offers_of_all-loop-child-init
 offers_of_all-loop-child-init g t c = grind (arith, common_steps)
@@ -100,7 +100,7 @@ pub offers_of_all-offset_bounds-children-child-index : goal.offers_of_all-offset
 offers_of_all-offset_bounds-children-child-index g t c = grind (arith, common_steps)
 
 pub offers_of_all-loop-child-smaller : goal.offers_of_all-loop-child-smaller
-offers_of_all-loop-child-smaller g t c = grind (arith, common_steps)
+offers_of_all-loop-child-smaller g t c = omega arith
 
 pub offers_in_turn-offers_of_tree-requires : goal.offers_in_turn-offers_of_tree-requires
 offers_in_turn-offers_of_tree-requires g t c = grind (the_lemmas, arith, common_steps)

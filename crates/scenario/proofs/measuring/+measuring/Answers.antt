@@ -36,7 +36,7 @@ pub greatest_length-offset_bounds-children-child-index : goal.greatest_length-of
 greatest_length-offset_bounds-children-child-index g t c = grind (arith, common_steps)
 
 pub greatest_length-loop-child-smaller : goal.greatest_length-loop-child-smaller
-greatest_length-loop-child-smaller g t c = grind (arith, common_steps)
+greatest_length-loop-child-smaller g t c = omega arith
 
 pub longest_word-overflow_mul-from : goal.longest_word-overflow_mul-from
 longest_word-overflow_mul-from g t c = grind (arith, common_steps)
@@ -51,7 +51,7 @@ pub total_length-overflow_add-length : goal.total_length-overflow_add-length
 total_length-overflow_add-length g t c = grind (arith, common_steps)
 
 pub total_length-loop-child-smaller : goal.total_length-loop-child-smaller
-total_length-loop-child-smaller g t c = grind (arith, common_steps)
+total_length-loop-child-smaller g t c = omega arith
 
 pub greatest_length-longest_word-requires : goal.greatest_length-longest_word-requires
 greatest_length-longest_word-requires g t c = grind (the_lemmas, arith, common_steps)

@@ -67,7 +67,7 @@ pub scenarios_at-loop-value-preserved : goal.scenarios_at-loop-value-preserved
 scenarios_at-loop-value-preserved g t c = grind (arith, common_steps)
 
 pub scenarios_at-loop-value-smaller : goal.scenarios_at-loop-value-smaller
-scenarios_at-loop-value-smaller g t c = grind (arith, common_steps)
+scenarios_at-loop-value-smaller g t c = omega arith
 
 pub scenarios_at-offset_bounds-values-value-index : goal.scenarios_at-offset_bounds-values-value-index
 scenarios_at-offset_bounds-values-value-index g t c = grind (arith, common_steps)

@@ -1,8 +1,9 @@
-use Rattle.std.proofs.Common.{◌≡◌, Some, slice_get, ap, subst, ◌∙◌, arith, rules}
+use Rattle.std.proofs.Common.{◌≡◌, ◌<◌, Some, length, slice_get, ap, sym, subst, ◌∙◌, arith, rules}
 use Rattle.std.proofs.lemmas.Grind.{common_steps}
 use Rattle.std.proofs.lemmas.Option.{slice_get-get_or}
 use Rattle.std.proofs.lemmas.Result.{IfOk-weaker}
-use Rattle.scenario.specs.Tree.{plain}
+use Rattle.scenario.specs.Tree.{plain, plain_all}
+use Rattle.scenario.specs.Taking.{offers_in_turn, offers_of_all}
 use Rattle.scenario.specs.Rests.{IsPlaceInTurn, IsPlaceAmong}
 use Rattle.scenario.specs.declared.tree.Scenario.TheFolds.{the_lemmas}
 use Rattle.scenario.proofs.Children.{children}
@@ -74,7 +75,7 @@ pub take_one-take_among-requires : goal.take_one-take_among-requires
 take_one-take_among-requires g t c κs within = (search (rules, the_lemmas), grind (arith, common_steps, children))
 
 pub take_among-place_among-offer-requires : goal.take_among-place_among-offer-requires
-take_among-place_among-offer-requires g t c = grind (arith, common_steps)
+take_among-place_among-offer-requires g t c = subst (λ us. c.args.at < length (offers_of_all (plain_all us))) (sym c.as_slice.ensures.value) c.requires
 
 pub take_among-take_one-requires : goal.take_among-take_one-requires
 take_among-take_one-requires g t c κs within =
@@ -86,10 +87,10 @@ take_among-take_one-requires g t c κs within =
     (search (rules, the_lemmas), (search rules, within_child ss c.args.at offer.child offer.at child at place))
 
 pub take_from_any-place_among-offer-requires : goal.take_from_any-place_among-offer-requires
-take_from_any-place_among-offer-requires g t c = grind (arith, common_steps)
+take_from_any-place_among-offer-requires g t c = subst (λ us. c.args.at < length (offers_of_all (plain_all us))) (sym c.as_slice.ensures.value) c.requires
 
 pub take_from_any-returns-clause-err : goal.take_from_any-returns-clause-err
-take_from_any-returns-clause-err g t c = grind (arith, common_steps, children)
+take_from_any-returns-clause-err g t c = tt
 
 pub take_from_any-returns-in_err-ask-clause-ok : goal.take_from_any-returns-in_err-ask-clause-ok
 take_from_any-returns-in_err-ask-clause-ok g t c = if_ok-failed _ _ c.from_residual.ensures.0
@@ -131,10 +132,10 @@ pub take_in_turn-drop_front-requires : goal.take_in_turn-drop_front-requires
 take_in_turn-drop_front-requires g t c = grind (arith, common_steps)
 
 pub take_in_turn-place_in_turn-offer-requires : goal.take_in_turn-place_in_turn-offer-requires
-take_in_turn-place_in_turn-offer-requires g t c = grind (arith, common_steps)
+take_in_turn-place_in_turn-offer-requires g t c = subst (λ us. c.args.at < length (offers_in_turn (plain_all us))) (sym c.as_slice.ensures.value) c.requires
 
 pub take_in_turn-returns-clause-err : goal.take_in_turn-returns-clause-err
-take_in_turn-returns-clause-err g t c = grind (arith, common_steps, children)
+take_in_turn-returns-clause-err g t c = tt
 
 pub take_in_turn-returns-in_err-ask-clause-ok : goal.take_in_turn-returns-in_err-ask-clause-ok
 take_in_turn-returns-in_err-ask-clause-ok g t c = if_ok-failed _ _ c.from_residual.ensures.0
@@ -164,19 +165,19 @@ pub take_one-returns-in-Both-clause-ok : goal.take_one-returns-in-Both-clause-ok
 take_one-returns-in-Both-clause-ok g t c = grind (arith, common_steps, children)
 
 pub take_one-returns-in-One-clause-err : goal.take_one-returns-in-One-clause-err
-take_one-returns-in-One-clause-err g t c = grind (arith, common_steps, children)
+take_one-returns-in-One-clause-err g t c = tt
 
 pub take_one-returns-in-One-clause-ok : goal.take_one-returns-in-One-clause-ok
 take_one-returns-in-One-clause-ok g t c = grind (arith, common_steps, children)
 
 pub take_one-returns-in-Some-clause-err : goal.take_one-returns-in-Some-clause-err
-take_one-returns-in-Some-clause-err g t c = grind (arith, common_steps, children)
+take_one-returns-in-Some-clause-err g t c = tt
 
 pub take_one-returns-in-Some-clause-ok : goal.take_one-returns-in-Some-clause-ok
 take_one-returns-in-Some-clause-ok g t c = grind (arith, common_steps, children)
 
 pub take_one-returns-in_default-clause-err : goal.take_one-returns-in_default-clause-err
-take_one-returns-in_default-clause-err g t c = grind (arith, common_steps, children)
+take_one-returns-in_default-clause-err g t c = tt
 
 pub take_one-returns-in_default-clause-ok : goal.take_one-returns-in_default-clause-ok
 take_one-returns-in_default-clause-ok g t c = grind (arith, common_steps, children)
@@ -206,13 +207,13 @@ pub take_one-returns-in_err-parts-in-Times-clause-ok : goal.take_one-returns-in_
 take_one-returns-in_err-parts-in-Times-clause-ok g t c = if_ok-failed _ _ c.from_residual-in_err-parts-in-Times.ensures.0
 
 pub take_one-returns-in_ok-ask-in-Any-clause-err : goal.take_one-returns-in_ok-ask-in-Any-clause-err
-take_one-returns-in_ok-ask-in-Any-clause-err g t c = grind (arith, common_steps, children)
+take_one-returns-in_ok-ask-in-Any-clause-err g t c = tt
 
 pub take_one-returns-in_ok-ask-in-Any-clause-ok : goal.take_one-returns-in_ok-ask-in-Any-clause-ok
 take_one-returns-in_ok-ask-in-Any-clause-ok g t c = grind (arith, common_steps, children)
 
 pub take_one-returns-in_ok-ask-in-Times-clause-err : goal.take_one-returns-in_ok-ask-in-Times-clause-err
-take_one-returns-in_ok-ask-in-Times-clause-err g t c = grind (arith, common_steps, children)
+take_one-returns-in_ok-ask-in-Times-clause-err g t c = tt
 
 pub take_one-returns-in_ok-ask-in-Times-clause-ok : goal.take_one-returns-in_ok-ask-in-Times-clause-ok
 take_one-returns-in_ok-ask-in-Times-clause-ok g t c = grind (arith, common_steps, children)

@@ -1,7 +1,10 @@
-use Rattle.std.proofs.Common.{Some, ap, sym, ◌∙◌, arith}
+use Rattle.std.proofs.Common.{◌<◌, Some, length, refl, ap, sym, subst, ◌∙◌, arith}
 use Rattle.std.proofs.lemmas.Grind.{common_steps}
+use Rattle.std.proofs.lemmas.List.{drop_all}
 use Rattle.std.proofs.lemmas.Option.{slice_get-get_or}
-use Rattle.scenario.proofs.Places.{found_in_turn, passed_in_turn, still, ends_before}
+use Rattle.scenario.specs.Tree.{plain_all}
+use Rattle.scenario.specs.Taking.{offers_in_turn}
+use Rattle.scenario.proofs.Places.{counted_in_turn, found_in_turn, passed_in_turn, still, ends_before}
 use Rattle.scenario.proofs.Sought.{past-ok, past-err}
 use Rattle.scenario.proofs.taking.place_in_turn.Goals as goal
 
@@ -19,10 +22,11 @@ loop-i-preserved g c =
     let behind = past-err _ _ _ (sym c.seek_in_tree.ensures ∙ c.in-Err.is) in
     let end = ends_before c.args.children.now c.loop-i.i c.loop-i.further c.in-Err.behind c.index-children-i.result at behind (still _ _ _ _ i.0 c.requires) in
     let more = passed_in_turn c.args.children.now c.args.at c.loop-i.i c.loop-i.further c.in-Err.behind c.index-children-i.result at behind end i.1 i.2 in
-    (grind (arith, common_steps), more.0, more.1)
+    let count = counted_in_turn c.args.children.now c.loop-i.i c.loop-i.further c.in-Err.behind c.index-children-i.result at behind end in
+    (count ∙ i.0, more.0, more.1)
 
 pub loop-i-init : goal.loop-i-init
-loop-i-init g c = grind (arith, common_steps)
+loop-i-init g c = (refl, refl, refl)
 
 pub offset_bounds-children-i : goal.offset_bounds-children-i
 offset_bounds-children-i g c = grind (arith, common_steps)
@@ -31,10 +35,14 @@ pub bounds-children-i : goal.bounds-children-i
 bounds-children-i g c = grind (arith, common_steps)
 
 pub returns-in-Ok-clause-within : goal.returns-in-Ok-clause-within
-returns-in-Ok-clause-within g c = grind (arith, common_steps)
+returns-in-Ok-clause-within g c = c.loop-i-test.true
 
 pub unreachable-requires : goal.unreachable-requires
-unreachable-requires g c = grind (arith, common_steps)
+unreachable-requires g c =
+    let all = drop_all c.loop-i.i c.args.children.now c.loop-i-test.false in
+    let low = still _ _ _ _ c.loop-i.invariant.0 c.requires in
+    let none : c.loop-i.further < 0 = subst (λ ss. c.loop-i.further < length (offers_in_turn (plain_all ss))) all low in
+    omega (arith, none)
 
 pub unreachable-unreachable : goal.unreachable-unreachable
 unreachable-unreachable g c = grind (arith, common_steps)

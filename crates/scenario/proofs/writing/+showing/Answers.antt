@@ -46,7 +46,7 @@ pub value_under-returns-in_err-push : goal.value_under-returns-in_err-push
 value_under-returns-in_err-push g t c = if_ok-failed _ _ c.from_residual-in_err-push.ensures.0
 
 pub value_under-loop-child-smaller : goal.value_under-loop-child-smaller
-value_under-loop-child-smaller g t c = grind (arith, common_steps)
+value_under-loop-child-smaller g t c = omega arith
 
 pub value_under-loop-child-preserved : goal.value_under-loop-child-preserved
 value_under-loop-child-preserved g t c = grind (arith, common_steps)

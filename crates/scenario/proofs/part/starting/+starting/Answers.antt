@@ -1,16 +1,16 @@
-use Rattle.std.proofs.Common.{◌≡◌, ◌+◌, ◌<◌, Some, drop, length, slice_get, ap, sym, subst, ◌∙◌, arith, rules}
+use Rattle.std.proofs.Common.{◌≡◌, ◌+◌, ◌<◌, Some, drop, length, slice_get, refl, ap, sym, subst, ◌∙◌, arith, rules}
 use Rattle.std.proofs.lemmas.Grind.{common_steps}
-use Rattle.std.proofs.lemmas.List.{length-map}
+use Rattle.std.proofs.lemmas.List.{length-map, length-set}
 use Rattle.std.proofs.lemmas.Option.{slice_get-get_or}
-use Rattle.scenario.specs.Cursors.{InSeq, first_part, nodes, progress}
+use Rattle.scenario.specs.Cursors.{InSeq, Nothing, first_part, nodes, progress}
 use Rattle.scenario.specs.Limits.{depth, deepest}
 use Rattle.scenario.specs.Parts.{Leads, parts_of}
 use Rattle.scenario.specs.Rests.{IsPlaceAmong}
 use Rattle.scenario.specs.Tree as tree
 use Rattle.scenario.specs.Tree.{plain, plain_all}
-use Rattle.scenario.proofs.Children.{plain-Any, plain-Both, plain-Seq}
+use Rattle.scenario.proofs.Children.{children, plain-Any, plain-Both, plain-Seq}
 use Rattle.scenario.proofs.Cursors.{parts, parts-row}
-use Rattle.scenario.proofs.Failing.{on_err-map, on_ok-map}
+use Rattle.scenario.proofs.Failing.{on_err-always, on_err-map, on_ok-failed, on_ok-map}
 use Rattle.scenario.proofs.Fronts.{rest-whole}
 use Rattle.scenario.proofs.Leading.{depth-deepest, leads-any, leads-both, leads-row, leads-seq, leads-turn, same-set}
 use Rattle.scenario.proofs.Places.{within_child, within_turn}
@@ -120,4 +120,112 @@ start_both-returns-clause-ok g t c =
     let ss = c.args.children.now in
     let at = slice_get-get_or ss offer.child child c.place_among-offer.ensures.within ∙ ap Some (sym c.index-children-offer.is) in
     rw c.move_to.ensures.place (leads-both ss c.args.at offer.child offer.at child (parts_of c.make_room.new.part) (parts_of c.start_part.new.part)
-    (parts_of c.keep_others.new.part) at c.in_ok-make_room.ensures.room c.place_among-offer.ensures.place c.in_ok-start_part.ensures.ok c.keep_others.ensures)
+    (parts_of c.keep_others.new.part) at c.in_ok-make_room.ensures.room c.place_among-offer.ensures.place c.in_ok-start_part.ensures.ok
+    c.keep_others.ensures.whole)
+
+pub start-returns-in-One-clause-ok : goal.start-returns-in-One-clause-ok
+start-returns-in-One-clause-ok g t c =
+    let new : progress c.move_to.new.self ≡ Nothing = c.move_to.ensures.place in
+    let whole = ap plain c.in-One.is in
+    rw (new, whole) (refl, omega arith)
+
+pub start-returns-in-One-clause-err : goal.start-returns-in-One-clause-err
+start-returns-in-One-clause-err g t c = tt
+
+pub start-returns-in-Seq-clause-err : goal.start-returns-in-Seq-clause-err
+start-returns-in-Seq-clause-err g t c = c.start_row.ensures.err
+
+pub start-returns-in-Any-clause-err : goal.start-returns-in-Any-clause-err
+start-returns-in-Any-clause-err g t c = c.start.ensures.err
+
+pub start-returns-in-Times-clause-ok : goal.start-returns-in-Times-clause-ok
+start-returns-in-Times-clause-ok g t c =
+    let new = progress c.start_turn.new.part in
+    let whole : plain c.args.tree.now ≡ tree.Times c.in-Times.turns (plain c.deref.result.now) = grind (arith, common_steps) in
+    on_ok-map c.start_turn.result _ _ (λ h. subst (λ u. Leads u c.args.at (nodes u) new) (sym whole) h) c.start_turn.ensures.ok
+
+pub start-returns-in-Times-clause-err : goal.start-returns-in-Times-clause-err
+start-returns-in-Times-clause-err g t c = c.start_turn.ensures.err
+
+pub start-returns-in-Both-clause-err : goal.start-returns-in-Both-clause-err
+start-returns-in-Both-clause-err g t c = c.start_both.ensures.err
+
+pub start-place_among-offer-requires : goal.start-place_among-offer-requires
+start-place_among-offer-requires g t c = grind (arith, common_steps, children)
+
+pub start-start_row-requires : goal.start-start_row-requires
+start-start_row-requires g t c κs within = grind (arith, common_steps, children)
+
+pub start-start_turn-requires : goal.start-start_turn-requires
+start-start_turn-requires g t c κs within = grind (arith, common_steps, children)
+
+pub start-start_both-requires : goal.start-start_both-requires
+start-start_both-requires g t c κs within = grind (arith, common_steps, children)
+
+pub start_both-returns-in_err-make_room-clause-ok : goal.start_both-returns-in_err-make_room-clause-ok
+start_both-returns-in_err-make_room-clause-ok g t c = on_ok-failed _ _ c.from_residual.ensures.0
+
+pub start_both-returns-in_err-make_room-clause-err : goal.start_both-returns-in_err-make_room-clause-err
+start_both-returns-in_err-make_room-clause-err g t c = on_err-always _ _ c.make_room.ensures.same
+
+pub start_both-returns-in_err-start_part-clause-ok : goal.start_both-returns-in_err-start_part-clause-ok
+start_both-returns-in_err-start_part-clause-ok g t c = on_ok-failed _ _ c.from_residual-in_err-start_part.ensures.0
+
+pub start_both-returns-in_err-start_part-clause-err : goal.start_both-returns-in_err-start_part-clause-err
+start_both-returns-in_err-start_part-clause-err g t c = on_err-always _ _ (c.in_err-start_part.ensures.err ∙ c.make_room.ensures.same)
+
+pub start_both-returns-clause-err : goal.start_both-returns-clause-err
+start_both-returns-clause-err g t c = tt
+
+pub start_row-returns-in_err-make_room-clause-ok : goal.start_row-returns-in_err-make_room-clause-ok
+start_row-returns-in_err-make_room-clause-ok g t c = on_ok-failed _ _ c.from_residual.ensures.0
+
+pub start_row-returns-in_err-make_room-clause-err : goal.start_row-returns-in_err-make_room-clause-err
+start_row-returns-in_err-make_room-clause-err g t c = on_err-always _ _ c.make_room.ensures.same
+
+pub start_row-returns-in_err-start_part-clause-ok : goal.start_row-returns-in_err-start_part-clause-ok
+start_row-returns-in_err-start_part-clause-ok g t c = on_ok-failed _ _ c.from_residual-in_err-start_part.ensures.0
+
+pub start_row-returns-in_err-start_part-clause-err : goal.start_row-returns-in_err-start_part-clause-err
+start_row-returns-in_err-start_part-clause-err g t c = on_err-always _ _ (c.in_err-start_part.ensures.err ∙ c.make_room.ensures.same)
+
+pub start_row-returns-clause-err : goal.start_row-returns-clause-err
+start_row-returns-clause-err g t c = tt
+
+pub start_turn-returns-in_err-make_room-clause-ok : goal.start_turn-returns-in_err-make_room-clause-ok
+start_turn-returns-in_err-make_room-clause-ok g t c = on_ok-failed _ _ c.from_residual.ensures.0
+
+pub start_turn-returns-in_err-make_room-clause-err : goal.start_turn-returns-in_err-make_room-clause-err
+start_turn-returns-in_err-make_room-clause-err g t c = on_err-always _ _ c.make_room.ensures.same
+
+pub start_turn-returns-in_err-start_part-clause-ok : goal.start_turn-returns-in_err-start_part-clause-ok
+start_turn-returns-in_err-start_part-clause-ok g t c = on_ok-failed _ _ c.from_residual-in_err-start_part.ensures.0
+
+pub start_turn-returns-in_err-start_part-clause-err : goal.start_turn-returns-in_err-start_part-clause-err
+start_turn-returns-in_err-start_part-clause-err g t c = on_err-always _ _ (c.in_err-start_part.ensures.err ∙ c.make_room.ensures.same)
+
+pub start_turn-returns-clause-err : goal.start_turn-returns-clause-err
+start_turn-returns-clause-err g t c = tt
+
+pub start_both-keep_others-requires-clause-part : goal.start_both-keep_others-requires-clause-part
+start_both-keep_others-requires-clause-part g t c = c.place_among-offer.ensures.within
+
+pub start_both-keep_others-requires-clause-room : goal.start_both-keep_others-requires-clause-room
+start_both-keep_others-requires-clause-room g t c = grind (arith, common_steps, length-set)
+
+pub start_part-unreachable-requires : goal.start_part-unreachable-requires
+start_part-unreachable-requires g t c =
+    let low : c.args.number < 0 = subst (λ p. c.args.number < length (parts_of p)) c.in-Fresh.is c.requires.part in
+    omega (arith, low)
+
+pub start_row-overflow_add-offer : goal.start_row-overflow_add-offer
+start_row-overflow_add-offer g t c = grind (arith, common_steps)
+
+pub start_row-slice_bounds-move_to-start : goal.start_row-slice_bounds-move_to-start
+start_row-slice_bounds-move_to-start g t c = grind (arith, common_steps)
+
+pub start_row-slice_bounds-move_to-count : goal.start_row-slice_bounds-move_to-count
+start_row-slice_bounds-move_to-count g t c = grind (arith, common_steps)
+
+pub start_row-slice_bounds-move_to-end : goal.start_row-slice_bounds-move_to-end
+start_row-slice_bounds-move_to-end g t c = grind (arith, common_steps)

@@ -3,6 +3,7 @@ use Rattle.std.proofs.lemmas.Grind.{common_steps}
 use Rattle.std.proofs.lemmas.List.{length-map}
 use Rattle.scenario.specs.Cursors.{progress}
 use Rattle.scenario.proofs.Cursors.{parts, parts-row}
+use Rattle.scenario.proofs.Failing.{on_ok-failed}
 use Rattle.scenario.proofs.Growing.{grown-same, progress-same}
 use Rattle.scenario.proofs.part.starting.make_room.Goals as goal
 
@@ -31,3 +32,33 @@ returns-in_ok-push_ended-in-Fresh-clause-same g c =
 
 pub returns-in_ok-push_ended-in-Fresh-clause-room : goal.returns-in_ok-push_ended-in-Fresh-clause-room
 returns-in_ok-push_ended-in-Fresh-clause-room g c = grind (arith, common_steps, parts, length-map)
+
+pub returns-in_err-clone-in-Fresh-clause-place : goal.returns-in_err-clone-in-Fresh-clause-place
+returns-in_err-clone-in-Fresh-clause-place g c = grind (arith, common_steps, parts)
+
+pub returns-in_err-clone-in-Fresh-clause-grown : goal.returns-in_err-clone-in-Fresh-clause-grown
+returns-in_err-clone-in-Fresh-clause-grown g c = grind (arith, common_steps, parts)
+
+pub returns-in_err-clone-in-Fresh-clause-same : goal.returns-in_err-clone-in-Fresh-clause-same
+returns-in_err-clone-in-Fresh-clause-same g c = grind (arith, common_steps, parts)
+
+pub returns-in_err-clone-in-Fresh-clause-room : goal.returns-in_err-clone-in-Fresh-clause-room
+returns-in_err-clone-in-Fresh-clause-room g c = on_ok-failed _ _ c.from_residual.ensures.0
+
+pub returns-in_err-push_ended-in-Fresh-clause-place : goal.returns-in_err-push_ended-in-Fresh-clause-place
+returns-in_err-push_ended-in-Fresh-clause-place g c = grind (arith, common_steps, parts)
+
+pub returns-in_err-push_ended-in-Fresh-clause-grown : goal.returns-in_err-push_ended-in-Fresh-clause-grown
+returns-in_err-push_ended-in-Fresh-clause-grown g c = grind (arith, common_steps, parts)
+
+pub returns-in_err-push_ended-in-Fresh-clause-same : goal.returns-in_err-push_ended-in-Fresh-clause-same
+returns-in_err-push_ended-in-Fresh-clause-same g c = grind (arith, common_steps, parts)
+
+pub returns-in_err-push_ended-in-Fresh-clause-room : goal.returns-in_err-push_ended-in-Fresh-clause-room
+returns-in_err-push_ended-in-Fresh-clause-room g c = on_ok-failed _ _ c.from_residual-in_err-push_ended-in-Fresh.ensures.0
+
+pub returns-in-Begun-clause-most : goal.returns-in-Begun-clause-most
+returns-in-Begun-clause-most g c = grind (arith, common_steps, parts, length-map)
+
+pub returns-in_ok-push_ended-in-Fresh-clause-most : goal.returns-in_ok-push_ended-in-Fresh-clause-most
+returns-in_ok-push_ended-in-Fresh-clause-most g c = grind (arith, common_steps, parts, length-map)

@@ -17,8 +17,8 @@ loop-i-preserved g c =
       grind (arith, common_steps),
     )
 
-pub returns : goal.returns
-returns g c =
+pub returns-clause-whole : goal.returns-clause-whole
+returns-clause-whole g c =
     let old = c.args.parts.now.items in
     let begun = c.replace-begun.result in
     let there : slice_get old c.args.number ≡ Some begun = slice_get-get_or old c.args.number begun (search rules) ∙ ap Some (search rules) in

@@ -12,7 +12,8 @@ loop-preserved g c = (
   rw c.in_ok-push.ensures.items
       (grows-push progress (map progress c.args.parts.now.items) c.loop.parts.items c.ended.result c.ended.ensures c.loop.invariant.0),
   grind (arith, common_steps),
+  grind (arith, common_steps),
 )
 
 pub loop-init : goal.loop-init
-loop-init g c = (grows-none (map progress c.args.parts.now.items), grind (arith, common_steps))
+loop-init g c = (grows-none (map progress c.args.parts.now.items), grind (arith, common_steps), omega arith)

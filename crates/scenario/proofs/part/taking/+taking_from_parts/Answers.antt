@@ -1,7 +1,7 @@
 use Rattle.std.proofs.Common.{◌≡◌, ◌+◌, ◌<◌, length, slice_get, Some, ap, subst, ◌∙◌, arith, rules}
 use Rattle.std.proofs.lemmas.Grind.{common_steps}
 use Rattle.std.proofs.lemmas.List.{length-map}
-use Rattle.std.proofs.lemmas.Option.{slice_get-get_or}
+use Rattle.std.proofs.lemmas.Option.{slice_get-get_or, slice_get_within}
 use Rattle.scenario.specs.Cursors.{Progress, progress, tree_left}
 use Rattle.scenario.specs.Parts.{count_at, parts_of, place_of}
 use Rattle.scenario.specs.Taking.{offers, offers_of_all}
@@ -9,7 +9,8 @@ use Rattle.scenario.specs.Tree.{trees_of}
 use Rattle.scenario.proofs.Cursors.{map-left, parts, parts-Begun, parts-row}
 use Rattle.scenario.proofs.Failing.{on_err-map, on_ok-map}
 use Rattle.scenario.proofs.Going.{found-in-use, goes-behind, goes-part, height-at, none-in-use, offered-behind, some-same}
-use Rattle.scenario.proofs.Leading.{get-map, get-within, same-set}
+use Rattle.scenario.proofs.Items.{get-map}
+use Rattle.scenario.proofs.Leading.{same-set}
 use Rattle.scenario.proofs.Wholes.{map-set}
 use Rattle.scenario.proofs.part.taking.+taking_from_parts.Goals as goal
 
@@ -43,7 +44,7 @@ take_from-returns-in-Ok-clause-ok g t c =
 
 pub take_from_part-index_mut-requires : goal.take_from_part-index_mut-requires
 take_from_part-index_mut-requires g t c =
-    let within = get-within (parts_of c.args.part.now) c.args.number c.requires.0 c.requires.1 in
+    let within = slice_get_within (parts_of c.args.part.now) c.args.number c.requires.0 c.requires.1 in
     grind (arith, common_steps, parts, length-map, within)
 
 pub take_from_part-unreachable-requires : goal.take_from_part-unreachable-requires
@@ -54,7 +55,7 @@ take_from_part-take_from-requires g t c κs within =
     let items = c.in-Begun.parts.items in
     let ps = parts_of c.args.part.now in
     let number = c.args.number in
-    let inside = get-within ps number c.requires.0 c.requires.1 in
+    let inside = slice_get_within ps number c.requires.0 c.requires.1 in
     let short : number < length items = grind (arith, common_steps, parts, length-map, inside) in
     let old = c.index_mut.result.now in
     let at : slice_get items number ≡ Some old = slice_get-get_or items number old short ∙ ap Some (search rules) in
@@ -68,7 +69,7 @@ take_from_part-take_from-requires g t c κs within =
 pub take_from_part-returns-clause-err : goal.take_from_part-returns-clause-err
 take_from_part-returns-clause-err g t c =
     let items = c.in-Begun.parts.items in
-    let inside = get-within (parts_of c.args.part.now) c.args.number c.requires.0 c.requires.1 in
+    let inside = slice_get_within (parts_of c.args.part.now) c.args.number c.requires.0 c.requires.1 in
     let within : c.args.number < length items = grind (arith, common_steps, parts, length-map, inside) in
     let old = c.index_mut.result.now in
     let at : slice_get items c.args.number ≡ Some old = slice_get-get_or items c.args.number old within ∙ ap Some (search rules) in
@@ -85,7 +86,7 @@ take_from_part-returns-clause-ok g t c =
       progress c.index_mut.result.now,
       progress c.take_from.new.part,
       (let items = c.in-Begun.parts.items in
-          let inside = get-within (parts_of c.args.part.now) c.args.number c.requires.0 c.requires.1 in
+          let inside = slice_get_within (parts_of c.args.part.now) c.args.number c.requires.0 c.requires.1 in
           let within : c.args.number < length items = grind (arith, common_steps, parts, length-map, inside) in
           let old = c.index_mut.result.now in
           let at : slice_get items c.args.number ≡ Some old = slice_get-get_or items c.args.number old within ∙ ap Some (search rules) in
