@@ -21,7 +21,8 @@ all_made g c =
     c.args.n chain.0 h.0 c.in_ok-made.made places chain.2 h.2
 
 pub returns-clause-ok : goal.returns-clause-ok
-returns-clause-ok g c = IfOk-then c.in_ok-made.made _ _ (all_made g c) (λ v made. record { count = made.count; each = λ number result at. (made.each number result at).0 })
+returns-clause-ok g c = IfOk-then c.in_ok-made.made _ _ (all_made g c)
+    (λ v made. record { count = made.count; each = λ number result at. (made.each number result at).0 })
 
 pub returns-clause-sound : goal.returns-clause-sound
 returns-clause-sound g c own = IfOk-then c.in_ok-made.made _ _ (all_made g c) (λ v made number result at. (made.each number result at).1 own)
