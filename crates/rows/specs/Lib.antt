@@ -1,0 +1,3 @@
+pub mod Lends
+pub mod Row
+pub mod inner
