@@ -1,3 +1,4 @@
+pub mod Flags
 pub mod Lends
 pub mod Row
 pub mod inner

@@ -2,8 +2,10 @@
 //! counted through fast.
 #![tactic(auto)]
 
+mod bits;
 mod sparse;
 mod try_clone;
 
+pub use bits::Bits;
 pub use sparse::Sparse;
 pub use try_clone::TryClone;
