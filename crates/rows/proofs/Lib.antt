@@ -1,3 +1,6 @@
+pub mod Bridge
 pub mod Copied
+pub mod Fronts
 pub mod Held
+pub mod Tree
 pub mod Words
