@@ -58,7 +58,8 @@ module _ {T S : Type 0} (seen : T → S) where
           let within = slice_get_within (keys_of done) i at here in
           let first : get_or (keys_of done ++ at ∷ keys_of rest) i 0 ≡ at =
           get_or_append_left (keys_of done) (at ∷ keys_of rest) 0 i within ∙ get_or_from_slice_get (keys_of done) i at 0 here in
-          let second : get_or (keys_of done ++ at ∷ keys_of rest) (length (keys_of done)) 0 ≡ at = get_or-append_seam (keys_of done) at (keys_of rest) 0 in
+          let second : get_or (keys_of done ++ at ∷ keys_of rest) (length (keys_of done)) 0 ≡ at =
+          get_or-append_seam (keys_of done) at (keys_of rest) 0 in
           sym (eq-eqb _ _ (first ∙ sym second))
           ∙ apart_from_distinct nat_eq (keys_of done ++ at ∷ keys_of rest) i (length (keys_of done)) 0 apart within
           (omega (arith, length-append (keys_of done) (at ∷ keys_of rest)))

@@ -1,4 +1,5 @@
-use Rattle.std.proofs.Common.{◌≡◌, ℕ, ◌+◌, ◌<◌, ◌≤◌, List, [], ◌∷◌, ◌++◌, Option, None, Some, Bool, true, false, cond, true≢false, length, get_or, set, replicate}
+use Rattle.std.proofs.Common.{◌≡◌, ℕ, ◌+◌, ◌<◌, ◌≤◌, List, [], ◌∷◌, ◌++◌, Option, None, Some, Bool, true, false, cond}
+use Rattle.std.proofs.Common.{true≢false, length, get_or, set, replicate}
 use Rattle.std.proofs.Common.{refl, sym, ap, ◌∙◌, zero, suc, arith, inl, inr, nat_eq, slice_get, slice_index, is_some, if◌then◌else◌}
 use Rattle.std.specs.Borrow.{MutBor}
 use Rattle.std.specs.List.{IsDistinct}
@@ -17,7 +18,8 @@ pub items-length : {T : Type 0} (held : List (ℕ × T)) (places : ℕ) → leng
 items-length held places = length-map-range_with_len (λ at. lookup (nat_eq at) held) 0 places
 
 -- what stands at a place is what is held there
-pub items-at : {T : Type 0} (held : List (ℕ × T)) (places at : ℕ) → IsWithin held places → get_or (items_of held places) at None ≡ lookup (nat_eq at) held
+pub items-at : {T : Type 0} (held : List (ℕ × T)) (places at : ℕ) → IsWithin held places →
+    get_or (items_of held places) at None ≡ lookup (nat_eq at) held
 items-at held places at within =
     elim (cases_lt at places) [
       | inl h ↦ get_or-map-range_with_len (λ q. lookup (nat_eq q) held) 0 places at at None h (omega arith)
@@ -36,17 +38,20 @@ items-empty held places none =
 
 -- where a look-up finds what it found but at one key, one place has another item
 pub items-set : {T : Type 0} (old new : List (ℕ × T)) (places at : ℕ) (value : T) →
-    ((q : ℕ) → lookup (nat_eq q) new ≡ cond (nat_eq at q) (Some value) (lookup (nat_eq q) old)) → items_of new places ≡ set (items_of old places) at (Some value)
+    ((q : ℕ) → lookup (nat_eq q) new ≡ cond (nat_eq at q) (Some value) (lookup (nat_eq q) old)) →
+    items_of new places ≡ set (items_of old places) at (Some value)
 items-set old new places at value updates =
     ext_get_or None (items_of new places) (set (items_of old places) at (Some value))
     (items-length new places ∙ sym (length-set (items_of old places) at (Some value) ∙ items-length old places))
     each
   where
-    stands : (i : ℕ) → i < length (items_of new places) → get_or (items_of new places) i None ≡ cond (nat_eq at i) (Some value) (lookup (nat_eq i) old)
+    stands : (i : ℕ) → i < length (items_of new places) → get_or (items_of new places) i None ≡
+        cond (nat_eq at i) (Some value) (lookup (nat_eq i) old)
     stands i h =
         get_or-map-range_with_len (λ q. lookup (nat_eq q) new) 0 places i i None (omega (arith, items-length new places)) (omega arith) ∙ updates i
 
-    each : (i : ℕ) → i < length (items_of new places) → get_or (items_of new places) i None ≡ get_or (set (items_of old places) at (Some value)) i None
+    each : (i : ℕ) → i < length (items_of new places) → get_or (items_of new places) i None ≡
+        get_or (set (items_of old places) at (Some value)) i None
     each i h =
         let below : i < places = omega (arith, items-length new places) in
         elim (cases_eq i at) [
@@ -118,7 +123,8 @@ same_loan None o f g v w e some none = ap inr none
 same_loan (Some x) o f g v w e some none = λ i. inl (x.ghost_name, λ y. some (ap is_some (sym e)) y i)
 
 -- where the keys are the same, no more is found
-pub none_found : {T : Type 0} (old new : List (ℕ × T)) (at : ℕ) → keys_of new ≡ keys_of old → lookup (nat_eq at) old ≡ None → lookup (nat_eq at) new ≡ None
+pub none_found : {T : Type 0} (old new : List (ℕ × T)) (at : ℕ) → keys_of new ≡ keys_of old → lookup (nat_eq at) old ≡ None →
+    lookup (nat_eq at) new ≡ None
 none_found {T} old new at same none = by (lookup (nat_eq at) new) refl
   where
     by : (o : Option T) → lookup (nat_eq at) new ≡ o → lookup (nat_eq at) new ≡ None
@@ -128,7 +134,8 @@ none_found {T} old new at same none = by (lookup (nat_eq at) new) refl
         absurd (true≢false (sym (found old p.0 at (ap (λ ks. slice_get ks p.0) (sym same) ∙ p.1)) ∙ ap is_some none))
 
 -- and nothing is held beyond
-pub within-same_keys : {T : Type 0} (old new : List (ℕ × T)) (places : ℕ) → IsWithin old places → keys_of new ≡ keys_of old → IsWithin new places
+pub within-same_keys : {T : Type 0} (old new : List (ℕ × T)) (places : ℕ) → IsWithin old places → keys_of new ≡ keys_of old →
+    IsWithin new places
 within-same_keys old new places within same = record {
   beyond = λ q h. none_found old new q same (within.beyond q h);
 }
@@ -137,7 +144,8 @@ pub within-empty : {T : Type 0} (held : List (ℕ × T)) (places : ℕ) → held
 within-empty held places none = record { beyond = λ q h. ap (λ es. lookup (nat_eq q) es) none }
 
 -- the keys once a place got its first item
-pub order-new : {T : Type 0} (held new : List (ℕ × T)) (places spare at : ℕ) (value : T) → IsWithin held places → lookup (nat_eq at) held ≡ None →
+pub order-new : {T : Type 0} (held new : List (ℕ × T)) (places spare at : ℕ) (value : T) → IsWithin held places →
+    lookup (nat_eq at) held ≡ None →
     new ≡ held ++ (at, value) ∷ [] → keys_of new ≡ keys_with (record { items = items_of held places; keys = keys_of held; spare = spare }) at
 order-new held new places spare at value within none made =
     ap keys_of made ∙ map-append (λ e. e.0) held ((at, value) ∷ [])

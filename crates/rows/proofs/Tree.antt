@@ -1,12 +1,14 @@
 -- A tree of sums.
-use Rattle.std.proofs.Common.{ℕ, ◌≡◌, ◌≢◌, ◌+◌, ◌-◌, ◌*◌, ◌/◌, ◌%◌, ◌^◌, ◌<◌, ◌≤◌, ◌⊎◌, List, length, take, drop, set, get_or, replicate, refl, ap, sym, ◌∙◌, arith, zero, suc, inl, inr, slice_index, add-one}
+use Rattle.std.proofs.Common.{ℕ, ◌≡◌, ◌≢◌, ◌+◌, ◌-◌, ◌*◌, ◌/◌, ◌%◌, ◌^◌, ◌<◌, ◌≤◌, List}
+use Rattle.std.proofs.Common.{length, take, drop, get_or, replicate, refl, ap, sym, ◌∙◌, arith, zero, suc, inl, inr, slice_index, add-one}
 use Rattle.std.specs.List.{sum}
 use Rattle.std.proofs.lemmas.Bool.{cases_eq, cases_lt}
-use Rattle.std.proofs.lemmas.List.{drop-replicate, ext_get_or, get_or-drop, get_or-set_other, get_or-set_same, get_or-take, length-drop, length-set, length-take, take-replicate, take_all}
+use Rattle.std.proofs.lemmas.List.{drop-replicate, get_or-drop, get_or-take, length-drop}
+use Rattle.std.proofs.lemmas.List.{length-take, take-replicate, take_all}
 use Rattle.std.proofs.lemmas.Nat.{one_shl, pow_pos}
 use Rattle.std.proofs.Math.Nat.{pow-suc, pow-le-pow_right}
 use Rattle.rows.specs.Counts.{Finds}
-use Rattle.rows.specs.inner.Tree.{IsBehind, IsOnTheWay, IsRising, IsSummed, IsTree, numbers_of, span}
+use Rattle.rows.specs.inner.Tree.{IsBehind, IsOnTheWay, IsSummed, IsTree, numbers_of, span}
 use Rattle.rows.proofs.Fronts.{front_step, sum_is_small}
 
 -- the next level has twice as many nodes
@@ -23,11 +25,13 @@ numbers-length tree levels count kept =
     simp (length-take, length-drop) (let long = kept.long in let wide = kept.wide in omega arith)
 
 -- a number is a node of the last level
-pub number-at : (tree : List ℕ) (levels count at : ℕ) → at < count → get_or (numbers_of tree levels count) at 0 ≡ slice_index tree (2 ^ levels + at)
+pub number-at : (tree : List ℕ) (levels count at : ℕ) → at < count →
+    get_or (numbers_of tree levels count) at 0 ≡ slice_index tree (2 ^ levels + at)
 number-at tree levels count at h = get_or-take count (drop (2 ^ levels) tree) at 0 h ∙ get_or-drop (2 ^ levels) tree at 0
 
 -- the sum of the first numbers
-pub front-span : (tree : List ℕ) (levels count n : ℕ) → IsTree tree levels count → n ≤ count → sum (take n (numbers_of tree levels count)) ≡ span tree (2 ^ levels) n
+pub front-span : (tree : List ℕ) (levels count n : ℕ) → IsTree tree levels count → n ≤ count →
+    sum (take n (numbers_of tree levels count)) ≡ span tree (2 ^ levels) n
 front-span tree levels count zero kept h = refl
 front-span tree levels count (suc n) kept h =
     let numbers = numbers_of tree levels count in
@@ -37,7 +41,8 @@ front-span tree levels count (suc n) kept h =
     omega (arith, number-at tree levels count n h)
 
 -- the sums of two levels, one over the other
-pub halves : (tree : List ℕ) (size from n : ℕ) → IsSummed tree size → 0 < from → from + n ≤ size → span tree (2 * from) (2 * n) ≡ span tree from n
+pub halves : (tree : List ℕ) (size from n : ℕ) → IsSummed tree size → 0 < from → from + n ≤ size →
+    span tree (2 * from) (2 * n) ≡ span tree from n
 halves tree size from zero summed some h = refl
 halves tree size from (suc n) summed some h =
     let before = halves tree size from n summed some (omega arith) in
@@ -49,7 +54,8 @@ halves tree size from (suc n) summed some h =
     omega arith
 
 -- each level sums up to the first node
-pub level-sum : (tree : List ℕ) (levels level : ℕ) → IsSummed tree (2 ^ levels) → level ≤ levels → span tree (2 ^ level) (2 ^ level) ≡ slice_index tree 1
+pub level-sum : (tree : List ℕ) (levels level : ℕ) → IsSummed tree (2 ^ levels) → level ≤ levels →
+    span tree (2 ^ level) (2 ^ level) ≡ slice_index tree 1
 level-sum tree levels zero summed h = omega arith
 level-sum tree levels (suc level) summed h =
     let before = level-sum tree levels level summed (omega arith) in
@@ -58,7 +64,8 @@ level-sum tree levels (suc level) summed h =
     (λ i. span tree (wide i) (wide i)) ∙ halves tree (2 ^ levels) (2 ^ level) (2 ^ level) summed (pow_pos level) (omega arith) ∙ before
 
 -- nodes that are 0 add nothing
-pub span-past : (tree : List ℕ) (from n : ℕ) → ((i : ℕ) → from + n ≤ i → slice_index tree i ≡ 0) → (m : ℕ) → n ≤ m → span tree from m ≡ span tree from n
+pub span-past : (tree : List ℕ) (from n : ℕ) → ((i : ℕ) → from + n ≤ i → slice_index tree i ≡ 0) → (m : ℕ) → n ≤ m →
+    span tree from m ≡ span tree from n
 span-past tree from n past zero h = ap (span tree from) (let e : 0 ≡ n = omega arith in e)
 span-past tree from n past (suc m) h =
     elim (cases_lt m n) [
@@ -76,7 +83,8 @@ root-sum tree levels count kept =
     ∙ level-sum tree levels levels kept.sums (omega arith))
 
 -- no node is above the first
-below-root : (tree : List ℕ) (size fuel i : ℕ) → IsSummed tree size → i ≤ fuel → 0 < i → i < 2 * size → slice_index tree i ≤ slice_index tree 1
+below-root : (tree : List ℕ) (size fuel i : ℕ) → IsSummed tree size → i ≤ fuel → 0 < i → i < 2 * size →
+    slice_index tree i ≤ slice_index tree 1
 below-root tree size zero i summed h some inside = absurd (omega arith)
 below-root tree size (suc fuel) i summed h some inside =
     elim (cases_lt 1 i) [
@@ -88,7 +96,8 @@ below-root tree size (suc fuel) i summed h some inside =
                 let same : slice_index tree i ≡ slice_index tree (2 * (i / 2)) = ap (slice_index tree) (let q : i ≡ 2 * (i / 2) = omega arith in q) in
                 omega arith
             | inr ne ↦
-                let same : slice_index tree i ≡ slice_index tree (2 * (i / 2) + 1) = ap (slice_index tree) (let q : i ≡ 2 * (i / 2) + 1 = omega arith in q) in
+                let same : slice_index tree i ≡ slice_index tree (2 * (i / 2) + 1) = ap (slice_index tree) (let q : i ≡ 2 * (i / 2) + 1 =
+                omega arith in q) in
                 omega arith
           ]
       | inr l ↦ (let same : slice_index tree i ≡ slice_index tree 1 = ap (slice_index tree) (let q : i ≡ 1 = omega arith in q) in omega arith)
@@ -106,7 +115,8 @@ sum-fits tree levels count kept =
     omega arith
 
 -- and so does each node
-pub node-fits : (tree : List ℕ) (levels count i : ℕ) → IsTree tree levels count → 0 < i → i < 2 * 2 ^ levels → slice_index tree i + 2 ^ 32 ≤ 2 ^ 64
+pub node-fits : (tree : List ℕ) (levels count i : ℕ) → IsTree tree levels count → 0 < i → i < 2 * 2 ^ levels →
+    slice_index tree i + 2 ^ 32 ≤ 2 ^ 64
 node-fits tree levels count i kept some inside =
     let all = below-root tree (2 ^ levels) i i kept.sums (omega arith) some inside in
     omega (arith, root-sum tree levels count kept, sum-fits tree levels count kept)
@@ -137,7 +147,8 @@ down tree levels count level node rest k kept h way =
     ap (span tree (2 * 2 ^ level)) (let e : 2 * node - 2 ^ (level + 1) ≡ 2 * (node - 2 ^ level) = omega arith in e) in
     omega (arith, way.front)
 
-pub down-left : (tree : List ℕ) (levels count level node rest k : ℕ) → IsTree tree levels count → level < levels → IsOnTheWay tree level node rest k →
+pub down-left : (tree : List ℕ) (levels count level node rest k : ℕ) → IsTree tree levels count → level < levels →
+    IsOnTheWay tree level node rest k →
     rest < slice_index tree (2 * node) → IsOnTheWay tree (level + 1) (2 * node) rest k
 down-left tree levels count level node rest k kept h way less = record {
   least = omega (arith, way.least, twice level);
@@ -146,7 +157,8 @@ down-left tree levels count level node rest k kept h way less = record {
   within = less;
 }
 
-pub down-right : (tree : List ℕ) (levels count level node rest k : ℕ) → IsTree tree levels count → level < levels → IsOnTheWay tree level node rest k →
+pub down-right : (tree : List ℕ) (levels count level node rest k : ℕ) → IsTree tree levels count → level < levels →
+    IsOnTheWay tree level node rest k →
     slice_index tree (2 * node) ≤ rest → IsOnTheWay tree (level + 1) (2 * node + 1) (rest - slice_index tree (2 * node)) k
 down-right tree levels count level node rest k kept h way more =
     let least = way.least in
@@ -157,7 +169,8 @@ down-right tree levels count level node rest k kept h way more =
     let here = kept.sums.each node (let pos = pow_pos level in omega arith) (omega arith) in
     let n : ℕ = 2 * node - 2 ^ (level + 1) in
     let before = down tree levels count level node rest k kept h way in
-    let step : span tree (2 ^ (level + 1)) (2 * node + 1 - 2 ^ (level + 1)) ≡ span tree (2 ^ (level + 1)) (2 * node - 2 ^ (level + 1)) + slice_index tree (2 ^ (level + 1) + (2 * node - 2 ^ (level + 1))) =
+    let step : span tree (2 ^ (level + 1)) (2 * node + 1 - 2 ^ (level + 1)) ≡
+    span tree (2 ^ (level + 1)) (2 * node - 2 ^ (level + 1)) + slice_index tree (2 ^ (level + 1) + (2 * node - 2 ^ (level + 1))) =
     ap (span tree (2 ^ (level + 1))) (let e : 2 * node + 1 - 2 ^ (level + 1) ≡ suc (2 * node - 2 ^ (level + 1)) = omega arith in e) in
     let last : slice_index tree (2 ^ (level + 1) + (2 * node - 2 ^ (level + 1))) ≡ slice_index tree (2 * node) =
     ap (slice_index tree) (let e : 2 ^ (level + 1) + (2 * node - 2 ^ (level + 1)) ≡ 2 * node = omega arith in e) in
@@ -201,7 +214,8 @@ from-place tree levels count at kept h = record {
 }
 
 -- what stands before a node and before the one over it
-up : (tree : List ℕ) (levels count level node : ℕ) → IsTree tree levels count → level < levels → 2 ^ (level + 1) ≤ node → node < 2 * 2 ^ (level + 1) →
+up : (tree : List ℕ) (levels count level node : ℕ) → IsTree tree levels count → level < levels → 2 ^ (level + 1) ≤ node →
+    node < 2 * 2 ^ (level + 1) →
     span tree (2 ^ (level + 1)) (2 * (node / 2) - 2 ^ (level + 1)) ≡ span tree (2 ^ level) (node / 2 - 2 ^ level)
 up tree levels count level node kept h least most =
     let wide = twice level in
@@ -212,7 +226,8 @@ up tree levels count level node kept h least most =
     ∙ ap (span tree (2 * 2 ^ level)) (let e : 2 * (node / 2) - 2 ^ (level + 1) ≡ 2 * (node / 2 - 2 ^ level) = omega arith in e)
     ∙ two
 
-pub up-even : (tree : List ℕ) (levels count level node before whole : ℕ) → IsTree tree levels count → level < levels → IsBehind tree (level + 1) node before whole →
+pub up-even : (tree : List ℕ) (levels count level node before whole : ℕ) → IsTree tree levels count → level < levels →
+    IsBehind tree (level + 1) node before whole →
     node % 2 ≢ 1 → IsBehind tree level (node / 2) before whole
 up-even tree levels count level node before whole kept h way even =
     let least = way.least in
@@ -231,7 +246,8 @@ pub record IsAdded (tree : List ℕ) (level node before more whole : ℕ) : Type
   pub way : IsBehind tree level node (before + more) whole
   pub within : before + more ≤ whole
 
-pub up-odd : (tree : List ℕ) (levels count level node before whole : ℕ) → IsTree tree levels count → level < levels → IsBehind tree (level + 1) node before whole →
+pub up-odd : (tree : List ℕ) (levels count level node before whole : ℕ) → IsTree tree levels count → level < levels →
+    IsBehind tree (level + 1) node before whole →
     node % 2 ≡ 1 → IsAdded tree level (node / 2) before (slice_index tree (node - 1)) whole
 up-odd tree levels count level node before whole kept h way odd =
     let least = way.least in
@@ -257,185 +273,14 @@ at-top tree node before whole way =
     let none : span tree 1 (node - 1) ≡ 0 = ap (span tree 1) (let e : node - 1 ≡ 0 = omega arith in e) in
     omega (arith, way.front)
 
--- ---- a write
-
-pub other : (tree : List ℕ) (at v i : ℕ) → i ≢ at → slice_index (set tree at v) i ≡ slice_index tree i
-other tree at v i ne = get_or-set_other tree at i v 0 ne
-
-pub here : (tree : List ℕ) (at v : ℕ) → at < length tree → slice_index (set tree at v) at ≡ v
-here tree at v h = get_or-set_same tree at v 0 h
-
--- the node over one has it below
-child : (node i : ℕ) → i ≡ node / 2 → (2 * i ≡ node) ⊎ (2 * i + 1 ≡ node)
-child node i e =
-    elim (cases_eq (2 * i) node) [
-      | inl h ↦ inl h
-      | inr ne ↦ inr (omega arith)
-    ]
-
--- two nodes, one of which is written
-pair : (tree : List ℕ) (node v i : ℕ) → node < length tree → i ≡ node / 2 →
-    slice_index (set tree node v) (2 * i) + slice_index (set tree node v) (2 * i + 1) + slice_index tree node ≡ slice_index tree (2 * i) + slice_index tree (2 * i + 1) + v
-pair tree node v i inside e =
-    elim (child node i e) [
-      | inl h ↦
-          let a : slice_index (set tree node v) (2 * i) ≡ v = ap (slice_index (set tree node v)) h ∙ here tree node v inside in
-          let b = other tree node v (2 * i + 1) (omega arith) in
-          let d : slice_index tree (2 * i) ≡ slice_index tree node = ap (slice_index tree) h in
-          omega arith
-      | inr h ↦
-          let a : slice_index (set tree node v) (2 * i + 1) ≡ v = ap (slice_index (set tree node v)) h ∙ here tree node v inside in
-          let b = other tree node v (2 * i) (omega arith) in
-          let d : slice_index tree (2 * i + 1) ≡ slice_index tree node = ap (slice_index tree) h in
-          omega arith
-    ]
-
-pub rising-start : (tree : List ℕ) (levels count at before after : ℕ) → IsTree tree levels count → at < count → before ≡ slice_index tree (2 ^ levels + at) →
-    IsRising (set tree (2 ^ levels + at) after) (2 ^ levels) (2 ^ levels + at) before after
-rising-start tree levels count at before after kept h was =
-    let long = kept.long in
-    let wide = kept.wide in
-    let pos = pow_pos levels in
-    let inside : 2 ^ levels + at < length tree = omega arith in
-    record {
-      there = omega arith;
-      others = λ i some below ne.
-          let sum = kept.sums.each i some below in
-          let a = other tree (2 ^ levels + at) after i (omega arith) in
-          let b = other tree (2 ^ levels + at) after (2 * i) (λ e. ne (omega arith)) in
-          let d = other tree (2 ^ levels + at) after (2 * i + 1) (λ e. ne (omega arith)) in
-          omega arith;
-      over = λ i some e.
-          let sum = kept.sums.each i some (omega arith) in
-          let a = other tree (2 ^ levels + at) after i (omega arith) in
-          let b = pair tree (2 ^ levels + at) after i inside e in
-          omega arith;
-      has = omega (arith, here tree (2 ^ levels + at) after inside);
-      room = λ i some below.
-          let a = other tree (2 ^ levels + at) after i (omega arith) in
-          let b = node-fits tree levels count i kept some (omega arith) in
-          omega arith;
-    }
-
--- what the node over a write is written to
-pub record IsStep (tree : List ℕ) (size node before after : ℕ) : Type 0 where
-  pub less : before ≤ slice_index tree (node / 2)
-  pub fits : slice_index tree (node / 2) - before + after < 2 ^ 64
-  pub next : IsRising (set tree (node / 2) (slice_index tree (node / 2) - before + after)) size (node / 2) before after
-
-pub rising-step : (tree : List ℕ) (size node before after : ℕ) → IsRising tree size node before after → 1 < node → node < 2 * size → 2 * size ≤ length tree →
-    after < 2 ^ 32 → IsStep tree size node before after
-rising-step tree size node before after rising h inside long small =
-    let p : ℕ = node / 2 in
-    let over = rising.over (node / 2) (omega arith) refl in
-    let has = rising.has in
-    let room = rising.room (node / 2) (omega arith) (omega arith) in
-    let within : slice_index tree node ≤ slice_index tree (2 * (node / 2)) + slice_index tree (2 * (node / 2) + 1) =
-    elim (child node (node / 2) refl) [
-      | inl e ↦ (let d : slice_index tree (2 * (node / 2)) ≡ slice_index tree node = ap (slice_index tree) e in omega arith)
-      | inr e ↦ (let d : slice_index tree (2 * (node / 2) + 1) ≡ slice_index tree node = ap (slice_index tree) e in omega arith)
-    ] in
-    let short : node / 2 < length tree = omega arith in
-    let v : ℕ = slice_index tree (node / 2) - before + after in
-    let now = here tree (node / 2) (slice_index tree (node / 2) - before + after) short in
-    record {
-      less = omega arith;
-      fits = omega arith;
-      next = record {
-        there = omega arith;
-        others = λ i some below ne.
-            elim (cases_eq i (node / 2)) [
-              | inl e ↦
-                  let a : slice_index (set tree (node / 2) (slice_index tree (node / 2) - before + after)) i ≡ slice_index tree (node / 2) - before + after =
-                  ap (slice_index (set tree (node / 2) (slice_index tree (node / 2) - before + after))) e ∙ now in
-                  let b = other tree (node / 2) (slice_index tree (node / 2) - before + after) (2 * i) (omega arith) in
-                  let d = other tree (node / 2) (slice_index tree (node / 2) - before + after) (2 * i + 1) (omega arith) in
-                  let f : slice_index tree (2 * i) ≡ slice_index tree (2 * (node / 2)) = ap (λ j. slice_index tree (2 * j)) e in
-                  let g : slice_index tree (2 * i + 1) ≡ slice_index tree (2 * (node / 2) + 1) = ap (λ j. slice_index tree (2 * j + 1)) e in
-                  omega arith
-              | inr apart ↦
-                  let sum = rising.others i some below apart in
-                  let a = other tree (node / 2) (slice_index tree (node / 2) - before + after) i apart in
-                  let b = other tree (node / 2) (slice_index tree (node / 2) - before + after) (2 * i) (λ e. ne (omega arith)) in
-                  let d = other tree (node / 2) (slice_index tree (node / 2) - before + after) (2 * i + 1) (λ e. ne (omega arith)) in
-                  omega arith
-            ];
-        over = λ i some e.
-            let sum = rising.others i some (omega arith) (omega arith) in
-            let a = other tree (node / 2) (slice_index tree (node / 2) - before + after) i (omega arith) in
-            let b = pair tree (node / 2) (slice_index tree (node / 2) - before + after) i short e in
-            omega arith;
-        has = omega arith;
-        room = λ i some below.
-            let a = other tree (node / 2) (slice_index tree (node / 2) - before + after) i (omega arith) in
-            let b = rising.room i some (omega arith) in
-            omega arith;
-      };
-    }
-
--- once it is up all nodes are sums
-pub rising-end : (tree : List ℕ) (size node before after : ℕ) → IsRising tree size node before after → node ≤ 1 → IsSummed tree size
-rising-end tree size node before after rising h = record {
-  each = λ i some below. rising.others i some below (omega arith);
-}
-
--- what a write makes of the tree
-pub record IsWritten (tree new : List ℕ) (levels count at value : ℕ) : Type 0 where
-  pub kept : IsTree new levels count
-  pub numbers : numbers_of new levels count ≡ set (numbers_of tree levels count) at value
-
-pub written : (tree new : List ℕ) (levels count at value : ℕ) → IsTree tree levels count → at < count → value < 2 ^ 32 → length new ≡ length tree →
-    ((i : ℕ) → 2 ^ levels ≤ i → slice_index new i ≡ slice_index (set tree (2 ^ levels + at) value) i) → IsSummed new (2 ^ levels) →
-    IsWritten tree new levels count at value
-written tree new levels count at value kept h small long leaves summed =
-    record { kept = after; numbers = same }
-  where
-    inside : 2 ^ levels + at < length tree
-    inside = let l = kept.long in let wide = kept.wide in omega arith
-
-    after : IsTree new levels count
-    after = record {
-      long = omega (arith, kept.long);
-      wide = kept.wide;
-      deep = kept.deep;
-      few = kept.few;
-      sums = summed;
-      small = λ i q.
-          elim (cases_eq i (2 ^ levels + at)) [
-            | inl e ↦
-                let a : slice_index (set tree (2 ^ levels + at) value) i ≡ value = ap (slice_index (set tree (2 ^ levels + at) value)) e ∙ here tree (2 ^ levels + at) value inside in
-                omega (arith, leaves i q)
-            | inr ne ↦ omega (arith, leaves i q, other tree (2 ^ levels + at) value i ne, kept.small i q)
-          ];
-      past = λ i q. leaves i (omega arith) ∙ other tree (2 ^ levels + at) value i (omega arith) ∙ kept.past i q;
-    }
-
-    same : numbers_of new levels count ≡ set (numbers_of tree levels count) at value
-    same =
-        ext_get_or 0 (numbers_of new levels count) (set (numbers_of tree levels count) at value)
-        (numbers-length new levels count after ∙ sym (length-set (numbers_of tree levels count) at value ∙ numbers-length tree levels count kept))
-        (λ i q.
-        let below : i < count = omega (arith, numbers-length new levels count after) in
-        elim (cases_eq i at) [
-          | inl e ↦
-              number-at new levels count i below ∙ leaves (2 ^ levels + i) (omega arith)
-              ∙ ap (λ j. slice_index (set tree (2 ^ levels + at) value) (2 ^ levels + j)) e
-              ∙ here tree (2 ^ levels + at) value inside
-              ∙ sym (ap (λ j. get_or (set (numbers_of tree levels count) at value) j 0) e
-              ∙ get_or-set_same (numbers_of tree levels count) at value 0 (omega (arith, numbers-length tree levels count kept)))
-          | inr ne ↦
-              number-at new levels count i below ∙ leaves (2 ^ levels + i) (omega arith)
-              ∙ other tree (2 ^ levels + at) value (2 ^ levels + i) (λ e. ne (omega arith))
-              ∙ sym (get_or-set_other (numbers_of tree levels count) at i value 0 ne ∙ number-at tree levels count i below)
-        ])
-
 -- ---- in the words of the code
 
 pub size-is : (levels : ℕ) → levels ≤ 32 → 1 * 2 ^ levels % 2 ^ 64 ≡ 2 ^ levels
 size-is levels h = one_shl levels 64 (omega arith)
 
 -- a node on the way down stands over nodes of the tree
-pub way-inside : (tree : List ℕ) (levels count level node rest k : ℕ) → IsTree tree levels count → level < levels → IsOnTheWay tree level node rest k →
+pub way-inside : (tree : List ℕ) (levels count level node rest k : ℕ) → IsTree tree levels count → level < levels →
+    IsOnTheWay tree level node rest k →
     (0 < node) × (2 * node + 1 < length tree)
 way-inside tree levels count level node rest k kept h way =
     let least = way.least in
@@ -444,7 +289,8 @@ way-inside tree levels count level node rest k kept h way =
     let pos = pow_pos level in
     (omega arith, omega (arith, twice level, kept.long))
 
-pub behind-inside : (tree : List ℕ) (levels count level node before whole : ℕ) → IsTree tree levels count → level ≤ levels → IsBehind tree level node before whole → node < length tree
+pub behind-inside : (tree : List ℕ) (levels count level node before whole : ℕ) → IsTree tree levels count → level ≤ levels →
+    IsBehind tree level node before whole → node < length tree
 behind-inside tree levels count level node before whole kept h way =
     let most = way.most in
     let below : 2 ^ level ≤ 2 ^ levels = narrower level levels h in

@@ -1,5 +1,6 @@
 -- A row of places, of which some have an item.
-use Rattle.std.specs.Prelude.{◌≡◌, ◌≢◌, ℕ, ◌+◌, ◌<◌, ◌≤◌, List, [], ◌∷◌, ◌++◌, Option, None, Some, IsSome, is_some, if◌then◌else◌, length}
+use Rattle.std.specs.Prelude.{◌≡◌, ◌≢◌, ℕ, ◌+◌, ◌<◌, ◌≤◌, List, [], ◌∷◌, ◌++◌, Option, None, Some, IsSome}
+use Rattle.std.specs.Prelude.{is_some, if◌then◌else◌, length}
 use Rattle.std.specs.Prelude.{slice_get, slice_index, slice_index_or, slice_set}
 
 -- a row, as contracts see it: what stands at each place, the places with an item in order of first use, and how many

@@ -1,4 +1,5 @@
-ghost use Rattle.std.specs.Prelude.{◌≡◌, ℕ, ◌+◌, ◌*◌, ◌<◌, ◌≤◌, ◌^◌, ◌↔◌, ◌/◌, ◌%◌, false, true, IfNone, IfOk, IfSome, IsSome, length, replicate, slice_set};
+ghost use Rattle.std.specs.Prelude.{◌≡◌, ℕ, ◌+◌, ◌*◌, ◌<◌, ◌≤◌, ◌^◌, ◌↔◌, ◌/◌, ◌%◌, false, true, IfNone};
+ghost use Rattle.std.specs.Prelude.{IfOk, IfSome, IsSome, length, replicate, slice_set};
 ghost use Rattle.std.specs.Int.{bit_at};
 ghost use Rattle.rows.specs.Flags.{is_set, set_count, IsFirstFrom, IsKth, NoneFrom};
 ghost use Rattle.rows.specs.inner.Words.{low};

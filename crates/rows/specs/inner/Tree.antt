@@ -1,5 +1,6 @@
 -- A binary tree of sums, kept as a list: the node at i stands over those at 2 i and 2 i + 1, and the first is at 1.
-use Rattle.std.specs.Prelude.{◌≡◌, ◌≢◌, ℕ, ◌+◌, ◌-◌, ◌*◌, ◌/◌, ◌^◌, ◌<◌, ◌≤◌, List, zero, suc, drop, length, slice_index, take}
+use Rattle.std.specs.Prelude.{◌≡◌, ◌≢◌, ℕ, ◌+◌, ◌-◌, ◌*◌, ◌/◌, ◌^◌, ◌<◌, ◌≤◌, List, zero, suc, drop}
+use Rattle.std.specs.Prelude.{length, slice_index, take}
 
 -- the numbers under the tree
 abbrev pub numbers_of : List ℕ → ℕ → ℕ → List ℕ

@@ -1,6 +1,6 @@
 use Rattle.std.proofs.Common.{◌≡◌, ◌+◌, ◌-◌, ◌/◌, ap, arith}
 use Rattle.rows.specs.inner.Words.{low}
-use Rattle.rows.proofs.Words.{low-half, low-last}
+use Rattle.rows.proofs.Counted.{low-half, low-last}
 use Rattle.rows.proofs.bits.find_in.Goals as goal
 
 pub loop-width-preserved-then-count-left : goal.loop-width-preserved-then-count-left

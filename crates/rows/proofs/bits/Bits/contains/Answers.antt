@@ -15,5 +15,6 @@ pub returns-in-None : goal.returns-in-None
 returns-in-None c =
     rw (← c.self.view_is)
     (ap (λ b. b == 1) (sym (bit_at-zero (c.args.at % 64)))
-    ∙ ap (λ w. bit_at w (c.args.at % 64) == 1) (c.in-None.ensures.lookup.4 (omega arith) 0 ∙ ap (λ ws. get_or ws (c.args.at / 64) 0) c.deref.ensures.value)
+    ∙ ap (λ w. bit_at w (c.args.at % 64) == 1) (c.in-None.ensures.lookup.4 (omega arith) 0
+    ∙ ap (λ ws. get_or ws (c.args.at / 64) 0) c.deref.ensures.value)
     ∙ sym (flag-at c.self.inside.words.items c.self.inside.places c.self.inside.ones c.args.at c.self.invariant))

@@ -1,6 +1,6 @@
 use Rattle.std.proofs.Common.{arith, refl, slice_index}
 use Rattle.rows.specs.inner.Words.{IsWhole}
-use Rattle.rows.proofs.Words.{kth-few, kth-found, low-whole, none-kth, place-fits, word-next}
+use Rattle.rows.proofs.Counted.{kth-few, kth-found, low-whole, none-kth, place-fits, word-next}
 use Rattle.rows.proofs.bits.Bits.find.Goals as goal
 
 pub loop-i-init : goal.loop-i-init
@@ -16,21 +16,24 @@ pub overflow_cast-result : goal.overflow_cast-result
 overflow_cast-result c =
     let words = c.deref-word-items.result.now in
     let whole : IsWhole words c.self.inside.places c.self.inside.ones = rw c.deref-word-items.ensures.value c.self.invariant in
-    let fits = place-fits words c.self.inside.places c.self.inside.ones c.loop-i.i c.find_in-bit.result whole c.find_in-bit.ensures.within c.find_in-bit.ensures.set in
+    let fits = place-fits words c.self.inside.places c.self.inside.ones c.loop-i.i c.find_in-bit.result whole c.find_in-bit.ensures.within
+    c.find_in-bit.ensures.set in
     omega arith
 
 pub overflow_mul-result : goal.overflow_mul-result
 overflow_mul-result c =
     let words = c.deref-word-items.result.now in
     let whole : IsWhole words c.self.inside.places c.self.inside.ones = rw c.deref-word-items.ensures.value c.self.invariant in
-    let fits = place-fits words c.self.inside.places c.self.inside.ones c.loop-i.i c.find_in-bit.result whole c.find_in-bit.ensures.within c.find_in-bit.ensures.set in
+    let fits = place-fits words c.self.inside.places c.self.inside.ones c.loop-i.i c.find_in-bit.result whole c.find_in-bit.ensures.within
+    c.find_in-bit.ensures.set in
     omega arith
 
 pub overflow_add-result : goal.overflow_add-result
 overflow_add-result c =
     let words = c.deref-word-items.result.now in
     let whole : IsWhole words c.self.inside.places c.self.inside.ones = rw c.deref-word-items.ensures.value c.self.invariant in
-    let fits = place-fits words c.self.inside.places c.self.inside.ones c.loop-i.i c.find_in-bit.result whole c.find_in-bit.ensures.within c.find_in-bit.ensures.set in
+    let fits = place-fits words c.self.inside.places c.self.inside.ones c.loop-i.i c.find_in-bit.result whole c.find_in-bit.ensures.within
+    c.find_in-bit.ensures.set in
     omega arith
 
 pub find_in-bit-requires : goal.find_in-bit-requires

@@ -1,6 +1,6 @@
 use Rattle.std.proofs.Common.{◌≡◌, arith, slice_index, ◌∙◌}
 use Rattle.std.proofs.lemmas.List.{get_or_default}
-use Rattle.rows.proofs.Words.{first-found, none-left, none-more, place-fits}
+use Rattle.rows.proofs.Counted.{first-found, none-left, none-more, place-fits}
 use Rattle.rows.proofs.bits.Bits.next_from.Goals as goal
 
 pub overflow_cast-result : goal.overflow_cast-result
@@ -8,7 +8,8 @@ overflow_cast-result c =
     let words = c.self.inside.words.items in
     let i = c.loop-i.i in
     let word : c.index.result.now ≡ slice_index words i = c.index.ensures ∙ get_or_default words i c.index.result.now 0 (omega arith) in
-    let fits = place-fits words c.self.inside.places c.self.inside.ones i c.in-Some.bit c.self.invariant c.in-Some.ensures.within (rw word at c.in-Some.ensures.set) in
+    let fits = place-fits words c.self.inside.places c.self.inside.ones i c.in-Some.bit c.self.invariant c.in-Some.ensures.within
+    (rw word at c.in-Some.ensures.set) in
     omega arith
 
 pub overflow_mul-result : goal.overflow_mul-result
@@ -16,7 +17,8 @@ overflow_mul-result c =
     let words = c.self.inside.words.items in
     let i = c.loop-i.i in
     let word : c.index.result.now ≡ slice_index words i = c.index.ensures ∙ get_or_default words i c.index.result.now 0 (omega arith) in
-    let fits = place-fits words c.self.inside.places c.self.inside.ones i c.in-Some.bit c.self.invariant c.in-Some.ensures.within (rw word at c.in-Some.ensures.set) in
+    let fits = place-fits words c.self.inside.places c.self.inside.ones i c.in-Some.bit c.self.invariant c.in-Some.ensures.within
+    (rw word at c.in-Some.ensures.set) in
     omega arith
 
 pub overflow_add-result : goal.overflow_add-result
@@ -24,7 +26,8 @@ overflow_add-result c =
     let words = c.self.inside.words.items in
     let i = c.loop-i.i in
     let word : c.index.result.now ≡ slice_index words i = c.index.ensures ∙ get_or_default words i c.index.result.now 0 (omega arith) in
-    let fits = place-fits words c.self.inside.places c.self.inside.ones i c.in-Some.bit c.self.invariant c.in-Some.ensures.within (rw word at c.in-Some.ensures.set) in
+    let fits = place-fits words c.self.inside.places c.self.inside.ones i c.in-Some.bit c.self.invariant c.in-Some.ensures.within
+    (rw word at c.in-Some.ensures.set) in
     omega arith
 
 pub loop-i-preserved : goal.loop-i-preserved
@@ -44,10 +47,12 @@ returns-in-Some-clause-some c =
     let i = c.loop-i.i in
     let word : c.index.result.now ≡ slice_index words i = c.index.ensures ∙ get_or_default words i c.index.result.now 0 (omega arith) in
     rw (← c.self.view_is)
-    (first-found words c.self.inside.places c.self.inside.ones c.args.at i c.loop-i.from c.in-Some.bit c.self.invariant c.loop-i.invariant.near c.loop-i.invariant.none
+    (first-found words c.self.inside.places c.self.inside.ones c.args.at i c.loop-i.from c.in-Some.bit c.self.invariant c.loop-i.invariant.near
+    c.loop-i.invariant.none
     c.in-Some.ensures.behind c.in-Some.ensures.within (rw word at c.in-Some.ensures.set) (rw word at c.in-Some.ensures.first))
 
 pub returns-clause-none : goal.returns-clause-none
 returns-clause-none c =
     rw (← c.self.view_is)
-    (none-left c.self.inside.words.items c.self.inside.places c.self.inside.ones c.args.at c.loop-i.i c.loop-i.from c.self.invariant (omega arith) c.loop-i.invariant.none)
+    (none-left c.self.inside.words.items c.self.inside.places c.self.inside.ones c.args.at c.loop-i.i c.loop-i.from c.self.invariant
+    (omega arith) c.loop-i.invariant.none)

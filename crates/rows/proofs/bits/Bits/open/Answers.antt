@@ -8,4 +8,5 @@ invariant_of-result c =
 
 pub returns : goal.returns
 returns c =
-    rw (c.in_ok-words.ensures.items_if_clones_equal (λ y e. e)) (flags-none (replicate (c.args.places / 64 + 1) 0) c.args.places (no_bit (c.args.places / 64 + 1)))
+    rw (c.in_ok-words.ensures.items_if_clones_equal (λ y e. e)) (flags-none (replicate (c.args.places / 64 + 1) 0) c.args.places (no_bit
+    (c.args.places / 64 + 1)))

@@ -14,7 +14,8 @@ returns-in-Some-clause-ok g c =
 pub returns-in-Some-clause-order : goal.returns-in-Some-clause-order
 returns-in-Some-clause-order g c =
     rw (← c.self.view_is)
-    (order-kept c.self.inside.held.entries (c.get_mut.follows.lender c.args.value).entries c.self.inside.places (spare c.self.inside.held) c.args.at c.self.invariant
+    (order-kept c.self.inside.held.entries (c.get_mut.follows.lender c.args.value).entries c.self.inside.places
+    (spare c.self.inside.held) c.args.at c.self.invariant
     (ap is_some (sym c.in-Some.ensures.value)) (c.get_mut.follows.holds c.args.value).1)
 
 pub invariant_of-self-in-Ok : goal.invariant_of-self-in-Ok
@@ -37,7 +38,8 @@ pub returns-in-Ok-clause-order : goal.returns-in-Ok-clause-order
 returns-in-Ok-clause-order g c =
     let none = sym c.in_default.ensures.value in
     rw (← c.self.view_is)
-    (order-new c.self.inside.held.entries c.insert.new.self.entries c.self.inside.places (spare c.self.inside.held) c.args.at c.args.value c.self.invariant none
+    (order-new c.self.inside.held.entries c.insert.new.self.entries c.self.inside.places
+    (spare c.self.inside.held) c.args.at c.args.value c.self.invariant none
     (c.in-Ok.ensures.entries
     ∙ (λ i. insert_entry nat_eq (c.get_mut.follows.holds-at-none i).entries c.args.at c.args.value)
     ∙ insert_entry-new nat_eq c.self.inside.held c.args.at c.args.value none))

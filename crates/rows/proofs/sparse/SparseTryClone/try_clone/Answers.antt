@@ -11,21 +11,24 @@ loop-at-init g c =
     record {
       can = tt;
       ends = tt;
-      copied = λ i. seen_entries seen (c.in_ok-held.ensures.empty i) ++ seen_entries seen ((c.into_iter-at-iterator.ensures.into_iter_gives ∙ c.iter-at-items.ensures.rest) i);
+      copied = λ i. seen_entries seen (c.in_ok-held.ensures.empty i) ++ seen_entries seen ((c.into_iter-at-iterator.ensures.into_iter_gives
+          ∙ c.iter-at-items.ensures.rest) i);
     }
 
 pub loop-at-preserved : goal.loop-at-preserved
 loop-at-preserved g c =
     let seen = g.T.TryClone.seen in
     let all = c.self.inside.held.entries in
-    let copied : seen_entries seen c.loop-at.held.entries ++ seen_entries seen ((c.in-Some.at.now, c.in-Some.item.now) ∷ c.next.new.self) ≡ seen_entries seen all =
+    let copied : seen_entries seen c.loop-at.held.entries ++ seen_entries seen ((c.in-Some.at.now, c.in-Some.item.now) ∷ c.next.new.self) ≡
+    seen_entries seen all =
     ap (λ es. seen_entries seen c.loop-at.held.entries ++ seen_entries seen es) (sym c.in-Some.ensures.steps) ∙ c.loop-at.invariant.copied in
     let none = not_copied seen all c.loop-at.held.entries c.next.new.self c.in-Some.at.now c.in-Some.item.now c.iter-at-items.ensures.unique copied in
     record {
       can = tt;
       ends = tt;
       copied =
-          copied-more seen all c.loop-at.held.entries c.next.new.self c.insert.new.self.entries c.in-Some.at.now c.in-Some.item.now c.in_ok-try_clone.field-0 copied
+          copied-more seen all c.loop-at.held.entries c.next.new.self c.insert.new.self.entries c.in-Some.at.now c.in-Some.item.now
+          c.in_ok-try_clone.field-0 copied
           c.in_ok-try_clone.ensures
           (c.in_ok-insert.ensures.entries ∙ insert_entry-new nat_eq c.loop-at.held c.in-Some.at.now c.in_ok-try_clone.field-0 none);
     }
@@ -34,14 +37,16 @@ pub loop-at-preserved-in_ok-insert : goal.loop-at-preserved-in_ok-insert
 loop-at-preserved-in_ok-insert g c =
     let seen = g.T.TryClone.seen in
     let all = c.self.inside.held.entries in
-    let copied : seen_entries seen c.loop-at.held.entries ++ seen_entries seen ((c.in-Some.at.now, c.in-Some.item.now) ∷ c.next.new.self) ≡ seen_entries seen all =
+    let copied : seen_entries seen c.loop-at.held.entries ++ seen_entries seen ((c.in-Some.at.now, c.in-Some.item.now) ∷ c.next.new.self) ≡
+    seen_entries seen all =
     ap (λ es. seen_entries seen c.loop-at.held.entries ++ seen_entries seen es) (sym c.in-Some.ensures.steps) ∙ c.loop-at.invariant.copied in
     let none = not_copied seen all c.loop-at.held.entries c.next.new.self c.in-Some.at.now c.in-Some.item.now c.iter-at-items.ensures.unique copied in
     record {
       can = tt;
       ends = tt;
       copied =
-          copied-more seen all c.loop-at.held.entries c.next.new.self c.insert.new.self.entries c.in-Some.at.now c.in-Some.item.now c.in_ok-try_clone.field-0 copied
+          copied-more seen all c.loop-at.held.entries c.next.new.self c.insert.new.self.entries c.in-Some.at.now c.in-Some.item.now
+          c.in_ok-try_clone.field-0 copied
           c.in_ok-try_clone.ensures
           (c.in_ok-insert.ensures.entries ∙ insert_entry-new nat_eq c.loop-at.held c.in-Some.at.now c.in_ok-try_clone.field-0 none);
     }

@@ -13,7 +13,8 @@ loop-init c =
 
 pub index-left-requires : goal.index-left-requires
 index-left-requires c =
-    let inside = way-inside c.self.inside.tree.items c.self.inside.levels c.self.inside.count c.loop.counter c.loop.node c.loop.rest c.args.k c.self.invariant
+    let inside = way-inside c.self.inside.tree.items c.self.inside.levels c.self.inside.count c.loop.counter c.loop.node c.loop.rest c.args.k
+    c.self.invariant
     c.loop-test.true c.loop.invariant in
     omega arith
 
@@ -22,17 +23,20 @@ loop-preserved c =
     let tree = c.self.inside.tree.items in
     let node = c.loop.node in
     let rest = c.loop.rest in
-    let inside = way-inside tree c.self.inside.levels c.self.inside.count c.loop.counter node rest c.args.k c.self.invariant c.loop-test.true c.loop.invariant in
+    let inside = way-inside tree c.self.inside.levels c.self.inside.count c.loop.counter node rest c.args.k c.self.invariant c.loop-test.true
+    c.loop.invariant in
     let twice : node * 2 ≡ 2 * node = omega arith in
     let left : c.index-left.result.now ≡ slice_index tree (2 * node) =
     c.index-left.ensures ∙ get_or_default tree (node * 2) c.index-left.result.now 0 (omega arith) ∙ ap (slice_index tree) twice in
     elim c.if-left-rest.branch [
       | then-left-rest w ↦
-          let way = down-right tree c.self.inside.levels c.self.inside.count c.loop.counter node rest c.args.k c.self.invariant c.loop-test.true c.loop.invariant
+          let way = down-right tree c.self.inside.levels c.self.inside.count c.loop.counter node rest c.args.k c.self.invariant c.loop-test.true
+          c.loop.invariant
           (omega (arith, w.if-left-rest.true)) in
           rw (w.node-is, w.rest-is, left, twice) way
       | else-left-rest w ↦
-          let way = down-left tree c.self.inside.levels c.self.inside.count c.loop.counter node rest c.args.k c.self.invariant c.loop-test.true c.loop.invariant
+          let way = down-left tree c.self.inside.levels c.self.inside.count c.loop.counter node rest c.args.k c.self.invariant c.loop-test.true
+          c.loop.invariant
           (omega (arith, w.if-left-rest.false)) in
           rw (w.node-is, w.rest-is, twice) way
     ]

@@ -14,4 +14,5 @@ returns c =
           let power : 2 ^ c.loop-levels.levels ≡ 2 ^ 32 = ap (λ n. 2 ^ n) most in
           omega (arith, c.ranges.count.fits))
     ] in
-    rw (c.in_ok-tree.ensures.items_if_clones_equal (λ y e. e), size) (numbers-none (2 * 2 ^ c.loop-levels.levels) (2 ^ c.loop-levels.levels) c.args.count (omega arith))
+    rw (c.in_ok-tree.ensures.items_if_clones_equal (λ y e. e), size) (numbers-none (2 * 2 ^ c.loop-levels.levels)
+    (2 ^ c.loop-levels.levels) c.args.count (omega arith))

@@ -1,7 +1,9 @@
-use Rattle.std.proofs.Common.{◌≡◌, ◌<◌, ◌+◌, ◌-◌, ◌*◌, ◌/◌, ◌%◌, ◌^◌, ℕ, ap, arith, length, refl, slice_index, set, subst, sym, ◌∙◌}
+use Rattle.std.proofs.Common.{◌≡◌, ◌<◌, ◌+◌, ◌-◌, ◌*◌, ◌/◌, ◌%◌, ◌^◌, ℕ, ap, arith, length, refl, slice_index}
+use Rattle.std.proofs.Common.{set, subst, sym, ◌∙◌}
 use Rattle.std.proofs.lemmas.List.{get_or_default, length-set}
 use Rattle.rows.specs.inner.Tree.{IsSummed}
-use Rattle.rows.proofs.Tree.{numbers-length, other, rising-end, rising-start, rising-step, size-is, written}
+use Rattle.rows.proofs.Rising.{other, rising-end, rising-start, rising-step, written}
+use Rattle.rows.proofs.Tree.{numbers-length, size-is}
 use Rattle.rows.proofs.sums.Sums.set.Goals as goal
 
 pub loop-node-init : goal.loop-node-init
@@ -13,7 +15,8 @@ loop-node-init c =
     let asked : c.args.at < length c.args.self.now = c.requires in
     let inside : c.args.at < count = omega (arith, asked, ap length c.self.view_is, numbers-length tree levels count c.self.invariant) in
     let read : c.index-before.result.now ≡ slice_index tree (2 ^ levels + c.args.at) =
-    rw size at c.index-before.ensures ∙ get_or_default tree (2 ^ levels + c.args.at) c.index-before.result.now 0 (omega (arith, c.self.invariant.long, c.self.invariant.wide)) in
+    rw size at c.index-before.ensures ∙ get_or_default tree (2 ^ levels + c.args.at) c.index-before.result.now 0 (omega
+    (arith, c.self.invariant.long, c.self.invariant.wide)) in
     let rising = rising-start tree levels count c.args.at c.index-before.result.now c.args.value c.self.invariant inside read in
     rw size
     (record {
@@ -30,7 +33,8 @@ index-requires c =
     let tree = c.loop-node.self-inside.tree.items in
     let same = c.loop-node.invariant.levels in
     let long : length tree ≡ 2 * 2 ^ c.loop-node.self-inside.levels =
-    c.loop-node.invariant.long ∙ length-set c.self.inside.tree.items (1 * 2 ^ c.self.inside.levels % 2 ^ 64 + c.args.at) c.args.value ∙ c.self.invariant.long
+    c.loop-node.invariant.long ∙ length-set c.self.inside.tree.items (1 * 2 ^ c.self.inside.levels % 2 ^ 64 + c.args.at) c.args.value
+    ∙ c.self.invariant.long
     ∙ ap (λ n. 2 * 2 ^ n) (sym same) in
     omega (arith, c.loop-node.invariant.inside)
 
@@ -39,7 +43,8 @@ index_mut-requires-in-loop-node c =
     let tree = c.loop-node.self-inside.tree.items in
     let same = c.loop-node.invariant.levels in
     let long : length tree ≡ 2 * 2 ^ c.loop-node.self-inside.levels =
-    c.loop-node.invariant.long ∙ length-set c.self.inside.tree.items (1 * 2 ^ c.self.inside.levels % 2 ^ 64 + c.args.at) c.args.value ∙ c.self.invariant.long
+    c.loop-node.invariant.long ∙ length-set c.self.inside.tree.items (1 * 2 ^ c.self.inside.levels % 2 ^ 64 + c.args.at) c.args.value
+    ∙ c.self.invariant.long
     ∙ ap (λ n. 2 * 2 ^ n) (sym same) in
     omega (arith, c.loop-node.invariant.inside)
 
@@ -48,7 +53,8 @@ overflow_sub-index c =
     let tree = c.loop-node.self-inside.tree.items in
     let same = c.loop-node.invariant.levels in
     let long : length tree ≡ 2 * 2 ^ c.loop-node.self-inside.levels =
-    c.loop-node.invariant.long ∙ length-set c.self.inside.tree.items (1 * 2 ^ c.self.inside.levels % 2 ^ 64 + c.args.at) c.args.value ∙ c.self.invariant.long
+    c.loop-node.invariant.long ∙ length-set c.self.inside.tree.items (1 * 2 ^ c.self.inside.levels % 2 ^ 64 + c.args.at) c.args.value
+    ∙ c.self.invariant.long
     ∙ ap (λ n. 2 * 2 ^ n) (sym same) in
     let step = rising-step tree (2 ^ c.loop-node.self-inside.levels) c.loop-node.node c.index-before.result.now c.args.value c.loop-node.invariant.rising
     c.loop-node-test.true c.loop-node.invariant.inside (omega arith) c.ranges.value.fits in
@@ -61,7 +67,8 @@ overflow_add-index c =
     let tree = c.loop-node.self-inside.tree.items in
     let same = c.loop-node.invariant.levels in
     let long : length tree ≡ 2 * 2 ^ c.loop-node.self-inside.levels =
-    c.loop-node.invariant.long ∙ length-set c.self.inside.tree.items (1 * 2 ^ c.self.inside.levels % 2 ^ 64 + c.args.at) c.args.value ∙ c.self.invariant.long
+    c.loop-node.invariant.long ∙ length-set c.self.inside.tree.items (1 * 2 ^ c.self.inside.levels % 2 ^ 64 + c.args.at) c.args.value
+    ∙ c.self.invariant.long
     ∙ ap (λ n. 2 * 2 ^ n) (sym same) in
     let step = rising-step tree (2 ^ c.loop-node.self-inside.levels) c.loop-node.node c.index-before.result.now c.args.value c.loop-node.invariant.rising
     c.loop-node-test.true c.loop-node.invariant.inside (omega arith) c.ranges.value.fits in
@@ -74,7 +81,8 @@ loop-node-preserved c =
     let tree = c.loop-node.self-inside.tree.items in
     let same = c.loop-node.invariant.levels in
     let long : length tree ≡ 2 * 2 ^ c.loop-node.self-inside.levels =
-    c.loop-node.invariant.long ∙ length-set c.self.inside.tree.items (1 * 2 ^ c.self.inside.levels % 2 ^ 64 + c.args.at) c.args.value ∙ c.self.invariant.long
+    c.loop-node.invariant.long ∙ length-set c.self.inside.tree.items (1 * 2 ^ c.self.inside.levels % 2 ^ 64 + c.args.at) c.args.value
+    ∙ c.self.invariant.long
     ∙ ap (λ n. 2 * 2 ^ n) (sym same) in
     let step = rising-step tree (2 ^ c.loop-node.self-inside.levels) c.loop-node.node c.index-before.result.now c.args.value c.loop-node.invariant.rising
     c.loop-node-test.true c.loop-node.invariant.inside (omega arith) c.ranges.value.fits in
@@ -87,7 +95,8 @@ loop-node-preserved c =
       count = c.loop-node.invariant.count;
       inside = omega (arith, c.loop-node.invariant.inside);
       long = length-set tree (c.loop-node.node / 2) _ ∙ c.loop-node.invariant.long;
-      leaves = λ i h. other tree (c.loop-node.node / 2) _ i (λ e. absurd (omega (arith, c.loop-node.invariant.inside, c.loop-node-test.true))) ∙ c.loop-node.invariant.leaves i h;
+      leaves = λ i h. other tree (c.loop-node.node / 2) _ i (λ e. absurd (omega (arith, c.loop-node.invariant.inside, c.loop-node-test.true)))
+          ∙ c.loop-node.invariant.leaves i h;
       rising = step.next;
     })
 
@@ -102,7 +111,8 @@ invariant_of-self c =
     let new = c.loop-node.self-inside.tree.items in
     let same = c.loop-node.invariant.levels in
     let summed : IsSummed new (2 ^ c.loop-node.self-inside.levels) =
-    rising-end new (2 ^ c.loop-node.self-inside.levels) c.loop-node.node c.index-before.result.now c.args.value c.loop-node.invariant.rising c.loop-node-test.false in
+    rising-end new (2 ^ c.loop-node.self-inside.levels) c.loop-node.node c.index-before.result.now c.args.value c.loop-node.invariant.rising
+    c.loop-node-test.false in
     let done = written tree new levels count c.args.at c.args.value c.self.invariant inside c.ranges.value.fits
     (c.loop-node.invariant.long ∙ length-set tree _ c.args.value)
     (λ i h. c.loop-node.invariant.leaves i (rw same h) ∙ ap (λ n. slice_index (set tree (n + c.args.at) c.args.value) i) size)
@@ -120,7 +130,8 @@ returns c =
     let new = c.loop-node.self-inside.tree.items in
     let same = c.loop-node.invariant.levels in
     let summed : IsSummed new (2 ^ c.loop-node.self-inside.levels) =
-    rising-end new (2 ^ c.loop-node.self-inside.levels) c.loop-node.node c.index-before.result.now c.args.value c.loop-node.invariant.rising c.loop-node-test.false in
+    rising-end new (2 ^ c.loop-node.self-inside.levels) c.loop-node.node c.index-before.result.now c.args.value c.loop-node.invariant.rising
+    c.loop-node-test.false in
     let done = written tree new levels count c.args.at c.args.value c.self.invariant inside c.ranges.value.fits
     (c.loop-node.invariant.long ∙ length-set tree _ c.args.value)
     (λ i h. c.loop-node.invariant.leaves i (rw same h) ∙ ap (λ n. slice_index (set tree (n + c.args.at) c.args.value) i) size)
