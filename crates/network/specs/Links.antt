@@ -1,4 +1,4 @@
-use Rattle.std.specs.Prelude.{◌≢◌, ℕ, ◌+◌, ◌-◌, ◌≤◌, List, map, slice_index}
+use Rattle.std.specs.Prelude.{◌≢◌, ℕ, ◌+◌, ◌-◌, ◌≤◌, List, [], Option, None, Some, slice_index}
 use Rattle.std.specs.Vec.{vec_len, vec_capacity}
 use Rattle.std.specs.declared.vec.Vec.{Vec}
 use Rattle.std.specs.declared.alloc.Global.{Global}
@@ -9,17 +9,19 @@ pub record Linked : Type 0 where
   pub messages : List (List Forward)
   pub room : List ℕ
 
--- the messages of each link
-abbrev pub forwards_on : List (Vec Forward Global) → List (List Forward)
-forwards_on vs = map (λ v. v.items) vs
+-- the messages on a link; one that was never used has none
+abbrev pub on_link : Option (Vec Forward Global) → List Forward
+on_link None = []
+on_link (Some v) = v.items
 
--- the room of a link
+-- how many more a list takes without asking for memory
 abbrev pub spare : Vec Forward Global → ℕ
 spare v = vec_capacity v - vec_len v
 
--- the room of each link
-abbrev pub spares : List (Vec Forward Global) → List ℕ
-spares vs = map spare vs
+-- the room of a link
+abbrev pub room_on : Option (Vec Forward Global) → ℕ
+room_on None = 0
+room_on (Some v) = spare v
 
 -- no link has less room
 pub record KeepsRoom (old new : List ℕ) : Type 0 where
