@@ -3,6 +3,8 @@ ghost use Rattle.std.specs.Prelude.{length, map, replicate, slice_get, slice_set
 ghost use Rattle.std.specs.Borrow.{sem};
 ghost use Rattle.std.specs.Option.{option_copied, option_copied_mut, option_map};
 ghost use Rattle.rows.specs.Lends.{lends_item};
+ghost use Rattle.indexmap.specs.IndexMap.{IsEmpty};
+ghost use Rattle.rows.specs.inner.Held.{seen_entries};
 ghost use Rattle.rows.specs.Row.{item, keys_with, AreTouched, UsesOnePlace};
 
 use crate::try_clone::TryClone;
@@ -141,12 +143,25 @@ impl<T: TryClone + Drop> TryClone for Sparse<T> {
     /// The same items, in the same order of first use.
     fn try_clone(&self, alloc: Global) -> Result<Sparse<T>, NoMemory> {
         let mut held = IndexMap::with_capacity(alloc, self.held.len())?;
-        for (at, item) in self.held.iter() {
-            held.insert(*at, item.try_clone(alloc)?)?;
-        }
+        copy_all(alloc, &self.held, &mut held)?;
         Ok(Sparse {
             places: self.places,
             held,
         })
     }
+}
+
+/// Puts a copy of each item into an empty map, in the same order.
+fn copy_all<T: TryClone + Drop>(
+    alloc: Global,
+    from: &IndexMap<u32, T>,
+    to: &mut IndexMap<u32, T>,
+) -> Result<(), NoMemory>
+    requires { IsEmpty to.old }
+    ensures { OnOk result (seen_entries T.seen to.new.entries ≡ seen_entries T.seen from.now.entries) }
+{
+    for (at, item) in from.iter() {
+        to.insert(*at, item.try_clone(alloc)?)?;
+    }
+    Ok(())
 }

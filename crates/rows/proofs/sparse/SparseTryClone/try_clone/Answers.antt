@@ -1,67 +1,18 @@
-use Rattle.std.proofs.Common.{◌≡◌, ◌∷◌, ◌++◌, ap, nat_eq, sym, ◌∙◌}
-use Rattle.indexmap.proofs.CallerLemmas.{insert_entry-new}
-use Rattle.rows.specs.inner.Held.{seen_entries}
-use Rattle.rows.proofs.Copied.{all_copied, copied-more, items-alike, keys-alike, not_copied}
+use Rattle.rows.proofs.Copied.{items-alike, keys-alike}
 use Rattle.rows.proofs.Held.{within-same_keys}
 use Rattle.rows.proofs.sparse.SparseTryClone.try_clone.Goals as goal
-
-pub loop-at-init : goal.loop-at-init
-loop-at-init g c =
-    let seen = g.T.TryClone.seen in
-    record {
-      can = tt;
-      ends = tt;
-      copied = λ i. seen_entries seen (c.in_ok-held.ensures.empty i) ++ seen_entries seen ((c.into_iter-at-iterator.ensures.into_iter_gives
-          ∙ c.iter-at-items.ensures.rest) i);
-    }
-
-pub loop-at-preserved : goal.loop-at-preserved
-loop-at-preserved g c =
-    let seen = g.T.TryClone.seen in
-    let all = c.self.inside.held.entries in
-    let copied : seen_entries seen c.loop-at.held.entries ++ seen_entries seen ((c.in-Some.at.now, c.in-Some.item.now) ∷ c.next.new.self) ≡
-    seen_entries seen all =
-    ap (λ es. seen_entries seen c.loop-at.held.entries ++ seen_entries seen es) (sym c.in-Some.ensures.steps) ∙ c.loop-at.invariant.copied in
-    let none = not_copied seen all c.loop-at.held.entries c.next.new.self c.in-Some.at.now c.in-Some.item.now c.iter-at-items.ensures.unique copied in
-    record {
-      can = tt;
-      ends = tt;
-      copied =
-          copied-more seen all c.loop-at.held.entries c.next.new.self c.insert.new.self.entries c.in-Some.at.now c.in-Some.item.now
-          c.in_ok-try_clone.field-0 copied
-          c.in_ok-try_clone.ensures
-          (c.in_ok-insert.ensures.entries ∙ insert_entry-new nat_eq c.loop-at.held c.in-Some.at.now c.in_ok-try_clone.field-0 none);
-    }
-
-pub loop-at-preserved-in_ok-insert : goal.loop-at-preserved-in_ok-insert
-loop-at-preserved-in_ok-insert g c =
-    let seen = g.T.TryClone.seen in
-    let all = c.self.inside.held.entries in
-    let copied : seen_entries seen c.loop-at.held.entries ++ seen_entries seen ((c.in-Some.at.now, c.in-Some.item.now) ∷ c.next.new.self) ≡
-    seen_entries seen all =
-    ap (λ es. seen_entries seen c.loop-at.held.entries ++ seen_entries seen es) (sym c.in-Some.ensures.steps) ∙ c.loop-at.invariant.copied in
-    let none = not_copied seen all c.loop-at.held.entries c.next.new.self c.in-Some.at.now c.in-Some.item.now c.iter-at-items.ensures.unique copied in
-    record {
-      can = tt;
-      ends = tt;
-      copied =
-          copied-more seen all c.loop-at.held.entries c.next.new.self c.insert.new.self.entries c.in-Some.at.now c.in-Some.item.now
-          c.in_ok-try_clone.field-0 copied
-          c.in_ok-try_clone.ensures
-          (c.in_ok-insert.ensures.entries ∙ insert_entry-new nat_eq c.loop-at.held c.in-Some.at.now c.in_ok-try_clone.field-0 none);
-    }
 
 pub invariant_of-result : goal.invariant_of-result
 invariant_of-result g c =
     let all = c.self.inside.held.entries in
-    let copied = all_copied g.T.TryClone.seen all c.loop-at.held.entries c.loop-at.at-iterator c.in-None.ensures.steps.0 c.loop-at.invariant.copied in
-    within-same_keys all c.loop-at.held.entries c.self.inside.places c.self.invariant (keys-alike g.T.TryClone.seen c.loop-at.held.entries all copied)
+    let new = c.copy_all.new.to.entries in
+    within-same_keys all new c.self.inside.places c.self.invariant (keys-alike g.T.TryClone.seen new all c.in_ok-copy_all.ensures)
 
 pub returns : goal.returns
 returns g c =
     let all = c.self.inside.held.entries in
-    let copied = all_copied g.T.TryClone.seen all c.loop-at.held.entries c.loop-at.at-iterator c.in-None.ensures.steps.0 c.loop-at.invariant.copied in
+    let new = c.copy_all.new.to.entries in
     rw (← c.self.view_is) (λ i. record {
-      items = items-alike g.T.TryClone.seen c.loop-at.held.entries all c.self.inside.places copied i;
-      keys = keys-alike g.T.TryClone.seen c.loop-at.held.entries all copied i;
+      items = items-alike g.T.TryClone.seen new all c.self.inside.places c.in_ok-copy_all.ensures i;
+      keys = keys-alike g.T.TryClone.seen new all c.in_ok-copy_all.ensures i;
     })
