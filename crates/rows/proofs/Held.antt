@@ -1,15 +1,16 @@
-use Rattle.std.proofs.Common.{◌≡◌, ℕ, ◌+◌, ◌<◌, ◌≤◌, List, [], ◌∷◌, ◌++◌, Option, None, Some, Bool, true, false, cond}
+use Rattle.std.proofs.Common.{◌≡◌, ℕ, ◌<◌, List, [], ◌∷◌, Option, None, Some, Bool, true, false, cond}
 use Rattle.std.proofs.Common.{true≢false, length, get_or, set, replicate}
-use Rattle.std.proofs.Common.{refl, sym, ap, ◌∙◌, zero, suc, arith, inl, inr, nat_eq, slice_get, slice_index, is_some, if◌then◌else◌}
+use Rattle.std.proofs.Common.{refl, sym, ap, ◌∙◌, zero, suc, arith, inl, inr, nat_eq, slice_get, slice_index, is_some}
+use Rattle.std.proofs.Common.{Result, Ok, Err, OnOk, OnErr}
 use Rattle.std.specs.Borrow.{MutBor}
 use Rattle.std.specs.List.{IsDistinct}
 use Rattle.std.specs.Map.{keys_of, lookup}
 use Rattle.std.specs.Option.{IsSome, ghost_name_of, option_copied_mut}
 use Rattle.std.proofs.lemmas.Bool.{cases_eq, cases_lt, eq-eqb, ne_eqb}
-use Rattle.std.proofs.lemmas.List.{ext_get_or, get_or_past, get_or-replicate, get_or-set_other, get_or-set_same, length-replicate, length-set, map-append}
+use Rattle.std.proofs.lemmas.List.{ext_get_or, get_or_past, get_or-replicate, get_or-set_other, get_or-set_same, length-replicate, length-set}
 use Rattle.std.proofs.lemmas.List.FromFn.{get_or-map-range_with_len, length-map-range_with_len}
 use Rattle.std.proofs.lemmas.Map.Keys.{apart_from_distinct}
-use Rattle.rows.specs.Row.{AreTouched, Row, UsesOnePlace, item, keys_with}
+use Rattle.rows.specs.Row.{AreTouched}
 use Rattle.rows.specs.inner.Held.{IsWithin, items_of}
 use borrow.Follows.Closed.{read_of}
 
@@ -143,24 +144,10 @@ within-same_keys old new places within same = record {
 pub within-empty : {T : Type 0} (held : List (ℕ × T)) (places : ℕ) → held ≡ [] → IsWithin held places
 within-empty held places none = record { beyond = λ q h. ap (λ es. lookup (nat_eq q) es) none }
 
--- the keys once a place got its first item
-pub order-new : {T : Type 0} (held new : List (ℕ × T)) (places spare at : ℕ) (value : T) → IsWithin held places →
-    lookup (nat_eq at) held ≡ None →
-    new ≡ held ++ (at, value) ∷ [] → keys_of new ≡ keys_with (record { items = items_of held places; keys = keys_of held; spare = spare }) at
-order-new held new places spare at value within none made =
-    ap keys_of made ∙ map-append (λ e. e.0) held ((at, value) ∷ [])
-    ∙ ap (λ o. if is_some o then keys_of held else keys_of held ++ at ∷ []) (sym (items-at held places at within ∙ none))
-
--- and once it got another
-pub order-kept : {T : Type 0} (held new : List (ℕ × T)) (places spare at : ℕ) → IsWithin held places → IsSome (lookup (nat_eq at) held) →
-    keys_of new ≡ keys_of held → keys_of new ≡ keys_with (record { items = items_of held places; keys = keys_of held; spare = spare }) at
-order-kept held new places spare at within some same =
-    same
-    ∙ ap (λ b. if b then keys_of held else keys_of held ++ at ∷ []) (sym (ap is_some (items-at held places at within) ∙ some))
-
--- a place with no item, and the memory of one place
-pub uses-new : {T : Type 0} (old new : Row T) (at : ℕ) → item old at ≡ None → old.spare ≤ new.spare + 1 → UsesOnePlace at old new
-uses-new old new at none one = record {
-  one = one;
-  none = λ some. absurd (true≢false (sym some ∙ ap is_some none));
-}
+-- an insertion leaves nothing beyond, whether it succeeds or not
+pub within-insert : {T X E P : Type 0} (old new : List (ℕ × T)) (places at : ℕ) (value : T) → at < places → IsWithin old places →
+    (P → (q : ℕ) → lookup (nat_eq q) new ≡ cond (nat_eq at q) (Some value) (lookup (nat_eq q) old)) → (r : Result X E) → OnOk r P →
+    OnErr r (new ≡ old) →
+    IsWithin new places
+within-insert old new places at value below within get (Ok x) ok err = within-set old new places at value below within (get ok)
+within-insert old new places at value below within get (Err y) ok err = within-same_keys old new places within (ap keys_of err)

@@ -1,4 +1,5 @@
-ghost use Rattle.std.specs.Prelude.{◌≡◌, ◌<◌, ◌≤◌, ◌+◌, ◌↔◌, [], None, Some, IsOk, IsSome, IfErr, IfOk, IfSome, OnErr, OnOk};
+ghost use Rattle.std.specs.Prelude.{◌≡◌, ◌<◌, ◌≤◌, ◌+◌, ◌++◌, ◌∷◌, [], None, Some, IsOk, IsSome, IfErr, IfOk, IfSome};
+ghost use Rattle.std.specs.Prelude.{OnErr, OnOk};
 ghost use Rattle.std.specs.Prelude.{length, map, replicate, slice_get, slice_set};
 ghost use Rattle.std.specs.Borrow.{sem};
 ghost use Rattle.std.specs.Option.{option_copied, option_copied_mut, option_map};
@@ -89,10 +90,27 @@ impl<T> Sparse<T> {
         ensures succeeds { 0 < self.old.spare → IsOk result }
         ensures room { UsesOnePlace at self.old self.new }
     {
-        if let Some(item) = self.held.get_mut(&at) {
+        if let Some(item) = self.get_mut(at) {
             *item = value;
             return Ok(());
         }
+        self.add(at, value)
+    }
+
+    /// Gives a place its first item.
+    fn add(&mut self, at: u32, value: T) -> Result<(), T>
+    where
+        T: Drop,
+        requires inside { at < length self.old.items }
+        requires free { item self.old at ≡ None }
+        ensures ok { OnOk result (self.new.items ≡ slice_set self.old.items at (Some value)) }
+        ensures order { OnOk result (self.new.keys ≡ self.old.keys ++ at ∷ []) }
+        ensures err { OnErr result (self.new.items ≡ self.old.items) }
+        ensures err_order { OnErr result (self.new.keys ≡ self.old.keys) }
+        ensures back { IfErr result (λ back. back ≡ value) }
+        ensures succeeds { 0 < self.old.spare → IsOk result }
+        ensures room { self.old.spare ≤ self.new.spare + 1 }
+    {
         match self.held.insert(at, value) {
             Ok(_) => Ok(()),
             Err(failed) => Err(failed.value.1),
