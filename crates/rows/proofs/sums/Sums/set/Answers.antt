@@ -57,7 +57,7 @@ overflow_sub-index c =
     ∙ c.self.invariant.long
     ∙ ap (λ n. 2 * 2 ^ n) (sym same) in
     let step = rising-step tree (2 ^ c.loop-node.self-inside.levels) c.loop-node.node c.index-before.result.now c.args.value c.loop-node.invariant.rising
-    c.loop-node-test.true c.loop-node.invariant.inside (omega arith) c.ranges.value.fits in
+    (omega (arith, c.loop-node-test.true)) c.loop-node.invariant.inside (omega arith) c.ranges.value.fits in
     let read : c.index.result.now ≡ slice_index tree (c.loop-node.node / 2) =
     c.index.ensures ∙ get_or_default tree (c.loop-node.node / 2) c.index.result.now 0 (omega (arith, c.loop-node.invariant.inside)) in
     omega (arith, step.less)
@@ -71,7 +71,7 @@ overflow_add-index c =
     ∙ c.self.invariant.long
     ∙ ap (λ n. 2 * 2 ^ n) (sym same) in
     let step = rising-step tree (2 ^ c.loop-node.self-inside.levels) c.loop-node.node c.index-before.result.now c.args.value c.loop-node.invariant.rising
-    c.loop-node-test.true c.loop-node.invariant.inside (omega arith) c.ranges.value.fits in
+    (omega (arith, c.loop-node-test.true)) c.loop-node.invariant.inside (omega arith) c.ranges.value.fits in
     let read : c.index.result.now ≡ slice_index tree (c.loop-node.node / 2) =
     c.index.ensures ∙ get_or_default tree (c.loop-node.node / 2) c.index.result.now 0 (omega (arith, c.loop-node.invariant.inside)) in
     omega (arith, step.fits)
@@ -85,7 +85,7 @@ loop-node-preserved c =
     ∙ c.self.invariant.long
     ∙ ap (λ n. 2 * 2 ^ n) (sym same) in
     let step = rising-step tree (2 ^ c.loop-node.self-inside.levels) c.loop-node.node c.index-before.result.now c.args.value c.loop-node.invariant.rising
-    c.loop-node-test.true c.loop-node.invariant.inside (omega arith) c.ranges.value.fits in
+    (omega (arith, c.loop-node-test.true)) c.loop-node.invariant.inside (omega arith) c.ranges.value.fits in
     let read : c.index.result.now ≡ slice_index tree (c.loop-node.node / 2) =
     c.index.ensures ∙ get_or_default tree (c.loop-node.node / 2) c.index.result.now 0 (omega (arith, c.loop-node.invariant.inside)) in
     let v : ℕ = slice_index tree (c.loop-node.node / 2) - c.index-before.result.now + c.args.value in
