@@ -66,7 +66,7 @@ impl Links {
     pub fn send(&mut self, cache: CacheId, forward: Forward) -> Result<(), Forward>
         requires { cache.0 < length self.old.messages }
         ensures ok { OnOk result (self.new.messages ≡ slice_set self.old.messages cache.0
-        (slice_index_or self.old.messages cache.0 [] ++ forward ∷ [])) }
+            (slice_index_or self.old.messages cache.0 [] ++ forward ∷ [])) }
         ensures err { OnErr result (self.new.messages ≡ self.old.messages) }
         ensures back { IfErr result (λ back. back ≡ forward) }
         ensures succeeds { 0 < slice_index self.old.room cache.0 → IsOk result }

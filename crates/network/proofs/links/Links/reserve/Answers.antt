@@ -39,7 +39,7 @@ returns-clause-messages c =
     rw (← c.self.view_is)
     (elim c.match-put.branch [
       | in-Ok w ↦ rw w.in-Ok.ensures.ok (messages-set_same c.self.inside.links.items c.args.cache.0 None c.in_ok-link.link c.in_default.ensures.item
-      c.in_ok-link.ensures.items)
+          c.in_ok-link.ensures.items)
       | in-Err w ↦ ap (map on_link) w.in-Err.ensures.err
     ])
 
@@ -51,7 +51,7 @@ returns-clause-ok c =
             w.result-is,
             w.in-Ok.ensures.ok,
             room-set c.self.inside.links.items c.args.cache.0 c.in_ok-link.link (below_messages _ _ (subst (λ
-            (l : Linked). c.args.cache.0 < length l.messages) (sym c.self.view_is) c.requires)),
+                (l : Linked). c.args.cache.0 < length l.messages) (sym c.self.view_is) c.requires)),
           )
           (omega (arith, c.in_ok-link.ensures.capacity, c.in_ok-link.ensures.len))
       | in-Err w ↦ rw w.result-is tt
