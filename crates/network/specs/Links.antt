@@ -1,27 +1,37 @@
-use Rattle.std.specs.Prelude.{◌≢◌, ℕ, ◌+◌, ◌-◌, ◌≤◌, List, [], Option, None, Some, slice_index}
-use Rattle.std.specs.Vec.{vec_len, vec_capacity}
-use Rattle.std.specs.declared.vec.Vec.{Vec}
-use Rattle.std.specs.declared.alloc.Global.{Global}
+use Rattle.std.specs.Prelude.{◌≢◌, ℕ, ◌+◌, ◌≤◌, List, [], Option, None, Some, Bool, not, map, slice_index}
 use Rattle.network.specs.declared.message.Forward.{Forward}
+use Rattle.network.specs.Traffic.{is_nil}
+
+-- a wire, as contracts see it: its messages with their marks, and how many more it takes without asking for memory
+pub record Wired (M : Type 0) : Type 0 where
+  pub messages : List M
+  pub marks : List Bool
+  pub room : ℕ
 
 -- the links of a block, as contracts see them: what is on each, and how many more it takes without asking for memory
 pub record Linked : Type 0 where
   pub messages : List (List Forward)
+  pub marks : List (List Bool)
   pub room : List ℕ
 
 -- the messages on a link; one that was never used has none
-abbrev pub on_link : Option (Vec Forward Global) → List Forward
+abbrev pub on_link : Option (Wired Forward) → List Forward
 on_link None = []
-on_link (Some v) = v.items
+on_link (Some w) = w.messages
 
--- how many more a list takes without asking for memory
-abbrev pub spare : Vec Forward Global → ℕ
-spare v = vec_capacity v - vec_len v
+-- their marks
+abbrev pub marks_on : Option (Wired Forward) → List Bool
+marks_on None = []
+marks_on (Some w) = w.marks
 
 -- the room of a link
-abbrev pub room_on : Option (Vec Forward Global) → ℕ
+abbrev pub room_on : Option (Wired Forward) → ℕ
 room_on None = 0
-room_on (Some v) = spare v
+room_on (Some w) = w.room
+
+-- for each link whether it has a message
+abbrev pub waiting_of : List (List Forward) → List Bool
+waiting_of links = map (λ l. not (is_nil l)) links
 
 -- no link has less room
 pub record KeepsRoom (old new : List ℕ) : Type 0 where

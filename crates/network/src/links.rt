@@ -1,110 +1,160 @@
-ghost use Rattle.std.specs.Prelude.{◌≡◌, ◌+◌, ◌<◌, ◌≤◌, ◌∷◌, ◌++◌, [], IsOk, IfOk, OnOk, OnErr, IfErr, IfNone, OnSome};
-ghost use Rattle.std.specs.Prelude.{length, remove, replicate};
+ghost use Rattle.std.specs.Prelude.{◌≡◌, ◌+◌, ◌<◌, ◌≤◌, ◌∷◌, ◌++◌, [], IsOk, IfOk, OnOk, OnErr, IfErr, IfNone, IfSome, OnSome};
+ghost use Rattle.std.specs.Prelude.{length, map, remove, replicate, false};
 ghost use Rattle.std.specs.Prelude.{slice_get, slice_index, slice_index_or, slice_set};
+ghost use Rattle.network.specs.Marks.{mark_at};
 ghost use Rattle.network.specs.Traffic.{all_nil};
-ghost use Rattle.network.specs.Links.{KeepsRoom, UsesOnePlace};
+ghost use Rattle.network.specs.Links.{KeepsRoom, UsesOnePlace, marks_on, on_link, room_on, waiting_of};
+ghost use Rattle.rows.specs.Flags.{IsFirstFrom, NoneFrom};
 
 use crate::message::Forward;
+use crate::wire::Wire;
 use base::{CacheId, NoMemory};
-use rows::{Sparse, TryClone};
+use rows::{Bits, Sparse, TryClone};
 use std::alloc::Global;
 use std::marker::Model;
 
-/// The links from a block's home to the caches, one for each. Only those that were used take memory.
+/// The links from a block's home to the caches, one for each. Those that were never used take no more than a bit.
 #[derive(Drop)]
 pub struct Links {
     alloc: Global,
-    links: Sparse<Vec<Forward>>,
+    links: Sparse<Wire<Forward>>,
+    // For each link whether it has a message.
+    waiting: Bits,
 }
 
 impl Model for Links {
-    ghost use Rattle.std.specs.Prelude.{map};
-    ghost use Rattle.network.specs.Links.{Linked, on_link, room_on};
+    ghost use Rattle.std.specs.Prelude.{◌≡◌, map};
+    ghost use Rattle.network.specs.Links.{Linked, marks_on, on_link, room_on, waiting_of};
 
     ghost Value = { Linked };
 
-    ghost view = { λ l. record { messages = map on_link l.links.items; room = map room_on l.links.items } };
+    ghost view = { λ l. record {
+      messages = map on_link l.links.items;
+      marks = map marks_on l.links.items;
+      room = map room_on l.links.items;
+    } };
+
+    ghost invariant = { λ l. l.waiting ≡ waiting_of (map on_link l.links.items) };
 }
 
 impl Links {
     pub fn open(alloc: Global, caches: u32) -> Result<Links, NoMemory>
-        ensures { IfOk result (λ links. links.messages ≡ replicate caches []) }
+        ensures messages { IfOk result (λ links. links.messages ≡ replicate caches []) }
+        ensures marks { IfOk result (λ links. links.marks ≡ replicate caches []) }
     {
+        let waiting = Bits::open(alloc, caches)?;
         Ok(Links {
             alloc,
             links: Sparse::open(alloc, caches),
+            waiting,
         })
     }
 
     pub fn try_clone(&self, alloc: Global) -> Result<Links, NoMemory>
-        ensures { IfOk result (λ links. links.messages ≡ self.now.messages) }
+        ensures messages { IfOk result (λ links. links.messages ≡ self.now.messages) }
+        ensures marks { IfOk result (λ links. links.marks ≡ self.now.marks) }
     {
         let links = self.links.try_clone(alloc)?;
-        Ok(Links { alloc, links })
+        let waiting = self.waiting.try_clone(alloc)?;
+        Ok(Links {
+            alloc,
+            links,
+            waiting,
+        })
     }
 
     /// Whether no link has a message.
     pub fn is_quiet(&self) -> bool
         ensures { result ≡ all_nil self.now.messages }
     {
-        for i in 0..self.links.held() {
-            if let Some((_, link)) = self.links.nth(i)
-                && !link.is_empty()
-            {
-                return false;
-            }
-        }
-        true
+        self.waiting.ones() == 0
     }
 
-    pub fn head(&self, cache: CacheId) -> Option<Forward>
-        ensures { result ≡ slice_get (slice_index_or self.now.messages cache.0 []) 0 }
+    /// The least cache from one on whose link has a message, if there is one.
+    pub fn next_waiting(&self, from: u32) -> Option<CacheId>
+        ensures some { IfSome result (λ cache. IsFirstFrom (waiting_of self.now.messages) from cache.0) }
+        ensures none { IfNone result (NoneFrom (waiting_of self.now.messages) from) }
     {
-        self.links.get(cache.0)?.first().copied()
+        match self.waiting.next_from(from) {
+            Some(number) => Some(CacheId(number)),
+            None => None,
+        }
+    }
+
+    /// How many messages there are on a link.
+    pub fn count(&self, cache: CacheId) -> usize
+        ensures { result ≡ length (slice_index_or self.now.messages cache.0 []) }
+    {
+        match self.links.get(cache.0) {
+            Some(link) => link.len(),
+            None => 0,
+        }
+    }
+
+    pub fn get(&self, cache: CacheId, index: u64) -> Option<Forward>
+        ensures { result ≡ slice_get (slice_index_or self.now.messages cache.0 []) index }
+    {
+        self.links.get(cache.0)?.get(index)
+    }
+
+    /// The mark of the first message on a link. Where there is no message it is `false`.
+    pub fn is_head_held(&self, cache: CacheId) -> bool
+        ensures mark { result ≡ mark_at (slice_index_or self.now.marks cache.0 []) 0 }
+        ensures as_many { length (slice_index_or self.now.marks cache.0 []) ≡ length (slice_index_or self.now.messages cache.0 []) }
+    {
+        match self.links.get(cache.0) {
+            Some(link) => link.is_held(0),
+            None => false,
+        }
+    }
+
+    /// Sets the mark at a place of a link. Where there is no message nothing changes.
+    pub fn mark(&mut self, cache: CacheId, index: u64, held: bool)
+        ensures messages { self.new.messages ≡ self.old.messages }
+        ensures marks { self.new.marks ≡ slice_set self.old.marks cache.0 (slice_set (slice_index_or self.old.marks cache.0 []) index held) }
+        ensures room { self.new.room ≡ self.old.room }
+    {
+        if let Some(link) = self.links.get_mut(cache.0) {
+            link.mark(index, held);
+        }
     }
 
     pub fn send(&mut self, cache: CacheId, forward: Forward) -> Result<(), Forward>
         requires { cache.0 < length self.old.messages }
         ensures ok { OnOk result (self.new.messages ≡ slice_set self.old.messages cache.0
             (slice_index_or self.old.messages cache.0 [] ++ forward ∷ [])) }
+        ensures ok_marks { OnOk result (self.new.marks ≡ slice_set self.old.marks cache.0
+            (slice_index_or self.old.marks cache.0 [] ++ false ∷ [])) }
         ensures err { OnErr result (self.new.messages ≡ self.old.messages) }
+        ensures err_marks { OnErr result (self.new.marks ≡ self.old.marks) }
         ensures back { IfErr result (λ back. back ≡ forward) }
         ensures succeeds { 0 < slice_index self.old.room cache.0 → IsOk result }
         ensures room { UsesOnePlace cache.0 self.old.room self.new.room }
     {
-        if let Some(link) = self.links.get_mut(cache.0) {
-            if let Err(failed) = link.push(forward) {
-                return Err(failed.value);
-            }
-            return Ok(());
-        }
-        let mut link = Vec::new(self.alloc);
-        if let Err(failed) = link.push(forward) {
-            return Err(failed.value);
-        }
-        match self.links.put(cache.0, link) {
-            Ok(()) => Ok(()),
-            Err(_) => Err(forward),
-        }
+        send_on(self.alloc, &mut self.links, cache, forward)?;
+        self.waiting.set(cache.0, true);
+        Ok(())
     }
 
     pub fn take_head(&mut self, cache: CacheId) -> Option<Forward>
         ensures taken { result ≡ slice_get (slice_index_or self.old.messages cache.0 []) 0 }
         ensures some { OnSome result (self.new.messages ≡ slice_set self.old.messages cache.0 (remove (slice_index_or self.old.messages cache.0 []) 0)) }
+        ensures some_marks { OnSome result (self.new.marks ≡ slice_set self.old.marks cache.0 (remove (slice_index_or self.old.marks cache.0 []) 0)) }
         ensures none { IfNone result (self.new.messages ≡ self.old.messages) }
+        ensures none_marks { IfNone result (self.new.marks ≡ self.old.marks) }
         ensures room { KeepsRoom self.old.room self.new.room }
     {
         let link = self.links.get_mut(cache.0)?;
-        if link.is_empty() {
-            return None;
-        }
-        Some(link.remove(0))
+        let forward = link.take(0)?;
+        self.waiting.set(cache.0, link.len() != 0);
+        Some(forward)
     }
 
     /// Room for so many more messages on a link.
     pub fn reserve(&mut self, cache: CacheId, count: usize) -> Result<(), NoMemory>
         requires { cache.0 < length self.old.messages }
         ensures messages { self.new.messages ≡ self.old.messages }
+        ensures marks { self.new.marks ≡ self.old.marks }
         ensures ok { OnOk result (count ≤ slice_index self.new.room cache.0) }
         ensures succeeds { count ≤ slice_index self.old.room cache.0 → IsOk result }
         ensures room { KeepsRoom self.old.room self.new.room }
@@ -116,10 +166,40 @@ impl Links {
         if count == 0 {
             return Ok(());
         }
-        let link = Vec::with_capacity(self.alloc, count)?;
+        let link = Wire::with_room(self.alloc, count)?;
         match self.links.put(cache.0, link) {
             Ok(()) => Ok(()),
             Err(_) => Err(NoMemory),
         }
+    }
+}
+
+/// Puts a message at the end of a link, or gives it back where there is no memory for it.
+fn send_on(
+    alloc: Global,
+    links: &mut Sparse<Wire<Forward>>,
+    cache: CacheId,
+    forward: Forward,
+) -> Result<(), Forward>
+    requires { cache.0 < length links.old.items }
+    ensures ok { OnOk result (map on_link links.new.items ≡ slice_set (map on_link links.old.items) cache.0
+        (slice_index_or (map on_link links.old.items) cache.0 [] ++ forward ∷ [])) }
+    ensures ok_marks { OnOk result (map marks_on links.new.items ≡ slice_set (map marks_on links.old.items) cache.0
+        (slice_index_or (map marks_on links.old.items) cache.0 [] ++ false ∷ [])) }
+    ensures err { OnErr result (map on_link links.new.items ≡ map on_link links.old.items) }
+    ensures err_marks { OnErr result (map marks_on links.new.items ≡ map marks_on links.old.items) }
+    ensures back { IfErr result (λ back. back ≡ forward) }
+    ensures succeeds { 0 < slice_index (map room_on links.old.items) cache.0 → IsOk result }
+    ensures room { UsesOnePlace cache.0 (map room_on links.old.items) (map room_on links.new.items) }
+{
+    if let Some(link) = links.get_mut(cache.0) {
+        link.send(forward)?;
+        return Ok(());
+    }
+    let mut link = Wire::open(alloc);
+    link.send(forward)?;
+    match links.put(cache.0, link) {
+        Ok(()) => Ok(()),
+        Err(_) => Err(forward),
     }
 }

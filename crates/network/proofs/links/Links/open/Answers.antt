@@ -1,7 +1,14 @@
-use Rattle.std.proofs.Common.{ap, map, ◌∙◌}
-use Rattle.network.specs.Links.{on_link}
-use Rattle.network.proofs.Linked.{messages-none}
+use Rattle.std.proofs.Common.{ap, map, sym, ◌∙◌}
+use Rattle.network.specs.Links.{marks_on, on_link, waiting_of}
+use Rattle.network.proofs.Linked.{parts-none, waiting-none}
 use Rattle.network.proofs.links.Links.open.Goals as goal
 
-pub returns : goal.returns
-returns c = ap (map on_link) c.open.ensures.items ∙ messages-none c.args.caches
+pub invariant_of-result : goal.invariant_of-result
+invariant_of-result c =
+    c.in_ok-waiting.ensures ∙ sym (ap waiting_of (ap (map on_link) c.open-2.ensures.items ∙ parts-none on_link c.args.caches) ∙ waiting-none c.args.caches)
+
+pub returns-clause-messages : goal.returns-clause-messages
+returns-clause-messages c = ap (map on_link) c.open-2.ensures.items ∙ parts-none on_link c.args.caches
+
+pub returns-clause-marks : goal.returns-clause-marks
+returns-clause-marks c = ap (map marks_on) c.open-2.ensures.items ∙ parts-none marks_on c.args.caches

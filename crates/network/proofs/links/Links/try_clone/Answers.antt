@@ -1,11 +1,27 @@
-use Rattle.std.proofs.Common.{map, sym, [], ◌∙◌}
-use Rattle.std.specs.Option.{unwrap_or}
-use Rattle.network.proofs.Linked.{messages-seen}
+use Rattle.std.proofs.Common.{◌≡◌, ap, map, sym, [], ◌∙◌}
+use Rattle.std.specs.Option.{option_map, unwrap_or}
+use Rattle.network.specs.Links.{on_link, waiting_of}
+use Rattle.network.proofs.Linked.{marks-seen, marks_of, messages-seen, messages_of}
 use Rattle.network.proofs.links.Links.try_clone.Goals as goal
 
-pub returns : goal.returns
-returns c =
+pub invariant_of-result : goal.invariant_of-result
+invariant_of-result c =
+    let same : map on_link c.in_ok-links.links.items ≡ map on_link c.self.inside.links.items =
+    messages-seen c.in_ok-links.links.items
+    ∙ (λ i. map (λ o. unwrap_or (option_map messages_of o) []) (c.in_ok-links.ensures i).items)
+    ∙ sym (messages-seen c.self.inside.links.items) in
+    c.in_ok-waiting.ensures ∙ c.self.invariant ∙ sym (ap waiting_of same)
+
+pub returns-clause-messages : goal.returns-clause-messages
+returns-clause-messages c =
     rw (← c.self.view_is)
     (messages-seen c.in_ok-links.links.items
-    ∙ (λ i. map (λ o. unwrap_or o []) (c.in_ok-links.ensures i).items)
+    ∙ (λ i. map (λ o. unwrap_or (option_map messages_of o) []) (c.in_ok-links.ensures i).items)
     ∙ sym (messages-seen c.self.inside.links.items))
+
+pub returns-clause-marks : goal.returns-clause-marks
+returns-clause-marks c =
+    rw (← c.self.view_is)
+    (marks-seen c.in_ok-links.links.items
+    ∙ (λ i. map (λ o. unwrap_or (option_map marks_of o) []) (c.in_ok-links.ensures i).items)
+    ∙ sym (marks-seen c.self.inside.links.items))
