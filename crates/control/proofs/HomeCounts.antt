@@ -1,8 +1,9 @@
-use Rattle.std.proofs.Common.{◌≡◌, ◌≢◌, ◌≤◌, ℕ, ◌+◌, ◌<◌, List, [], ◌∷◌, length, get_or, set, refl, sym, ◌∙◌, ap, zero, suc, arith, Option}
+use Rattle.std.proofs.Common.{◌≡◌, ◌≢◌, ◌≤◌, ℕ, ◌+◌, ◌<◌, List, [], ◌∷◌, length}
+use Rattle.std.proofs.Common.{get_or, set, refl, sym, ◌∙◌, ap, zero, suc, arith, Option}
 use Rattle.std.proofs.Common.{Some, None, Bool, true, false, ltb, lt-ltb, le-ltb, ◌==◌, ◌&&◌, ◌||◌, not, inl, inr, if◌then◌else◌}
 use Rattle.std.proofs.lemmas.List.{length-set, get_or-set_same, get_or-set_other, get_or_past}
 use Rattle.std.proofs.Math.Bool.{and-false}
-use Rattle.std.proofs.lemmas.Bool.{cases_lt, ne_eqb}
+use Rattle.std.proofs.lemmas.Bool.{cases_Bool, cases_eq, cases_lt, ne_eqb}
 use Rattle.std.proofs.lemmas.Bool.Decides.{eqb_tells}
 use Rattle.base.specs.declared.ids.CacheId.{CacheId}
 use Rattle.network.specs.declared.message.ForwardKind.{ForwardKind}
@@ -16,14 +17,16 @@ use Rattle.control.specs.Events.{owns}
 use Rattle.control.specs.Sharing.{shares}
 use Rattle.control.specs.HomeEffect.{home_message, home_messages, home_changed, with_owner, owner_message, link_message, invalidation, IsBelow}
 use Rattle.control.specs.HomeEffect.{invalidations, NamesBelow}
-use Rattle.control.specs.inner.Counting.{replies_of, replies_by, is_sent_to, owner_left, sharer_left, forwards_by, forwards_to, HasRoomToReply}
+use Rattle.control.specs.inner.Counting.{replies_of, replies_by, is_sent_to, owner_left, sharer_left, forwards_by, forwards_to}
+use Rattle.control.specs.inner.Counting.{is_invalidation, invalidates, HasRoomOnLink, HasRoomToOwner, HasRoomToReply, HasRoomToSharers}
 use Rattle.control.proofs.HomeSends.{keeps-changed, no-flag}
 
 abbrev pub cache : ℕ → CacheId
 cache k = record { 0 = k }
 
 -- one invalidation goes on the link of its cache alone
-invalidation-at : (k : ℕ) (to c : CacheId) (flag : Bool) → forwards_in k (invalidation to c flag) ≡ (if flag && not (c.0 == to.0) then one_if (c.0 == k) else 0)
+invalidation-at : (k : ℕ) (to c : CacheId) (flag : Bool) →
+    forwards_in k (invalidation to c flag) ≡ (if flag && not (c.0 == to.0) then one_if (c.0 == k) else 0)
 invalidation-at k to c flag = by-test (flag && not (c.0 == to.0))
   where
     by-test : (t : Bool) → forwards_in k (if t then link_message c forward.Inv to ∷ [] else []) ≡ (if t then one_if (c.0 == k) else 0)
@@ -46,7 +49,8 @@ invalidations-below : (k : ℕ) (to : CacheId) (flags : List Bool) (i : ℕ) →
 invalidations-below k to [] i h = refl
 invalidations-below k to (f ∷ flags) i h =
     let other : one_if (i == k) ≡ 0 = ap one_if (ne_eqb i k (λ e. absurd (omega (arith, e)))) in
-    let here : forwards_in k (invalidation to (cache i) f) ≡ 0 = invalidation-at k to (cache i) f ∙ if-zero (f && not (i == to.0)) (one_if (i == k)) other in
+    let here : forwards_in k (invalidation to (cache i) f) ≡ 0 =
+    invalidation-at k to (cache i) f ∙ if-zero (f && not (i == to.0)) (one_if (i == k)) other in
     omega (
       arith,
       forwards_in-append k (invalidation to (cache i) f) (invalidations to (i + 1) flags),
@@ -74,7 +78,8 @@ invalidations-at zero to (f ∷ flags) i k e =
     )
 invalidations-at (suc j) to (f ∷ flags) i k e =
     let other : one_if (i == k) ≡ 0 = ap one_if (ne_eqb i k (λ same. absurd (omega (arith, same)))) in
-    let here : forwards_in k (invalidation to (cache i) f) ≡ 0 = invalidation-at k to (cache i) f ∙ if-zero (f && not (i == to.0)) (one_if (i == k)) other in
+    let here : forwards_in k (invalidation to (cache i) f) ≡ 0 =
+    invalidation-at k to (cache i) f ∙ if-zero (f && not (i == to.0)) (one_if (i == k)) other in
     omega (
       arith,
       forwards_in-append k (invalidation to (cache i) f) (invalidations to (i + 1) flags),
@@ -127,7 +132,8 @@ owner-left from None action.CopyData home = refl
 owner-left from (Some v) action.CopyData home = refl
 
 -- a flag is up only where there is one
-flagged : (n k : ℕ) (flags : List Bool) (up : Bool) → length flags ≡ n → (k < n → get_or flags k false ≡ up) → get_or flags k false ≡ (ltb k n && up)
+flagged : (n k : ℕ) (flags : List Bool) (up : Bool) → length flags ≡ n → (k < n → get_or flags k false ≡ up) →
+    get_or flags k false ≡ (ltb k n && up)
 flagged n k flags up long here = elim (cases_lt k n) [
   | inl lt ↦ rw (lt-ltb k n lt) (here lt)
   | inr le ↦ rw (le-ltb k n le) (get_or_past flags k false (omega (arith, long, le)))
@@ -243,11 +249,13 @@ unsent k from owner action.ClearOwner o ne = refl
 unsent k from owner action.SetOwner o ne = refl
 unsent k from owner action.CopyData o ne = refl
 
-unnamed-by : (flag : Bool) (k : ℕ) (from : CacheId) (owner : Option CacheId) (actions : List DirectoryAction) → owns owner (cache k) ≡ false → k ≢ from.0
+unnamed-by : (flag : Bool) (k : ℕ) (from : CacheId) (owner : Option CacheId) (actions : List DirectoryAction) → owns owner (cache k) ≡ false →
+    k ≢ from.0
     → forwards_by flag (cache k) from owner false actions ≡ 0
 unnamed-by flag k from owner [] o ne = refl
 unnamed-by flag k from owner (a ∷ actions) o ne =
-    let still : (flag && sharer_left (cache k) from owner a false) ≡ false = ap (λ (s : Bool). flag && s) (unshared k from owner a o ne) ∙ and-false flag in
+    let still : (flag && sharer_left (cache k) from owner a false) ≡ false =
+    ap (λ (s : Bool). flag && s) (unshared k from owner a o ne) ∙ and-false flag in
     let same : forwards_by flag (cache k) from (owner_left from a owner) (flag && sharer_left (cache k) from owner a false) actions
     ≡ forwards_by flag (cache k) from (owner_left from a owner) false actions =
     ap (λ (s : Bool). forwards_by flag (cache k) from (owner_left from a owner) s actions) still in
@@ -376,14 +384,11 @@ nothing-sent value [] home = refl
 nothing-sent value (a ∷ actions) home = nothing-sent value actions (home_changed None value a home)
 
 -- room for the replies and on each link is room for what is sent
-pub room-to-send : (from : CacheId) (value : Option ℕ) (actions : List DirectoryAction) (home : Home) (room : Room) → NamesBelow (length home.sharers) home
-    → from.0 < length home.sharers → HasRoomToReply from actions home room → HasRoomFor (home_messages (Some from) value actions home) room
-room-to-send from value actions home room h l has = record {
+pub room-to-send : (from : CacheId) (value : Option ℕ) (actions : List DirectoryAction) (home : Home) (room : Room)
+    → HasRoomToReply from actions home room → HasRoomFor (home_messages (Some from) value actions home) room
+room-to-send from value actions home room has = record {
   requests = omega (arith, requests-by from value actions home);
-  links = λ k. elim (cases_lt k (length home.sharers)) [
-    | inl lt ↦ omega (arith, forwards-to k from value actions home, has.links k lt)
-    | inr le ↦ omega (arith, forwards-to k from value actions home, no-forwards (length home.sharers) k from actions home le h l)
-  ];
+  links = λ k. omega (arith, forwards-to k from value actions home, has.links k);
   responses = omega (arith, responses-by from value actions home, has.responses);
 }
 
@@ -392,5 +397,58 @@ pub room-to-reply : (from : CacheId) (value : Option ℕ) (actions : List Direct
     → HasRoomFor (home_messages (Some from) value actions home) room → HasRoomToReply from actions home room
 room-to-reply from value actions home room has = record {
   responses = omega (arith, responses-by from value actions home, has.responses);
-  links = λ k lt. omega (arith, forwards-to k from value actions home, has.links k);
+  links = λ k. omega (arith, forwards-to k from value actions home, has.links k);
 }
+
+-- where the sender, the owner and the sharers have room on their links, there is room to reply: nobody else is sent anything
+pub room-on_links : (k : ℕ) (from : CacheId) (actions : List DirectoryAction) (home : Home) (room : Room) → HasRoomOnLink from.0 from actions home room
+    → HasRoomToOwner from actions home room → HasRoomToSharers from actions home room → HasRoomOnLink k from actions home room
+room-on_links k from actions home room sender owner sharers =
+    elim (cases_eq k from.0) [
+      | inl e ↦ rw e sender
+      | inr ne ↦ elim (cases_Bool (owns home.owner (cache k))) [
+        | inl o ↦ owner k o
+        | inr o ↦ elim (cases_Bool (shares home.sharers k)) [
+          | inl s ↦ sharers k o ne s
+          | inr s ↦ omega (arith, unnamed k from actions home o ne s)
+        ]
+      ]
+    ]
+
+-- without an invalidation nothing is sent to a cache that is neither the owner nor the sender
+unsent-on : (k : ℕ) (from : CacheId) (owner : Option CacheId) (sharer : Bool) (a : DirectoryAction) → is_invalidation a ≡ false
+    → owns owner (cache k) ≡ false → k ≢ from.0 → one_if (is_sent_to (cache k) from owner sharer a) ≡ 0
+unsent-on k from owner sharer action.DataReq i o ne = refl
+unsent-on k from owner sharer action.DataAcks i o ne = refl
+unsent-on k from owner sharer action.InvSharers i o ne = absurd (cc i)
+unsent-on k from owner sharer action.FwdGetS i o ne = ap one_if o
+unsent-on k from owner sharer action.FwdGetM i o ne = ap one_if o
+unsent-on k from owner sharer action.PutAck i o ne = ap one_if (ne_eqb from.0 k (λ e. ne (sym e)))
+unsent-on k from owner sharer action.AddReq i o ne = refl
+unsent-on k from owner sharer action.AddOwner i o ne = refl
+unsent-on k from owner sharer action.RemoveReq i o ne = refl
+unsent-on k from owner sharer action.ClearSharers i o ne = refl
+unsent-on k from owner sharer action.ClearOwner i o ne = refl
+unsent-on k from owner sharer action.SetOwner i o ne = refl
+unsent-on k from owner sharer action.CopyData i o ne = refl
+
+unsent-by : (flag : Bool) (k : ℕ) (from : CacheId) (owner : Option CacheId) (sharer : Bool) (actions : List DirectoryAction)
+    → invalidates actions ≡ false → owns owner (cache k) ≡ false → k ≢ from.0 → forwards_by flag (cache k) from owner sharer actions ≡ 0
+unsent-by flag k from owner sharer [] i o ne = refl
+unsent-by flag k from owner sharer (a ∷ actions) i o ne =
+    let both = neither (is_invalidation a) (invalidates actions) i in
+    omega (
+      arith,
+      unsent-on k from owner sharer a both.0 o ne,
+      unsent-by flag k from (owner_left from a owner) (flag && sharer_left (cache k) from owner a sharer) actions both.1 (unowned k from owner a o ne) ne,
+    )
+  where
+    neither : (a b : Bool) → (a || b) ≡ false → (a ≡ false) × (b ≡ false)
+    neither true b e = absurd (cc e)
+    neither false b e = (refl, e)
+
+-- so there is room to the sharers
+pub room-unsent : (from : CacheId) (actions : List DirectoryAction) (home : Home) (room : Room) → invalidates actions ≡ false
+    → HasRoomToSharers from actions home room
+room-unsent from actions home room i k o ne s =
+    omega (arith, unsent-by (ltb k (length home.sharers)) k from home.owner (shares home.sharers k) actions i o ne)

@@ -1,7 +1,8 @@
-use Rattle.std.proofs.Common.{◌≡◌, ℕ, ◌+◌, ◌<◌, List, [], ◌∷◌, ◌++◌, length, get_or, drop, replicate, refl, sym, ◌∙◌, zero, suc, arith, inl, inr}
+use Rattle.std.proofs.Common.{◌≡◌, ℕ, ◌+◌, ◌-◌, ◌<◌, ◌≤◌, ap, true≢false, List, [], ◌∷◌, ◌++◌, length, get_or, drop, replicate, refl, sym, ◌∙◌, zero, suc, arith, inl, inr}
 use Rattle.std.proofs.Common.{Option, Some, None, Bool, true, false}
-use Rattle.std.proofs.lemmas.List.{length-set, length-replicate, get_or-set_other, get_or_past}
+use Rattle.std.proofs.lemmas.List.{length-set, length-replicate, drop_all, get_or-set_other, get_or_past}
 use Rattle.std.proofs.lemmas.Bool.{cases_eq, cases_lt}
+use Rattle.rows.specs.Flags.{IsFirstFrom, NoneFrom}
 use Rattle.base.specs.declared.ids.CacheId.{CacheId}
 use Rattle.directory_table.specs.declared.actions.DirectoryAction.{DirectoryAction}
 use Rattle.directory_table.specs.declared.actions.DirectoryAction.TheVariants as action
@@ -142,3 +143,40 @@ invalidations-front requestor (f ∷ flags) zero j d h = refl
 invalidations-front requestor (f ∷ flags) (suc i) j d h =
     let e : suc i + 1 ≡ suc (i + 1) = omega arith in
     rw e (invalidations-front requestor flags i j d (omega arith))
+
+-- caches that share nothing are sent nothing: the invalidations from one place on are those from a later one on
+invalidations-skip : (requestor : CacheId) (flags : List Bool) (from n to : ℕ) → to ≡ from + n → to ≤ length flags →
+    ((k : ℕ) → from ≤ k → k < to → get_or flags k false ≡ false) →
+    invalidations requestor from (drop from flags) ≡ invalidations requestor to (drop to flags)
+invalidations-skip requestor flags from zero to is within none =
+    let same : from ≡ to = omega (arith, is) in ap (λ j. invalidations requestor j (drop j flags)) same
+invalidations-skip requestor flags from (suc n) to is within none =
+    invalidations-front requestor flags from from false (omega (arith, is, within))
+    ∙ ap (λ b. invalidation requestor (record { 0 = from }) b ++ invalidations requestor (from + 1) (drop (from + 1) flags))
+    (none from (omega arith) (omega (arith, is)))
+    ∙ invalidations-skip requestor flags (from + 1) n to (omega (arith, is)) within (λ k after before. none k (omega (arith, after)) before)
+
+-- a place with a flag is one of the places
+pub flag-within : (flags : List Bool) (at : ℕ) → get_or flags at false ≡ true → at < length flags
+flag-within flags at set =
+    elim (cases_lt at (length flags)) [
+      | inl h ↦ h
+      | inr h ↦ absurd (true≢false (sym set ∙ get_or_past flags at false h))
+    ]
+
+-- the invalidations from a place on begin with that to the first sharer
+pub invalidations-first : (requestor : CacheId) (flags : List Bool) (from at : ℕ) → IsFirstFrom flags from at →
+    invalidations requestor from (drop from flags)
+    ≡ invalidation requestor (record { 0 = at }) true ++ invalidations requestor (at + 1) (drop (at + 1) flags)
+invalidations-first requestor flags from at found =
+    let within : at < length flags = flag-within flags at found.set in
+    invalidations-skip requestor flags from (at - from) at (omega (arith, found.behind)) (omega (arith, within)) found.first
+    ∙ invalidations-front requestor flags at at false within
+    ∙ ap (λ b. invalidation requestor (record { 0 = at }) b ++ invalidations requestor (at + 1) (drop (at + 1) flags)) found.set
+
+-- no sharer is left
+pub invalidations-none : (requestor : CacheId) (flags : List Bool) (from : ℕ) → from ≤ length flags → NoneFrom flags from →
+    invalidations requestor from (drop from flags) ≡ []
+invalidations-none requestor flags from within left =
+    invalidations-skip requestor flags from (length flags - from) (length flags) (omega (arith, within)) (omega arith) (λ k after before. left.none k after)
+    ∙ ap (λ fs. invalidations requestor (length flags) fs) (drop_all (length flags) flags (omega arith))

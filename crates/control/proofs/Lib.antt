@@ -2,3 +2,4 @@ pub mod LineSends
 pub mod HomeSends
 pub mod HomeCounts
 pub mod HomeLinks
+pub mod Shared

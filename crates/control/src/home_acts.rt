@@ -1,4 +1,4 @@
-ghost use Rattle.std.specs.Prelude.{◌≡◌, ◌<◌, ◌^◌, ℕ, IsOk, OnOk, OnErr, Some, true, length};
+ghost use Rattle.std.specs.Prelude.{◌≡◌, ◌<◌, ℕ, IsOk, OnOk, OnErr, Some, true, length};
 ghost use Rattle.network.specs.Traffic.{all_sent};
 ghost use Rattle.network.specs.Room.{HasRoomFor, UsesRoomFor};
 ghost use Rattle.control.specs.HomeEffect.{sender_of, brought_by, data_message, link_message, invalidation, invalidations, owner_message};
@@ -7,6 +7,7 @@ ghost use Rattle.control.specs.Sharing.{shares};
 
 use crate::home::{Home, HomeInput};
 use crate::home_room::home_reserve;
+use crate::sharers::Sharers;
 use base::{CacheId, NoMemory, Place};
 use directory_table::{DirectoryAction, DirectoryActions, DirectoryState};
 use network::{Forward, ForwardKind, Message, RequestKind, Response, Wires};
@@ -50,15 +51,21 @@ fn on_link(to: CacheId, kind: ForwardKind, requestor: CacheId) -> Message
 }
 
 /// Sends an invalidation to each sharer but the requestor.
-fn invalidate(flags: &[bool], requestor: CacheId, wires: &mut Wires)
-    requires few { length flags.now < 2 ^ 32 }
-    requires links { (k : ℕ) → shares flags.now k ≡ true → k < length wires.old.traffic.links }
-    requires room { HasRoomFor (invalidations requestor 0 flags.now) wires.old.room }
-    ensures traffic { wires.new.traffic ≡ all_sent (invalidations requestor 0 flags.now) wires.old.traffic }
-    ensures room { UsesRoomFor (invalidations requestor 0 flags.now) wires.old.room wires.new.room }
+fn invalidate(sharers: &Sharers, requestor: CacheId, wires: &mut Wires)
+    requires links { (k : ℕ) → shares sharers.now k ≡ true → k < length wires.old.traffic.links }
+    requires room { HasRoomFor (invalidations requestor 0 sharers.now) wires.old.room }
+    ensures traffic { wires.new.traffic ≡ all_sent (invalidations requestor 0 sharers.now) wires.old.traffic }
+    ensures room { UsesRoomFor (invalidations requestor 0 sharers.now) wires.old.room wires.new.room }
 {
-    for (i, flag) in flags.iter().enumerate() {
-        invalidate_one(CacheId(i as u32), *flag, requestor, wires);
+    // No cache has the largest number, so the number after a sharer's fits.
+    let caches = sharers.caches();
+    let mut from = 0;
+    while from < caches {
+        let Some(cache) = sharers.next(from) else {
+            return;
+        };
+        invalidate_one(cache, true, requestor, wires);
+        from = cache.0 + 1;
     }
 }
 
@@ -99,7 +106,7 @@ fn send(home: &Home, action: DirectoryAction, to: CacheId, wires: &mut Wires)
         DirectoryAction::DataAcks => {
             wires.place(data(to, home.memory, home.sharers.others(to)));
         }
-        DirectoryAction::InvSharers => invalidate(home.sharers.as_slice(), to, wires),
+        DirectoryAction::InvSharers => invalidate(&home.sharers, to, wires),
         DirectoryAction::FwdGetS => to_owner(home.owner, ForwardKind::FwdGetS, to, wires),
         DirectoryAction::FwdGetM => to_owner(home.owner, ForwardKind::FwdGetM, to, wires),
         DirectoryAction::PutAck => wires.place(on_link(to, ForwardKind::PutAck, to)),

@@ -1,6 +1,6 @@
 ghost use Rattle.std.specs.Prelude.{◌≡◌, ◌≤◌, length};
 ghost use Rattle.control.specs.Events.{owns};
-ghost use Rattle.control.specs.inner.Counting.{replies_by, is_sent_to, owner_left, sharer_left, forwards_to};
+ghost use Rattle.control.specs.inner.Counting.{invalidates, replies_by, is_sent_to, owner_left, sharer_left, forwards_to};
 
 use crate::home::Home;
 use base::CacheId;
@@ -19,6 +19,18 @@ pub(crate) fn replies(actions: &[DirectoryAction]) -> usize
         }
     }
     count
+}
+
+/// Whether the actions send to the sharers.
+pub(crate) fn invalidates(actions: &[DirectoryAction]) -> bool
+    ensures { result ≡ invalidates actions.now }
+{
+    for action in actions {
+        if let DirectoryAction::InvSharers = action {
+            return true;
+        }
+    }
+    false
 }
 
 pub(crate) fn is_owner(owner: Option<CacheId>, cache: CacheId) -> bool

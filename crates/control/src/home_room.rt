@@ -1,10 +1,11 @@
-ghost use Rattle.std.specs.Prelude.{◌≡◌, ◌<◌, ◌≤◌, IsOk, OnOk, length};
-ghost use Rattle.network.specs.Room.{HasRoomFor};
+ghost use Rattle.std.specs.Prelude.{◌≡◌, ◌<◌, ◌≤◌, ℕ, [], IsOk, OnOk, length, true};
+ghost use Rattle.network.specs.Room.{HasRoomFor, UsesRoomFor};
 ghost use Rattle.control.specs.HomeEffect.{sender_of, home_sends, IsBelow, NamesBelow};
-ghost use Rattle.control.specs.inner.Counting.{HasRoomToReply};
+ghost use Rattle.control.specs.inner.Counting.{HasRoomOnLink, HasRoomToReply, HasRoomToOwner, HasRoomToSharers};
+ghost use Rattle.control.specs.Sharing.{shares};
 
 use crate::home::{Home, HomeInput};
-use crate::home_counts::{forwards_to, replies};
+use crate::home_counts::{forwards_to, invalidates, replies};
 use base::{CacheId, NoMemory};
 use directory_table::{DirectoryAction, DirectoryActions};
 use network::Wires;
@@ -23,6 +24,7 @@ pub fn home_reserve(
     requires sender_flag { IsBelow (sender_of input) (length home.now.sharers) }
     requires sender_link { IsBelow (sender_of input) (length wires.old.traffic.links) }
     ensures traffic { wires.new.traffic ≡ wires.old.traffic }
+    ensures marks { wires.new.marks ≡ wires.old.marks }
     ensures ok { OnOk result (HasRoomFor (home_sends input actions home.now) wires.new.room) }
     ensures succeeds { HasRoomFor (home_sends input actions home.now) wires.old.room → IsOk result }
 {
@@ -37,6 +39,7 @@ pub fn home_reserve(
     }
 }
 
+/// Room for what the actions send on a request. Only the sender, the owner and the sharers are sent anything.
 fn reserve_for(
     home: &Home,
     from: CacheId,
@@ -47,16 +50,64 @@ fn reserve_for(
     requires links { NamesBelow (length wires.old.traffic.links) home.now }
     requires sender { from.0 < length wires.old.traffic.links }
     ensures traffic { wires.new.traffic ≡ wires.old.traffic }
+    ensures marks { wires.new.marks ≡ wires.old.marks }
     ensures ok { OnOk result (HasRoomToReply from actions.now home.now wires.new.room) }
     ensures succeeds { HasRoomToReply from actions.now home.now wires.old.room → IsOk result }
 {
     wires.reserve_ends(0, replies(actions))?;
-    for number in 0..home.sharers.caches() {
-        let cache = CacheId(number);
-        let count = forwards_to(cache, from, actions, home);
-        if count > 0 {
-            wires.reserve_link(cache, count)?;
-        }
+    wires.reserve_link(from, forwards_to(from, from, actions, home))?;
+    reserve_for_owner(home, from, actions, wires)?;
+    reserve_for_sharers(home, from, actions, wires)
+}
+
+/// Room on the owner's link, if there is an owner.
+fn reserve_for_owner(
+    home: &Home,
+    from: CacheId,
+    actions: &[DirectoryAction],
+    wires: &mut Wires,
+) -> Result<(), NoMemory>
+    requires few { length actions.now ≤ 8 }
+    requires link { IsBelow home.now.owner (length wires.old.traffic.links) }
+    ensures traffic { wires.new.traffic ≡ wires.old.traffic }
+    ensures marks { wires.new.marks ≡ wires.old.marks }
+    ensures ok { OnOk result (HasRoomToOwner from actions.now home.now wires.new.room) }
+    ensures succeeds { HasRoomToOwner from actions.now home.now wires.old.room → IsOk result }
+    ensures room { UsesRoomFor [] wires.old.room wires.new.room }
+{
+    match home.owner {
+        Some(owner) => wires.reserve_link(owner, forwards_to(owner, from, actions, home)),
+        None => Ok(()),
+    }
+}
+
+/// Room on the link to each sharer that is neither the owner nor the sender: only invalidations go there.
+fn reserve_for_sharers(
+    home: &Home,
+    from: CacheId,
+    actions: &[DirectoryAction],
+    wires: &mut Wires,
+) -> Result<(), NoMemory>
+    requires few { length actions.now ≤ 8 }
+    requires links { (k : ℕ) → shares home.now.sharers k ≡ true → k < length wires.old.traffic.links }
+    ensures traffic { wires.new.traffic ≡ wires.old.traffic }
+    ensures marks { wires.new.marks ≡ wires.old.marks }
+    ensures ok { OnOk result (HasRoomToSharers from actions.now home.now wires.new.room) }
+    ensures succeeds { ((k : ℕ) → HasRoomOnLink k from actions.now home.now wires.old.room) → IsOk result }
+    ensures room { UsesRoomFor [] wires.old.room wires.new.room }
+{
+    if !invalidates(actions) {
+        return Ok(());
+    }
+    // No cache has the largest number, so the number after a sharer's fits.
+    let caches = home.sharers.caches();
+    let mut next = 0;
+    while next < caches {
+        let Some(cache) = home.sharers.next(next) else {
+            return Ok(());
+        };
+        wires.reserve_link(cache, forwards_to(cache, from, actions, home))?;
+        next = cache.0 + 1;
     }
     Ok(())
 }

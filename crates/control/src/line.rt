@@ -1,9 +1,11 @@
 ghost use Rattle.std.specs.Prelude.{◌≡◌};
 ghost use Rattle.control.specs.LineEffect.{opened_line};
 
-use base::Ask;
+use base::{Ask, NoMemory};
 use cache_table::CacheState;
 use network::{Forward, Response};
+use rows::TryClone;
+use std::alloc::Global;
 
 /// A block in one cache.
 #[derive(Clone, Copy, Debug, PartialEq, Eq)]
@@ -42,5 +44,18 @@ impl Line {
             acks: 0,
             pending: None,
         }
+    }
+}
+
+impl TryClone for Line {
+    ghost use Rattle.control.specs.declared.line.Line.{Line};
+
+    ghost Seen = { Line };
+
+    ghost seen = { λ line. line };
+
+    /// The same line, which takes no memory.
+    fn try_clone(&self, _alloc: Global) -> Result<Line, NoMemory> {
+        Ok(*self)
     }
 }

@@ -77,6 +77,7 @@ pub fn line_reserve(
     wires: &mut Wires,
 ) -> Result<(), NoMemory>
     ensures traffic { wires.new.traffic ≡ wires.old.traffic }
+    ensures marks { wires.new.marks ≡ wires.old.marks }
     ensures ok { OnOk result ((cache : CacheId) (line : Line) → HasRoomFor (line_sends cache input actions line) wires.new.room) }
     ensures succeeds { (cache : CacheId) (line : Line) → HasRoomFor (line_sends cache input actions line) wires.old.room → IsOk result }
 {

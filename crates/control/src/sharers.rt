@@ -1,24 +1,24 @@
-ghost use Rattle.std.specs.Prelude.{◌≡◌, ◌<◌, ◌^◌, IfOk, length, replicate, slice_set, true, false};
+ghost use Rattle.std.specs.Prelude.{◌≡◌, ◌<◌, IfNone, IfOk, IfSome, length, replicate, slice_set, true, false};
 ghost use Rattle.control.specs.Sharing.{shares, others_from, is_sole};
+ghost use Rattle.rows.specs.Flags.{IsFirstFrom, NoneFrom};
 
 use base::{CacheId, NoMemory};
+use rows::Bits;
 use std::alloc::Global;
 use std::marker::Model;
 
 /// The caches that share a block, as a flag for each cache.
 #[derive(Drop)]
 pub struct Sharers {
-    flags: Vec<bool>,
+    flags: Bits,
 }
 
 impl Model for Sharers {
-    ghost use Rattle.std.specs.Prelude.{List, Bool, length, ◌<◌, ◌^◌};
+    ghost use Rattle.std.specs.Prelude.{List, Bool};
 
     ghost Value = { List Bool };
 
-    ghost view = { λ s. s.flags.items };
-
-    ghost invariant = { λ s. length s.flags.items < 2 ^ 32 };
+    ghost view = { λ s. s.flags };
 }
 
 impl Sharers {
@@ -26,7 +26,7 @@ impl Sharers {
     pub fn open(alloc: Global, caches: u32) -> Result<Sharers, NoMemory>
         ensures { IfOk result (λ sharers. sharers ≡ replicate caches false) }
     {
-        let flags = vec![in alloc; false; caches as usize]?;
+        let flags = Bits::open(alloc, caches)?;
         Ok(Sharers { flags })
     }
 
@@ -34,7 +34,7 @@ impl Sharers {
     pub fn try_clone(&self, alloc: Global) -> Result<Sharers, NoMemory>
         ensures { IfOk result (λ sharers. sharers ≡ self.now) }
     {
-        let flags = Vec::from_slice(alloc, self.flags.as_slice())?;
+        let flags = self.flags.try_clone(alloc)?;
         Ok(Sharers { flags })
     }
 
@@ -42,52 +42,57 @@ impl Sharers {
         requires { cache.0 < length self.old }
         ensures { self.new ≡ slice_set self.old cache.0 true }
     {
-        self.flags[cache.0 as usize] = true;
+        self.flags.set(cache.0, true);
     }
 
     pub fn remove(&mut self, cache: CacheId)
         requires { cache.0 < length self.old }
         ensures { self.new ≡ slice_set self.old cache.0 false }
     {
-        self.flags[cache.0 as usize] = false;
+        self.flags.set(cache.0, false);
     }
 
     pub fn clear(&mut self)
         ensures { self.new ≡ replicate (length self.old) false }
     {
-        self.flags.fill(false);
+        self.flags.clear();
     }
 
     /// Whether a cache is among the sharers.
     pub fn contains(&self, cache: CacheId) -> bool
         ensures { result ≡ shares self.now cache.0 }
     {
-        match self.flags.get(cache.0 as usize) {
-            Some(flag) => *flag,
-            None => false,
-        }
+        self.flags.contains(cache.0)
     }
 
     /// How many caches there are.
     pub fn caches(&self) -> u32
         ensures { result ≡ length self.now }
     {
-        self.flags.len() as u32
+        self.flags.places()
     }
 
-    /// A flag for each cache.
-    pub fn as_slice(&self) -> &[bool]
-        ensures flags { result.now ≡ self.now }
-        ensures few { length self.now < 2 ^ 32 }
+    /// The least sharer from a number on, if there is one.
+    pub fn next(&self, from: u32) -> Option<CacheId>
+        ensures some { IfSome result (λ cache. IsFirstFrom self.now from cache.0) }
+        ensures none { IfNone result (NoneFrom self.now from) }
     {
-        &self.flags[..]
+        match self.flags.next_from(from) {
+            Some(number) => Some(CacheId(number)),
+            None => None,
+        }
     }
 
     /// How many sharers there are besides a cache.
     pub fn others(&self, cache: CacheId) -> u32
         ensures { result ≡ others_from 0 cache.0 self.now }
     {
-        count_others(&self.flags, cache)
+        let sharers = self.flags.ones();
+        if self.contains(cache) {
+            sharers - 1
+        } else {
+            sharers
+        }
     }
 
     /// Whether a cache is the only sharer.
@@ -96,17 +101,4 @@ impl Sharers {
     {
         self.contains(cache) && self.others(cache) == 0
     }
-}
-
-fn count_others(flags: &[bool], cache: CacheId) -> u32
-    requires { length flags.now < 2 ^ 32 }
-    ensures { result ≡ others_from 0 cache.0 flags.now }
-{
-    let mut count: u32 = 0;
-    for (i, flag) in flags.iter().enumerate() {
-        if *flag && i != cache.0 as usize {
-            count += 1;
-        }
-    }
-    count
 }

@@ -1,5 +1,7 @@
 -- Steps on the word keep its rule.
-use Rattle.std.proofs.Common.{◌≡◌, ◌≢◌, ◌⊎◌, inl, inr, ℕ, zero, suc, ◌+◌, ◌-◌, ◌%◌, ◌^◌, ◌<◌, ◌≤◌, min, List, [], ◌∷◌, ◌++◌, length, slice_index, slice_set, nat_lt, ◌||◌, Bool, true, false, not, cond, refl, sym, ap, ◌∙◌, arith, subst}
+use Rattle.std.proofs.Common.{◌≡◌, ◌≢◌, ◌⊎◌, inl, inr, ℕ, zero, suc, ◌+◌, ◌-◌, ◌%◌, ◌^◌, ◌<◌, ◌≤◌, min}
+use Rattle.std.proofs.Common.{List, [], ◌∷◌, ◌++◌, length, slice_index, slice_set, nat_lt, ◌||◌, Bool, true, false, not, cond}
+use Rattle.std.proofs.Common.{refl, sym, ap, ◌∙◌, arith, subst}
 use Rattle.std.proofs.lemmas.Bool.Decides.{nat_tests}
 use mathlib.Core.Option.{none, some}
 use lib.ListN.{get_elem?}
@@ -27,7 +29,8 @@ set_same views id by w v at e = elim (set_get views id by w v e) [
   | inr q ↦ q.1
 ]
 
-snoc_get : (views : List TokenView) (w v : TokenView) (by : ℕ) → get_elem? (views ++ w ∷ []) by ≡ some v → (get_elem? views by ≡ some v) ⊎ (v ≡ w)
+snoc_get : (views : List TokenView) (w v : TokenView) (by : ℕ) → get_elem? (views ++ w ∷ []) by ≡ some v
+    → (get_elem? views by ≡ some v) ⊎ (v ≡ w)
 snoc_get [] w v zero e = inr (cc e)
 snoc_get [] w v (suc by) e = absurd (cc e)
 snoc_get (u ∷ us) w v zero e = inl e
@@ -44,7 +47,8 @@ total_snoc f [] w = omega arith
 total_snoc f (u ∷ us) w = omega (arith, total_snoc f us w)
 
 -- a part that isn't counted leaves room
-room : (f g : TokenView → ℕ) → ((u : TokenView) → f u ≤ g u) → (views : List TokenView) (port : ℕ) (v : TokenView) → get_elem? views port ≡ some v
+room : (f g : TokenView → ℕ) → ((u : TokenView) → f u ≤ g u) → (views : List TokenView) (port : ℕ) (v : TokenView)
+    → get_elem? views port ≡ some v
     → total f views + g v ≤ total g views + f v
 room f g le [] port v at = absurd (cc at)
 room f g le (u ∷ us) zero v at = let e : u ≡ v = cc at in omega (arith, ap f e, ap g e, all_le us)
@@ -61,7 +65,8 @@ one_of f (u ∷ us) zero v at = let e : u ≡ v = cc at in omega (arith, ap f e)
 one_of f (u ∷ us) (suc port) v at = omega (arith, one_of f us port v at)
 
 -- where one view has every part, and f is 0 of each view with none, it has all of f
-all_of : (f : TokenView → ℕ) (views : List TokenView) (port : ℕ) (v : TokenView) → get_elem? views port ≡ some v → total (λ u. u.parts) views ≤ v.parts
+all_of : (f : TokenView → ℕ) (views : List TokenView) (port : ℕ) (v : TokenView) → get_elem? views port ≡ some v
+    → total (λ u. u.parts) views ≤ v.parts
     → ((id : ℕ) (u : TokenView) → get_elem? views id ≡ some u → u.parts ≡ 0 → f u ≡ 0) → total f views ≡ f v
 all_of f [] port v at le idle = absurd (cc at)
 all_of f (u ∷ us) zero v at le idle =
@@ -69,8 +74,8 @@ all_of f (u ∷ us) zero v at le idle =
     let p = ap (λ x. x.parts) e in
     omega (arith, ap f e, none_of us (omega (arith, le, p)) (λ id x g. idle (suc id) x g))
   where
-    none_of : (vs : List TokenView) → total (λ x. x.parts) vs ≡ 0 → ((id : ℕ) (x : TokenView) → get_elem? vs id ≡ some x → x.parts ≡ 0 → f x ≡ 0) →
-        total f vs ≡ 0
+    none_of : (vs : List TokenView) → total (λ x. x.parts) vs ≡ 0
+        → ((id : ℕ) (x : TokenView) → get_elem? vs id ≡ some x → x.parts ≡ 0 → f x ≡ 0) → total f vs ≡ 0
     none_of [] z i = refl
     none_of (x ∷ xs) z i = omega (arith, i 0 x refl (omega (arith, z)), none_of xs (omega (arith, z)) (λ id y g. i (suc id) y g))
 all_of f (u ∷ us) (suc port) v at le idle =
@@ -125,11 +130,12 @@ draws_kept size s id v count part small on h at =
     let below : n + 1 < 2 ^ 64 = omega (arith, h.bound, h.parts, space, off, small, part) in
     let same : (n + 1) % 2 ^ 64 ≡ n + 1 = omega (arith, below) in
     let here : slice_index (slice_set s.words 0 ((n + 1) % 2 ^ 64)) 0 ≡ n + 1 = at_zero s.words _ h.one ∙ same in
+    let drawn_before = λ (x : ℕ). h.each x ∙ ap (λ k. once_below x (min n k)) (sym count) in
     record {
       one = kept_length s.words _ h.one;
       parts = let t = total_set (λ u. u.parts) s.views id v w at in omega (arith, t, h.parts);
       each = λ x. rw here (subst (λ k. total (λ u. times x u.drawn) (slice_set s.views id w) ≡ once_below x (min (n + 1) k)) count
-          (one_more x n v.count v.drawn _ _ (total_set (λ u. times x u.drawn) s.views id v w at) (h.each x ∙ ap (λ k. once_below x (min n k)) (sym count))));
+          (one_more x n v.count v.drawn _ _ (total_set (λ u. times x u.drawn) s.views id v w at) (drawn_before x)));
       bound = rw here (subst (λ k. n + 1 ≤ k + total ended (slice_set s.views id w)) count
           (one_less n v.count v.parts _ _ (subst (λ k. total ended (slice_set s.views id w) + k ≡ total ended s.views + ended w) off
           (total_set ended s.views id v w at)) part (subst (λ k. n ≤ k + total ended s.views) (sym count) h.bound)));

@@ -1,12 +1,13 @@
 -- A place of a list that is seen through a function.
-use Rattle.std.proofs.Common.{◌≡◌, ℕ, ◌<◌, List, ◌++◌, take, drop, slice_get, length, get_or, set, map, sym, ap, ◌∙◌, arith, Option, Some, None, Result, Ok, Err, false}
+use Rattle.std.proofs.Common.{◌≡◌, ℕ, ◌<◌, List, ◌++◌, take, drop, slice_get, length, get_or, set, map}
+use Rattle.std.proofs.Common.{sym, ap, ◌∙◌, arith, Option, Some, None, Result, Ok, Err, false}
 use Rattle.std.specs.Prelude.{MatchOption, MatchResult, OnOk}
 use Rattle.std.specs.Result.{is_err}
 use Rattle.std.proofs.lemmas.List.{get_or-map, map-set, set-get_or, length-map, drop_all, take_all, append-nil}
 use Rattle.std.proofs.lemmas.Option.{slice_get-get_or}
 
-pub cells_meet : {N C : Type 0} (f : N → ℕ) (g : C → ℕ) (ns : List N) (cs : List C) (k : ℕ) (n : N) (c : C) → map f ns ≡ map g cs → k < length cs
-    → n ≡ get_or ns k n → c ≡ get_or cs k c → f n ≡ g c
+pub cells_meet : {N C : Type 0} (f : N → ℕ) (g : C → ℕ) (ns : List N) (cs : List C) (k : ℕ) (n : N) (c : C)
+    → map f ns ≡ map g cs → k < length cs → n ≡ get_or ns k n → c ≡ get_or cs k c → f n ≡ g c
 cells_meet f g ns cs k n c same lt at_n at_c =
     let len : length ns ≡ length cs = sym (length-map ns f) ∙ (ap (λ l. length l) same ∙ length-map cs g) in
     ap f at_n ∙ (sym (get_or-map f ns k n 0 (omega (arith, len, lt))) ∙ (ap (λ l. get_or l k 0) same ∙ (get_or-map g cs k c 0 lt ∙ sym (ap g at_c))))
@@ -15,13 +16,17 @@ cells_meet f g ns cs k n c same lt at_n at_c =
 pub seen_at : {N Y : Type 0} (f : N → Y) (ns : List N) (k : ℕ) (m : N) (d : Y) → k < length ns → m ≡ get_or ns k m → get_or (map f ns) k d ≡ f m
 seen_at f ns k m d lt at = get_or-map f ns k m d lt ∙ sym (ap f at)
 
-pub map_set_same : {N Y : Type 0} (f : N → Y) (ns : List N) (k : ℕ) (n m : N) → k < length ns → m ≡ get_or ns k m → f n ≡ f m → map f (set ns k n) ≡ map f ns
-map_set_same f ns k n m lt at e = map-set f ns k n ∙ (ap (λ y. set (map f ns) k y) (e ∙ sym (seen_at f ns k m (f m) lt at)) ∙ set-get_or (map f ns) k (f m))
+pub map_set_same : {N Y : Type 0} (f : N → Y) (ns : List N) (k : ℕ) (n m : N) → k < length ns → m ≡ get_or ns k m
+    → f n ≡ f m → map f (set ns k n) ≡ map f ns
+map_set_same f ns k n m lt at e =
+    let seen = e ∙ sym (seen_at f ns k m (f m) lt at) in
+    map-set f ns k n ∙ (ap (λ y. set (map f ns) k y) seen ∙ set-get_or (map f ns) k (f m))
 
 pub as_long : {N C : Type 0} (f : N → ℕ) (g : C → ℕ) (ns : List N) (cs : List C) → map f ns ≡ map g cs → length ns ≡ length cs
 as_long f g ns cs same = sym (length-map ns f) ∙ (ap (λ l. length l) same ∙ length-map cs g)
 
-pub match_map : {X P P' : Type 0} {Q Q' : X → Type 0} (o : Option X) → (P → P') → ((x : X) → Q x → Q' x) → MatchOption o P Q → MatchOption o P' Q'
+pub match_map : {X P P' : Type 0} {Q Q' : X → Type 0} (o : Option X) → (P → P') → ((x : X) → Q x → Q' x)
+    → MatchOption o P Q → MatchOption o P' Q'
 match_map None f g h = f h
 match_map (Some x) f g h = g x h
 

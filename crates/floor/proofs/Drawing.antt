@@ -5,7 +5,7 @@ use Rattle.std.proofs.lemmas.List.Elements.{filter_passes}
 use Rattle.base.specs.Extent.{Extent}
 use Rattle.base.specs.declared.step.Step.{Step}
 use Rattle.machine.specs.Machine.{State}
-use Rattle.machine.specs.Tables.{Tables}
+use Rattle.both_tables.specs.Tables.{Tables}
 use Rattle.world.specs.Enabled.{enabled_steps}
 use Rattle.world.specs.View.{View}
 use Rattle.monitor.specs.declared.violation.Violation.{Violation}

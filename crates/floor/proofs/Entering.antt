@@ -6,7 +6,7 @@ use Rattle.base.specs.Extent.{Extent}
 use Rattle.base.specs.declared.fault.NoMemory.{NoMemory}
 use Rattle.base.specs.declared.step.Step.{Step}
 use Rattle.base.specs.declared.step.Outcome.{Outcome}
-use Rattle.machine.specs.Tables.{Tables}
+use Rattle.both_tables.specs.Tables.{Tables}
 use Rattle.machine.specs.Machine.{State, Next, next, opened, state_after, outcomes_of}
 use Rattle.machine.specs.Completions.{completions_of}
 use Rattle.world.specs.View.{View, stepped}

@@ -1,7 +1,7 @@
 -- What names a floor.
 use Rattle.std.specs.Prelude.{ℕ, []}
 use Rattle.atomic_table.specs.Seated.{TableId}
-use Rattle.machine.specs.Tables.{baseline}
+use Rattle.both_tables.specs.Tables.{baseline}
 use Rattle.trials.specs.Terms.{Terms}
 
 -- the ground that a floor stands on, the setup of its world, how many seats it has, and how many entries it takes

@@ -1,7 +1,7 @@
 //! The end of a floor.
 
 ghost use Rattle.std.specs.Prelude.{◌≡◌, ◌≢◌, ◌<◌, None, All, MatchBool};
-ghost use Rattle.machine.specs.Tables.{baseline};
+ghost use Rattle.both_tables.specs.Tables.{baseline};
 ghost use Rattle.record.specs.Kept.{IsLegal};
 ghost use Rattle.floor.specs.Turning.{IsFirstOf, recorded};
 ghost use Rattle.floor.specs.Closing.{AllThere, AreHistories, HaveOwners, IsMissing, IsThere};

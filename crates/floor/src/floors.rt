@@ -56,7 +56,7 @@ pub struct Floor<F: Naming> {
 impl<F: Naming> Floor<F> {
     ghost use Rattle.std.specs.Prelude.{◌≡◌, ◌<◌, ◌≤◌, ◌++◌, ◌∷◌, ◌↔◌, ℕ, None, map, IfErr, IfNone, IfOk, IfSome, IsErrOf, MatchResult, OnErr};
     ghost use Rattle.std.specs.List.{range_with_len};
-    ghost use Rattle.machine.specs.Tables.{baseline};
+    ghost use Rattle.both_tables.specs.Tables.{baseline};
     ghost use Rattle.record.specs.Kept.{IsLegal};
     ghost use Rattle.floor.specs.FloorId.{names};
     ghost use Rattle.floor.specs.Turning.{IsFirstOf, new_seat, recorded, with_receipt};

@@ -25,7 +25,7 @@ use Rattle.control.specs.HomeEffect.{IsBelow, sender_of}
 use Rattle.machine.specs.declared.decision.Origin.{Origin}
 use Rattle.machine.specs.declared.decision.Origin.TheVariants as origin
 use Rattle.machine.specs.declared.decision.Decision.{Decision}
-use Rattle.machine.specs.Tables.{Tables}
+use Rattle.both_tables.specs.Tables.{Tables}
 use Rattle.machine.specs.Block.{BlockState, IsBlockAmong}
 use Rattle.machine.specs.Transition.{by_line_entry, by_home_entry, at_line, at_home, at_ask, at_request, at_forward, at_response, decision_of}
 use Rattle.machine.specs.Transition.{is_idle, Fits, IsThere}

@@ -18,7 +18,7 @@ use Rattle.machine.specs.Transition.{carried_out, at_line, at_ask}
 use Rattle.machine.specs.Transition.{is_idle, transition}
 use Rattle.machine.specs.declared.decision.Origin.TheVariants as origin
 use Rattle.machine.specs.declared.decision.Decision.TheVariants.{Refused}
-use Rattle.machine.specs.Tables.{baseline}
+use Rattle.both_tables.specs.Tables.{baseline}
 use Rattle.machine.proofs.Quiet.{IsQuiet}
 use Rattle.machine.proofs.Counts.{total}
 use Rattle.machine.proofs.Seen.{seen, names, is_fwd_gets, is_fwd_getm, is_inv, dir_data, owner_data, inv_ack}

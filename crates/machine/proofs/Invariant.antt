@@ -3,7 +3,7 @@ use Rattle.std.proofs.Common.{◌≡◌, ℕ, ◌≤◌, refl, ap, sym, subst, a
 use Rattle.control.specs.declared.line.Line.{Line}
 use Rattle.control.specs.LineEffect.{opened_line}
 use Rattle.machine.specs.Block.{BlockState, opened_block}
-use Rattle.machine.specs.Tables.{baseline}
+use Rattle.both_tables.specs.Tables.{baseline}
 use Rattle.machine.proofs.Runs.{Guards}
 use Rattle.machine.proofs.Sound.{Sound}
 use Rattle.machine.proofs.Seen.{line_of, view_of, names, is_fwd_getm}

@@ -36,7 +36,7 @@ use Rattle.machine.specs.declared.decision.Origin.{Origin}
 use Rattle.machine.specs.declared.decision.Origin.TheVariants as origin
 use Rattle.machine.specs.declared.decision.Decision.{Decision}
 use Rattle.machine.specs.declared.decision.Decision.TheVariants.{Refused, AtLine, AtHome}
-use Rattle.machine.specs.Tables.{Tables}
+use Rattle.both_tables.specs.Tables.{Tables}
 use Rattle.machine.specs.Block.{BlockState}
 use Rattle.machine.specs.Transition.{by_line_entry, at_line, by_home_entry, at_home, is_idle, at_ask, at_request, at_forward, at_response}
 use Rattle.machine.specs.Transition.{decision_of, plain_outcome, outcome_of, latest_after, carried_out, transition}

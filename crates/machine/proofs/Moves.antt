@@ -43,7 +43,7 @@ use Rattle.machine.specs.Transition.{at_response, transition}
 use Rattle.machine.specs.declared.decision.Origin.{Origin}
 use Rattle.machine.specs.declared.decision.Origin.TheVariants as origin
 use Rattle.control.specs.LineEffect.{line_completes}
-use Rattle.machine.specs.Tables.{baseline}
+use Rattle.both_tables.specs.Tables.{baseline}
 use Rattle.machine.specs.Unstuck.{IsDelivery}
 use Rattle.machine.proofs.Views.{Local}
 use Rattle.machine.proofs.Counts.{only, sum_by-remove}

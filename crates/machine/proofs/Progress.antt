@@ -9,7 +9,7 @@ use Rattle.base.specs.declared.step.Step.TheVariants as step
 use Rattle.base.specs.declared.step.Outcome.{Outcome}
 use Rattle.base.specs.declared.step.Outcome.TheVariants as outcome
 use Rattle.machine.specs.Block.{BlockState}
-use Rattle.machine.specs.Tables.{baseline}
+use Rattle.both_tables.specs.Tables.{baseline}
 use Rattle.machine.specs.Transition.{transition}
 use Rattle.machine.specs.Machine.{State, Next, IsRefusal, next, next_at, is_blank, opened, state_after}
 use Rattle.machine.specs.Unstuck.{Unstuck}

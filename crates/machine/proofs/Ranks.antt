@@ -47,7 +47,7 @@ use Rattle.machine.specs.Transition.{is_idle, transition, without}
 use Rattle.machine.specs.declared.decision.Origin.{Origin}
 use Rattle.machine.specs.declared.decision.Origin.TheVariants as origin
 use Rattle.machine.specs.declared.decision.Decision.TheVariants.{Refused, AtHome}
-use Rattle.machine.specs.Tables.{baseline}
+use Rattle.both_tables.specs.Tables.{baseline}
 use Rattle.machine.proofs.Views.{View}
 use Rattle.machine.proofs.Counts.{only, link-sent, link-sent_other, link-taken, link-taken_other, link-there, link-total, only-nothing}
 use Rattle.machine.proofs.Seen.{view_of, names, is_fwd_getm, is_owner}

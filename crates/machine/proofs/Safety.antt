@@ -3,7 +3,7 @@ use Rattle.std.proofs.Common.{ℕ, ◌≤◌, List, [], subst, arith}
 use Rattle.base.specs.Extent.{Extent, IsWithinLimits}
 use Rattle.base.specs.declared.step.Step.{Step}
 use Rattle.machine.specs.Machine.{opened, outcomes_of}
-use Rattle.machine.specs.Tables.{baseline}
+use Rattle.both_tables.specs.Tables.{baseline}
 use Rattle.machine.specs.Completions.{completions}
 use Rattle.machine.specs.Coherence.{Safe}
 use Rattle.machine.proofs.Runs.{Guards, guarded, guarded-single, guarded-unmet}

@@ -30,7 +30,7 @@ use Rattle.machine.specs.declared.decision.Origin.{Origin}
 use Rattle.machine.specs.declared.decision.Origin.TheVariants as origin
 use Rattle.machine.specs.declared.decision.Decision.TheVariants.{Refused}
 use Rattle.machine.specs.Transition.{carried_out, by_line_entry, by_home_entry, at_line, at_ask, at_request, at_forward, at_response, is_idle, transition}
-use Rattle.machine.specs.Tables.{baseline}
+use Rattle.both_tables.specs.Tables.{baseline}
 use Rattle.machine.proofs.Sound.{Sound, Fine, local-at}
 use Rattle.machine.proofs.Seen.{seen}
 use Rattle.machine.proofs.CellRules.{load_rule, store_rule, replace_rule}

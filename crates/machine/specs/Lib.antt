@@ -1,4 +1,3 @@
-pub mod Tables
 pub mod Block
 pub mod Transition
 pub mod Machine

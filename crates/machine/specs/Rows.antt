@@ -7,7 +7,7 @@ use Rattle.base.specs.declared.step.Step.{Step}
 use Rattle.base.specs.declared.step.Step.TheVariants as step
 use Rattle.base.specs.declared.step.Outcome.{Outcome}
 use Rattle.base.specs.declared.step.Outcome.TheVariants.{Sent, Moved, Load, Store, Held}
-use Rattle.machine.specs.Tables.{baseline}
+use Rattle.both_tables.specs.Tables.{baseline}
 use Rattle.machine.specs.Machine.{State, opened, state_after, outcomes_of}
 
 abbrev pub cache : ℕ → CacheId

@@ -4,7 +4,7 @@ ghost use Rattle.base.specs.declared.ids.CacheId.{CacheId};
 ghost use Rattle.base.specs.declared.step.Outcome.{Outcome};
 ghost use Rattle.base.specs.declared.step.Step.{Step};
 ghost use Rattle.machine.specs.declared.decision.Decision.{Decision};
-ghost use Rattle.machine.specs.Tables.{Tables, baseline};
+ghost use Rattle.both_tables.specs.Tables.{Tables, baseline};
 ghost use Rattle.machine.specs.Coherence.{Safe};
 ghost use Rattle.machine.specs.Unstuck.{Unstuck};
 ghost use Rattle.machine.specs.CoherenceRows.{StoreThenLoad, StaleLoadIsRefused, EarlyLoadIsRefused, OneWriterOrManyReaders};

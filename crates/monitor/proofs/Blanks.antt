@@ -23,11 +23,12 @@ use Rattle.machine.specs.declared.decision.Origin.{Origin}
 use Rattle.machine.specs.declared.decision.Origin.TheVariants as origin
 use Rattle.machine.specs.declared.decision.Decision.{Decision}
 use Rattle.machine.specs.declared.decision.Decision.TheVariants.{Refused, AtLine, AtHome}
-use Rattle.machine.specs.Tables.{Tables}
+use Rattle.both_tables.specs.Tables.{Tables}
 use Rattle.machine.specs.Block.{BlockState}
 use Rattle.machine.specs.Transition.{at_ask, at_forward, at_line, at_request, at_response, carried_out, decided_outcome, decision_of, outcome_of}
 use Rattle.machine.specs.Machine.{State, Next, next, next_at}
-use Rattle.world.specs.Looks.{cache_place, forward_place, place_at, place_in, request_place, response_place}
+use Rattle.blocks.specs.Looks.{cache_place, forward_place, place_in, request_place, response_place}
+use Rattle.world.specs.Looks.{place_at}
 
 -- where a cell acts the outcome isn't blank
 acts-blank : (cache : CacheId) (from : Origin) (what : Option LineCompletion) → ¬ (outcome_of cache from what ≡ outcome.Blank)

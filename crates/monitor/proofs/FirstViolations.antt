@@ -5,7 +5,7 @@ use Rattle.std.specs.Option.{option_or, option_zip}
 use Rattle.std.proofs.lemmas.List.{take_all, take-append-le}
 use Rattle.base.specs.Extent.{Extent}
 use Rattle.base.specs.declared.step.Step.{Step}
-use Rattle.machine.specs.Tables.{Tables}
+use Rattle.both_tables.specs.Tables.{Tables}
 use Rattle.monitor.specs.declared.violation.Violation.{Violation}
 use Rattle.monitor.specs.Scenes.{Scene, HasNone, IsViolation, Answers}
 use Rattle.monitor.specs.Watching.{scene_after}

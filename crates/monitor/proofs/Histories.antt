@@ -10,7 +10,7 @@ use Rattle.base.specs.Steps.{block_of}
 use Rattle.base.specs.declared.step.Step.{Step}
 use Rattle.base.specs.declared.step.Outcome.{Outcome}
 use Rattle.machine.specs.Completions.{Completion, HasNoStoreTo, IsStoreTo, completions, completed_by, is_store_to, stored_to, last_of, due, noted}
-use Rattle.machine.specs.Tables.{Tables}
+use Rattle.both_tables.specs.Tables.{Tables}
 use Rattle.machine.specs.Machine.{State, next, opened, state_after, outcomes_of}
 use Rattle.machine.proofs.Due.{due-nothing, due-noted}
 use Rattle.world.specs.View.{View}

@@ -1,5 +1,6 @@
 -- One writer or many readers of a block: kept by a step that shows no violation.
-use Rattle.std.proofs.Common.{◌≡◌, ◌≢◌, ◌⊎◌, inl, inr, ℕ, zero, suc, ◌<◌, Bool, true, false, List, [], ◌∷◌, length, Option, Some, None, IsTrue}
+use Rattle.std.proofs.Common.{◌≡◌, ◌≢◌, ◌⊎◌, inl, inr, ℕ, zero, suc, ◌<◌, Bool}
+use Rattle.std.proofs.Common.{true, false, List, [], ◌∷◌, length, Option, Some, None, IsTrue}
 use Rattle.std.proofs.Common.{slice_get, slice_set, refl, sym, ap, ◌∙◌, subst, arith}
 use Rattle.std.proofs.lemmas.Bool.{cases_eq}
 use Rattle.std.specs.Prelude.{if◌then◌else◌}
@@ -16,7 +17,7 @@ use Rattle.machine.specs.declared.decision.Origin.{Origin}
 use Rattle.machine.specs.declared.decision.Origin.TheVariants as origin
 use Rattle.control.specs.declared.line.LineCompletion.TheVariants as done
 use Rattle.machine.specs.Block.{BlockState}
-use Rattle.machine.specs.Tables.{Tables}
+use Rattle.both_tables.specs.Tables.{Tables}
 use Rattle.machine.specs.Transition.{carried_out, decision_of, outcome_of, plain_outcome, transition}
 use Rattle.machine.specs.Machine.{State, Next, next, next_at}
 use Rattle.machine.specs.Coherence.{Reads, Writes, line_at}
@@ -88,7 +89,8 @@ other-or-not m n = elim (cases_eq m n) [
 ]
 
 -- where the least writer has a reader beside it, there is a violation
-beside-shown : (scene : Scene) → IsLookedAt scene.outcome → HasNone scene → (first : ℕ) → IsLeast (λ c. Writes scene.state c (block_of scene.step)) first
+beside-shown : (scene : Scene) → IsLookedAt scene.outcome → HasNone scene → (first : ℕ) →
+    IsLeast (λ c. Writes scene.state c (block_of scene.step)) first
     → (reader : ℕ) → reader ≢ first → Reads scene.state reader (block_of scene.step) → ⊥
 beside-shown scene looked none first least reader other reads =
     let block = block_of scene.step in
@@ -168,7 +170,8 @@ same-or-looked : (tables : Tables) (s : State) (step : Step) (found : Option Blo
 same-or-looked tables s step None block there = inl (λ cache. refl)
 same-or-looked tables s step (Some b) block there = elim (cases_eq block (block_of step)) [
   | inr ne ↦ inl
-      (λ cache. ap (λ o. option_and_then (λ k. slice_get k.lines cache) o) (get-set-other s.blocks (block_of step) block (transition tables step b).block ne))
+      (λ cache. ap (λ o. option_and_then (λ k. slice_get k.lines cache) o)
+      (get-set-other s.blocks (block_of step) block (transition tables step b).block ne))
   | inl e ↦ elim (kept-or-looked (decision_of tables step b) b) [
     | inl kept ↦ inl
         (λ cache. ap (λ bs. option_and_then (λ k. slice_get k.lines cache) (slice_get bs block))
@@ -182,7 +185,8 @@ next-same-or-looked : (tables : Tables) (s : State) (step : Step) (block : ℕ) 
 next-same-or-looked tables s step block =
     let broken : Next = record { state = s; outcome = outcome.Broken } in
     let made : Next = next_at tables s step (slice_get s.blocks (block_of step)) in
-    elim s.broken as (λ t. SameLines s (if t then broken else made).state block ⊎ (IsLookedAt (if t then broken else made).outcome × (block ≡ block_of step))) [
+    elim s.broken as (λ t. SameLines s (if t then broken else made).state block ⊎
+    (IsLookedAt (if t then broken else made).outcome × (block ≡ block_of step))) [
       | true ↦ inl (λ cache. refl)
       | false ↦ same-or-looked tables s step (slice_get s.blocks (block_of step)) block refl
     ]

@@ -1,5 +1,6 @@
 -- No step shows a violation exactly where the steps are safe.
-use Rattle.std.proofs.Common.{◌≡◌, ◌⊎◌, inl, inr, ℕ, zero, suc, ◌<◌, ◌+◌, true, false, List, [], ◌∷◌, ◌++◌, length, take, drop, map, Option, Some}
+use Rattle.std.proofs.Common.{◌≡◌, ◌⊎◌, inl, inr, ℕ, zero, suc, ◌<◌, ◌+◌, true}
+use Rattle.std.proofs.Common.{false, List, [], ◌∷◌, ◌++◌, length, take, drop, map, Option, Some}
 use Rattle.std.proofs.Common.{None, IsSome, IsTrue, slice_get, refl, sym, ap, ◌∙◌, subst, arith, add-one, append_assoc}
 use Rattle.std.proofs.lemmas.List.{append-nil}
 use Rattle.std.proofs.lemmas.Bool.{cases_eq}
@@ -13,7 +14,7 @@ use Rattle.base.specs.declared.step.Outcome.{Outcome}
 use Rattle.base.specs.declared.step.Outcome.TheVariants as outcome
 use Rattle.control.specs.LineEffect.{is_writer, opened_line}
 use Rattle.machine.specs.Block.{BlockState, opened_block}
-use Rattle.machine.specs.Tables.{Tables}
+use Rattle.both_tables.specs.Tables.{Tables}
 use Rattle.machine.specs.Transition.{transition}
 use Rattle.machine.specs.Machine.{State, Next, next, next_at, opened, state_after, outcomes_of}
 use Rattle.machine.specs.Completions.{Completion, load, completions, completed_by, due, last_of, stored_to, completions_of}
@@ -34,7 +35,8 @@ none-at-first (suc caches) zero w = absurd (cc w)
 none-at-first (suc caches) (suc cache) w = none-at-first caches cache w
 
 no-writer-at-first : (caches : ℕ) (opening : List ℕ) (cache block : ℕ)
-    → ¬ IsSomeAnd (option_and_then (λ b. slice_get b.lines cache) (slice_get (map (opened_block caches) opening) block)) (λ line. IsTrue (is_writer line.state))
+    → ¬ IsSomeAnd (option_and_then (λ b. slice_get b.lines cache) (slice_get (map (opened_block caches) opening) block))
+    (λ line. IsTrue (is_writer line.state))
 no-writer-at-first caches [] cache block w = w
 no-writer-at-first caches (v ∷ vs) cache zero w = none-at-first caches cache w
 no-writer-at-first caches (v ∷ vs) cache (suc block) w = no-writer-at-first caches vs cache block w
@@ -241,13 +243,15 @@ map-length : {X Y : Type 0} (f : X → Y) (xs : List X) → length (map f xs) �
 map-length f [] = refl
 map-length f (x ∷ xs) = ap suc (map-length f xs)
 
-same-place : {X Y : Type 0} (xs : List X) (ys : List Y) (i : ℕ) (x : X) → length xs ≡ length ys → slice_get xs i ≡ Some x → (y : Y) × (slice_get ys i ≡ Some y)
+same-place : {X Y : Type 0} (xs : List X) (ys : List Y) (i : ℕ) (x : X) → length xs ≡ length ys → slice_get xs i ≡ Some x →
+    (y : Y) × (slice_get ys i ≡ Some y)
 same-place [] ys i x n e = absurd (cc e)
 same-place (z ∷ xs) [] i x n e = absurd (omega (arith, n))
 same-place (z ∷ xs) (y ∷ ys) zero x n e = (y, refl)
 same-place (z ∷ xs) (y ∷ ys) (suc i) x n e = same-place xs ys i x (omega (arith, n)) e
 
-due-there : (opening : List ℕ) (done : List Completion) (block value : ℕ) → slice_get opening block ≡ Some value → (d : ℕ) × (due opening done block ≡ Some d)
+due-there : (opening : List ℕ) (done : List Completion) (block value : ℕ) → slice_get opening block ≡ Some value →
+    (d : ℕ) × (due opening done block ≡ Some d)
 due-there opening done block value e = (_, ap (option_map (λ o. last_of o (stored_to block done))) e)
 
 explained-from : (shape : Extent) (tables : Tables) (opening : List ℕ) (steps : List Step) → NoneSeen shape tables opening steps →
@@ -288,7 +292,8 @@ safe-shows : (shape : Extent) (tables : Tables) (opening : List ℕ) (steps : Li
     (front : List Step) (step : Step) (later : List Step) → steps ≡ front ++ step ∷ later
     → Single (next tables (state_after tables (opened shape opening) front) step).state
 safe-shows shape tables opening steps safe front step later e =
-    subst Single (state-more tables (opened shape opening) front step) (safe.single (front ++ step ∷ []) later (e ∙ sym (append_assoc front (step ∷ []) later)))
+    subst Single (state-more tables (opened shape opening) front step)
+    (safe.single (front ++ step ∷ []) later (e ∙ sym (append_assoc front (step ∷ []) later)))
 
 -- what a load that completes is
 load-completes : (step : Step) (o : Outcome) (got : ℕ) → IsLoadOf got o →

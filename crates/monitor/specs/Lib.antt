@@ -5,7 +5,7 @@ pub mod inner
 pub use Rattle.machine.specs.Completions
 pub use Rattle.base.specs.Steps
 pub use Rattle.control.specs.LineEffect
-pub use Rattle.machine.specs.Tables
+pub use Rattle.both_tables.specs.Tables
 pub use Rattle.machine.specs.Machine
 pub use Rattle.machine.specs.Coherence
 pub use Rattle.world.specs.View

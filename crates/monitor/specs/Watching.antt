@@ -4,7 +4,7 @@ use Rattle.base.specs.Extent.{Extent}
 use Rattle.base.specs.Steps.{block_of}
 use Rattle.base.specs.declared.step.Step.{Step}
 use Rattle.base.specs.declared.step.Outcome.{Outcome}
-use Rattle.machine.specs.Tables.{Tables}
+use Rattle.both_tables.specs.Tables.{Tables}
 use Rattle.machine.specs.Machine.{Next, next, opened, after}
 use Rattle.world.specs.View.{View, stepped}
 use Rattle.monitor.specs.declared.violation.Violation.{Violation}

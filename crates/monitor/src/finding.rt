@@ -1,4 +1,4 @@
-ghost use Rattle.std.specs.Prelude.{◌≡◌, ◌≢◌, ◌+◌, ◌^◌, ◌<◌, ◌≤◌, ◌↔◌, ℕ, IfSome, IsTrue, MatchOption, None, Option};
+ghost use Rattle.std.specs.Prelude.{◌≡◌, ◌≢◌, ◌+◌, ◌≤◌, ◌↔◌, ℕ, IsTrue, MatchOption, None, Option};
 ghost use Rattle.base.specs.Steps.{block_of};
 ghost use Rattle.base.specs.declared.step.Outcome.{Outcome};
 ghost use Rattle.machine.specs.Machine.{State};
@@ -57,13 +57,17 @@ fn find_blank(world: &World, step: Step, outcome: Outcome) -> Option<Violation>
     }
 }
 
-/// The writer of the step's block that isn't alone.
+/// The writer of the step's block that isn't alone. It walks over the caches only where there is one.
 fn find_shared(world: &World, step: Step) -> Option<Violation>
     ensures { (outcome : Outcome) (due : Option ℕ) → IsLookedAt outcome → AnswersWithin (scene_in world.now.state step outcome due) 1 3 result }
 {
     let block = step.block();
-    let first = writer_from(world, block, 0)?;
-    if let Some(second) = writer_from(world, block, first.0 + 1) {
+    let first = first_writer(world, block)?;
+    // A writer may read too, so a single reader is the writer.
+    if world.readers(block) <= 1 {
+        return None;
+    }
+    if let Some(second) = writer_behind(world, block, first) {
         return Some(Violation::SecondWriter {
             block,
             first,
@@ -98,15 +102,23 @@ fn find_stale(step: Step, outcome: Outcome, due: Option<u64>) -> Option<Violatio
     }
 }
 
-/// The least cache from a number on that may write a block.
-fn writer_from(world: &World, block: BlockId, from: u32) -> Option<CacheId>
-    ensures writer { MatchOption result
-        (NoneFrom (λ c. Writes world.now.state c block.0) from)
-        (λ cache. IsLeastFrom (λ c. Writes world.now.state c block.0) from cache.0) }
-    ensures small { IfSome result (λ cache. cache.0 + 1 < 2 ^ 32) }
+/// The least cache that may write a block.
+fn first_writer(world: &World, block: BlockId) -> Option<CacheId>
+    ensures { MatchOption result
+        (NoneFrom (λ c. Writes world.now.state c block.0) 0)
+        (λ cache. IsLeastFrom (λ c. Writes world.now.state c block.0) 0 cache.0) }
 {
-    for number in from..caches_of(world, block) {
-        if writes(world, CacheId(number), block) {
+    world.writer(block)
+}
+
+/// The least cache behind one that may write a block.
+fn writer_behind(world: &World, block: BlockId, first: CacheId) -> Option<CacheId>
+    ensures { MatchOption result
+        (NoneFrom (λ c. Writes world.now.state c block.0) (first.0 + 1))
+        (λ cache. IsLeastFrom (λ c. Writes world.now.state c block.0) (first.0 + 1) cache.0) }
+{
+    for number in first.0..caches_of(world, block) {
+        if number > first.0 && writes(world, CacheId(number), block) {
             return Some(CacheId(number));
         }
     }

@@ -4,7 +4,7 @@ ghost use Rattle.base.specs.Extent.{Extent};
 ghost use Rattle.base.specs.declared.step.Outcome.{Outcome};
 ghost use Rattle.base.specs.declared.step.Step.{Step};
 ghost use Rattle.machine.specs.Machine.{State, after, next, opened};
-ghost use Rattle.machine.specs.Tables.{Tables};
+ghost use Rattle.both_tables.specs.Tables.{Tables};
 ghost use Rattle.world.specs.Looks.{place_at};
 ghost use Rattle.machine.specs.Completions.{Completion, HasNoStoreTo, IsStoreTo, completions, due};
 ghost use Rattle.monitor.specs.Scenes.{HasNone, IsLookedAt, IsViolation, Scene};

@@ -4,7 +4,7 @@ ghost use Rattle.std.specs.Prelude.{◌≡◌, ◌↔◌, ◌+◌, ◌++◌, ◌
 ghost use Rattle.base.specs.Extent.{Extent, IsWithinLimits};
 ghost use Rattle.base.specs.declared.step.Step.{Step};
 ghost use Rattle.machine.specs.Coherence.{Safe};
-ghost use Rattle.machine.specs.Tables.{Tables, baseline};
+ghost use Rattle.both_tables.specs.Tables.{Tables, baseline};
 ghost use Rattle.monitor.specs.Scenes.{HasNone, IsViolation};
 ghost use Rattle.monitor.specs.Watching.{scene_after};
 ghost use Rattle.monitor.specs.declared.violation.Violation.{Violation};

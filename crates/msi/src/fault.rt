@@ -1,12 +1,12 @@
 use crate::files::LoadFault;
 use base::{NoMemory, ShapeFault};
+use both_tables::TablesFault;
 use record::{ReadFault, ReadKind, WriteFault};
 use scenario::ScenarioFault;
 use std::alloc::{AllocError, AllocFailed};
 use std::{fmt, io};
 use thiserror::Error;
 use trials::SetupFault;
-use world::TablesFault;
 
 /// Why a command ends early. Its text is what `msi` prints on standard error.
 #[derive(Debug, Drop, Error)]

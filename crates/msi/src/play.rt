@@ -2,10 +2,11 @@ use crate::fault::Fault;
 use crate::finding::Finding;
 use crate::lines::{Lines, MOST_BYTES};
 use base::{Shape, Step};
+use both_tables::Tables;
 use monitor::Watch;
 use std::alloc::Global;
 use std::io::{BufWriter, Read, Write};
-use world::{OpenFault, Tables, World};
+use world::{OpenFault, World};
 
 /// Plays the steps of the input in a world that has just been opened with every block at 0,
 /// under these tables, up to the first violation.

@@ -1,11 +1,11 @@
 use crate::fault::Fault;
 use crate::finding::Finding;
 use base::controller::Side;
+use both_tables::Tables;
 use cache_table::{CacheChange, CacheEvent, CacheState, CacheTable};
 use directory_table::{DirectoryChange, DirectoryEvent, DirectoryState, DirectoryTable};
 use std::alloc::Global;
 use std::io::{BufWriter, Write};
-use world::Tables;
 
 /// Prints all cells: the cache's before the directory's, by state and then by event.
 pub fn print_tables<O: Write + Drop>(

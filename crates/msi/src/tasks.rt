@@ -1,11 +1,11 @@
 use crate::fault::Fault;
 use crate::files::Files;
 use base::Shape;
+use both_tables::Tables;
 use clap::ArgMatches;
 use record::MOST_ENTRIES;
 use std::alloc::Global;
 use trials::Setup;
-use world::Tables;
 
 /// What a command line asks for, with all that its options and their files say.
 #[derive(Drop)]

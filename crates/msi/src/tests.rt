@@ -12,13 +12,13 @@ mod broken;
 mod cells;
 mod ends;
 mod racing;
-mod rows;
 mod sharing;
 mod trying;
+mod worked;
 
 use broken::BROKEN;
 use cells::CELLS;
-use rows::ROWS;
+use worked::ROWS;
 
 /// The file `table.json`, with its text, and the file `huge.json`, for which there is no memory.
 #[derive(Drop)]

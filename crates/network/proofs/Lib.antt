@@ -1,3 +1,5 @@
 pub mod Linked
 pub mod Listed
+pub mod Marked
 pub mod Sending
+pub mod Waits

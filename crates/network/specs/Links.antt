@@ -1,25 +1,46 @@
-use Rattle.std.specs.Prelude.{◌≢◌, ℕ, ◌+◌, ◌-◌, ◌≤◌, List, map, slice_index}
-use Rattle.std.specs.Vec.{vec_len, vec_capacity}
-use Rattle.std.specs.declared.vec.Vec.{Vec}
-use Rattle.std.specs.declared.alloc.Global.{Global}
+use Rattle.std.specs.Prelude.{◌≡◌, ◌≢◌, ℕ, ◌+◌, ◌≤◌, List, [], Option, None, Some, Bool, not, length, map, slice_index, slice_index_or}
 use Rattle.network.specs.declared.message.Forward.{Forward}
+use Rattle.network.specs.Traffic.{is_nil}
+
+-- a wire, as contracts see it: its messages with their marks, and how many more it takes without asking for memory
+pub record Wired (M : Type 0) : Type 0 where
+  pub messages : List M
+  pub marks : List Bool
+  pub room : ℕ
 
 -- the links of a block, as contracts see them: what is on each, and how many more it takes without asking for memory
 pub record Linked : Type 0 where
   pub messages : List (List Forward)
+  pub marks : List (List Bool)
   pub room : List ℕ
 
--- the messages of each link
-abbrev pub forwards_on : List (Vec Forward Global) → List (List Forward)
-forwards_on vs = map (λ v. v.items) vs
+-- the messages on a link; one that was never used has none
+abbrev pub on_link : Option (Wired Forward) → List Forward
+on_link None = []
+on_link (Some w) = w.messages
+
+-- their marks
+abbrev pub marks_on : Option (Wired Forward) → List Bool
+marks_on None = []
+marks_on (Some w) = w.marks
 
 -- the room of a link
-abbrev pub spare : Vec Forward Global → ℕ
-spare v = vec_capacity v - vec_len v
+abbrev pub room_on : Option (Wired Forward) → ℕ
+room_on None = 0
+room_on (Some w) = w.room
 
--- the room of each link
-abbrev pub spares : List (Vec Forward Global) → List ℕ
-spares vs = map spare vs
+-- for each link whether it has a message
+abbrev pub waiting_of : List (List Forward) → List Bool
+waiting_of links = map (λ l. not (is_nil l)) links
+
+-- on each link there are as many marks as messages
+abbrev pub AreMarked : List (Option (Wired Forward)) → Type 0
+AreMarked links = (cache : ℕ) → length (marks_on (slice_index_or links cache None)) ≡ length (on_link (slice_index_or links cache None))
+
+-- links hold together: the flags say which has a message, and each message has its mark
+pub record AreLinked (links : List (Option (Wired Forward))) (flags : List Bool) : Type 0 where
+  pub waiting : flags ≡ waiting_of (map on_link links)
+  pub marked : AreMarked links
 
 -- no link has less room
 pub record KeepsRoom (old new : List ℕ) : Type 0 where

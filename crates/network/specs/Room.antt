@@ -2,6 +2,7 @@ use Rattle.std.specs.Prelude.{ℕ, ◌+◌, ◌<◌, ◌≤◌, List, [], ◌∷
 use Rattle.base.specs.declared.ids.CacheId.{CacheId}
 use Rattle.network.specs.declared.message.Message.{Message}
 use Rattle.network.specs.declared.message.Message.TheVariants as message
+use Rattle.network.specs.Marks.{Marks}
 use Rattle.network.specs.Traffic.{Traffic}
 
 -- how many more messages each wire takes without asking for memory
@@ -14,6 +15,7 @@ pub record Room : Type 0 where
 pub record Wiring : Type 0 where
   pub traffic : Traffic
   pub room : Room
+  pub marks : Marks
 
 abbrev pub one_if : Bool → ℕ
 one_if true = 1

@@ -1,4 +1,4 @@
-use Rattle.std.specs.Prelude.{ℕ, Bool, true, false, ◌&&◌, List, [], ◌∷◌, ◌++◌, remove, replicate, slice_index_or, slice_set}
+use Rattle.std.specs.Prelude.{◌≡◌, ℕ, ◌≤◌, ◌<◌, Bool, true, false, ◌&&◌, List, [], ◌∷◌, ◌++◌, remove, replicate, slice_index_or, slice_set}
 use Rattle.network.specs.declared.message.Request.{Request}
 use Rattle.network.specs.declared.message.Forward.{Forward}
 use Rattle.network.specs.declared.message.Response.{Response}
@@ -67,3 +67,13 @@ head_taken cache w = record w { links = slice_set w.links cache (remove (link w 
 -- after a response was taken out, from any place; the others keep their order
 abbrev pub response_taken : ℕ → Traffic → Traffic
 response_taken i w = record w { responses = remove w.responses i }
+
+-- the least cache from one on whose link has a message
+pub record IsNextWaiting (w : Traffic) (from cache : ℕ) : Type 0 where
+  pub behind : from ≤ cache
+  pub waits : is_nil (link w cache) ≡ false
+  pub first : (k : ℕ) → from ≤ k → k < cache → link w k ≡ []
+
+-- no link to a cache from one on has a message
+pub record NoneWaits (w : Traffic) (from : ℕ) : Type 0 where
+  pub none : (k : ℕ) → from ≤ k → link w k ≡ []

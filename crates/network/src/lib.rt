@@ -6,6 +6,7 @@
 
 mod links;
 mod message;
+mod wire;
 mod wires;
 
 pub use message::{Forward, ForwardKind, Message, Request, RequestKind, Response};

@@ -1,11 +1,18 @@
-ghost use Rattle.std.specs.Prelude.{◌≡◌, ◌<◌, ◌≤◌, ◌∷◌, [], IsOk, IfOk, OnOk, OnErr, IfErr, IfNone, OnSome, length, slice_get, slice_index};
+ghost use Rattle.std.specs.Prelude.{◌≡◌, ◌<◌, ◌≤◌, ◌∷◌, [], IsOk, IfOk, OnOk, OnErr, IfErr, IfNone, IfSome, OnSome};
+ghost use Rattle.std.specs.Prelude.{ℕ, length, slice_get, slice_index};
+ghost use Rattle.network.specs.Marks.{no_marks, link_marks, mark_at, mark_added, request_mark_added, forward_mark_added, response_mark_added};
+ghost use Rattle.network.specs.Marks.{request_mark_taken, head_mark_taken, response_mark_taken};
+ghost use Rattle.network.specs.Marks.{request_marked, forward_marked, response_marked};
+ghost use Rattle.network.specs.Traffic.{IsNextWaiting, NoneWaits};
 ghost use Rattle.network.specs.Traffic.{quiet, is_quiet, link, sent, request_sent, forward_sent, response_sent, request_taken, head_taken, response_taken};
 ghost use Rattle.network.specs.Room.{HasRoomFor, UsesRoomFor, HasPlaces, AllBelow, times, HasLinkFor};
 ghost use Rattle.network.specs.declared.message.Message.TheVariants as message;
 
 use crate::links::Links;
 use crate::message::{Forward, Message, Request, Response};
+use crate::wire::Wire;
 use base::{CacheId, NoMemory};
+use rows::TryClone;
 use std::alloc::Global;
 use std::marker::Model;
 
@@ -13,31 +20,37 @@ use std::marker::Model;
 ///
 /// A message is sent at the end of its wire. Requests and responses are taken from any place,
 /// counted from 0 in order of sending; of a link only the first message is taken. What is left
-/// keeps its order.
+/// keeps its order. A wire holds 2^32 - 1 messages at most; one more is refused as where there is no
+/// memory for it.
+///
+/// Beside each message stands a mark, which its user sets and reads: `false` once the message was sent.
 #[derive(Drop)]
 pub struct Wires {
-    requests: Vec<Request>,
+    requests: Wire<Request>,
     links: Links,
-    responses: Vec<Response>,
+    responses: Wire<Response>,
 }
 
 impl Model for Wires {
-    ghost use Rattle.std.specs.Prelude.{◌-◌, vec_len};
-    ghost use Rattle.std.specs.Vec.{vec_capacity};
     ghost use Rattle.network.specs.Room.{Wiring};
 
     ghost Value = { Wiring };
 
     ghost view = { λ w. record {
       traffic = record {
-        requests = w.requests.items;
+        requests = w.requests.messages;
         links = w.links.messages;
-        responses = w.responses.items;
+        responses = w.responses.messages;
       };
       room = record {
-        requests = vec_capacity w.requests - vec_len w.requests;
+        requests = w.requests.room;
         links = w.links.room;
-        responses = vec_capacity w.responses - vec_len w.responses;
+        responses = w.responses.room;
+      };
+      marks = record {
+        requests = w.requests.marks;
+        links = w.links.marks;
+        responses = w.responses.marks;
       };
     } };
 }
@@ -45,23 +58,25 @@ impl Model for Wires {
 impl Wires {
     /// Wires with nothing on them, with a link to each of so many caches.
     pub fn open(alloc: Global, caches: u32) -> Result<Wires, NoMemory>
-        ensures { IfOk result (λ wires. wires.traffic ≡ quiet caches) }
+        ensures traffic { IfOk result (λ wires. wires.traffic ≡ quiet caches) }
+        ensures marks { IfOk result (λ wires. wires.marks ≡ no_marks caches) }
     {
         let links = Links::open(alloc, caches)?;
         Ok(Wires {
-            requests: Vec::new(alloc),
+            requests: Wire::open(alloc),
             links,
-            responses: Vec::new(alloc),
+            responses: Wire::open(alloc),
         })
     }
 
     /// Wires with the same messages.
     pub fn try_clone(&self, alloc: Global) -> Result<Wires, NoMemory>
-        ensures { IfOk result (λ wires. wires.traffic ≡ self.now.traffic) }
+        ensures traffic { IfOk result (λ wires. wires.traffic ≡ self.now.traffic) }
+        ensures marks { IfOk result (λ wires. wires.marks ≡ self.now.marks) }
     {
-        let requests = Vec::from_slice(alloc, self.requests.as_slice())?;
+        let requests = self.requests.try_clone(alloc)?;
         let links = self.links.try_clone(alloc)?;
-        let responses = Vec::from_slice(alloc, self.responses.as_slice())?;
+        let responses = self.responses.try_clone(alloc)?;
         Ok(Wires {
             requests,
             links,
@@ -73,63 +88,98 @@ impl Wires {
     pub fn is_quiet(&self) -> bool
         ensures { result ≡ is_quiet self.now.traffic }
     {
-        self.requests.is_empty() && self.links.is_quiet() && self.responses.is_empty()
+        self.requests.len() == 0 && self.links.is_quiet() && self.responses.len() == 0
+    }
+
+    /// How many links there are.
+    pub fn link_count(&self) -> u32
+        ensures count { result ≡ length self.now.traffic.links }
+        ensures as_many { length self.now.marks.links ≡ length self.now.traffic.links }
+        ensures each { (cache : ℕ) → length (link_marks self.now.marks cache) ≡ length (link self.now.traffic cache) }
+    {
+        self.links.len()
     }
 
     /// How many requests wait.
-    pub fn request_count(&self) -> u64
-        ensures { result ≡ length self.now.traffic.requests }
+    pub fn request_count(&self) -> u32
+        ensures count { result ≡ length self.now.traffic.requests }
+        ensures as_many { length self.now.marks.requests ≡ length self.now.traffic.requests }
     {
-        self.requests.len() as u64
+        self.requests.len()
+    }
+
+    /// How many messages are on the link to a cache.
+    pub fn forward_count(&self, cache: CacheId) -> u32
+        ensures count { result ≡ length (link self.now.traffic cache.0) }
+        ensures as_many { length (link_marks self.now.marks cache.0) ≡ length (link self.now.traffic cache.0) }
+    {
+        self.links.count(cache)
     }
 
     /// How many responses are on their way.
-    pub fn response_count(&self) -> u64
-        ensures { result ≡ length self.now.traffic.responses }
+    pub fn response_count(&self) -> u32
+        ensures count { result ≡ length self.now.traffic.responses }
+        ensures as_many { length self.now.marks.responses ≡ length self.now.traffic.responses }
     {
-        self.responses.len() as u64
+        self.responses.len()
+    }
+
+    /// The least cache from a number on whose link has a message, if there is one.
+    pub fn next_waiting(&self, from: u32) -> Option<CacheId>
+        ensures some { IfSome result (λ cache. IsNextWaiting self.now.traffic from cache.0) }
+        ensures none { IfNone result (NoneWaits self.now.traffic from) }
+    {
+        self.links.next_waiting(from)
     }
 
     /// The request at a place, if there is one.
     pub fn request(&self, index: u64) -> Option<Request>
         ensures { result ≡ slice_get self.now.traffic.requests index }
     {
-        self.requests.get(index as usize).copied()
+        self.requests.get(index)
     }
 
     /// The first message on the link to a cache, if there is one.
     pub fn head(&self, cache: CacheId) -> Option<Forward>
         ensures { result ≡ slice_get (link self.now.traffic cache.0) 0 }
     {
-        self.links.head(cache)
+        self.links.get(cache, 0)
+    }
+
+    /// The message at a place of the link to a cache, if there is one.
+    pub fn forward(&self, cache: CacheId, index: u64) -> Option<Forward>
+        ensures { result ≡ slice_get (link self.now.traffic cache.0) index }
+    {
+        self.links.get(cache, index)
     }
 
     /// The response at a place, if there is one.
     pub fn response(&self, index: u64) -> Option<Response>
         ensures { result ≡ slice_get self.now.traffic.responses index }
     {
-        self.responses.get(index as usize).copied()
+        self.responses.get(index)
     }
 
     /// Sends a request, or gives it back where there is no memory for it.
     pub fn send_request(&mut self, request: Request) -> Result<(), Request>
         ensures ok { OnOk result (self.new.traffic ≡ request_sent request self.old.traffic) }
+        ensures ok_marks { OnOk result (self.new.marks ≡ request_mark_added self.old.marks) }
         ensures err { OnErr result (self.new.traffic ≡ self.old.traffic) }
+        ensures err_marks { OnErr result (self.new.marks ≡ self.old.marks) }
         ensures back { IfErr result (λ back. back ≡ request) }
         ensures succeeds { HasRoomFor (message.Request request ∷ []) self.old.room → IsOk result }
         ensures room { UsesRoomFor (message.Request request ∷ []) self.old.room self.new.room }
     {
-        match self.requests.push(request) {
-            Ok(()) => Ok(()),
-            Err(failed) => Err(failed.value),
-        }
+        self.requests.send(request)
     }
 
     /// Puts a message on the link to a cache, or gives it back where there is no memory for it.
     pub fn send_forward(&mut self, cache: CacheId, forward: Forward) -> Result<(), Forward>
         requires { cache.0 < length self.old.traffic.links }
         ensures ok { OnOk result (self.new.traffic ≡ forward_sent cache.0 forward self.old.traffic) }
+        ensures ok_marks { OnOk result (self.new.marks ≡ forward_mark_added cache.0 self.old.marks) }
         ensures err { OnErr result (self.new.traffic ≡ self.old.traffic) }
+        ensures err_marks { OnErr result (self.new.marks ≡ self.old.marks) }
         ensures back { IfErr result (λ back. back ≡ forward) }
         ensures succeeds { HasRoomFor (message.Forward cache forward ∷ []) self.old.room → IsOk result }
         ensures room { UsesRoomFor (message.Forward cache forward ∷ []) self.old.room self.new.room }
@@ -140,35 +190,35 @@ impl Wires {
     /// Sends a response, or gives it back where there is no memory for it.
     pub fn send_response(&mut self, response: Response) -> Result<(), Response>
         ensures ok { OnOk result (self.new.traffic ≡ response_sent response self.old.traffic) }
+        ensures ok_marks { OnOk result (self.new.marks ≡ response_mark_added self.old.marks) }
         ensures err { OnErr result (self.new.traffic ≡ self.old.traffic) }
+        ensures err_marks { OnErr result (self.new.marks ≡ self.old.marks) }
         ensures back { IfErr result (λ back. back ≡ response) }
         ensures succeeds { HasRoomFor (message.Response response ∷ []) self.old.room → IsOk result }
         ensures room { UsesRoomFor (message.Response response ∷ []) self.old.room self.new.room }
     {
-        match self.responses.push(response) {
-            Ok(()) => Ok(()),
-            Err(failed) => Err(failed.value),
-        }
+        self.responses.send(response)
     }
 
     /// Takes the request at a place, if there is one.
     pub fn take_request(&mut self, index: u64) -> Option<Request>
         ensures taken { result ≡ slice_get self.old.traffic.requests index }
         ensures some { OnSome result (self.new.traffic ≡ request_taken index self.old.traffic) }
+        ensures some_marks { OnSome result (self.new.marks ≡ request_mark_taken index self.old.marks) }
         ensures none { IfNone result (self.new.traffic ≡ self.old.traffic) }
+        ensures none_marks { IfNone result (self.new.marks ≡ self.old.marks) }
         ensures room { UsesRoomFor [] self.old.room self.new.room }
     {
-        if index >= self.requests.len() as u64 {
-            return None;
-        }
-        Some(self.requests.remove(index as usize))
+        self.requests.take(index)
     }
 
     /// Takes the first message of the link to a cache, if there is one.
     pub fn take_head(&mut self, cache: CacheId) -> Option<Forward>
         ensures taken { result ≡ slice_get (link self.old.traffic cache.0) 0 }
         ensures some { OnSome result (self.new.traffic ≡ head_taken cache.0 self.old.traffic) }
+        ensures some_marks { OnSome result (self.new.marks ≡ head_mark_taken cache.0 self.old.marks) }
         ensures none { IfNone result (self.new.traffic ≡ self.old.traffic) }
+        ensures none_marks { IfNone result (self.new.marks ≡ self.old.marks) }
         ensures room { UsesRoomFor [] self.old.room self.new.room }
     {
         self.links.take_head(cache)
@@ -178,13 +228,12 @@ impl Wires {
     pub fn take_response(&mut self, index: u64) -> Option<Response>
         ensures taken { result ≡ slice_get self.old.traffic.responses index }
         ensures some { OnSome result (self.new.traffic ≡ response_taken index self.old.traffic) }
+        ensures some_marks { OnSome result (self.new.marks ≡ response_mark_taken index self.old.marks) }
         ensures none { IfNone result (self.new.traffic ≡ self.old.traffic) }
+        ensures none_marks { IfNone result (self.new.marks ≡ self.old.marks) }
         ensures room { UsesRoomFor [] self.old.room self.new.room }
     {
-        if index >= self.responses.len() as u64 {
-            return None;
-        }
-        Some(self.responses.remove(index as usize))
+        self.responses.take(index)
     }
 
     /// Sends a message that there is room for. It takes no memory.
@@ -192,6 +241,7 @@ impl Wires {
         requires link { HasLinkFor message (length self.old.traffic.links) }
         requires room { HasRoomFor (message ∷ []) self.old.room }
         ensures traffic { self.new.traffic ≡ sent message self.old.traffic }
+        ensures marks { self.new.marks ≡ mark_added message self.old.marks }
         ensures room { UsesRoomFor (message ∷ []) self.old.room self.new.room }
     {
         match message {
@@ -215,6 +265,59 @@ impl Wires {
 }
 
 impl Wires {
+    /// The mark of the request at a place. Where there is none it is `false`.
+    pub fn is_request_held(&self, index: u64) -> bool
+        ensures mark { result ≡ mark_at self.now.marks.requests index }
+        ensures as_many { length self.now.marks.requests ≡ length self.now.traffic.requests }
+    {
+        self.requests.is_held(index)
+    }
+
+    /// The mark of the first message on the link to a cache. Where there is none it is `false`.
+    pub fn is_head_held(&self, cache: CacheId) -> bool
+        ensures mark { result ≡ mark_at (link_marks self.now.marks cache.0) 0 }
+        ensures as_many { length (link_marks self.now.marks cache.0) ≡ length (link self.now.traffic cache.0) }
+    {
+        self.links.is_head_held(cache)
+    }
+
+    /// The mark of the response at a place. Where there is none it is `false`.
+    pub fn is_response_held(&self, index: u64) -> bool
+        ensures mark { result ≡ mark_at self.now.marks.responses index }
+        ensures as_many { length self.now.marks.responses ≡ length self.now.traffic.responses }
+    {
+        self.responses.is_held(index)
+    }
+
+    /// Marks the request at a place. Where there is none nothing changes.
+    pub fn mark_request(&mut self, index: u64, held: bool)
+        ensures marks { self.new.marks ≡ request_marked index held self.old.marks }
+        ensures traffic { self.new.traffic ≡ self.old.traffic }
+        ensures room { self.new.room ≡ self.old.room }
+    {
+        self.requests.mark(index, held);
+    }
+
+    /// Marks the message at a place of the link to a cache. Where there is none nothing changes.
+    pub fn mark_forward(&mut self, cache: CacheId, index: u64, held: bool)
+        ensures marks { self.new.marks ≡ forward_marked cache.0 index held self.old.marks }
+        ensures traffic { self.new.traffic ≡ self.old.traffic }
+        ensures room { self.new.room ≡ self.old.room }
+    {
+        self.links.mark(cache, index, held);
+    }
+
+    /// Marks the response at a place. Where there is none nothing changes.
+    pub fn mark_response(&mut self, index: u64, held: bool)
+        ensures marks { self.new.marks ≡ response_marked index held self.old.marks }
+        ensures traffic { self.new.traffic ≡ self.old.traffic }
+        ensures room { self.new.room ≡ self.old.room }
+    {
+        self.responses.mark(index, held);
+    }
+}
+
+impl Wires {
     /// Room for so many more requests and responses, and on each link for as many messages as it is listed.
     ///
     /// After it so many sends can't fail. Where it is refused no list has changed.
@@ -226,6 +329,7 @@ impl Wires {
     ) -> Result<(), NoMemory>
         requires { AllBelow (length self.old.traffic.links) links.now }
         ensures traffic { self.new.traffic ≡ self.old.traffic }
+        ensures marks { self.new.marks ≡ self.old.marks }
         ensures ok { OnOk result (HasPlaces requests links.now responses self.new.room) }
         ensures succeeds { HasPlaces requests links.now responses self.old.room → IsOk result }
         ensures room { UsesRoomFor [] self.old.room self.new.room }
@@ -240,6 +344,7 @@ impl Wires {
     /// Room for so many more requests and responses. Where it is refused no list has changed.
     pub fn reserve_ends(&mut self, requests: usize, responses: usize) -> Result<(), NoMemory>
         ensures traffic { self.new.traffic ≡ self.old.traffic }
+        ensures marks { self.new.marks ≡ self.old.marks }
         ensures ok { OnOk result ((requests ≤ self.new.room.requests) × (responses ≤ self.new.room.responses)) }
         ensures succeeds { requests ≤ self.old.room.requests → responses ≤ self.old.room.responses → IsOk result }
         ensures room { UsesRoomFor [] self.old.room self.new.room }
@@ -253,6 +358,7 @@ impl Wires {
     pub fn reserve_link(&mut self, cache: CacheId, count: usize) -> Result<(), NoMemory>
         requires { cache.0 < length self.old.traffic.links }
         ensures traffic { self.new.traffic ≡ self.old.traffic }
+        ensures marks { self.new.marks ≡ self.old.marks }
         ensures ok { OnOk result (count ≤ slice_index self.new.room.links cache.0) }
         ensures succeeds { count ≤ slice_index self.old.room.links cache.0 → IsOk result }
         ensures room { UsesRoomFor [] self.old.room self.new.room }

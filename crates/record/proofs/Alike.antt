@@ -12,7 +12,7 @@ use Rattle.directory_table.specs.Baseline as directory_baseline
 use Rattle.directory_table.specs.Names as directory
 use Rattle.directory_table.specs.Table as directory_table
 use Rattle.directory_table.specs.inner.Standing as directory_standing
-use Rattle.machine.specs.Tables.{Tables, baseline}
+use Rattle.both_tables.specs.Tables.{Tables, baseline}
 use Rattle.record.specs.declared.cells.Cell.{Cell}
 use Rattle.record.specs.declared.cells.Cell.TheVariants as cell
 use Rattle.record.specs.declared.cells.Spot.{Spot}

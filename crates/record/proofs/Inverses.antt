@@ -12,7 +12,7 @@ use Rattle.base.specs.declared.step.Outcome.{Outcome}
 use Rattle.base.specs.declared.step.Outcome.TheVariants as outcome
 use Rattle.base.proofs.Spellings.{same_step}
 use Rattle.base.specs.Extent.{Extent}
-use Rattle.machine.specs.Tables.{Tables}
+use Rattle.both_tables.specs.Tables.{Tables}
 use Rattle.record.specs.declared.cells.Spot.{Spot}
 use Rattle.record.specs.declared.cells.Cell.{Cell}
 use Rattle.record.specs.declared.recording.Entry.{Entry}

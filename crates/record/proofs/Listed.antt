@@ -20,7 +20,7 @@ use Rattle.directory_table.specs.declared.event.DirectoryEvent.TheVariants as di
 use Rattle.directory_table.specs.Baseline as directory_baseline
 use Rattle.directory_table.specs.Names as directory_names
 use Rattle.directory_table.specs.Table as directory_table
-use Rattle.machine.specs.Tables.{Tables, baseline}
+use Rattle.both_tables.specs.Tables.{Tables, baseline}
 use Rattle.record.specs.declared.cells.Spot.{Spot}
 use Rattle.record.specs.declared.cells.Spot.TheVariants as spot
 use Rattle.record.specs.declared.cells.Cell.{Cell}

@@ -9,7 +9,7 @@ use Rattle.cache_table.specs.Names as cache_names
 use Rattle.directory_table.specs.Table as directory_table
 use Rattle.directory_table.specs.Baseline as directory_baseline
 use Rattle.directory_table.specs.Names as directory_names
-use Rattle.machine.specs.Tables.{Tables}
+use Rattle.both_tables.specs.Tables.{Tables}
 use Rattle.record.specs.declared.cells.Spot.{Spot}
 use Rattle.record.specs.declared.cells.Spot.TheVariants as spot
 use Rattle.record.specs.declared.cells.Cell.{Cell}

@@ -2,7 +2,7 @@
 use Rattle.std.specs.Prelude.{◌≡◌, ℕ, ◌+◌, ◌-◌, ◌<◌, ◌≤◌, ◌^◌, List, [], ◌∷◌, false, All, length, zero, suc}
 use Rattle.base.specs.Extent.{Extent, IsWithinLimits}
 use Rattle.base.specs.Spelling.{words, FitsStep, FitsOutcome}
-use Rattle.machine.specs.Tables.{baseline}
+use Rattle.both_tables.specs.Tables.{baseline}
 use Rattle.record.specs.declared.due.Due.{Due}
 use Rattle.record.specs.declared.due.Due.TheVariants.{Header, ShapeLine, OpeningLine, CellCount, CellLine, EntryCount, EntryLine, EndLine, Nothing}
 use Rattle.record.specs.declared.recording.Entry.{Entry}

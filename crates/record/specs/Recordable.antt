@@ -3,7 +3,7 @@ use Rattle.std.specs.Prelude.{◌≤◌, All, length}
 use Rattle.base.specs.Extent.{IsWithinLimits}
 use Rattle.cache_table.specs.Table as cache_table
 use Rattle.directory_table.specs.Table as directory_table
-use Rattle.machine.specs.Tables.{Tables}
+use Rattle.both_tables.specs.Tables.{Tables}
 use Rattle.record.specs.declared.cells.Spot.{Spot}
 use Rattle.record.specs.Cells.{cell_at, FitsCell}
 use Rattle.record.specs.Kept.{Kept}

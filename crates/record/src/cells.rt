@@ -2,9 +2,9 @@ ghost use Rattle.std.specs.Prelude.{◌≡◌, ◌<◌, slice_index_or};
 ghost use Rattle.record.specs.Cells.{all_spots, cell_at, is_same, spot_of, spot_number, FitsCell};
 ghost use Rattle.record.specs.inner.Pieces.{IsInWhole};
 
+use both_tables::Tables;
 use cache_table::{CacheEntry, CacheEvent, CacheState};
 use directory_table::{DirectoryEntry, DirectoryEvent, DirectoryState};
-use world::Tables;
 
 /// How many cells both tables have.
 pub(crate) const SPOTS: usize = 160;

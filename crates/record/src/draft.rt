@@ -14,8 +14,8 @@ use crate::parsing::{count_of, entry_of, is_end, is_header, opening_of, shape_of
 use crate::reading::{listed_cell, with_cell};
 use crate::recording::{Entry, MOST_ENTRIES, Recording};
 use base::{MOST_BLOCKS, NoMemory, Shape};
+use both_tables::Tables;
 use std::alloc::Global;
-use world::Tables;
 
 /// What has been read of a recording.
 #[derive(Drop)]

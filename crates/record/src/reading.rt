@@ -17,8 +17,8 @@ use crate::fault::{ReadFault, ReadKind};
 use crate::reader::Reader;
 use crate::recording::Recording;
 use base::Source;
+use both_tables::Tables;
 use std::alloc::Global;
-use world::Tables;
 
 impl Recording {
     /// The recording whose text a source gives, in whatever pieces it comes.

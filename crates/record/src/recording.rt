@@ -1,8 +1,9 @@
 use base::{NoMemory, Outcome, Shape, Step};
+use both_tables::Tables;
 use std::alloc::Global;
 use std::marker::Model;
 use thiserror::Error;
-use world::{OpenFault, Tables};
+use world::OpenFault;
 
 /// The most entries that a recording has.
 pub const MOST_ENTRIES: usize = 1_000_000;

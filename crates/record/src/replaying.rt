@@ -1,6 +1,6 @@
 ghost use Rattle.std.specs.Prelude.{◌≡◌, ◌↔◌, [], None, IfOk, IfErr};
 ghost use Rattle.machine.specs.Coherence.{Safe};
-ghost use Rattle.machine.specs.Tables.{baseline};
+ghost use Rattle.both_tables.specs.Tables.{baseline};
 ghost use Rattle.record.specs.Kept.{IsLegal, steps_of};
 ghost use Rattle.monitor.specs.Violations.{AnswersFirst};
 ghost use Rattle.record.specs.Replaying.{FaultOf};

@@ -1,7 +1,7 @@
 ghost use Rattle.std.specs.Prelude.{◌≡◌, ◌≤◌, ◌<◌, ◌+◌, ◌^◌, [], IfOk, IfErr, OnOk, get_or, length, take};
 ghost use Rattle.std.specs.Io.KnownBytes.{Appends};
 ghost use Rattle.base.specs.Ends.{Marks};
-ghost use Rattle.machine.specs.Tables.{baseline};
+ghost use Rattle.both_tables.specs.Tables.{baseline};
 ghost use Rattle.record.specs.Cells.{cell_at, FitsCell};
 ghost use Rattle.record.specs.Kept.{IsKept};
 ghost use Rattle.record.specs.Recordable.{AreWhole, IsRecordable};
@@ -14,8 +14,8 @@ use crate::recording::Recording;
 use crate::spelling::{cell_line, entry_line};
 use base::text::Text;
 use base::{Shape, Sink, put_all};
+use both_tables::Tables;
 use thiserror::Error;
-use world::Tables;
 
 /// A sink failed before it had all of a recording's text.
 #[derive(Clone, Copy, Debug, PartialEq, Eq, Error)]

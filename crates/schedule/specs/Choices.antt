@@ -5,11 +5,11 @@ use Rattle.base.specs.declared.step.Step.{Step}
 use Rattle.base.specs.declared.step.Step.TheVariants as step
 use Rattle.cores.specs.Cores.{Core, is_free}
 use Rattle.machine.specs.Machine.{State, next}
-use Rattle.machine.specs.Tables.{Tables}
+use Rattle.both_tables.specs.Tables.{Tables}
 use Rattle.scenario.specs.Tree.{Tree}
 use Rattle.scenario.specs.Taking.{offers}
 use Rattle.world.specs.Enabled.{enabled_steps}
-use Rattle.world.specs.Looks.{is_held}
+use Rattle.blocks.specs.Looks.{is_held}
 use Rattle.schedule.specs.declared.choosing.Choice.{Choice}
 use Rattle.schedule.specs.declared.choosing.Choice.TheVariants.{Offer, Deliver}
 

@@ -1,12 +1,12 @@
 use crate::asserting::same;
 use base::Shape;
+use both_tables::Tables;
 use desk::Job;
 use scenario::Scenario;
 use std::alloc::Global;
 use std::process::Abort;
 use std::test::Fail;
 use trials::{Setup, TrialResult, batch};
-use world::Tables;
 
 const RACING_PAIR: &str =
     r#"{"both":[{"op":"load","core":0,"block":0},{"op":"store","core":1,"block":0,"value":9}]}"#;

@@ -1,8 +1,8 @@
 use base::Shape;
+use both_tables::Tables;
 use std::alloc::Global;
 use std::test::Fail;
 use trials::Setup;
-use world::Tables;
 
 /// So many caches and one block that opens at 0.
 pub fn setup(alloc: Global, caches: u32) -> Result<Setup, Fail> {

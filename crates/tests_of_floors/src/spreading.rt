@@ -1,12 +1,12 @@
 use crate::asserting::same;
 use crate::jobs::racing_pair;
 use base::Shape;
+use both_tables::Tables;
 use desk::Job;
 use scenario::Scenario;
 use std::alloc::Global;
 use std::test::Fail;
 use trials::{BatchFault, Setup, TrialResult, Verdict, batch, spread};
-use world::Tables;
 
 const ONE_LOAD: &str = r#"{"op":"load","core":0,"block":0}"#;
 

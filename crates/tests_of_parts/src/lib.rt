@@ -14,6 +14,8 @@ mod directory_cells;
 #[cfg(test)]
 mod outstanding;
 #[cfg(test)]
+mod refusing;
+#[cfg(test)]
 mod scenario_reading;
 #[cfg(test)]
 mod scenario_taking;

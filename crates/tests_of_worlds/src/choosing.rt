@@ -1,11 +1,13 @@
 use crate::asserting::same;
 use base::{Ask, BlockId, CacheId, CoreAsk, Shape, Step};
+use both_tables::Tables;
 use cores::Cores;
 use scenario::Scenario;
 use schedule::{Choice, Dice, choices};
 use std::alloc::Global;
+use std::process::Abort;
 use std::test::Fail;
-use world::{Tables, World};
+use world::World;
 
 const BLOCK: BlockId = BlockId(0);
 
@@ -75,24 +77,43 @@ fn load_or_store(alloc: Global) -> Result<Scenario<Global>, Fail> {
     Ok(Scenario::Any(children))
 }
 
-#[test]
-fn offers_before_deliveries(rt: HostRuntime) -> Result<(), Fail> {
-    let alloc = rt.alloc();
-    let scenario = load_or_store(alloc)?;
-    let mut world = opened(alloc)?;
+/// Compares what can happen next, where these cores are busy.
+fn expect(
+    rt: &impl Abort,
+    alloc: Global,
+    world: &World,
+    busy: &[u32],
+    scenario: &Scenario<Global>,
+    wanted: &[Choice],
+) -> Result<(), Fail> {
+    let found = listed(alloc, world, busy, scenario)?;
+    same(rt, &found.as_slice(), &wanted);
+    Ok(())
+}
+
+/// Compares the choices before and behind the store's ask.
+fn offers_first(
+    rt: &impl Abort,
+    alloc: Global,
+    world: &mut World,
+    scenario: &Scenario<Global>,
+) -> Result<(), Fail> {
     let (load, store) = (Choice::Offer(0, LOAD), Choice::Offer(1, STORE));
     let request = Choice::Deliver(Step::Request {
         block: BLOCK,
         index: 0,
     });
-    let found = listed(alloc, &world, &[], &scenario)?;
-    same(&rt, &found.as_slice(), &[load, store].as_slice());
-    play(&mut world, &["ask 1 0 store 9"])?;
-    let found = listed(alloc, &world, &[1], &scenario)?;
-    same(&rt, &found.as_slice(), &[load, request].as_slice());
-    let found = listed(alloc, &world, &[0, 1], &scenario)?;
-    same(&rt, &found.as_slice(), &[request].as_slice());
-    Ok(())
+    expect(rt, alloc, world, &[], scenario, &[load, store])?;
+    play(world, &["ask 1 0 store 9"])?;
+    expect(rt, alloc, world, &[1], scenario, &[load, request])?;
+    expect(rt, alloc, world, &[0, 1], scenario, &[request])
+}
+
+#[test]
+fn offers_before_deliveries(rt: HostRuntime) -> Result<(), Fail> {
+    let scenario = load_or_store(rt.alloc())?;
+    let mut world = opened(rt.alloc())?;
+    offers_first(&rt, rt.alloc(), &mut world, &scenario)
 }
 
 #[test]
@@ -108,15 +129,9 @@ fn what_is_held_is_no_choice(rt: HostRuntime) -> Result<(), Fail> {
             "request 0 0",
         ],
     )?;
-    let scenario = Scenario::One(LOAD);
     let response = Choice::Deliver(Step::Response {
         block: BLOCK,
         index: 0,
     });
-    same(
-        &rt,
-        &listed(alloc, &world, &[], &scenario)?.as_slice(),
-        &[response].as_slice(),
-    );
-    Ok(())
+    expect(&rt, alloc, &world, &[], &Scenario::One(LOAD), &[response])
 }

@@ -10,6 +10,10 @@ mod entries;
 #[cfg(test)]
 mod recordings;
 #[cfg(test)]
+mod refusing;
+#[cfg(test)]
+mod touching;
+#[cfg(test)]
 mod trying;
 #[cfg(test)]
 mod violations;

@@ -1,6 +1,7 @@
 use crate::asserting::same;
 use crate::entries::entry_of;
 use base::{BlockId, Buffer, CacheId, Faltering, Outcome, Shape, Step};
+use both_tables::Tables;
 use cache_table::{CacheEntry, CacheEvent, CacheState};
 use monitor::Violation;
 use record::{
@@ -8,7 +9,7 @@ use record::{
 };
 use std::alloc::Global;
 use std::test::Fail;
-use world::{OpenFault, Tables};
+use world::OpenFault;
 
 /// A recording of one block that opens at 0. Each line is a step and an outcome, with ` = ` between them.
 fn recorded(alloc: Global, caches: u32, tables: Tables, lines: &[&str]) -> Result<Recording, Fail> {
@@ -269,13 +270,20 @@ fn a_line_that_is_too_long(rt: HostRuntime) -> Result<(), Fail> {
     Ok(())
 }
 
+/// The line that isn't whole yet is named, and the line behind the last one where all lines are whole.
 #[test]
 fn sources_that_fail(rt: HostRuntime) -> Result<(), Fail> {
-    for (calls, line) in [(0, 1), (16, 2), (122, 10)] {
-        let mut source = Faltering::over(ONE_LOAD_TEXT.as_bytes(), 1, calls);
+    let text = ONE_LOAD_TEXT.as_bytes();
+    let mut line = 1;
+    for calls in 0..=122 {
+        let mut source = Faltering::over(text, 1, calls);
         let fault = Recording::read(rt.alloc(), &mut source).err();
         let kind = ReadKind::Device;
         assert_eq!(rt; fault, Some(ReadFault { line, kind }), "at {calls}");
+        if text.get(calls as usize) == Some(&b'\n') {
+            line = line.saturating_add(1);
+        }
     }
+    same(&rt, &line, &10);
     Ok(())
 }

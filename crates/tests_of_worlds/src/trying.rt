@@ -1,6 +1,7 @@
 use crate::asserting::same;
 use crate::entries::entry_of;
 use base::{BlockId, Buffer, CacheId, NoMemory, Outcome, Place, Shape, Step};
+use both_tables::Tables;
 use cache_table::{CacheEntry, CacheEvent, CacheState};
 use directory_table::{DirectoryEntry, DirectoryEvent, DirectoryState};
 use monitor::Violation;
@@ -8,7 +9,6 @@ use scenario::Scenario;
 use std::alloc::Global;
 use std::test::Fail;
 use trials::{BatchFault, Setup, SetupFault, Trial, TrialResult, Verdict, batch, trial};
-use world::Tables;
 
 const RACING_PAIR: &str =
     r#"{"both":[{"op":"load","core":0,"block":0},{"op":"store","core":1,"block":0,"value":9}]}"#;

@@ -1,10 +1,11 @@
 use crate::asserting::same;
 use base::{BlockId, CacheId, Outcome, Place, Shape, Step};
+use both_tables::Tables;
 use cache_table::{CacheAction, CacheActions, CacheEntry, CacheEvent, CacheState, CacheTable};
 use monitor::{Violation, Watch};
 use std::alloc::Global;
 use std::test::Fail;
-use world::{Tables, World};
+use world::World;
 
 /// The protocol's own table, where one cell acts in another way.
 fn acting(

@@ -1,10 +1,11 @@
 use crate::asserting::same;
 use base::{Ask, BlockId, CacheId, NoMemory, Outcome, Place, Shape, Step};
+use both_tables::{Tables, TablesFault};
 use cache_table::{CacheAction, CacheActions, CacheEntry, CacheEvent, CacheState};
 use directory_table::{DirectoryEntry, DirectoryEvent, DirectoryState};
 use std::alloc::Global;
 use std::test::Fail;
-use world::{OpenFault, Tables, TablesFault, World};
+use world::{OpenFault, World};
 
 const BLOCK: BlockId = BlockId(0);
 

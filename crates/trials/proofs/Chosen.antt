@@ -10,11 +10,12 @@ use Rattle.network.specs.declared.message.Request.{Request}
 use Rattle.network.specs.declared.message.Forward.{Forward}
 use Rattle.network.specs.declared.message.Response.{Response}
 use Rattle.machine.specs.Block.{BlockState}
-use Rattle.machine.specs.Tables.{Tables}
+use Rattle.both_tables.specs.Tables.{Tables}
 use Rattle.machine.specs.Machine.{State, next}
 use Rattle.machine.specs.Unstuck.{IsDelivery}
-use Rattle.world.specs.Looks.{is_held}
-use Rattle.world.specs.Enabled.{enabled_steps, unless_held, held_in, requests_from, head_from, heads_from, responses_from, requests_enabled, heads_in}
+use Rattle.blocks.specs.Looks.{is_held}
+use Rattle.world.specs.Enabled.{enabled_steps, unless_held, requests_from, head_from, heads_from, responses_from, requests_enabled, heads_in}
+use Rattle.blocks.specs.Looks.{held_in}
 use Rattle.world.specs.Enabled.{responses_enabled, of_each, all_enabled}
 use Rattle.cores.specs.Cores.{Core, is_free}
 use Rattle.scenario.specs.Tree.{Tree}

@@ -6,7 +6,7 @@ use Rattle.rand_pcg.specs.Lcg as lcg
 use Rattle.rand_pcg.specs.Pcg.{multiplier_64}
 use Rattle.base.specs.Extent.{Extent}
 use Rattle.base.specs.declared.step.Step.{Step}
-use Rattle.machine.specs.Tables.{Tables}
+use Rattle.both_tables.specs.Tables.{Tables}
 use Rattle.machine.specs.Machine.{State, Next, next, opened, state_after}
 use Rattle.monitor.specs.declared.violation.Violation.{Violation}
 use Rattle.monitor.specs.Scenes.{HasNone, IsViolation, Answers}

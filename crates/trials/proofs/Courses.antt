@@ -5,7 +5,7 @@ use Rattle.rand_pcg.specs.Lcg.{Lcg}
 use Rattle.rand_pcg.specs.Pcg.{multiplier_64}
 use Rattle.rand_pcg.specs.Lcg as lcg
 use Rattle.base.specs.declared.step.Step.{Step}
-use Rattle.machine.specs.Tables.{Tables}
+use Rattle.both_tables.specs.Tables.{Tables}
 use Rattle.machine.specs.Machine.{State, opened, state_after}
 use Rattle.monitor.specs.Watching.{HasSeen}
 use Rattle.world.specs.Looks.{all_quiet}

@@ -37,7 +37,7 @@ use Rattle.machine.specs.declared.decision.Decision.{Decision}
 use Rattle.machine.specs.declared.decision.Decision.TheVariants.{Refused, AtLine}
 use Rattle.machine.specs.declared.decision.Origin.{Origin}
 use Rattle.machine.specs.declared.decision.Origin.TheVariants as origin
-use Rattle.machine.specs.Tables.{Tables}
+use Rattle.both_tables.specs.Tables.{Tables}
 use Rattle.machine.specs.Block.{BlockState}
 use Rattle.machine.specs.Transition.{by_line_entry, at_line, at_ask, by_home_entry, at_home, at_request, at_forward, at_response, is_idle}
 use Rattle.machine.specs.Transition.{carried_out, outcome_of, plain_outcome}

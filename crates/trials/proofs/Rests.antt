@@ -13,12 +13,13 @@ use Rattle.base.specs.declared.step.Outcome.TheVariants as outcome
 use Rattle.network.specs.Traffic.{is_quiet}
 use Rattle.control.specs.declared.line.Line.{Line}
 use Rattle.machine.specs.Block.{BlockState}
-use Rattle.machine.specs.Tables.{Tables}
+use Rattle.both_tables.specs.Tables.{Tables}
 use Rattle.machine.specs.Transition.{transition}
 use Rattle.machine.specs.Machine.{State, Next, is_blank, next, next_at, state_after}
 use Rattle.machine.specs.Coherence.{Met}
 use Rattle.machine.specs.Unstuck.{Unstuck}
-use Rattle.world.specs.Looks.{is_held, all_quiet}
+use Rattle.blocks.specs.Looks.{is_held}
+use Rattle.world.specs.Looks.{all_quiet}
 use Rattle.world.specs.Enabled.{enabled_steps}
 use Rattle.cores.specs.Cores.{Core, is_free}
 use Rattle.scenario.specs.Taking.{offers}

@@ -11,7 +11,7 @@ use Rattle.base.specs.declared.step.Step.{Step}
 use Rattle.base.specs.declared.step.Outcome.TheVariants as outcome
 use Rattle.control.specs.LineEffect.{opened_line}
 use Rattle.machine.specs.Block.{opened_block}
-use Rattle.machine.specs.Tables.{Tables}
+use Rattle.both_tables.specs.Tables.{Tables}
 use Rattle.machine.specs.Machine.{State, Next, next, opened}
 use Rattle.machine.specs.Completions.{Access, load, store, Completion, completed_by}
 use Rattle.machine.specs.Unstuck.{IsDelivery}

@@ -3,7 +3,7 @@ use Rattle.std.proofs.Common.{◌≡◌, ◌≢◌, ◌+◌, ℕ, List, take, re
 use Rattle.std.proofs.lemmas.List.{take_all}
 use Rattle.base.specs.Extent.{Extent}
 use Rattle.base.specs.declared.step.Step.{Step}
-use Rattle.machine.specs.Tables.{Tables}
+use Rattle.both_tables.specs.Tables.{Tables}
 use Rattle.machine.specs.Machine.{opened, state_after, outcomes_of}
 use Rattle.machine.specs.Coherence.{Safe}
 use Rattle.monitor.specs.declared.violation.Violation.{Violation}

@@ -1,7 +1,7 @@
 -- What trials are made under.
 use Rattle.std.specs.Prelude.{◌≡◌, ◌≤◌, ℕ, List, length}
 use Rattle.base.specs.Extent.{Extent, IsWithinLimits}
-use Rattle.machine.specs.Tables.{Tables}
+use Rattle.both_tables.specs.Tables.{Tables}
 
 -- the shape of the world, its tables and opening values, the seed of the dice, and the most steps of a trial
 pub record Terms : Type 0 where

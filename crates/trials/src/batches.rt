@@ -1,5 +1,5 @@
 ghost use Rattle.std.specs.Prelude.{◌≡◌, ◌<◌, ◌↔◌, IfOk, IsErrOf};
-ghost use Rattle.machine.specs.Tables.{baseline};
+ghost use Rattle.both_tables.specs.Tables.{baseline};
 ghost use Rattle.scenario.specs.Tree.{plain};
 ghost use Rattle.trials.specs.Trial.{AreResults, AreSound};
 

@@ -2,7 +2,7 @@
 
 ghost use Rattle.std.specs.Prelude.{◌≡◌, ◌↔◌, ℕ, List};
 ghost use Rattle.machine.specs.Coherence.{Safe};
-ghost use Rattle.machine.specs.Tables.{baseline};
+ghost use Rattle.both_tables.specs.Tables.{baseline};
 ghost use Rattle.record.specs.Kept.{Kept, IsLegal, steps_of};
 ghost use Rattle.record.specs.declared.recording.Entry.{Entry};
 ghost use Rattle.scenario.specs.Tree.{Tree};

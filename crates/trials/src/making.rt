@@ -1,6 +1,6 @@
 ghost use Rattle.std.specs.Prelude.{◌≡◌, ◌↔◌, IfOk, length};
 ghost use Rattle.machine.specs.Coherence.{Safe};
-ghost use Rattle.machine.specs.Tables.{baseline};
+ghost use Rattle.both_tables.specs.Tables.{baseline};
 ghost use Rattle.record.specs.Kept.{IsLegal, steps_of};
 ghost use Rattle.scenario.specs.Tree.{plain};
 ghost use Rattle.trials.specs.Answering.{AnswersInTurn, AreSequential};

@@ -1,9 +1,10 @@
 use base::{NoMemory, Shape};
+use both_tables::Tables;
 use record::Recording;
 use std::alloc::Global;
 use std::marker::Model;
 use thiserror::Error;
-use world::{Tables, World};
+use world::World;
 
 /// The most steps that a trial may make.
 pub const MOST_STEPS: u32 = 1_000_000;

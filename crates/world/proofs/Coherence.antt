@@ -2,7 +2,7 @@
 use Rattle.std.proofs.Common.{◌≡◌, ◌∙◌, ℕ, List, ap, sym}
 use Rattle.base.specs.Extent.{Extent, IsWithinLimits}
 use Rattle.base.specs.declared.step.Step.{Step}
-use Rattle.machine.specs.Tables.{Tables, baseline}
+use Rattle.both_tables.specs.Tables.{Tables, baseline}
 use Rattle.machine.specs.Machine.{State, IsHistory, opened, after}
 use Rattle.machine.specs.Coherence.{Safe}
 use Rattle.machine.specs.Unstuck.{Unstuck}

@@ -1,6 +1,13 @@
-pub mod Overriding
 pub mod Keeping
 pub mod Histories
 pub mod Coherence
 pub mod Running
-pub mod Listing
+pub mod Touching
+pub mod Stepping
+pub mod Copying
+pub mod Marking
+pub mod Counted
+pub mod QuietMarks
+pub mod Spotted
+pub mod Delivering
+pub mod Quieting

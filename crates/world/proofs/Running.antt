@@ -2,7 +2,7 @@ use Rattle.std.proofs.Common.{◌≡◌, ℕ, ◌<◌, ◌+◌, List, [], ◌∷
 use Rattle.std.proofs.lemmas.List.{take_more}
 use Rattle.base.specs.declared.step.Step.{Step}
 use Rattle.base.specs.declared.step.Outcome.{Outcome}
-use Rattle.machine.specs.Tables.{Tables}
+use Rattle.both_tables.specs.Tables.{Tables}
 use Rattle.machine.specs.Machine.{State, next, state_after, outcomes_of}
 use Rattle.world.specs.View.{View, stepped}
 use Rattle.world.specs.Runs.{IsRun}

@@ -1,7 +1,7 @@
 -- What holds of each world that runs under the protocol's own tables, whatever it has done.
 use Rattle.std.specs.Prelude.{◌≡◌, ℕ, List}
 use Rattle.base.specs.declared.step.Step.{Step}
-use Rattle.machine.specs.Tables.{baseline}
+use Rattle.both_tables.specs.Tables.{baseline}
 use Rattle.machine.specs.Machine.{IsHistory}
 use Rattle.machine.specs.Coherence.{Safe}
 use Rattle.machine.specs.Unstuck.{Unstuck}

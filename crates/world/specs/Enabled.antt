@@ -1,19 +1,14 @@
-use Rattle.std.specs.Prelude.{ℕ, ◌+◌, List, [], ◌∷◌, ◌++◌, Bool, if◌then◌else◌}
+use Rattle.std.specs.Prelude.{ℕ, ◌+◌, List, [], ◌∷◌, ◌++◌, if◌then◌else◌}
 use Rattle.base.specs.declared.ids.BlockId.{BlockId}
 use Rattle.base.specs.declared.step.Step.{Step}
 use Rattle.base.specs.declared.step.Step.TheVariants as step
 use Rattle.network.specs.declared.message.Request.{Request}
 use Rattle.network.specs.declared.message.Forward.{Forward}
 use Rattle.network.specs.declared.message.Response.{Response}
-use Rattle.machine.specs.Tables.{Tables}
+use Rattle.both_tables.specs.Tables.{Tables}
 use Rattle.machine.specs.Block.{BlockState}
-use Rattle.machine.specs.Transition.{transition}
 use Rattle.machine.specs.Machine.{State}
-use Rattle.world.specs.Looks.{is_held}
-
--- whether a step would be held in its block
-abbrev pub held_in : Tables → Step → BlockState → Bool
-held_in tables s b = is_held (transition tables s b).outcome
+use Rattle.blocks.specs.Looks.{held_in}
 
 -- a step, unless it would be held
 abbrev pub unless_held : Tables → Step → BlockState → List Step

@@ -1,34 +1,47 @@
-use Rattle.std.specs.Prelude.{◌≡◌, ℕ, List, [], ◌∷◌, ◌++◌, Option, Some, None, Bool, false, slice_get, slice_set, length, map}
+use Rattle.std.specs.Prelude.{◌≡◌, ℕ, List, [], ◌∷◌, ◌++◌, Option, Some, None, Bool, false, slice_get, slice_index_or, slice_set, length, map}
 use Rattle.std.specs.Option.{option_map, option_map_or}
 use Rattle.base.specs.Extent.{Extent, IsWithinLimits}
 use Rattle.base.specs.Steps.{block_of}
 use Rattle.base.specs.declared.ids.CacheId.{CacheId}
 use Rattle.base.specs.declared.step.Step.{Step}
 use Rattle.base.specs.declared.step.Outcome.{Outcome}
-use Rattle.network.specs.declared.message.Message.{Message}
-use Rattle.network.specs.Room.{Room, HasRoomFor}
 use Rattle.directory_table.specs.declared.state.DirectoryState.{DirectoryState}
 use Rattle.control.specs.Sharing.{shares}
-use Rattle.machine.specs.Tables.{Tables}
-use Rattle.machine.specs.Block.{BlockState}
-use Rattle.machine.specs.Transition.{transition}
-use Rattle.machine.specs.Machine.{State, Next, sent_by, IsHistory}
-use Rattle.world.specs.Kept.{Kept}
+use Rattle.both_tables.specs.Tables.{Tables}
+use Rattle.machine.specs.declared.decision.Decision.{Decision}
+use Rattle.machine.specs.Block.{BlockState, opened_block}
+use Rattle.machine.specs.Transition.{decision_of, transition}
+use Rattle.machine.specs.Machine.{State, Next, IsHistory}
+use Rattle.blocks.specs.Kept.{Kept, Space, HasSpaceFor, acts, wakes_line}
 
--- a world as contracts see it: its shape, its tables, the state that its steps have led to, and the room on each block's wires
+-- a world as contracts see it: its shape, its tables, the state that its steps have led to, the room of each block that is kept,
+-- and how many messages its steps have tested for being held
 pub record View : Type 0 where
   pub shape : Extent
   pub tables : Tables
   pub state : State
-  pub rooms : List Room
+  pub spaces : List (Option Space)
+  pub tested : ℕ
 
--- the states of blocks
-abbrev pub states : List Kept → List BlockState
-states ks = map (λ k. k.state) ks
+-- a block that isn't kept is as it opens
+abbrev pub state_or : ℕ → ℕ → Option Kept → BlockState
+state_or caches value None = opened_block caches value
+state_or caches value (Some k) = k.state
 
--- the rooms of blocks
-abbrev pub rooms_of : List Kept → List Room
-rooms_of ks = map (λ k. k.room) ks
+-- the states of all blocks, given their opening values
+abbrev pub states : ℕ → List ℕ → List (Option Kept) → List BlockState
+states caches [] ks = []
+states caches (value ∷ values) [] = opened_block caches value ∷ states caches values []
+states caches (value ∷ values) (k ∷ ks) = state_or caches value k ∷ states caches values ks
+
+-- the room of a block, if it is kept
+abbrev pub space_of : Option Kept → Option Space
+space_of None = None
+space_of (Some k) = Some k.space
+
+-- the room of each block that is kept
+abbrev pub spaces_of : List (Option Kept) → List (Option Space)
+spaces_of ks = map space_of ks
 
 -- each block has a line for each cache
 abbrev pub AllLined : ℕ → List BlockState → Type 0
@@ -45,23 +58,35 @@ pub record IsShaped (shape : Extent) (state : State) : Type 0 where
 abbrev pub stepped : State → Outcome → Next
 stepped s what = record { state = s; outcome = what }
 
--- there is room for these messages, if there is a room at all
-abbrev pub HasRoomIn : List Message → Option Room → Type 0
-HasRoomIn messages None = Unit {0}
-HasRoomIn messages (Some room) = HasRoomFor messages room
+-- there is room for a decision: a block that isn't kept has none, so that no cell may act at it
+abbrev pub HasSpaceAt : Decision → BlockState → Option Space → Type 0
+HasSpaceAt d b None = acts d ≡ false
+HasSpaceAt d b (Some space) = HasSpaceFor d b space
 
--- there is room for what a step sends
+-- there is room for a step at a block, if the block is there
+abbrev pub HasSpaceIn : Tables → Step → Option BlockState → Option Space → Type 0
+HasSpaceIn tables step None space = Unit {0}
+HasSpaceIn tables step (Some b) space = HasSpaceAt (decision_of tables step b) b space
+
+-- there is room for a step: for the messages that it sends, and for the line and the block that it acts at
 abbrev pub HasRoomToStep : View → Step → Type 0
-HasRoomToStep w step = HasRoomIn (sent_by w.tables w.state step) (slice_get w.rooms (block_of step))
+HasRoomToStep w step =
+    w.state.broken ≡ false →
+    HasSpaceIn w.tables step (slice_get w.state.blocks (block_of step)) (slice_index_or w.spaces (block_of step) None)
+
+-- whether a step at a block is an ask that acts at a line in I, if the block is there
+abbrev pub wakes_at : Tables → Step → Option BlockState → Bool
+wakes_at tables step None = false
+wakes_at tables step (Some b) = wakes_line (decision_of tables step b)
+
+-- whether a step is an ask that acts at a line in I
+abbrev pub wakes : View → Step → Bool
+wakes w step = wakes_at w.tables step (slice_get w.state.blocks (block_of step))
 
 -- the block of a number has made this step, and the others are as they were
 pub record StepsAt (tables : Tables) (step : Step) (number : ℕ) (old new : List BlockState) (what : Outcome) : Type 0 where
   pub made : (b : BlockState) × (slice_get old number ≡ Some b) × (new ≡ slice_set old number (transition tables step b).block)
       × (what ≡ (transition tables step b).outcome)
-
--- a step of the block of a number would have this outcome
-pub record ComesOfAt (tables : Tables) (step : Step) (number : ℕ) (blocks : List BlockState) (what : Outcome) : Type 0 where
-  pub comes : (b : BlockState) × (slice_get blocks number ≡ Some b) × (what ≡ (transition tables step b).outcome)
 
 -- whatever led to the old world, followed by these steps, leads to the new one
 abbrev pub LeadsOn : View → List Step → View → Type 0

@@ -1,15 +1,16 @@
-ghost use Rattle.std.specs.Prelude.{◌≡◌, ◌<◌, ◌^◌, ◌++◌, OnOk, length};
-ghost use Rattle.world.specs.Enabled.{all_enabled, of_each, requests_enabled, heads_in, responses_enabled};
-ghost use Rattle.world.specs.View.{states};
+ghost use Rattle.std.specs.Prelude.{◌≡◌};
+ghost use Rattle.world.specs.inner.Counts.{step_in};
+ghost use Rattle.world.specs.inner.Held.{kept_at};
 
-use crate::block::Block;
-use crate::tables::Tables;
+use crate::counts::{Kind, Spot};
 use crate::worlds::World;
 use base::{BlockId, NoMemory, Step};
+use blocks::Block;
+use rows::Sparse;
 use std::alloc::Global;
 
 impl World {
-    ghost use Rattle.std.specs.Prelude.{◌≡◌, [], IfOk, OnErr, OnOk};
+    ghost use Rattle.std.specs.Prelude.{◌≡◌, [], IfOk, OnErr, OnOk, length, slice_get};
     ghost use Rattle.world.specs.Enabled.{enabled_steps};
 
     /// The deliveries that are there and wouldn't be held: the requests by block and place, then
@@ -30,55 +31,58 @@ impl World {
         ensures err { OnErr result (steps.new.items ≡ []) }
     {
         steps.clear();
-        if self.met_blank {
-            return Ok(());
-        }
-        match list_all(self.blocks.as_slice(), &self.tables, steps) {
-            Ok(()) => Ok(()),
-            Err(refused) => {
+        for k in 0..self.enabled_count() {
+            let Some(step) = self.enabled_at(k) else {
+                unreachable!();
+            };
+            if let Err(_) = steps.push(step) {
                 steps.clear();
-                Err(refused)
+                return Err(NoMemory);
             }
         }
+        Ok(())
+    }
+
+    /// How many deliveries [`enabled`](World::enabled) lists.
+    pub fn enabled_count(&self) -> u64
+        ensures { result ≡ length (enabled_steps self.now.tables self.now.state) }
+    {
+        if self.met_blank {
+            return 0;
+        }
+        self.counts.total()
+    }
+
+    /// The k-th delivery that [`enabled`](World::enabled) lists, counted from 0, if it lists so many.
+    pub fn enabled_at(&self, k: u64) -> Option<Step>
+        ensures { result ≡ slice_get (enabled_steps self.now.tables self.now.state) k }
+    {
+        if self.met_blank {
+            return None;
+        }
+        let spot = self.counts.find(k)?;
+        delivery_at(&self.blocks, spot)
     }
 }
 
-fn list_all(blocks: &[Block], tables: &Tables, steps: &mut Vec<Step>) -> Result<(), NoMemory>
-    requires { length blocks.now < 2 ^ 32 }
-    ensures { OnOk result (steps.new.items ≡ steps.old.items ++ all_enabled tables.now (states blocks.now)) }
+/// The delivery at a spot, if its block is kept.
+fn delivery_at(blocks: &Sparse<Block>, spot: Spot) -> Option<Step>
+    ensures { result ≡ step_in spot (kept_at blocks.now.items spot.block) }
 {
-    list_requests(blocks, tables, steps)?;
-    list_heads(blocks, tables, steps)?;
-    list_responses(blocks, tables, steps)?;
-    Ok(())
-}
-
-fn list_requests(blocks: &[Block], tables: &Tables, steps: &mut Vec<Step>) -> Result<(), NoMemory>
-    requires { length blocks.now < 2 ^ 32 }
-    ensures { OnOk result (steps.new.items ≡ steps.old.items ++ of_each (requests_enabled tables.now) 0 (states blocks.now)) }
-{
-    for (i, block) in blocks.iter().enumerate() {
-        block.push_requests(tables, BlockId(i as u32), steps)?;
+    let kept = blocks.get(spot.block)?;
+    let block = BlockId(spot.block);
+    match spot.kind {
+        Kind::Request => {
+            let index = kept.free_request(spot.rest)?;
+            Some(Step::Request { block, index })
+        }
+        Kind::Head => {
+            let cache = kept.free_head(spot.rest)?;
+            Some(Step::Forward { block, cache })
+        }
+        Kind::Response => {
+            let index = kept.free_response(spot.rest)?;
+            Some(Step::Response { block, index })
+        }
     }
-    Ok(())
-}
-
-fn list_heads(blocks: &[Block], tables: &Tables, steps: &mut Vec<Step>) -> Result<(), NoMemory>
-    requires { length blocks.now < 2 ^ 32 }
-    ensures { OnOk result (steps.new.items ≡ steps.old.items ++ of_each (heads_in tables.now) 0 (states blocks.now)) }
-{
-    for (i, block) in blocks.iter().enumerate() {
-        block.push_heads(tables, BlockId(i as u32), steps)?;
-    }
-    Ok(())
-}
-
-fn list_responses(blocks: &[Block], tables: &Tables, steps: &mut Vec<Step>) -> Result<(), NoMemory>
-    requires { length blocks.now < 2 ^ 32 }
-    ensures { OnOk result (steps.new.items ≡ steps.old.items ++ of_each (responses_enabled tables.now) 0 (states blocks.now)) }
-{
-    for (i, block) in blocks.iter().enumerate() {
-        block.push_responses(tables, BlockId(i as u32), steps)?;
-    }
-    Ok(())
 }

@@ -1,15 +1,12 @@
 //! A world: the lines, homes and wires of all its blocks, which makes one step after another.
 #![tactic(auto)]
 
-mod block;
+mod at_block;
+mod counts;
 mod enabling;
 mod looks;
-mod overrides;
 mod runs;
-mod tables;
 mod worlds;
 
-pub use overrides::TablesFault;
 pub use runs::RunStop;
-pub use tables::Tables;
 pub use worlds::{OpenFault, World};

@@ -1,16 +1,30 @@
-ghost use Rattle.std.specs.Prelude.{◌≡◌};
-ghost use Rattle.world.specs.Looks.{all_quiet};
-ghost use Rattle.world.specs.View.{states};
+ghost use Rattle.std.specs.Prelude.{◌≡◌, ℕ};
+ghost use Rattle.machine.specs.Block.{opened_block};
+ghost use Rattle.blocks.specs.Looks.{place_in};
+ghost use Rattle.world.specs.inner.Found.{is_quiet_kept};
+ghost use Rattle.world.specs.inner.Held.{kept_at};
 
-use crate::block::Block;
-use crate::worlds::World;
+use crate::worlds::{World, opening_value};
 use base::{BlockId, CacheId, Outcome, Place, Shape, Step};
+use blocks::{Block, decide_opened, foreseen, is_stall, opened_line};
 use control::Line;
 use directory_table::DirectoryState;
+use rows::Sparse;
+
+/// A block: what is kept of it, or its opening value where nothing is.
+#[derive(Clone, Copy)]
+enum Found<'a> {
+    Kept(&'a Block),
+    Opened(u64),
+}
 
 impl World {
-    ghost use Rattle.std.specs.Prelude.{◌≡◌, ◌<◌, ◌↔◌, IsSome, IsTrue, List, ℕ};
+    ghost use Rattle.std.specs.Prelude.{◌≡◌, ◌<◌, ◌↔◌, IsSome, IsTrue, List, ℕ, slice_get};
+    ghost use Rattle.std.specs.Option.{option_map};
+    ghost use Rattle.world.specs.inner.Found.{state_found};
+    ghost use Rattle.base.specs.Steps.{block_of};
     ghost use Rattle.base.specs.declared.step.Step.{Step};
+    ghost use Rattle.machine.specs.Transition.{transition};
     ghost use Rattle.machine.specs.Machine.{next, IsHistory};
     ghost use Rattle.machine.specs.Completions.{completions_of, due};
     ghost use Rattle.machine.specs.Coherence.{line_at};
@@ -37,7 +51,22 @@ impl World {
     fn find_line(&self, cache: CacheId, block: BlockId) -> Option<Line>
         ensures { result ≡ line_at self.now.state cache.0 block.0 }
     {
-        self.blocks.get(block.0 as usize)?.line(cache)
+        match self.find(block.0)? {
+            Found::Kept(block) => block.line(cache),
+            Found::Opened(_) => opened_line(cache, self.shape.caches()),
+        }
+    }
+
+    /// A block, if it is in the shape.
+    fn find(&self, number: u32) -> Option<Found<'_>>
+        ensures state { option_map (state_found self.now.shape.caches) result ≡ slice_get self.now.state.blocks number }
+        ensures there { IsSome result ↔ (number < self.now.shape.blocks) }
+    {
+        let value = opening_value(self.opening.as_slice(), number)?;
+        match self.blocks.get(number) {
+            Some(block) => Some(Found::Kept(block)),
+            None => Some(Found::Opened(value)),
+        }
     }
 
     /// State, owner and memory of a block's home, if the block is in the shape.
@@ -45,17 +74,19 @@ impl World {
         ensures home { result ≡ home_at self.now.state block.0 }
         ensures there { IsSome result ↔ (block.0 < self.now.shape.blocks) }
     {
-        let block = self.blocks.get(block.0 as usize)?;
-        Some(block.home())
+        match self.find(block.0)? {
+            Found::Kept(block) => Some(block.home()),
+            Found::Opened(value) => Some((DirectoryState::I, None, value)),
+        }
     }
 
     /// Whether a cache is among the sharers of a block. Where either isn't in the shape it is not.
     pub fn shares(&self, cache: CacheId, block: BlockId) -> bool
         ensures { result ≡ shares_at self.now.state cache.0 block.0 }
     {
-        match self.blocks.get(block.0 as usize) {
-            Some(block) => block.shares(cache),
-            None => false,
+        match self.find(block.0) {
+            Some(Found::Kept(block)) => block.shares(cache),
+            Some(Found::Opened(_)) | None => false,
         }
     }
 
@@ -76,17 +107,19 @@ impl World {
         ensures latest { result ≡ latest_at self.now.state block.0 }
         ensures there { IsSome result ↔ (block.0 < self.now.shape.blocks) }
     {
-        let block = self.blocks.get(block.0 as usize)?;
-        Some(block.latest())
+        match self.find(block.0)? {
+            Found::Kept(block) => Some(block.latest()),
+            Found::Opened(value) => Some(value),
+        }
     }
 
     /// How many caches are in S, SM^AD, SM^A or M. Of a block that isn't in the shape it is 0.
     pub fn readers(&self, block: BlockId) -> u32
         ensures { result ≡ readers_of self.now.state block.0 }
     {
-        match self.blocks.get(block.0 as usize) {
-            Some(block) => block.readers(),
-            None => 0,
+        match self.find(block.0) {
+            Some(Found::Kept(block)) => block.readers(),
+            Some(Found::Opened(_)) | None => 0,
         }
     }
 
@@ -94,7 +127,10 @@ impl World {
     pub fn writer(&self, block: BlockId) -> Option<CacheId>
         ensures { result ≡ writer_of self.now.state block.0 }
     {
-        self.blocks.get(block.0 as usize)?.writer()
+        match self.find(block.0)? {
+            Found::Kept(block) => block.writer(),
+            Found::Opened(_) => None,
+        }
     }
 
     /// Whether a blank cell was met.
@@ -104,11 +140,23 @@ impl World {
         self.met_blank
     }
 
+    /// How many messages the steps since the world was opened have tested for being held; it stays at `u64::MAX`.
+    pub fn tested(&self) -> u64
+        ensures { result ≡ self.now.tested }
+    {
+        self.tested
+    }
+
     /// Whether nothing is on the wires of any block.
     pub fn empty(&self) -> bool
         ensures { result ≡ all_quiet self.now.state.blocks }
     {
-        are_quiet(self.blocks.as_slice())
+        for number in 0..self.shape.blocks() {
+            if !is_quiet_at(&self.blocks, number) {
+                return false;
+            }
+        }
+        true
     }
 
     /// Whether a step would be held.
@@ -118,9 +166,22 @@ impl World {
         if self.broken() {
             return false;
         }
-        match self.blocks.get(step.block().0 as usize) {
-            Some(block) => block.is_held(&self.tables, step),
+        match self.foresee(step) {
+            Some(outcome) => is_stall(outcome),
             None => false,
+        }
+    }
+
+    /// The outcome that a step would have in a world that isn't broken, if its block is there.
+    fn foresee(&self, step: Step) -> Option<Outcome>
+        ensures { result ≡ option_map (λ b. (transition self.now.tables step b).outcome) (slice_get self.now.state.blocks (block_of step)) }
+    {
+        match self.find(step.block().0)? {
+            Found::Kept(block) => Some(block.foresee(&self.tables, step)),
+            Found::Opened(_) => {
+                let decision = decide_opened(&self.tables, self.shape.caches(), step);
+                Some(foreseen(&decision))
+            }
         }
     }
 
@@ -128,17 +189,39 @@ impl World {
     pub fn at(&self, step: Step) -> Option<Place>
         ensures { result ≡ place_at self.now.state step }
     {
-        self.blocks.get(step.block().0 as usize)?.place(step)
+        match self.find(step.block().0)? {
+            Found::Kept(block) => block.place(step),
+            Found::Opened(_) => place_opened(self.shape.caches(), step),
+        }
     }
 }
 
-fn are_quiet(blocks: &[Block]) -> bool
-    ensures { result ≡ all_quiet (states blocks.now) }
+/// Whether nothing is on the wires of a block: on those of a block that isn't kept there is nothing.
+fn is_quiet_at(blocks: &Sparse<Block>, number: u32) -> bool
+    ensures { result ≡ is_quiet_kept (kept_at blocks.now.items number) }
 {
-    for block in blocks {
-        if !block.is_quiet() {
-            return false;
-        }
+    match blocks.get(number) {
+        Some(block) => block.is_quiet(),
+        None => true,
     }
-    true
+}
+
+/// The controller that a step goes to in a block that isn't kept, if the cache is one of so many.
+fn place_opened(caches: u32, step: Step) -> Option<Place>
+    ensures { (value : ℕ) → result ≡ place_in step (opened_block caches value) }
+{
+    match step {
+        Step::Ask {
+            cache,
+            block: _,
+            ask: _,
+        } => {
+            if cache.0 < caches {
+                Some(Place::Cache(cache))
+            } else {
+                None
+            }
+        }
+        Step::Request { .. } | Step::Forward { .. } | Step::Response { .. } => None,
+    }
 }

@@ -1,12 +1,15 @@
-ghost use Rattle.std.specs.Prelude.{◌≡◌, ◌<◌, IfOk, IsOk, OnErr, OnOk, map, slice_get, vec_len};
-ghost use Rattle.base.specs.Steps.{block_of};
-ghost use Rattle.machine.specs.Block.{opened_block};
-ghost use Rattle.machine.specs.Machine.{is_blank, sent_at};
-ghost use Rattle.world.specs.View.{StepsAt, ComesOfAt, HasRoomIn, states, rooms_of};
+ghost use Rattle.std.specs.Prelude.{◌≡◌, ◌<◌, length, slice_get};
+ghost use Rattle.machine.specs.Machine.{is_blank};
+ghost use Rattle.world.specs.Messages.{raised};
+ghost use Rattle.world.specs.inner.Tests.{counted};
+ghost use Rattle.blocks.specs.Tests.{tested_in};
 
-use crate::block::Block;
-use crate::tables::Tables;
+use crate::at_block::{ready_at, step_at};
+use crate::counts::Counts;
 use base::{NoMemory, Outcome, Shape, Step};
+use blocks::{Block, Made};
+use both_tables::Tables;
+use rows::{Sparse, TryClone};
 use std::alloc::Global;
 use std::marker::Model;
 use thiserror::Error;
@@ -34,35 +37,49 @@ impl From<NoMemory> for OpenFault {
 }
 
 /// A world of caches and blocks, with the tables of its controllers.
+///
+/// Only blocks that a cell has acted at, or that [`ready`](World::ready) has made room for such an act at, are kept; the
+/// others are as they open.
 #[derive(Drop)]
 pub struct World {
+    alloc: Global,
     pub(crate) shape: Shape,
     pub(crate) tables: Tables,
-    pub(crate) blocks: Vec<Block>,
+    pub(crate) opening: Vec<u64>,
+    pub(crate) blocks: Sparse<Block>,
+    pub(crate) counts: Counts,
     pub(crate) met_blank: bool,
+    pub(crate) tested: u64,
 }
 
 impl Model for World {
-    ghost use Rattle.world.specs.View.{View, IsShaped, states, rooms_of};
+    ghost use Rattle.world.specs.View.{View, spaces_of, states};
+    ghost use Rattle.world.specs.inner.Held.{IsWorld};
 
     ghost Value = { View };
 
     ghost view = { λ w. record {
       shape = w.shape;
       tables = w.tables;
-      state = record { blocks = states w.blocks.items; broken = w.met_blank };
-      rooms = rooms_of w.blocks.items;
+      state = record { blocks = states w.shape.caches w.opening.items w.blocks.items; broken = w.met_blank };
+      spaces = spaces_of w.blocks.items;
+      tested = w.tested;
     } };
 
-    ghost invariant = { λ w. IsShaped w.shape (record { blocks = states w.blocks.items; broken = w.met_blank }) };
+    ghost invariant = { λ w. IsWorld w.shape w.tables w.opening.items w.blocks.items w.counts (record {
+      blocks = states w.shape.caches w.opening.items w.blocks.items;
+      broken = w.met_blank;
+    }) };
 }
 
 impl World {
-    ghost use Rattle.std.specs.Prelude.{◌≡◌, ◌≢◌, ◌↔◌, ◌∷◌, [], IfOk, IsOk, IsErrOf, OnErr, OnOk, length};
+    ghost use Rattle.std.specs.Prelude.{◌≡◌, ◌≢◌, ◌↔◌, ◌≤◌, ◌∷◌, [], false, IfOk, IsOk, IsErrOf, OnErr, OnOk, length};
     ghost use Rattle.base.specs.Extent.{IsWithinLimits};
+    ghost use Rattle.base.specs.Steps.{block_of};
     ghost use Rattle.machine.specs.Machine.{IsHistory, next, opened, sent_by};
     ghost use Rattle.world.specs.Coherent.{HasBeenSafe, IsUnstuck};
-    ghost use Rattle.world.specs.View.{HasRoomToStep, LeadsOn, stepped};
+    ghost use Rattle.world.specs.Messages.{messages_at, raised};
+    ghost use Rattle.world.specs.View.{HasRoomToStep, LeadsOn, stepped, wakes};
     ghost use Rattle.world.specs.declared.worlds.OpenFault.TheVariants as fault;
 
     /// A world that nothing has happened to: all lines and homes are in I, nothing is on the wires,
@@ -81,26 +98,34 @@ impl World {
         ensures history { IfOk result (λ world. IsHistory world.shape world.tables opening.items [] world.state) }
         ensures safe { IfOk result HasBeenSafe }
         ensures unstuck { IfOk result IsUnstuck }
+        ensures tested { IfOk result (λ world. world.tested ≡ 0) }
         ensures opening_length { IsErrOf result fault.OpeningLength ↔ (length opening.items ≢ shape.blocks) }
     {
         if opening.len() != shape.blocks() as usize {
             return Err(OpenFault::OpeningLength);
         }
-        let Ok(blocks) = open_blocks(alloc, shape.caches(), opening.as_slice()) else {
+        let Ok(counts) = Counts::open(alloc, shape.blocks()) else {
             return Err(OpenFault::NoMemory);
         };
         Ok(World {
+            alloc,
             shape,
             tables,
-            blocks,
+            opening,
+            blocks: Sparse::open(alloc, shape.blocks()),
+            counts,
             met_blank: false,
+            tested: 0,
         })
     }
 
     /// Makes one step. Where memory is refused nothing has changed.
     ///
-    /// A step that sends no message is never refused: so no step that is held, absent, idle, blank
-    /// or broken, no hit, and no delivery whose cell sends nothing.
+    /// Where its cell acts it tests the messages of its block for being held, and raises [`tested`](World::tested) by as many,
+    /// which stays at `u64::MAX`: no fewer than it sends, and no more than the block has after it.
+    ///
+    /// A step that sends no message is never refused, but for an ask that acts at a line in I: so no step that is held,
+    /// absent, idle, blank or broken, no hit at a line that isn't in I, and no delivery whose cell sends nothing.
     pub fn step(&mut self, step: Step) -> Result<Outcome, NoMemory>
         ensures ok { IfOk result (λ what. next self.old.tables self.old.state step ≡ stepped self.new.state what) }
         ensures history { OnOk result (LeadsOn self.old (step ∷ []) self.new) }
@@ -109,8 +134,11 @@ impl World {
         ensures shape { self.new.shape ≡ self.old.shape }
         ensures tables { self.new.tables ≡ self.old.tables }
         ensures err { OnErr result (self.new.state ≡ self.old.state) }
+        ensures tests_what_it_sends { OnOk result (raised self.old.tested (length (sent_by self.old.tables self.old.state step)) ≤ self.new.tested) }
+        ensures tests_its_block { OnOk result (self.new.tested ≤ raised self.old.tested (messages_at self.new.state (block_of step))) }
+        ensures err_tested { OnErr result (self.new.tested ≡ self.old.tested) }
         ensures succeeds { HasRoomToStep self.old step → IsOk result }
-        ensures sends_nothing { sent_by self.old.tables self.old.state step ≡ [] → IsOk result }
+        ensures sends_nothing { sent_by self.old.tables self.old.state step ≡ [] → wakes self.old step ≡ false → IsOk result }
     {
         let outcome = self.advance(step)?;
         Ok(outcome)
@@ -125,32 +153,47 @@ impl World {
         ensures shape { self.new.shape ≡ self.old.shape }
         ensures tables { self.new.tables ≡ self.old.tables }
         ensures state { self.new.state ≡ self.old.state }
+        ensures tested { self.new.tested ≡ self.old.tested }
         ensures succeeds { HasRoomToStep self.old step → IsOk result }
-        ensures sends_nothing { sent_by self.old.tables self.old.state step ≡ [] → IsOk result }
+        ensures sends_nothing { sent_by self.old.tables self.old.state step ≡ [] → wakes self.old step ≡ false → IsOk result }
     {
         if self.met_blank {
             return Ok(Outcome::Broken);
         }
-        let number = step.block().0 as usize;
-        if number >= self.blocks.len() {
+        let number = step.block().0;
+        let Some(value) = opening_value(self.opening.as_slice(), number) else {
             return Ok(Outcome::Absent);
-        }
-        let outcome = ready_at(&mut self.blocks, number, &self.tables, step)?;
-        Ok(outcome)
+        };
+        ready_at(
+            self.alloc,
+            &mut self.blocks,
+            self.shape.caches(),
+            value,
+            number,
+            &self.tables,
+            step,
+        )
     }
 
-    /// The same world again: its shape, its tables and its state.
+    /// The same world again: its shape, its tables, its state, and how many messages were tested.
     pub fn try_clone(&self, alloc: Global) -> Result<World, NoMemory>
         ensures shape { IfOk result (λ world. world.shape ≡ self.now.shape) }
         ensures tables { IfOk result (λ world. world.tables ≡ self.now.tables) }
         ensures state { IfOk result (λ world. world.state ≡ self.now.state) }
+        ensures tested { IfOk result (λ world. world.tested ≡ self.now.tested) }
     {
-        let blocks = clone_blocks(alloc, self.blocks.as_slice())?;
+        let opening = Vec::from_slice(alloc, self.opening.as_slice())?;
+        let blocks = self.blocks.try_clone(alloc)?;
+        let counts = self.counts.try_clone(alloc)?;
         Ok(World {
+            alloc,
             shape: self.shape,
             tables: self.tables,
+            opening,
             blocks,
+            counts,
             met_blank: self.met_blank,
+            tested: self.tested,
         })
     }
 
@@ -160,40 +203,39 @@ impl World {
         ensures shape { self.new.shape ≡ self.old.shape }
         ensures tables { self.new.tables ≡ self.old.tables }
         ensures err { OnErr result (self.new.state ≡ self.old.state) }
+        ensures tests_what_it_sends { OnOk result (raised self.old.tested (length (sent_by self.old.tables self.old.state step)) ≤ self.new.tested) }
+        ensures tests_its_block { OnOk result (self.new.tested ≤ raised self.old.tested (messages_at self.new.state (block_of step))) }
+        ensures err_tested { OnErr result (self.new.tested ≡ self.old.tested) }
         ensures succeeds { HasRoomToStep self.old step → IsOk result }
+        ensures sends_nothing { sent_by self.old.tables self.old.state step ≡ [] → wakes self.old step ≡ false → IsOk result }
     {
         if self.met_blank {
             return Ok(Outcome::Broken);
         }
-        let number = step.block().0 as usize;
-        if number >= self.blocks.len() {
+        let number = step.block().0;
+        let Some(value) = opening_value(self.opening.as_slice(), number) else {
             return Ok(Outcome::Absent);
-        }
-        let outcome = step_at(&mut self.blocks, number, &self.tables, step)?;
-        self.met_blank = breaks(outcome);
-        Ok(outcome)
+        };
+        let made = step_at(
+            self.alloc,
+            &mut self.blocks,
+            self.shape.caches(),
+            value,
+            number,
+            &self.tables,
+            step,
+        )?;
+        self.tested = note(&mut self.counts, self.tested, number, &made);
+        self.met_blank = breaks(made.outcome);
+        Ok(made.outcome)
     }
 }
 
-fn open_blocks(alloc: Global, caches: u32, opening: &[u64]) -> Result<Vec<Block>, NoMemory>
-    ensures { IfOk result (λ blocks. states blocks.items ≡ map (opened_block caches) opening.now) }
+/// The opening value of a block, if the block is there.
+pub(crate) fn opening_value(opening: &[u64], number: u32) -> Option<u64>
+    ensures { result ≡ slice_get opening.now number }
 {
-    let mut blocks = Vec::with_capacity(alloc, opening.len())?;
-    for value in opening {
-        let block = Block::open(alloc, caches, *value)?;
-        blocks.push(block)?;
-    }
-    Ok(blocks)
-}
-
-fn clone_blocks(alloc: Global, blocks: &[Block]) -> Result<Vec<Block>, NoMemory>
-    ensures { IfOk result (λ copies. states copies.items ≡ states blocks.now) }
-{
-    let mut copies = Vec::with_capacity(alloc, blocks.len())?;
-    for block in blocks {
-        copies.push(block.try_clone(alloc)?)?;
-    }
-    Ok(copies)
+    opening.get(number as usize).copied()
 }
 
 fn breaks(outcome: Outcome) -> bool
@@ -205,36 +247,17 @@ fn breaks(outcome: Outcome) -> bool
     }
 }
 
-/// Makes a step at one of the blocks.
-fn step_at(
-    blocks: &mut Vec<Block>,
-    number: usize,
-    tables: &Tables,
-    step: Step,
-) -> Result<Outcome, NoMemory>
-    requires { number < vec_len blocks.old }
-    ensures ok { IfOk result (λ what. StepsAt tables.now step number (states blocks.old.items) (states blocks.new.items) what) }
-    ensures err { OnErr result (states blocks.new.items ≡ states blocks.old.items) }
-    ensures succeeds { HasRoomIn (sent_at tables.now step (slice_get (states blocks.old.items) number)) (slice_get (rooms_of blocks.old.items) number) →
-        IsOk result }
+/// Notes what a step's test found, and answers how many messages were tested so far.
+fn note(counts: &mut Counts, tested: u64, number: u32, made: &Made) -> u64
+    requires { number < length counts.old.requests }
+    ensures counts { counts.new ≡ counted made.now.tested number counts.old }
+    ensures tested { result ≡ raised tested (tested_in made.now.tested) }
 {
-    blocks[number].step(tables, step)
-}
-
-/// Makes the room that a step at one of the blocks wants.
-fn ready_at(
-    blocks: &mut Vec<Block>,
-    number: usize,
-    tables: &Tables,
-    step: Step,
-) -> Result<Outcome, NoMemory>
-    requires { number < vec_len blocks.old }
-    ensures outcome { IfOk result (λ what. ComesOfAt tables.now step number (states blocks.old.items) what) }
-    ensures room { OnOk result (HasRoomIn (sent_at tables.now step (slice_get (states blocks.new.items) number))
-        (slice_get (rooms_of blocks.new.items) number)) }
-    ensures state { states blocks.new.items ≡ states blocks.old.items }
-    ensures succeeds { HasRoomIn (sent_at tables.now step (slice_get (states blocks.old.items) number)) (slice_get (rooms_of blocks.old.items) number) →
-        IsOk result }
-{
-    blocks[number].ready(tables, step)
+    match made.tested {
+        None => tested,
+        Some(found) => {
+            counts.set(number, found.requests, found.heads, found.responses);
+            tested.saturating_add(found.messages)
+        }
+    }
 }

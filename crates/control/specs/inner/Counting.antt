@@ -1,5 +1,5 @@
-use Rattle.std.specs.Prelude.{◌<◌, ◌≤◌, ℕ, zero, suc, ◌+◌, length, slice_index, List, [], ◌∷◌, ◌++◌, replicate, Option, Some, None, Bool, false}
-use Rattle.std.specs.Prelude.{not, ◌&&◌, ◌||◌, ◌==◌, nat_lt, if◌then◌else◌}
+use Rattle.std.specs.Prelude.{◌≡◌, ◌≢◌, ◌≤◌, ℕ, zero, suc, ◌+◌, length, slice_index, List, [], ◌∷◌, ◌++◌, replicate}
+use Rattle.std.specs.Prelude.{Option, Some, None, Bool, true, false, not, ◌&&◌, ◌||◌, ◌==◌, nat_lt, if◌then◌else◌}
 use Rattle.base.specs.declared.ids.CacheId.{CacheId}
 use Rattle.network.specs.Room.{Room, one_if}
 use Rattle.cache_table.specs.declared.actions.CacheAction.{CacheAction}
@@ -48,6 +48,16 @@ abbrev pub replies_by : List DirectoryAction → ℕ
 replies_by [] = 0
 replies_by (a ∷ actions) = replies_of a + replies_by actions
 
+-- whether an action of a home is the one that sends to the sharers
+abbrev pub is_invalidation : DirectoryAction → Bool
+is_invalidation action.InvSharers = true
+is_invalidation other = false
+
+-- whether one of the actions is
+abbrev pub invalidates : List DirectoryAction → Bool
+invalidates [] = false
+invalidates (a ∷ actions) = is_invalidation a || invalidates actions
+
 -- whether an action of a home sends on the link to a cache, where that cache is a sharer or not
 abbrev pub is_sent_to : CacheId → CacheId → Option CacheId → Bool → DirectoryAction → Bool
 is_sent_to cache from owner sharer action.InvSharers = sharer && not (cache.0 == from.0)
@@ -81,10 +91,23 @@ forwards_by flagged cache from owner sharer (a ∷ actions) =
 abbrev pub forwards_to : CacheId → CacheId → List DirectoryAction → Home → ℕ
 forwards_to cache from actions home = forwards_by (nat_lt cache.0 (length home.sharers)) cache from home.owner (shares home.sharers cache.0) actions
 
+-- on the link to a cache there is room for so many messages
+abbrev pub HasRoomOnLink : ℕ → CacheId → List DirectoryAction → Home → Room → Type 0
+HasRoomOnLink k from actions home room = forwards_to (record { 0 = k }) from actions home ≤ slice_index room.links k
+
+-- there is on the owner's, if there is an owner
+abbrev pub HasRoomToOwner : CacheId → List DirectoryAction → Home → Room → Type 0
+HasRoomToOwner from actions home room = (k : ℕ) → owns home.owner (record { 0 = k }) ≡ true → HasRoomOnLink k from actions home room
+
+-- there is on that of each sharer that is neither the owner nor the sender
+abbrev pub HasRoomToSharers : CacheId → List DirectoryAction → Home → Room → Type 0
+HasRoomToSharers from actions home room =
+    (k : ℕ) → owns home.owner (record { 0 = k }) ≡ false → k ≢ from.0 → shares home.sharers k ≡ true → HasRoomOnLink k from actions home room
+
 -- there is room for so many responses, and on the link to each cache for so many messages
 pub record HasRoomToReply (from : CacheId) (actions : List DirectoryAction) (home : Home) (room : Room) : Type 0 where
   pub responses : replies_by actions ≤ room.responses
-  pub links : (k : ℕ) → k < length home.sharers → forwards_to (record { 0 = k }) from actions home ≤ slice_index room.links k
+  pub links : (k : ℕ) → HasRoomOnLink k from actions home room
 
 -- the link to a cache, as often as the actions put a message on it
 abbrev pub links_to : CacheId → CacheId → List DirectoryAction → Home → List CacheId

@@ -12,7 +12,6 @@ pub returns-in_default-clause-ok : goal.returns-in_default-clause-ok
 returns-in_default-clause-ok c =
     rw c.in-Request.is
     (room-to-send c.in-Request.request.from (value_in c.in-Request.request.kind) c.args.actions c.args.home.now c.reserve_for.new.wires.room
-    c.requires.flags (rw c.in-Request.is at c.requires.sender_flag)
     (rw c.as_slice.ensures.actions at c.in_default.ensures.ok))
 
 pub returns-in-Err-clause-succeeds : goal.returns-in-Err-clause-succeeds

@@ -1,19 +1,28 @@
-use Rattle.std.proofs.Common.{◌≡◌, ap, arith, inl, inr, length}
-use Rattle.std.proofs.lemmas.Bool.{cases_lt}
-use Rattle.network.specs.Traffic.{Traffic}
-use Rattle.control.proofs.HomeCounts.{no-forwards}
+use Rattle.std.proofs.Common.{arith}
+use Rattle.std.proofs.lemmas.Result.{on_ok_weaker}
+use Rattle.control.proofs.HomeCounts.{room-on_links}
 use Rattle.control.proofs.home_room.reserve_for.Goals as goal
 
-pub reserve_link-requires : goal.reserve_link-requires
-reserve_link-requires c =
-    let links : length c.loop-number.wires.traffic.links ≡ length c.args.wires.now.traffic.links =
-    ap (λ (w : Traffic). length w.links) c.loop-number.invariant.traffic in
-    elim (cases_lt c.loop-number.number (length c.args.wires.now.traffic.links)) [
-      | inl lt ↦ omega (arith, links, lt)
-      | inr le ↦ absurd (omega (
+pub returns-clause-ok : goal.returns-clause-ok
+returns-clause-ok c =
+    on_ok_weaker c.reserve_for_sharers.result
+    (λ sharers. record {
+      responses = omega (
         arith,
-        c.forwards_to-count.ensures.count,
-        no-forwards (length c.args.wires.now.traffic.links) c.loop-number.number c.args.from c.args.actions.now c.args.home.now le
-            c.requires.links c.requires.sender,
-      ))
-    ]
+        c.replies.ensures,
+        c.in_ok-reserve_ends.ensures.ok,
+        c.reserve_link.ensures.room.responses,
+        c.reserve_for_owner.ensures.room.responses,
+        c.reserve_for_sharers.ensures.room.responses,
+      );
+      links = λ k. room-on_links k c.args.from c.args.actions.now c.args.home.now c.reserve_for_sharers.new.wires.room
+          (omega (
+            arith,
+            c.forwards_to.ensures.count,
+            c.in_ok-reserve_link.ensures.ok,
+            c.reserve_for_owner.ensures.room.links c.args.from.0,
+            c.reserve_for_sharers.ensures.room.links c.args.from.0,
+          ))
+          (λ k owner. omega (arith, c.in_ok-reserve_for_owner.ensures.ok k owner, c.reserve_for_sharers.ensures.room.links k)) sharers;
+    })
+    c.reserve_for_sharers.ensures.ok

@@ -1,4 +1,4 @@
-use Rattle.machine.specs.Tables.{baseline}
+use Rattle.both_tables.specs.Tables.{baseline}
 use Rattle.monitor.proofs.safety.no_violation_under_the_own_tables.Goals as goal
 
 pub returns-clause-none : goal.returns-clause-none

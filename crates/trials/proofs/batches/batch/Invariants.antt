@@ -1,5 +1,5 @@
 use Rattle.std.proofs.Common.{◌≡◌, ◌≤◌}
-use Rattle.machine.specs.Tables.{baseline}
+use Rattle.both_tables.specs.Tables.{baseline}
 use Rattle.scenario.specs.Tree.{plain}
 use Rattle.trials.specs.Trial.{AreResults, AreSound}
 use Rattle.trials.proofs.batches.batch.Given as goal

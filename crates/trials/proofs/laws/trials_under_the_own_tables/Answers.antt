@@ -3,7 +3,7 @@ use Rattle.base.specs.declared.step.Outcome.{Outcome}
 use Rattle.machine.specs.Coherence.{Safe, Explained}
 use Rattle.machine.specs.Completions.{completions}
 use Rattle.machine.specs.Machine.{State, opened, state_after}
-use Rattle.machine.specs.Tables.{Tables}
+use Rattle.both_tables.specs.Tables.{Tables}
 use Rattle.machine.specs.Unstuck.{Unstuck}
 use Rattle.record.specs.Kept.{steps_of}
 use Rattle.trials.specs.Trial.{IsVerdict}

@@ -11,6 +11,7 @@ reserve_link-requires c =
 pub loop-link-preserved : goal.loop-link-preserved
 loop-link-preserved c = record {
   traffic = c.reserve_link.ensures.traffic ∙ c.loop-link.invariant.traffic;
+  marks = c.reserve_link.ensures.marks ∙ c.loop-link.invariant.marks;
   requests = omega (arith, c.reserve_link.ensures.room.requests, c.loop-link.invariant.requests);
   responses = omega (arith, c.reserve_link.ensures.room.responses, c.loop-link.invariant.responses);
   room = record {

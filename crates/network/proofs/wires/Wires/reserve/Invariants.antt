@@ -5,6 +5,7 @@ use Rattle.network.proofs.wires.Wires.reserve.Given as goal
 abbrev pub invariant-loop-link : goal.invariant-loop-link
 invariant-loop-link l = record {
   traffic : l.self.traffic ≡ l.fn.self.traffic;
+  marks : l.self.marks ≡ l.fn.self.marks;
   requests : l.requests ≤ l.self.room.requests;
   responses : l.responses ≤ l.self.room.responses;
   room : UsesRoomFor [] l.fn.self.room l.self.room;

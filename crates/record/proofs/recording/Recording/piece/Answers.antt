@@ -2,7 +2,7 @@ use Rattle.std.proofs.Common.{◌-◌, ◌+◌, ℕ, List, get_or, length, ap, s
 use Rattle.record.specs.inner.Pieces.{value_piece, cells_piece, cell_piece, entries_piece, entry_piece}
 use Rattle.record.proofs.PieceAt.{value-at, cells-at, cell-at, entries-at, entry-at, end-at, fits-at}
 use Rattle.record.proofs.Whole.{pieces-count}
-use Rattle.machine.specs.Tables.{Tables}
+use Rattle.both_tables.specs.Tables.{Tables}
 use Rattle.record.specs.declared.recording.Entry.{Entry}
 use Rattle.record.proofs.recording.Recording.piece.Goals as goal
 

@@ -1,16 +1,36 @@
-use Rattle.std.proofs.Common.{◌≡◌, arith, false, length}
-use Rattle.world.proofs.Keeping.{shaped-opened}
+use Rattle.std.proofs.Common.{◌≡◌, ◌∙◌, ap, arith, refl, false, length, replicate, List, None}
+use Rattle.machine.specs.Block.{BlockState}
+use Rattle.machine.specs.Machine.{State, opened}
+use Rattle.world.specs.View.{states}
+use Rattle.world.proofs.Keeping.{states-opened, world-opened}
 use Rattle.world.proofs.Coherence.{been-safe, not-stuck}
 use Rattle.world.proofs.worlds.World.open.Goals as goal
 
+one_each : (c : goal.After-open-2) → length c.args.opening.items ≡ c.args.shape.blocks
+one_each c = omega (arith, c.if-len-blocks.false, c.len.ensures, c.blocks-2.ensures.value)
+
+opened-state : (c : goal.After-open-2)
+    → ◌≡◌ {A = State} (record { blocks = states c.args.shape.caches c.args.opening.items c.open-2.result.items; broken = false })
+    (opened c.args.shape c.args.opening.items)
+opened-state c =
+    ap (λ (bs : List BlockState). record { blocks = bs; broken = false })
+    (states-opened c.args.shape.caches c.args.opening.items c.open-2.result.items c.blocks-4.result c.open-2.ensures.items)
+
 pub invariant_of-result : goal.invariant_of-result
 invariant_of-result c =
-    let one_each : length c.args.opening.items ≡ c.args.shape.blocks = omega arith in
-    rw (c.in-Ok.ensures, c.caches.ensures.value, c.as_slice.ensures.value)
-    (shaped-opened c.args.shape c.args.opening.items false c.caches.ensures.within one_each)
+    world-opened c.args.shape c.args.tables c.args.opening.items c.open-2.result.items c.in-Ok.counts c.blocks-2.ensures.within (one_each c)
+    (c.open-2.ensures.items ∙ ap (λ n. replicate n None) c.blocks-4.ensures.value)
+    (rw c.blocks-3.ensures.value at c.in-Ok.ensures.requests) (rw c.blocks-3.ensures.value at c.in-Ok.ensures.heads)
+    (rw c.blocks-3.ensures.value at c.in-Ok.ensures.responses)
+
+pub returns-clause-state : goal.returns-clause-state
+returns-clause-state c = opened-state c
+
+pub returns-clause-history : goal.returns-clause-history
+returns-clause-history c = rw (opened-state c) (record { opens = one_each c; leads = refl })
 
 pub returns-clause-safe : goal.returns-clause-safe
-returns-clause-safe c = been-safe _ _ _ c.caches.ensures.within
+returns-clause-safe c = been-safe _ _ _ c.blocks-2.ensures.within
 
 pub returns-clause-unstuck : goal.returns-clause-unstuck
-returns-clause-unstuck c = not-stuck _ _ _ c.caches.ensures.within
+returns-clause-unstuck c = not-stuck _ _ _ c.blocks-2.ensures.within

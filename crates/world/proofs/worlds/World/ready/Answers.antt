@@ -1,6 +1,66 @@
-use Rattle.std.proofs.Common.{arith}
-use Rattle.std.proofs.lemmas.Grind.{common_steps}
+use Rattle.std.proofs.Common.{◌<◌, length, ◌≡◌, ◌∙◌, List, Some, ap, sym, slice_get}
+use Rattle.std.proofs.lemmas.Result.{IfOk-weaker, on_ok_weaker}
+use Rattle.base.specs.Steps.{block_of}
+use Rattle.machine.specs.Block.{BlockState}
+use Rattle.world.specs.View.{states}
+use Rattle.world.proofs.Keeping.{states-stay}
+use Rattle.world.proofs.Stepping.{below-places, light-in, outcome-is, room-at, room-back, world-stays}
 use Rattle.world.proofs.worlds.World.ready.Goals as goal
 
-pub returns-then-self : goal.returns-then-self
-returns-then-self c = grind (arith, common_steps)
+at : (c : goal.After-ready_at) → Some c.in-Some.value ≡ slice_get c.self.inside.opening.items (block_of c.args.step)
+at c = rw (c.as_slice.ensures.value, c.block-number.ensures) at c.in-Some.ensures
+
+below : (c : goal.After-ready_at) → block_of c.args.step < length c.self.inside.blocks.items
+below c =
+    below-places c.self.inside.shape c.self.inside.tables c.self.inside.opening.items c.self.inside.blocks.items c.self.inside.counts _
+    (block_of c.args.step) c.in-Some.value c.self.invariant (at c)
+
+pub invariant_of-self : goal.invariant_of-self
+invariant_of-self c =
+    world-stays c.self.inside.shape c.self.inside.tables c.self.inside.opening.items c.self.inside.blocks.items c.ready_at.new.blocks.items
+    c.self.inside.counts (block_of c.args.step) c.in-Some.value c.self.inside.met_blank c.self.invariant (at c)
+    (rw c.block-number.ensures at c.ready_at.ensures.others)
+    (rw (c.block-number.ensures, c.caches.ensures.value) at c.ready_at.ensures.state)
+    ((rw c.block-number.ensures at c.ready_at.ensures.marked) (c.self.invariant.marked (block_of c.args.step)))
+
+stay : (c : goal.After-ready_at) → states c.self.inside.shape.caches c.self.inside.opening.items c.ready_at.new.blocks.items
+    ≡ states c.self.inside.shape.caches c.self.inside.opening.items c.self.inside.blocks.items
+stay c =
+    states-stay c.self.inside.shape.caches c.self.inside.opening.items c.self.inside.blocks.items c.ready_at.new.blocks.items (block_of c.args.step)
+    c.in-Some.value (at c)
+    (below c)
+    (rw c.block-number.ensures at c.ready_at.ensures.others)
+    (rw (c.block-number.ensures, c.caches.ensures.value) at c.ready_at.ensures.state)
+
+pub returns-clause-state : goal.returns-clause-state
+returns-clause-state c =
+    rw (← c.self.view_is) (ap (λ (bs : List BlockState). record { blocks = bs; broken = c.self.inside.met_blank }) (stay c))
+
+pub returns-clause-outcome : goal.returns-clause-outcome
+returns-clause-outcome c =
+    IfOk-weaker c.ready_at.result _ _ (λ what comes.
+    comes ∙ rw (← c.self.view_is, c.if-self.false) (sym (outcome-is c.self.inside.shape c.self.inside.tables c.self.inside.opening.items
+    c.self.inside.blocks.items c.args.step c.in-Some.value (at c))))
+    (rw (c.block-number.ensures, c.caches.ensures.value) at c.ready_at.ensures.outcome)
+
+pub returns-clause-room : goal.returns-clause-room
+returns-clause-room c =
+    let same = rw (c.block-number.ensures, c.caches.ensures.value) at c.ready_at.ensures.state in
+    on_ok_weaker c.ready_at.result (λ room.
+    room-back c.self.inside.shape c.self.inside.tables c.self.inside.opening.items c.ready_at.new.blocks.items c.self.inside.met_blank
+    c.self.inside.tested c.args.step c.in-Some.value (at c) (rw (← same) at room))
+    (rw (c.block-number.ensures, c.caches.ensures.value) at c.ready_at.ensures.room)
+
+pub returns-clause-succeeds : goal.returns-clause-succeeds
+returns-clause-succeeds c h =
+    (rw (c.block-number.ensures, c.caches.ensures.value) at c.ready_at.ensures.succeeds)
+    (room-at c.self.inside.shape c.self.inside.tables c.self.inside.opening.items c.self.inside.blocks.items c.self.inside.tested
+    c.args.step c.in-Some.value (at c)
+    (rw (← c.self.view_is, c.if-self.false) at h))
+
+pub returns-clause-sends_nothing : goal.returns-clause-sends_nothing
+returns-clause-sends_nothing c s w =
+    (rw (c.block-number.ensures, c.caches.ensures.value) at c.ready_at.ensures.light)
+    (light-in c.self.inside.shape c.self.inside.tables c.self.inside.opening.items c.self.inside.blocks.items c.self.inside.tested
+    c.args.step c.in-Some.value (at c)
+    (rw (← c.self.view_is, c.if-self.false) at s) (rw (← c.self.view_is) at w))

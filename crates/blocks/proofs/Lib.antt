@@ -1,0 +1,14 @@
+pub mod Naming
+pub mod Lines
+pub mod Deciding
+pub mod Acting
+pub mod Opening
+pub mod Copying
+pub mod UnmarkedPlaces
+pub mod UnmarkedHeads
+pub mod MarkChanges
+pub mod CountChanges
+pub mod Writers
+pub mod Sends
+pub mod Writes
+pub mod TestedMarks

@@ -1,0 +1,6 @@
+pub mod Kept
+pub mod Marking
+pub mod Messages
+pub mod Looks
+pub mod Tests
+pub mod inner

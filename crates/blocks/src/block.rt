@@ -1,0 +1,122 @@
+mod access;
+mod acting;
+mod deciding;
+mod looking;
+mod testing;
+
+use access::Access;
+pub use acting::Made;
+use base::{CacheId, NoMemory};
+use control::{Home, Line};
+pub use deciding::{decide_opened, opened_line};
+use directory_table::DirectoryState;
+pub use looking::{foreseen, is_stall};
+use network::Wires;
+use rows::{Sparse, TryClone};
+use std::alloc::Global;
+use std::marker::Model;
+pub use testing::Tested;
+
+/// One block: its line in each cache, its home, its wires, and the value of the last store to it.
+///
+/// Only lines that a cell has acted at are kept; the others are as they open.
+#[derive(Drop)]
+pub struct Block {
+    lines: Sparse<Line>,
+    home: Home,
+    wires: Wires,
+    latest: u64,
+    access: Access,
+}
+
+impl Model for Block {
+    ghost use Rattle.blocks.specs.Kept.{Kept};
+    ghost use Rattle.blocks.specs.inner.Held.{IsHeld, kept_lines, lines_of};
+
+    ghost Value = { Kept };
+
+    ghost view = { λ b. record {
+      state = record { lines = lines_of b.lines.items; home = b.home; traffic = b.wires.traffic; latest = b.latest };
+      marks = b.wires.marks;
+      space = record { wires = b.wires.room; lines = kept_lines b.lines.items; spare = b.lines.spare };
+    } };
+
+    ghost invariant = { λ b. IsHeld (record {
+      lines = lines_of b.lines.items;
+      home = b.home;
+      traffic = b.wires.traffic;
+      latest = b.latest;
+    }) b.lines.items b.access.readers b.access.writers };
+}
+
+impl Block {
+    ghost use Rattle.std.specs.Prelude.{◌≡◌, IfOk, slice_get};
+    ghost use Rattle.network.specs.Marks.{no_marks};
+    ghost use Rattle.control.specs.Sharing.{shares};
+    ghost use Rattle.machine.specs.Block.{opened_block};
+
+    /// A block that nothing has happened to, among so many caches, with its opening value.
+    pub fn open(alloc: Global, caches: u32, value: u64) -> Result<Block, NoMemory>
+        ensures state { IfOk result (λ block. block.state ≡ opened_block caches value) }
+        ensures marks { IfOk result (λ block. block.marks ≡ no_marks caches) }
+    {
+        let home = Home::open(alloc, caches, value)?;
+        let wires = Wires::open(alloc, caches)?;
+        let access = Access::open(alloc, caches)?;
+        Ok(Block {
+            lines: Sparse::open(alloc, caches),
+            home,
+            wires,
+            latest: value,
+            access,
+        })
+    }
+
+    /// The line of a cache, if the cache is there.
+    pub fn line(&self, cache: CacheId) -> Option<Line>
+        ensures { result ≡ slice_get self.now.state.lines cache.0 }
+    {
+        if let Some(line) = self.lines.get(cache.0) {
+            return Some(*line);
+        }
+        opened_line(cache, self.lines.places())
+    }
+
+    /// State, owner and memory of the home.
+    pub fn home(&self) -> (DirectoryState, Option<CacheId>, u64)
+        ensures { result ≡ (self.now.state.home.state, self.now.state.home.owner, self.now.state.home.memory) }
+    {
+        (self.home.state, self.home.owner, self.home.memory)
+    }
+
+    /// Whether a cache is among the sharers.
+    pub fn shares(&self, cache: CacheId) -> bool
+        ensures { result ≡ shares self.now.state.home.sharers cache.0 }
+    {
+        self.home.sharers.contains(cache)
+    }
+}
+
+impl TryClone for Block {
+    ghost use Rattle.network.specs.Marks.{Marks};
+    ghost use Rattle.machine.specs.Block.{BlockState};
+
+    ghost Seen = { record { state : BlockState; marks : Marks } };
+
+    ghost seen = { λ block. record { state = block.state; marks = block.marks } };
+
+    /// The same block, with the same marks.
+    fn try_clone(&self, alloc: Global) -> Result<Block, NoMemory> {
+        let lines = self.lines.try_clone(alloc)?;
+        let home = self.home.try_clone(alloc)?;
+        let wires = self.wires.try_clone(alloc)?;
+        let access = self.access.try_clone(alloc)?;
+        Ok(Block {
+            lines,
+            home,
+            wires,
+            latest: self.latest,
+            access,
+        })
+    }
+}

@@ -1,0 +1,217 @@
+ghost use Rattle.std.specs.Prelude.{◌≡◌, ◌<◌, ◌≤◌, Some, [], false, length, slice_set};
+ghost use Rattle.network.specs.Traffic.{all_sent};
+ghost use Rattle.network.specs.Room.{HasRoomFor, UsesRoomFor};
+ghost use Rattle.control.specs.LineEffect.{line_after, line_completes, line_sends};
+ghost use Rattle.machine.specs.Transition.{outcome_of, plain_outcome, latest_after, without, IsThere};
+ghost use Rattle.rows.specs.Flags.{is_set};
+ghost use Rattle.blocks.specs.inner.Held.{kept_lines, lines_of};
+
+use crate::block::{Block, Tested, foreseen};
+use base::{CacheId, NoMemory, Outcome, Step};
+use both_tables::Tables;
+use control::{
+    Line, LineCompletion, home_perform, home_reserve, line_perform, line_reserve, may_read,
+    may_write,
+};
+use machine::{Decision, Origin};
+use network::Wires;
+use rows::Sparse;
+
+/// What a step came to at its block.
+#[derive(Clone, Copy, Debug, PartialEq, Eq)]
+pub struct Made {
+    pub outcome: Outcome,
+    /// What the test of the block's messages found, where a cell acted.
+    pub tested: Option<Tested>,
+}
+
+impl Block {
+    ghost use Rattle.std.specs.Prelude.{◌≡◌, ◌≤◌, [], IfOk, IsOk, OnOk, OnErr, false, length};
+    ghost use Rattle.machine.specs.Transition.{Fits, Transition, carried_out, decision_of, messages_of, transition};
+    ghost use Rattle.blocks.specs.Kept.{moved_to, wakes_line, HasSpaceFor};
+    ghost use Rattle.blocks.specs.Marking.{marks_of};
+    ghost use Rattle.blocks.specs.inner.Named.{DecisionNames};
+    ghost use Rattle.blocks.specs.Tests.{IsTested, tested_in};
+
+    /// Makes the room that a decision wants. Where it is refused nothing has changed.
+    fn prepare(&mut self, decision: &Decision) -> Result<(), NoMemory>
+        requires { Fits decision.now self.old.state }
+        ensures state { self.new.state ≡ self.old.state }
+        ensures marks { self.new.marks ≡ self.old.marks }
+        ensures lines { self.new.space.lines ≡ self.old.space.lines }
+        ensures ok { OnOk result (HasSpaceFor decision.now self.old.state self.new.space) }
+        ensures succeeds { HasSpaceFor decision.now self.old.state self.old.space → IsOk result }
+    {
+        match *decision {
+            Decision::Refused(_) => {}
+            Decision::AtLine {
+                cache,
+                line: _,
+                input,
+                next: _,
+                actions,
+                origin: _,
+            } => {
+                if let None = self.lines.get(cache.0) {
+                    self.lines.reserve(1)?;
+                }
+                line_reserve(input, actions, &mut self.wires)?;
+            }
+            Decision::AtHome {
+                input,
+                next: _,
+                actions,
+                origin: _,
+            } => {
+                home_reserve(&self.home, input, actions, &mut self.wires)?;
+            }
+        }
+        Ok(())
+    }
+
+    /// Makes the room that a step wants, and answers the outcome that it will have.
+    pub fn ready(&mut self, tables: &Tables, step: Step) -> Result<Outcome, NoMemory>
+        ensures state { self.new.state ≡ self.old.state }
+        ensures marks { self.new.marks ≡ self.old.marks }
+        ensures outcome { IfOk result (λ what. what ≡ (transition tables.now step self.old.state).outcome) }
+        ensures room { OnOk result (HasSpaceFor (decision_of tables.now step self.old.state) self.old.state self.new.space) }
+        ensures succeeds { HasSpaceFor (decision_of tables.now step self.old.state) self.old.state self.old.space → IsOk result }
+        ensures sends_nothing { messages_of (decision_of tables.now step self.old.state) self.old.state ≡ [] →
+            wakes_line (decision_of tables.now step self.old.state) ≡ false → IsOk result }
+    {
+        let decision = self.decide(tables, step);
+        self.prepare(&decision)?;
+        Ok(foreseen(&decision))
+    }
+
+    /// Does what was decided, where there is room for it.
+    fn carry_out(&mut self, decision: &Decision) -> Outcome
+        requires fits { Fits decision.now self.old.state }
+        requires names { DecisionNames self.old.space.lines decision.now }
+        requires room { HasSpaceFor decision.now self.old.state self.old.space }
+        ensures { carried_out decision.now self.old.state ≡ moved_to self.new.state result }
+    {
+        match *decision {
+            Decision::Refused(outcome) => outcome,
+            Decision::AtLine {
+                cache,
+                line,
+                input,
+                next,
+                actions,
+                origin,
+            } => {
+                take(&mut self.wires, origin);
+                let mut after = line;
+                let done = line_perform(&mut after, cache, input, next, actions, &mut self.wires);
+                put_line(&mut self.lines, cache, after);
+                self.access.readers.set(cache.0, may_read(after.state));
+                self.access.writers.set(cache.0, may_write(after.state));
+                self.latest = latest_value(done, self.latest);
+                completion_outcome(cache, origin, done)
+            }
+            Decision::AtHome {
+                input,
+                next,
+                actions,
+                origin,
+            } => {
+                take(&mut self.wires, origin);
+                home_perform(&mut self.home, input, next, actions, &mut self.wires);
+                Outcome::Moved
+            }
+        }
+    }
+
+    /// Makes a step. Where memory is refused nothing has changed.
+    pub fn step(&mut self, tables: &Tables, step: Step) -> Result<Made, NoMemory>
+        requires { self.old.marks ≡ marks_of tables.now self.old.state }
+        ensures ok { IfOk result (λ made. transition tables.now step self.old.state ≡ moved_to self.new.state made.outcome) }
+        ensures marks { self.new.marks ≡ marks_of tables.now self.new.state }
+        ensures tested { IfOk result (λ made. IsTested tables.now self.old.state self.new.state made.tested) }
+        ensures sent { IfOk result (λ made. (length (messages_of (decision_of tables.now step self.old.state) self.old.state) ≤ tested_in made.tested)) }
+        ensures err { OnErr result (self.new.state ≡ self.old.state) }
+        ensures succeeds { HasSpaceFor (decision_of tables.now step self.old.state) self.old.state self.old.space → IsOk result }
+        ensures sends_nothing { messages_of (decision_of tables.now step self.old.state) self.old.state ≡ [] →
+            wakes_line (decision_of tables.now step self.old.state) ≡ false → IsOk result }
+    {
+        let decision = self.decide(tables, step);
+        if let Decision::Refused(outcome) = decision {
+            return Ok(Made {
+                outcome,
+                tested: None,
+            });
+        }
+        self.prepare(&decision)?;
+        let outcome = self.carry_out(&decision);
+        let tested = self.test(tables);
+        Ok(Made {
+            outcome,
+            tested: Some(tested),
+        })
+    }
+}
+
+/// Keeps the line of a cache, for which there is room.
+fn put_line(lines: &mut Sparse<Line>, cache: CacheId, line: Line)
+    requires below { cache.0 < length lines.old.items }
+    requires room { is_set (kept_lines lines.old.items) cache.0 ≡ false → 0 < lines.old.spare }
+    ensures items { lines.new.items ≡ slice_set lines.old.items cache.0 (Some line) }
+    ensures lines { lines_of lines.new.items ≡ slice_set (lines_of lines.old.items) cache.0 line }
+{
+    if let Err(_) = lines.put(cache.0, line) {
+        unreachable!();
+    }
+}
+
+/// Takes the message that is served off its wire.
+fn take(wires: &mut Wires, from: Origin)
+    requires { IsThere from wires.old.traffic }
+    ensures traffic { wires.new.traffic ≡ without from wires.old.traffic }
+    ensures room { UsesRoomFor [] wires.old.room wires.new.room }
+{
+    match from {
+        Origin::Core => {}
+        Origin::Request(index) => {
+            let _taken = wires.take_request(index);
+        }
+        Origin::Head(cache) => {
+            let _taken = wires.take_head(cache);
+        }
+        Origin::Response(index) => {
+            let _taken = wires.take_response(index);
+        }
+    }
+}
+
+fn plain(from: Origin) -> Outcome
+    ensures { result ≡ plain_outcome from }
+{
+    match from {
+        Origin::Core => Outcome::Sent,
+        Origin::Request(_) | Origin::Head(_) | Origin::Response(_) => Outcome::Moved,
+    }
+}
+
+pub(crate) fn completion_outcome(
+    cache: CacheId,
+    from: Origin,
+    done: Option<LineCompletion>,
+) -> Outcome
+    ensures { result ≡ outcome_of cache from done }
+{
+    match done {
+        None => plain(from),
+        Some(LineCompletion::Load(value)) => Outcome::Load { cache, value },
+        Some(LineCompletion::Store(value)) => Outcome::Store { cache, value },
+    }
+}
+
+fn latest_value(done: Option<LineCompletion>, before: u64) -> u64
+    ensures { result ≡ latest_after done before }
+{
+    match done {
+        Some(LineCompletion::Store(value)) => value,
+        Some(LineCompletion::Load(_)) | None => before,
+    }
+}

@@ -1,0 +1,150 @@
+ghost use Rattle.std.specs.Prelude.{◌≡◌};
+ghost use Rattle.machine.specs.Transition.{decided_outcome};
+ghost use Rattle.blocks.specs.Looks.{is_held};
+
+use crate::block::Block;
+use crate::block::acting::completion_outcome;
+use base::{CacheId, Outcome, Place, Step};
+use both_tables::Tables;
+use control::line_completion;
+use machine::Decision;
+use network::Response;
+
+impl Block {
+    ghost use Rattle.std.specs.Prelude.{◌≡◌, count_by, slice_get};
+    ghost use Rattle.network.specs.Traffic.{is_quiet};
+    ghost use Rattle.control.specs.LineEffect.{is_reader};
+    ghost use Rattle.machine.specs.Transition.{transition};
+    ghost use Rattle.blocks.specs.Looks.{cache_place, place_in, response_place, writer_in};
+    ghost use Rattle.blocks.specs.Looks.{held_in};
+
+    /// The value of the last store.
+    pub fn latest(&self) -> u64
+        ensures { result ≡ self.now.state.latest }
+    {
+        self.latest
+    }
+
+    /// Whether nothing is on the wires.
+    pub fn is_quiet(&self) -> bool
+        ensures { result ≡ is_quiet self.now.state.traffic }
+    {
+        self.wires.is_quiet()
+    }
+
+    /// How many caches may read the block.
+    pub fn readers(&self) -> u32
+        ensures { result ≡ count_by (λ line. is_reader line.state) self.now.state.lines }
+    {
+        self.access.readers.ones()
+    }
+
+    /// The least cache that may write the block.
+    pub fn writer(&self) -> Option<CacheId>
+        ensures { result ≡ writer_in self.now.state.lines }
+    {
+        match self.access.writers.next_from(0) {
+            Some(number) => Some(CacheId(number)),
+            None => None,
+        }
+    }
+
+    /// The controller that a step goes to, if cache and message are there.
+    pub fn place(&self, step: Step) -> Option<Place>
+        ensures { result ≡ place_in step self.now.state }
+    {
+        match step {
+            Step::Ask {
+                cache,
+                block: _,
+                ask: _,
+            } => self.cache_place(cache),
+            Step::Request { block: _, index } => match self.wires.request(index) {
+                Some(_) => Some(Place::Dir),
+                None => None,
+            },
+            Step::Forward { block: _, cache } => match self.wires.head(cache) {
+                Some(_) => self.cache_place(cache),
+                None => None,
+            },
+            Step::Response { block: _, index } => self.response_place(index),
+        }
+    }
+
+    fn cache_place(&self, cache: CacheId) -> Option<Place>
+        ensures { result ≡ cache_place cache (slice_get self.now.state.lines cache.0) }
+    {
+        match self.line(cache) {
+            Some(_) => Some(Place::Cache(cache)),
+            None => None,
+        }
+    }
+
+    fn response_place(&self, index: u64) -> Option<Place>
+        ensures { result ≡ response_place self.now.state.lines (slice_get self.now.state.traffic.responses index) }
+    {
+        match self.wires.response(index)? {
+            Response::Data {
+                from: _,
+                to: Place::Dir,
+                value: _,
+                acks: _,
+            } => Some(Place::Dir),
+            Response::Data {
+                from: _,
+                to: Place::Cache(to),
+                value: _,
+                acks: _,
+            } => self.cache_place(to),
+            Response::InvAck { from: _, to } => self.cache_place(to),
+        }
+    }
+
+    /// The outcome that a step would have.
+    pub fn foresee(&self, tables: &Tables, step: Step) -> Outcome
+        ensures { result ≡ (transition tables.now step self.now.state).outcome }
+    {
+        let decision = self.decide(tables, step);
+        foreseen(&decision)
+    }
+
+    /// Whether a step would be held.
+    pub fn is_held(&self, tables: &Tables, step: Step) -> bool
+        ensures { result ≡ held_in tables.now step self.now.state }
+    {
+        is_stall(self.foresee(tables, step))
+    }
+}
+
+/// The outcome of a decision.
+pub fn foreseen(decision: &Decision) -> Outcome
+    ensures { result ≡ decided_outcome decision.now }
+{
+    match *decision {
+        Decision::Refused(outcome) => outcome,
+        Decision::AtLine {
+            cache,
+            line,
+            input,
+            next,
+            actions: _,
+            origin,
+        } => completion_outcome(cache, origin, line_completion(&line, input, next)),
+        Decision::AtHome {
+            input: _,
+            next: _,
+            actions: _,
+            origin: _,
+        } => Outcome::Moved,
+    }
+}
+
+/// Whether an outcome is that of a stall.
+pub fn is_stall(outcome: Outcome) -> bool
+    ensures { result ≡ is_held outcome }
+{
+    match outcome {
+        Outcome::Held => true,
+        _ => false,
+    }
+}

@@ -1,0 +1,275 @@
+//! Tests of messages. A message is tested when it is asked whether the cell that it goes to is a stall.
+ghost use Rattle.std.specs.Prelude.{◌≡◌, ◌≤◌, ◌*◌, ◌-◌, ◌^◌, length, slice_get, slice_set};
+ghost use Rattle.std.specs.List.{sum_by};
+ghost use Rattle.std.specs.Option.{option_map};
+ghost use Rattle.network.specs.Traffic.{Traffic, link};
+ghost use Rattle.blocks.specs.Marking.{home_stalls, line_stalls, response_stalls, links_stall, marks_of, unmarked, unmarked_heads};
+ghost use Rattle.blocks.specs.Marking.{free_responses, unmarked_count, unmarked_heads_count};
+ghost use Rattle.blocks.specs.inner.Held.{lines_of};
+ghost use Rattle.blocks.specs.inner.Tested.{block_of, forwards_stall, requests_stall};
+
+use crate::block::{Block, opened_line};
+use base::{CacheId, Place};
+use both_tables::Tables;
+use cache_table::CacheEntry;
+use control::{Home, HomeInput, Line, LineInput, home_event, line_event};
+use directory_table::DirectoryEntry;
+use network::{Response, Wires};
+use rows::Sparse;
+
+/// What a test of all messages of a block finds.
+#[derive(Clone, Copy, Debug, PartialEq, Eq)]
+pub struct Tested {
+    /// How many requests wouldn't be held.
+    pub requests: u32,
+    /// How many heads of links wouldn't be held.
+    pub heads: u32,
+    /// How many responses wouldn't be held.
+    pub responses: u32,
+    /// How many messages there are.
+    pub messages: u64,
+}
+
+impl Block {
+    ghost use Rattle.std.specs.Prelude.{◌≡◌, slice_get};
+    ghost use Rattle.std.specs.Option.{option_map};
+    ghost use Rattle.blocks.specs.Marking.{free_requests, free_heads, free_responses, marks_of, unmarked, unmarked_heads};
+    ghost use Rattle.blocks.specs.Messages.{message_count};
+
+    /// Tests all messages, and marks those that would be held.
+    pub fn test(&mut self, tables: &Tables) -> Tested
+        ensures state { self.new.state ≡ self.old.state }
+        ensures space { self.new.space ≡ self.old.space }
+        ensures marks { self.new.marks ≡ marks_of tables.now self.old.state }
+        ensures requests { result.requests ≡ free_requests tables.now self.old.state }
+        ensures heads { result.heads ≡ free_heads tables.now self.old.state }
+        ensures responses { result.responses ≡ free_responses tables.now self.old.state }
+        ensures messages { result.messages ≡ message_count self.old.state.traffic }
+    {
+        let requests = test_requests(tables, &self.home, &mut self.wires);
+        let (heads, forwards) = test_links(tables, &self.lines, &mut self.wires);
+        let responses = test_responses(tables, &self.home, &self.lines, &mut self.wires);
+        let ends = self.wires.request_count() as u64 + self.wires.response_count() as u64;
+        Tested {
+            requests,
+            heads,
+            responses,
+            messages: ends + forwards,
+        }
+    }
+
+    /// The place of the k-th request that isn't marked, counted from 0, if there are so many.
+    pub fn free_request(&self, k: u32) -> Option<u64>
+        ensures { result ≡ slice_get (unmarked 0 self.now.marks.requests) k }
+    {
+        kth_request(&self.wires, k)
+    }
+
+    /// The cache of the k-th head of a link that isn't marked, counted from 0, if there are so many.
+    pub fn free_head(&self, k: u32) -> Option<CacheId>
+        ensures { option_map (λ cache. cache.0) result ≡ slice_get (unmarked_heads 0 self.now.marks.links) k }
+    {
+        kth_head(&self.wires, k)
+    }
+
+    /// The place of the k-th response that isn't marked, counted from 0, if there are so many.
+    pub fn free_response(&self, k: u32) -> Option<u64>
+        ensures { result ≡ slice_get (unmarked 0 self.now.marks.responses) k }
+    {
+        kth_response(&self.wires, k)
+    }
+}
+
+/// Whether the home's cell for an input is a stall.
+fn stalls_home(tables: &Tables, home: &Home, input: HomeInput) -> bool
+    ensures { result ≡ home_stalls tables.now.directory home.now input }
+{
+    match tables.directory.entry(home.state, home_event(home, input)) {
+        DirectoryEntry::Stall => true,
+        DirectoryEntry::Blank | DirectoryEntry::Act { .. } => false,
+    }
+}
+
+/// Whether a line's cell for an input is a stall. Where there is no line it isn't.
+fn stalls_line(tables: &Tables, line: Option<Line>, input: LineInput) -> bool
+    ensures { result ≡ line_stalls tables.now.cache line input }
+{
+    let Some(line) = line else {
+        return false;
+    };
+    match tables.cache.entry(line.state, line_event(&line, input)) {
+        CacheEntry::Stall => true,
+        CacheEntry::Blank | CacheEntry::Act { .. } => false,
+    }
+}
+
+/// The line of a cache, if the cache is there.
+fn line_of(lines: &Sparse<Line>, cache: CacheId) -> Option<Line>
+    ensures { result ≡ slice_get (lines_of lines.now.items) cache.0 }
+{
+    if let Some(line) = lines.get(cache.0) {
+        return Some(*line);
+    }
+    opened_line(cache, lines.places())
+}
+
+/// Whether the cell of a response's receiver is a stall.
+fn stalls_response(tables: &Tables, home: &Home, lines: &Sparse<Line>, response: Response) -> bool
+    ensures { (traffic : Traffic) → result ≡ response_stalls tables.now (block_of lines.now.items home.now traffic) response }
+{
+    match response {
+        Response::Data {
+            from: _,
+            to: Place::Dir,
+            value,
+            acks: _,
+        } => stalls_home(tables, home, HomeInput::Data(value)),
+        Response::Data {
+            from: _,
+            to: Place::Cache(to),
+            value: _,
+            acks: _,
+        } => stalls_line(tables, line_of(lines, to), LineInput::Response(response)),
+        Response::InvAck { from: _, to } => {
+            stalls_line(tables, line_of(lines, to), LineInput::Response(response))
+        }
+    }
+}
+
+/// Tests all requests, and answers how many wouldn't be held.
+fn test_requests(tables: &Tables, home: &Home, wires: &mut Wires) -> u32
+    ensures traffic { wires.new.traffic ≡ wires.old.traffic }
+    ensures room { wires.new.room ≡ wires.old.room }
+    ensures marks { wires.new.marks ≡ record wires.old.marks {
+      requests = requests_stall tables.now.directory home.now wires.old.traffic.requests;
+    } }
+    ensures count { result ≡ unmarked_count (requests_stall tables.now.directory home.now wires.old.traffic.requests) }
+{
+    let mut free = 0;
+    for index in 0..wires.request_count() as u64 {
+        if let Some(request) = wires.request(index) {
+            let held = stalls_home(tables, home, HomeInput::Request(request));
+            wires.mark_request(index, held);
+            if !held {
+                free += 1;
+            }
+        }
+    }
+    free
+}
+
+/// Tests what is on the link to a cache, whose line is this one.
+fn test_link(tables: &Tables, line: Option<Line>, cache: CacheId, wires: &mut Wires)
+    ensures traffic { wires.new.traffic ≡ wires.old.traffic }
+    ensures room { wires.new.room ≡ wires.old.room }
+    ensures marks { wires.new.marks ≡ record wires.old.marks {
+      links = slice_set wires.old.marks.links cache.0 (forwards_stall tables.now.cache line (link wires.old.traffic cache.0));
+    } }
+{
+    for index in 0..wires.forward_count(cache) as u64 {
+        if let Some(forward) = wires.forward(cache, index) {
+            let held = stalls_line(tables, line, LineInput::Forward(forward));
+            wires.mark_forward(cache, index, held);
+        }
+    }
+}
+
+/// Tests what is on all links, and answers how many heads wouldn't be held, and how many messages there are.
+fn test_links(tables: &Tables, lines: &Sparse<Line>, wires: &mut Wires) -> (u32, u64)
+    ensures traffic { wires.new.traffic ≡ wires.old.traffic }
+    ensures room { wires.new.room ≡ wires.old.room }
+    ensures marks { wires.new.marks ≡ record wires.old.marks {
+      links = links_stall tables.now.cache (lines_of lines.now.items) 0 wires.old.traffic.links;
+    } }
+    ensures heads { result.0 ≡ unmarked_heads_count (links_stall tables.now.cache (lines_of lines.now.items) 0 wires.old.traffic.links) }
+    ensures messages { result.1 ≡ sum_by length wires.old.traffic.links }
+    ensures few { result.1 ≤ (2 ^ 32 - 1) * (2 ^ 32 - 1) }
+{
+    let mut heads = 0;
+    let mut messages = 0;
+    let mut from = 0;
+    let links = wires.link_count();
+    while from < links {
+        let Some(cache) = wires.next_waiting(from) else {
+            return (heads, messages);
+        };
+        test_link(tables, line_of(lines, cache), cache, wires);
+        if !wires.is_head_held(cache) {
+            heads += 1;
+        }
+        messages += wires.forward_count(cache) as u64;
+        from = cache.0 + 1;
+    }
+    (heads, messages)
+}
+
+/// Tests all responses, and answers how many wouldn't be held.
+fn test_responses(tables: &Tables, home: &Home, lines: &Sparse<Line>, wires: &mut Wires) -> u32
+    ensures traffic { wires.new.traffic ≡ wires.old.traffic }
+    ensures room { wires.new.room ≡ wires.old.room }
+    ensures marks { wires.new.marks ≡ record wires.old.marks {
+      responses = (marks_of tables.now (block_of lines.now.items home.now wires.old.traffic)).responses;
+    } }
+    ensures count { result ≡ free_responses tables.now (block_of lines.now.items home.now wires.old.traffic) }
+{
+    let mut free = 0;
+    for index in 0..wires.response_count() as u64 {
+        if let Some(response) = wires.response(index) {
+            let held = stalls_response(tables, home, lines, response);
+            wires.mark_response(index, held);
+            if !held {
+                free += 1;
+            }
+        }
+    }
+    free
+}
+
+fn kth_request(wires: &Wires, k: u32) -> Option<u64>
+    ensures { result ≡ slice_get (unmarked 0 wires.now.marks.requests) k }
+{
+    let mut left = k;
+    for index in 0..wires.request_count() as u64 {
+        if !wires.is_request_held(index) {
+            if left == 0 {
+                return Some(index);
+            }
+            left -= 1;
+        }
+    }
+    None
+}
+
+fn kth_head(wires: &Wires, k: u32) -> Option<CacheId>
+    ensures { option_map (λ cache. cache.0) result ≡ slice_get (unmarked_heads 0 wires.now.marks.links) k }
+{
+    let mut left = k;
+    let mut from = 0;
+    let links = wires.link_count();
+    while from < links {
+        let cache = wires.next_waiting(from)?;
+        if !wires.is_head_held(cache) {
+            if left == 0 {
+                return Some(cache);
+            }
+            left -= 1;
+        }
+        from = cache.0 + 1;
+    }
+    None
+}
+
+fn kth_response(wires: &Wires, k: u32) -> Option<u64>
+    ensures { result ≡ slice_get (unmarked 0 wires.now.marks.responses) k }
+{
+    let mut left = k;
+    for index in 0..wires.response_count() as u64 {
+        if !wires.is_response_held(index) {
+            if left == 0 {
+                return Some(index);
+            }
+            left -= 1;
+        }
+    }
+    None
+}

@@ -1,0 +1,6 @@
+//! One block of a world: its lines, its home, its wires with marks on the messages, and what a step does there.
+#![tactic(auto)]
+
+mod block;
+
+pub use block::{Block, Made, Tested, decide_opened, foreseen, is_stall, opened_line};

@@ -1,0 +1,40 @@
+use Rattle.std.proofs.Common.{◌≡◌, ◌∙◌, ℕ, List, sym, ap}
+use Rattle.std.specs.Prelude.{Option, Ok, Some, None, Err}
+use Rattle.std.specs.Option.{option_map}
+use Rattle.base.specs.Spelling.{named_in}
+use Rattle.both_tables.specs.declared.overrides.TablesFault.TheVariants.{UnknownState, UnknownEvent, UnknownAction}
+use Rattle.both_tables.specs.Written.{WrittenCell, WrittenEntry}
+use Rattle.both_tables.specs.Overrides.{needed, known_next, entry_of, change_of}
+use Rattle.both_tables.specs.inner.Seen.{seen_cell, seen_entry}
+use Rattle.both_tables.proofs.overrides.changes.change_of.Goals as goal
+
+-- where the states are known and the event isn't, that is the fault
+unknown-event : {S E A : Type 0} (state_named : List ℕ → Option S) (event_named : List ℕ → Option E) (action_named : List ℕ → Option A)
+    (c : WrittenCell) (state : S) (entry : WrittenEntry S) → state_named c.state ≡ Some state → known_next state_named c.entry ≡ Some entry →
+    event_named c.event ≡ None → change_of state_named event_named action_named c ≡ Err UnknownEvent
+unknown-event state_named event_named action_named c state entry by-state by-entry by-event =
+    ap
+    (λ s. needed UnknownState s (λ state.
+    needed UnknownState (known_next state_named c.entry) (λ entry.
+    needed UnknownEvent (event_named c.event) (λ event.
+    needed UnknownAction (entry_of action_named entry) (λ entry. Ok (record { state = state; event = event; entry = entry }))))))
+    by-state
+    ∙ ap
+    (λ e. needed UnknownState e (λ entry.
+    needed UnknownEvent (event_named c.event) (λ event.
+    needed UnknownAction (entry_of action_named entry) (λ entry. Ok (record { state = state; event = event; entry = entry })))))
+    by-entry
+    ∙ ap
+    (λ e. needed UnknownEvent e (λ event.
+    needed UnknownAction (entry_of action_named entry) (λ entry. Ok (record { state = state; event = event; entry = entry }))))
+    by-event
+
+pub returns-in_default-named-clause-change : goal.returns-in_default-named-clause-change
+returns-in_default-named-clause-change g c =
+    let state_named = named_in g.S.Listed.spelling g.S.Listed.kind in
+    let event_named = named_in g.E.Listed.spelling g.E.Listed.kind in
+    sym (unknown-event state_named event_named (named_in g.A.Listed.spelling g.A.Listed.kind) (seen_cell c.args.cell) c.in-Some.state
+    (seen_entry (λ s. s) c.in-Some-known_next.entry)
+    (ap state_named (sym c.as_bytes.ensures.value) ∙ sym c.named.ensures.named ∙ c.in-Some.is)
+    (sym c.known_next.ensures.next ∙ ap (option_map (seen_entry (λ s. s))) c.in-Some-known_next.is)
+    (ap event_named (sym c.as_bytes-2.ensures.value) ∙ sym c.named-2.ensures.named ∙ c.in_default-named.is))

@@ -1,0 +1,30 @@
+use Rattle.std.proofs.Common.{◌≡◌, ◌<◌, [], ◌∷◌, None, arith, ap, length, nat_eq, sym, ◌∙◌}
+use Rattle.std.specs.Map.{keys_of, lookup}
+use Rattle.std.proofs.lemmas.List.{map-append}
+use Rattle.indexmap.proofs.CallerLemmas.{insert_entry-new}
+use Rattle.rows.specs.Row.{item}
+use Rattle.rows.proofs.Held.{items-at, items-length, items-set, within-insert}
+use Rattle.rows.proofs.sparse.Sparse.add.Goals as goal
+
+pub invariant_of-self : goal.invariant_of-self
+invariant_of-self g c =
+    let below : c.args.at < length c.args.self.now.items = c.requires.inside in
+    let inside = rw (← c.self.view_is) at below in
+    within-insert c.self.inside.held.entries c.insert.new.self.entries c.self.inside.places c.args.at c.args.value
+    (omega (arith, items-length c.self.inside.held.entries c.self.inside.places, inside)) c.self.invariant
+    (λ updates. updates.0) c.insert.result c.insert.ensures.updates c.insert.ensures.err
+
+pub returns-in-Ok-clause-ok : goal.returns-in-Ok-clause-ok
+returns-in-Ok-clause-ok g c =
+    rw (← c.self.view_is)
+    (items-set c.self.inside.held.entries c.insert.new.self.entries c.self.inside.places c.args.at c.args.value c.in-Ok.ensures.updates.0)
+
+pub returns-in-Ok-clause-order : goal.returns-in-Ok-clause-order
+returns-in-Ok-clause-order g c =
+    let held = c.self.inside.held.entries in
+    let free : item c.args.self.now c.args.at ≡ None = c.requires.free in
+    let none : lookup (nat_eq c.args.at) held ≡ None = sym (items-at held c.self.inside.places c.args.at c.self.invariant)
+    ∙ rw (← c.self.view_is) at free in
+    rw (← c.self.view_is)
+    (ap keys_of (c.in-Ok.ensures.entries ∙ insert_entry-new nat_eq c.self.inside.held c.args.at c.args.value none)
+    ∙ map-append (λ e. e.0) held ((c.args.at, c.args.value) ∷ []))

@@ -1,0 +1,185 @@
+ghost use Rattle.std.specs.Prelude.{◌≡◌, ◌<◌, ◌≤◌, ◌+◌, ◌++◌, ◌∷◌, [], None, Some, IsOk, IsSome, IfErr, IfOk, IfSome};
+ghost use Rattle.std.specs.Prelude.{OnErr, OnOk};
+ghost use Rattle.std.specs.Prelude.{length, map, replicate, slice_get, slice_set};
+ghost use Rattle.std.specs.Borrow.{sem};
+ghost use Rattle.std.specs.Option.{option_copied, option_copied_mut, option_map};
+ghost use Rattle.rows.specs.Lends.{lends_item};
+ghost use Rattle.indexmap.specs.IndexMap.{IsEmpty};
+ghost use Rattle.rows.specs.inner.Held.{seen_entries};
+ghost use Rattle.rows.specs.Row.{item, keys_with, AreTouched, UsesOnePlace};
+
+use crate::try_clone::TryClone;
+use base::NoMemory;
+use indexmap::IndexMap;
+use std::alloc::Global;
+use std::marker::Model;
+
+/// So many places, each of which may have an item. Only those that have one take memory.
+#[derive(Drop)]
+pub struct Sparse<T> {
+    places: u32,
+    // In order of first use.
+    held: IndexMap<u32, T>,
+}
+
+impl<T> Model for Sparse<T> {
+    ghost use Rattle.indexmap.specs.IndexMap.{keys, spare};
+    ghost use Rattle.rows.specs.Row.{Row};
+    ghost use Rattle.rows.specs.inner.Held.{IsWithin, items_of};
+
+    ghost Value = { Row T };
+
+    ghost view = { λ s. record { items = items_of s.held.entries s.places; keys = keys s.held; spare = spare s.held } };
+
+    ghost invariant = { λ s. IsWithin s.held.entries s.places };
+}
+
+impl<T> Sparse<T> {
+    /// So many places with no item. It takes no memory.
+    pub fn open(alloc: Global, places: u32) -> Sparse<T>
+        ensures items { result.items ≡ replicate places None }
+        ensures keys { result.keys ≡ [] }
+    {
+        Sparse {
+            places,
+            held: IndexMap::new(alloc),
+        }
+    }
+
+    /// How many places there are.
+    pub fn places(&self) -> u32
+        ensures { result ≡ length self.now.items }
+    {
+        self.places
+    }
+
+    /// How many places have an item.
+    pub fn held(&self) -> usize
+        ensures count { result ≡ length self.now.keys }
+        ensures touched { AreTouched self.now }
+    {
+        self.held.len()
+    }
+
+    /// The item at a place, if it has one. Beyond the row there is none.
+    pub fn get(&self, at: u32) -> Option<&T>
+        ensures { option_copied result ≡ item self.now at }
+    {
+        self.held.get(&at)
+    }
+
+    /// The item at a place, to write, if it has one.
+    pub fn get_mut(&mut self, at: u32) -> Option<&mut T>
+        ensures* writes_back { sem 𝓛 (lends_item T.row self.entry at result) }
+        ensures item { option_copied_mut result ≡ item self.old at }
+    {
+        self.held.get_mut(&at)
+    }
+
+    /// Puts an item at a place, over the one that it has, or gives it back where there is no memory for it.
+    pub fn put(&mut self, at: u32, value: T) -> Result<(), T>
+    where
+        T: Drop,
+        requires { at < length self.old.items }
+        ensures ok { OnOk result (self.new.items ≡ slice_set self.old.items at (Some value)) }
+        ensures order { OnOk result (self.new.keys ≡ keys_with self.old at) }
+        ensures err { OnErr result (self.new.items ≡ self.old.items) }
+        ensures err_order { OnErr result (self.new.keys ≡ self.old.keys) }
+        ensures back { IfErr result (λ back. back ≡ value) }
+        ensures has_one { IsSome (item self.old at) → IsOk result }
+        ensures succeeds { 0 < self.old.spare → IsOk result }
+        ensures room { UsesOnePlace at self.old self.new }
+    {
+        if let Some(item) = self.get_mut(at) {
+            *item = value;
+            return Ok(());
+        }
+        self.add(at, value)
+    }
+
+    /// Gives a place its first item.
+    fn add(&mut self, at: u32, value: T) -> Result<(), T>
+    where
+        T: Drop,
+        requires inside { at < length self.old.items }
+        requires free { item self.old at ≡ None }
+        ensures ok { OnOk result (self.new.items ≡ slice_set self.old.items at (Some value)) }
+        ensures order { OnOk result (self.new.keys ≡ self.old.keys ++ at ∷ []) }
+        ensures err { OnErr result (self.new.items ≡ self.old.items) }
+        ensures err_order { OnErr result (self.new.keys ≡ self.old.keys) }
+        ensures back { IfErr result (λ back. back ≡ value) }
+        ensures succeeds { 0 < self.old.spare → IsOk result }
+        ensures room { self.old.spare ≤ self.new.spare + 1 }
+    {
+        match self.held.insert(at, value) {
+            Ok(_) => Ok(()),
+            Err(failed) => Err(failed.value.1),
+        }
+    }
+
+    /// Room for so many more places to get an item. Where it is refused no item has changed.
+    pub fn reserve(&mut self, more: usize) -> Result<(), NoMemory>
+        ensures items { self.new.items ≡ self.old.items }
+        ensures keys { self.new.keys ≡ self.old.keys }
+        ensures ok { OnOk result (more ≤ self.new.spare) }
+        ensures succeeds { more ≤ self.old.spare → IsOk result }
+        ensures room { self.old.spare ≤ self.new.spare }
+    {
+        self.held.reserve(more)?;
+        Ok(())
+    }
+
+    /// A place that has an item, and the item: the place that got its first item after so many others had.
+    pub fn nth(&self, i: usize) -> Option<(u32, &T)>
+        ensures place { option_map (λ p. p.0) result ≡ slice_get self.now.keys i }
+        ensures item { IfSome result (λ p. item self.now p.0 ≡ Some p.1.now) }
+    {
+        let (at, item) = self.held.get_index(i)?;
+        Some((*at, item))
+    }
+
+    /// Takes the items out of all places, and keeps the memory for as many.
+    pub fn clear(&mut self)
+    where
+        T: Drop,
+        ensures items { self.new.items ≡ replicate (length self.old.items) None }
+        ensures keys { self.new.keys ≡ [] }
+        ensures room { length self.old.keys + self.old.spare ≤ self.new.spare }
+    {
+        self.held.clear();
+    }
+}
+
+impl<T: TryClone + Drop> TryClone for Sparse<T> {
+    ghost use Rattle.std.specs.Option.{option_map};
+    ghost use Rattle.std.specs.Prelude.{map, ℕ, List, Option};
+
+    ghost Seen = { record { items : List (Option T.Seen); keys : List ℕ } };
+
+    ghost seen = { λ row. record { items = map (option_map T.seen) row.items; keys = row.keys } };
+
+    /// The same items, in the same order of first use.
+    fn try_clone(&self, alloc: Global) -> Result<Sparse<T>, NoMemory> {
+        let mut held = IndexMap::with_capacity(alloc, self.held.len())?;
+        copy_all(alloc, &self.held, &mut held)?;
+        Ok(Sparse {
+            places: self.places,
+            held,
+        })
+    }
+}
+
+/// Puts a copy of each item into an empty map, in the same order.
+fn copy_all<T: TryClone + Drop>(
+    alloc: Global,
+    from: &IndexMap<u32, T>,
+    to: &mut IndexMap<u32, T>,
+) -> Result<(), NoMemory>
+    requires { IsEmpty to.old }
+    ensures { OnOk result (seen_entries T.seen to.new.entries ≡ seen_entries T.seen from.now.entries) }
+{
+    for (at, item) in from.iter() {
+        to.insert(*at, item.try_clone(alloc)?)?;
+    }
+    Ok(())
+}

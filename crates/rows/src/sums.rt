@@ -1,0 +1,153 @@
+ghost use Rattle.std.specs.Prelude.{◌≡◌, ◌*◌, ◌<◌, ◌≤◌, ◌^◌, IfOk, length, replicate, slice_index, slice_set, take};
+ghost use Rattle.std.specs.List.{sum};
+ghost use Rattle.rows.specs.Counts.{Finds};
+
+use base::NoMemory;
+use std::alloc::Global;
+use std::marker::Model;
+
+/// A row of numbers below 2^32, and a binary tree of their sums.
+///
+/// The sum of them all is at 1, and under the node at `i` are those at `2 * i` and `2 * i + 1`. The numbers are the last level.
+#[derive(Drop)]
+pub struct Sums {
+    tree: Vec<u64>,
+    levels: u32,
+    count: u32,
+}
+
+/// Where the k-th is.
+#[derive(Clone, Copy, Debug, PartialEq, Eq)]
+pub struct Found {
+    /// The place of the number that it falls in.
+    pub place: usize,
+    /// What is left of k there.
+    pub rest: u32,
+}
+
+impl Model for Sums {
+    ghost use Rattle.std.specs.Prelude.{List, ℕ};
+    ghost use Rattle.rows.specs.inner.Tree.{numbers_of, IsTree};
+
+    ghost Value = { List ℕ };
+
+    ghost view = { λ s. numbers_of s.tree.items s.levels s.count };
+
+    ghost invariant = { λ s. IsTree s.tree.items s.levels s.count };
+}
+
+impl Sums {
+    /// So many numbers, each of them 0.
+    pub fn open(alloc: Global, count: u32) -> Result<Sums, NoMemory>
+        ensures { IfOk result (λ sums. sums ≡ replicate count 0) }
+    {
+        let mut levels: u32 = 0;
+        while levels < 32 && (1usize << levels) < count as usize {
+            levels += 1;
+        }
+        let tree = vec![in alloc; 0u64; 2 * (1usize << levels)]?;
+        Ok(Sums {
+            tree,
+            levels,
+            count,
+        })
+    }
+
+    /// The same numbers again.
+    pub fn try_clone(&self, alloc: Global) -> Result<Sums, NoMemory>
+        ensures { IfOk result (λ sums. sums ≡ self.now) }
+    {
+        let tree = Vec::from_slice(alloc, self.tree.as_slice())?;
+        Ok(Sums {
+            tree,
+            levels: self.levels,
+            count: self.count,
+        })
+    }
+
+    /// How many numbers there are.
+    pub fn len(&self) -> usize
+        ensures { result ≡ length self.now }
+    {
+        self.count as usize
+    }
+
+    /// The number at a place.
+    pub fn get(&self, at: usize) -> u32
+        requires { at < length self.now }
+        ensures { result ≡ slice_index self.now at }
+    {
+        self.tree[(1usize << self.levels) + at] as u32
+    }
+
+    /// The sum of all.
+    pub fn total(&self) -> u64
+        ensures total { result ≡ sum self.now }
+        ensures few { sum self.now ≤ 2 ^ 32 * length self.now }
+    {
+        self.tree[1]
+    }
+
+    /// The sum of the numbers before a place.
+    pub fn front(&self, at: usize) -> u64
+        requires { at ≤ length self.now }
+        ensures front { result ≡ sum (take at self.now) }
+        ensures fits { sum self.now < 2 ^ 64 }
+    {
+        if at == self.count as usize {
+            return self.tree[1];
+        }
+        let mut node = (1usize << self.levels) + at;
+        let mut before = 0;
+        for _ in 0..self.levels {
+            if node % 2 == 1 {
+                before += self.tree[node - 1];
+            }
+            node /= 2;
+        }
+        before
+    }
+
+    /// Makes the number at a place another.
+    pub fn set(&mut self, at: usize, value: u32)
+        requires { at < length self.old }
+        ensures { self.new ≡ slice_set self.old at value }
+    {
+        let mut node = (1usize << self.levels) + at;
+        let before = self.tree[node];
+        let after = value as u64;
+        self.tree[node] = after;
+        while node > 1 {
+            node /= 2;
+            self.tree[node] = self.tree[node] - before + after;
+        }
+    }
+
+    /// The place that the k-th falls in, counted from 0, and what is left of k there.
+    pub fn find(&self, k: u64) -> Found
+        requires { k < sum self.now }
+        ensures { Finds self.now k result.place result.rest }
+    {
+        let mut node = 1;
+        let mut rest = k;
+        for _ in 0..self.levels {
+            node *= 2;
+            let left = self.tree[node];
+            if left <= rest {
+                rest -= left;
+                node += 1;
+            }
+        }
+        Found {
+            place: node - (1usize << self.levels),
+            rest: rest as u32,
+        }
+    }
+
+    /// Makes all numbers 0.
+    pub fn clear(&mut self)
+        ensures { self.new ≡ replicate (length self.old) 0 }
+    {
+        self.tree.fill(0);
+    }
+}

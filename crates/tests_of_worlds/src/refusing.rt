@@ -1,0 +1,280 @@
+//! Runs that go on behind a refusal. `ci/refuse-growths` refuses each of their growths in turn: what stood before the call
+//! has to stand then, and the second call has to succeed. Where nothing is refused they are plain runs.
+
+use crate::asserting::same;
+use crate::entries::entry_of;
+use base::{BlockId, CacheId, Outcome, Shape, Step};
+use both_tables::Tables;
+use record::{Entry, PushFault, ReadFault, ReadKind, Recording, ReplayFault, Replayed, replay};
+use scenario::Scenario;
+use std::alloc::Global;
+use std::process::Abort;
+use std::test::Fail;
+use trials::{BatchFault, Setup, Trial, TrialResult, Verdict, batch, trial};
+use world::World;
+
+const RACING_PAIR: &str =
+    r#"{"both":[{"op":"load","core":0,"block":0},{"op":"store","core":1,"block":0,"value":9}]}"#;
+
+const ONE_LOAD: &str = r#"{"op":"load","core":0,"block":0}"#;
+
+/// A PutS that comes late, among three caches.
+const LATE_PUTS: [&str; 24] = [
+    "ask 0 0 load = sent",
+    "request 0 0 = moved",
+    "response 0 0 = load 0 0",
+    "ask 0 0 replace = sent",
+    "ask 1 0 store 9 = sent",
+    "request 0 1 = moved",
+    "forward 0 0 = moved",
+    "response 0 0 = moved",
+    "response 0 0 = store 1 9",
+    "ask 2 0 load = sent",
+    "request 0 1 = moved",
+    "forward 0 1 = moved",
+    "response 0 0 = load 2 9",
+    "response 0 0 = moved",
+    "ask 1 0 replace = sent",
+    "request 0 1 = moved",
+    "forward 0 1 = moved",
+    "request 0 0 = moved",
+    "forward 0 0 = moved",
+    "ask 1 0 store 3 = sent",
+    "request 0 0 = moved",
+    "forward 0 2 = moved",
+    "response 0 1 = moved",
+    "response 0 0 = store 1 3",
+];
+
+/// A load that is told another value than the one stored.
+const ANOTHER_VALUE: &str =
+    "msi-recording 1\nshape 2 1\nopening 0\ncells 0\nentries 8\nask 0 0 store 7 = sent\nrequest 0 0 = moved\nresponse 0 0 = store 0 7\nask 1 0 load = sent\nrequest 0 0 = moved\nforward 0 0 = moved\nresponse 0 0 = load 1 6\nresponse 0 0 = moved\nend\n";
+
+fn setup(alloc: Global, caches: u32, limit: u32) -> Result<Setup, Fail> {
+    let shape = Shape::new(caches, 1)?;
+    Ok(Setup::new(shape, Tables::baseline(), vec![in alloc; 0; 1]?, 42, limit)?)
+}
+
+fn scenario(alloc: Global, text: &str, caches: u32) -> Result<Scenario<Global>, Fail> {
+    let shape = Shape::new(caches, 1)?;
+    Ok(Scenario::read(alloc, alloc, text.as_bytes(), shape)?)
+}
+
+fn opened(alloc: Global) -> Result<World, Fail> {
+    let shape = Shape::new(3, 1)?;
+    Ok(World::open(alloc, shape, Tables::baseline(), vec![in alloc; 0; 1]?)?)
+}
+
+/// Compares all that can be seen of two worlds of three caches and a block.
+fn same_worlds(rt: &impl Abort, found: &World, wanted: &World) {
+    let block = BlockId(0);
+    same(rt, &found.tested(), &wanted.tested());
+    same(rt, &found.home(block), &wanted.home(block));
+    same(rt, &found.latest(block), &wanted.latest(block));
+    same(rt, &found.readers(block), &wanted.readers(block));
+    same(rt, &found.writer(block), &wanted.writer(block));
+    same(rt, &found.broken(), &wanted.broken());
+    same(rt, &found.empty(), &wanted.empty());
+    for cache in 0..3 {
+        let cache = CacheId(cache);
+        same(rt, &found.line(cache, block), &wanted.line(cache, block));
+        same(
+            rt,
+            &found.shares(cache, block),
+            &wanted.shares(cache, block),
+        );
+    }
+    same(rt, &found.enabled_count(), &wanted.enabled_count());
+    for k in 0..wanted.enabled_count() {
+        same(rt, &found.enabled_at(k), &wanted.enabled_at(k));
+    }
+}
+
+fn made(rt: &impl Abort, alloc: Global, world: &mut World, step: Step) -> Result<Outcome, Fail> {
+    let before = world.try_clone(alloc)?;
+    if let Ok(outcome) = world.step(step) {
+        return Ok(outcome);
+    }
+    same_worlds(rt, world, &before);
+    Ok(world.step(step).ok().ok_or("refused again")?)
+}
+
+#[test]
+fn a_step(rt: HostRuntime) -> Result<(), Fail> {
+    let mut world = opened(rt.alloc())?;
+    for line in LATE_PUTS {
+        let entry = entry_of(line).ok_or("not an entry")?;
+        let outcome = made(&rt, rt.alloc(), &mut world, entry.step)?;
+        same(&rt, &outcome, &entry.outcome);
+    }
+    Ok(())
+}
+
+/// Compares the outcomes of the first steps of a run.
+fn compare(rt: &impl Abort, outcomes: &[Outcome], count: usize) {
+    same(rt, &outcomes.len(), &count);
+    for (outcome, line) in outcomes.iter().zip(LATE_PUTS) {
+        same(rt, &Some(*outcome), &entry_of(line).map(|it| it.outcome));
+    }
+}
+
+#[test]
+fn a_run(rt: HostRuntime) -> Result<(), Fail> {
+    let alloc = rt.alloc();
+    let mut steps = Vec::new(alloc);
+    for line in LATE_PUTS {
+        steps.push(entry_of(line).ok_or("not an entry")?.step)?;
+    }
+    let mut world = opened(alloc)?;
+    let mut outcomes = Vec::new(alloc);
+    if let Err(stop) = world.run(steps.as_slice(), &mut outcomes) {
+        compare(&rt, outcomes.as_slice(), stop.done);
+        let mut other = opened(alloc)?;
+        let (front, rest) = steps.split_at(stop.done);
+        for step in front.iter() {
+            other.step(*step)?;
+        }
+        same_worlds(&rt, &world, &other);
+        world.run(rest, &mut outcomes).ok().ok_or("refused again")?;
+    }
+    compare(&rt, outcomes.as_slice(), LATE_PUTS.len());
+    Ok(())
+}
+
+fn made_at_last(
+    alloc: Global,
+    scenario: &Scenario<Global>,
+    setup: &Setup,
+    number: u32,
+) -> Result<Trial, Fail> {
+    match trial(alloc, scenario, setup, number) {
+        Ok(made) => Ok(made),
+        Err(_) => Ok(
+            trial(alloc, scenario, setup, number)
+                .ok()
+                .ok_or("refused again")?,
+        ),
+    }
+}
+
+fn racing_trial(alloc: Global) -> Result<Trial, Fail> {
+    let setup = setup(alloc, 2, 6)?;
+    let pair = scenario(alloc, RACING_PAIR, 2)?;
+    made_at_last(alloc, &pair, &setup, 54)
+}
+
+#[test]
+fn a_trial(rt: HostRuntime) -> Result<(), Fail> {
+    let made = racing_trial(rt.alloc())?;
+    let lines = [
+        "ask 1 0 store 9 = sent",
+        "request 0 0 = moved",
+        "ask 0 0 load = sent",
+        "response 0 0 = store 1 9",
+        "request 0 0 = moved",
+        "forward 0 1 = moved",
+    ];
+    same(&rt, &made.recording.entries().len(), &lines.len());
+    for (entry, line) in made.recording.entries().iter().zip(lines) {
+        same(&rt, &Some(*entry), &entry_of(line));
+    }
+    same(&rt, &made.result.verdict, &Verdict::Cut);
+    same(&rt, &made.result.steps, &6);
+    Ok(())
+}
+
+#[test]
+fn a_batch(rt: HostRuntime) -> Result<(), Fail> {
+    let alloc = rt.alloc();
+    let load = scenario(alloc, ONE_LOAD, 1)?;
+    let setup = setup(alloc, 1, 9)?;
+    let results = match batch(alloc, &load, &setup, 3) {
+        Ok(results) => results,
+        Err(fault) => {
+            same(&rt, &fault, &BatchFault::NoMemory);
+            batch(alloc, &load, &setup, 3).ok().ok_or("refused again")?
+        }
+    };
+    same(&rt, &results.len(), &3);
+    for (number, result) in results.iter().enumerate() {
+        let wanted = TrialResult {
+            number: number as u32,
+            verdict: Verdict::Quiet,
+            steps: 3,
+        };
+        same(&rt, result, &wanted);
+    }
+    Ok(())
+}
+
+/// Reads a text, at the second call where the first one is refused memory.
+fn read_at_last(rt: &impl Abort, alloc: Global, text: &str) -> Result<Recording, Fail> {
+    let mut source = text.as_bytes();
+    match Recording::read(alloc, &mut source) {
+        Ok(recording) => Ok(recording),
+        Err(ReadFault { line, kind }) => {
+            same(rt, &kind, &ReadKind::NoMemory);
+            assert!(rt; line >= 1 && line <= 14);
+            let mut source = text.as_bytes();
+            Ok(
+                Recording::read(alloc, &mut source)
+                    .ok()
+                    .ok_or("refused again")?,
+            )
+        }
+    }
+}
+
+fn replayed_at_last(rt: &impl Abort, alloc: Global, recording: &Recording) -> Option<ReplayFault> {
+    match replay(alloc, recording).err() {
+        Some(ReplayFault::NoMemory) => replay(alloc, recording).err(),
+        fault => fault,
+    }
+}
+
+#[test]
+fn a_recording_is_read_and_replayed(rt: HostRuntime) -> Result<(), Fail> {
+    let alloc = rt.alloc();
+    let recording = read_at_last(&rt, alloc, ANOTHER_VALUE)?;
+    same(&rt, &recording.entries().len(), &8);
+    let differs = replayed_at_last(&rt, alloc, &recording);
+    let wanted = ReplayFault::Differs {
+        entry: 6,
+        told: Outcome::Load {
+            cache: CacheId(1),
+            value: 6,
+        },
+        found: Outcome::Load {
+            cache: CacheId(1),
+            value: 7,
+        },
+    };
+    same(&rt, &differs, &Some(wanted));
+    Ok(())
+}
+
+fn pushed(rt: &impl Abort, recording: &mut Recording, entry: Entry) -> Result<(), Fail> {
+    let count = recording.entries().len();
+    match recording.push(entry) {
+        Ok(()) => Ok(()),
+        Err(fault) => {
+            same(rt, &fault, &PushFault::NoMemory);
+            same(rt, &recording.entries().len(), &count);
+            Ok(recording.push(entry).ok().ok_or("refused again")?)
+        }
+    }
+}
+
+#[test]
+fn entries_are_pushed(rt: HostRuntime) -> Result<(), Fail> {
+    let setup = setup(rt.alloc(), 3, 0)?;
+    let mut recording = setup.open_recording(rt.alloc())?;
+    for line in LATE_PUTS {
+        pushed(&rt, &mut recording, entry_of(line).ok_or("not an entry")?)?;
+    }
+    for (entry, line) in recording.entries().iter().zip(LATE_PUTS) {
+        same(&rt, &Some(*entry), &entry_of(line));
+    }
+    same(&rt, &recording.entries().len(), &LATE_PUTS.len());
+    Ok(())
+}

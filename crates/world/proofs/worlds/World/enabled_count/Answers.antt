@@ -1,0 +1,13 @@
+use Rattle.std.proofs.Common.{◌∙◌, ap, length, sym}
+use Rattle.world.proofs.Counted.{enabled-going}
+use Rattle.world.proofs.Stepping.{state_of}
+use Rattle.world.proofs.Spotted.{all-counted}
+use Rattle.world.proofs.worlds.World.enabled_count.Goals as goal
+
+pub returns : goal.returns
+returns c =
+    c.total.ensures
+    ∙ rw (← c.self.view_is)
+    (sym (ap length (enabled-going c.self.inside.tables
+    (state_of c.self.inside.shape c.self.inside.opening.items c.self.inside.blocks.items c.self.inside.met_blank) c.if-self.false)
+    ∙ all-counted c.self.inside.tables _ c.self.inside.counts c.self.invariant.counted))

@@ -1,0 +1,34 @@
+-- A world as the program holds it.
+use Rattle.std.specs.Prelude.{◌≡◌, ℕ, List, [], Option, None, false, length, slice_index_or, slice_set}
+use Rattle.base.specs.Extent.{Extent}
+use Rattle.base.specs.declared.step.Step.{Step}
+use Rattle.machine.specs.Block.{BlockState}
+use Rattle.machine.specs.Machine.{State}
+use Rattle.both_tables.specs.Tables.{Tables}
+use Rattle.machine.specs.Transition.{decision_of, messages_of}
+use Rattle.blocks.specs.Kept.{Kept, wakes_line}
+use Rattle.world.specs.inner.Counts.{AreCounted}
+use Rattle.world.specs.View.{IsShaped}
+use Rattle.world.specs.inner.Counts.{Rows}
+use Rattle.world.specs.inner.Tests.{IsMarked}
+
+-- what is kept of a block, if it is
+abbrev pub kept_at : List (Option Kept) → ℕ → Option Kept
+kept_at ks number = slice_index_or ks number None
+
+-- at most one of the blocks that are kept has changed
+pub record OthersStay (number : ℕ) (old new : List (Option Kept)) : Type 0 where
+  pub items : new ≡ slice_set old number (kept_at new number)
+
+-- a step wants nothing at a block: it sends nothing, and isn't an ask that acts at a line in I
+pub record IsLight (tables : Tables) (step : Step) (b : BlockState) : Type 0 where
+  pub sends : messages_of (decision_of tables step b) b ≡ []
+  pub wakes : wakes_line (decision_of tables step b) ≡ false
+
+-- a world holds together: a state of its shape, an opening value and a place for each block, true marks, and counts of them
+pub record IsWorld (shape : Extent) (tables : Tables) (values : List ℕ) (ks : List (Option Kept)) (rows : Rows) (state : State) : Type 0 where
+  pub shaped : IsShaped shape state
+  pub opening : length values ≡ shape.blocks
+  pub places : length ks ≡ shape.blocks
+  pub marked : (i : ℕ) → IsMarked tables (kept_at ks i)
+  pub counted : AreCounted tables state.blocks rows.requests rows.heads rows.responses

@@ -1,0 +1,129 @@
+ghost use Rattle.std.specs.Prelude.{◌≡◌, ◌<◌, ◌≤◌, IfNone, IfOk, IfSome, IsOk, IsSome, OnErr, OnOk, Some, false, length, slice_set};
+ghost use Rattle.machine.specs.Transition.{decision_of, messages_of, transition};
+ghost use Rattle.machine.specs.declared.decision.Decision.TheVariants.{Refused};
+ghost use Rattle.blocks.specs.Kept.{acts, moved_to};
+ghost use Rattle.world.specs.View.{HasSpaceAt, space_of, state_or};
+ghost use Rattle.world.specs.inner.Held.{kept_at, IsLight, OthersStay};
+ghost use Rattle.world.specs.inner.Tests.{IsMarked};
+ghost use Rattle.blocks.specs.Tests.{IsTested, tested_in};
+
+use base::{NoMemory, Outcome, Step};
+use blocks::{Block, Made, decide_opened};
+use both_tables::Tables;
+use machine::Decision;
+use rows::Sparse;
+use std::alloc::Global;
+
+/// Keeps a block that a step acts at, or answers the outcome of a step that no cell acts on there.
+///
+/// A block that is kept already stays as it is.
+fn touch(
+    alloc: Global,
+    blocks: &mut Sparse<Block>,
+    caches: u32,
+    value: u64,
+    number: u32,
+    tables: &Tables,
+    step: Step,
+) -> Result<Option<Outcome>, NoMemory>
+    requires { number < length blocks.old.items }
+    ensures others { OthersStay number blocks.old.items blocks.new.items }
+    ensures state { state_or caches value (kept_at blocks.new.items number) ≡ state_or caches value (kept_at blocks.old.items number) }
+    ensures marked { IsMarked tables.now (kept_at blocks.old.items number) → IsMarked tables.now (kept_at blocks.new.items number) }
+    ensures refused { IfOk result (λ done. IfSome done (λ what.
+        decision_of tables.now step (state_or caches value (kept_at blocks.old.items number)) ≡ Refused what)) }
+    ensures kept { IfOk result (λ done. IfNone done (IsSome (kept_at blocks.new.items number))) }
+    ensures stays { IsSome (kept_at blocks.old.items number) → kept_at blocks.new.items number ≡ kept_at blocks.old.items number }
+    ensures there { IsSome (kept_at blocks.old.items number) → IsOk result }
+    ensures succeeds { acts (decision_of tables.now step (state_or caches value (kept_at blocks.old.items number))) ≡ false → IsOk result }
+{
+    if let Some(_) = blocks.get(number) {
+        return Ok(None);
+    }
+    let decision = decide_opened(tables, caches, step);
+    if let Decision::Refused(outcome) = decision {
+        return Ok(Some(outcome));
+    }
+    let block = Block::open(alloc, caches, value)?;
+    keep(blocks, number, block)?;
+    Ok(None)
+}
+
+/// Puts an item at a place. Where memory is refused nothing has changed.
+fn keep<T: Drop>(row: &mut Sparse<T>, number: u32, item: T) -> Result<(), NoMemory>
+    requires { number < length row.old.items }
+    ensures ok { OnOk result (row.new.items ≡ slice_set row.old.items number (Some item)) }
+    ensures err { OnErr result (row.new.items ≡ row.old.items) }
+{
+    match row.put(number, item) {
+        Ok(()) => Ok(()),
+        Err(_) => Err(NoMemory),
+    }
+}
+
+/// Makes a step at one of the blocks.
+pub fn step_at(
+    alloc: Global,
+    blocks: &mut Sparse<Block>,
+    caches: u32,
+    value: u64,
+    number: u32,
+    tables: &Tables,
+    step: Step,
+) -> Result<Made, NoMemory>
+    requires below { number < length blocks.old.items }
+    requires marked { IsMarked tables.now (kept_at blocks.old.items number) }
+    ensures others { OthersStay number blocks.old.items blocks.new.items }
+    ensures marked { IsMarked tables.now (kept_at blocks.new.items number) }
+    ensures ok { IfOk result (λ made. transition tables.now step (state_or caches value (kept_at blocks.old.items number))
+        ≡ moved_to (state_or caches value (kept_at blocks.new.items number)) made.outcome) }
+    ensures tested { IfOk result (λ made. IsTested tables.now (state_or caches value (kept_at blocks.old.items number))
+        (state_or caches value (kept_at blocks.new.items number)) made.tested) }
+    ensures sent { IfOk result (λ made. (length (messages_of (decision_of tables.now step (state_or caches value (kept_at blocks.old.items number)))
+        (state_or caches value (kept_at blocks.old.items number))) ≤ tested_in made.tested)) }
+    ensures err { OnErr result (state_or caches value (kept_at blocks.new.items number) ≡ state_or caches value (kept_at blocks.old.items number)) }
+    ensures succeeds { HasSpaceAt (decision_of tables.now step (state_or caches value (kept_at blocks.old.items number)))
+        (state_or caches value (kept_at blocks.old.items number)) (space_of (kept_at blocks.old.items number)) → IsOk result }
+    ensures light { IsLight tables.now step (state_or caches value (kept_at blocks.old.items number)) → IsOk result }
+{
+    if let Some(outcome) = touch(alloc, blocks, caches, value, number, tables, step)? {
+        return Ok(Made {
+            outcome,
+            tested: None,
+        });
+    }
+    let Some(block) = blocks.get_mut(number) else {
+        unreachable!();
+    };
+    block.step(tables, step)
+}
+
+/// Makes the room that a step at one of the blocks wants.
+pub fn ready_at(
+    alloc: Global,
+    blocks: &mut Sparse<Block>,
+    caches: u32,
+    value: u64,
+    number: u32,
+    tables: &Tables,
+    step: Step,
+) -> Result<Outcome, NoMemory>
+    requires { number < length blocks.old.items }
+    ensures others { OthersStay number blocks.old.items blocks.new.items }
+    ensures marked { IsMarked tables.now (kept_at blocks.old.items number) → IsMarked tables.now (kept_at blocks.new.items number) }
+    ensures state { state_or caches value (kept_at blocks.new.items number) ≡ state_or caches value (kept_at blocks.old.items number) }
+    ensures outcome { IfOk result (λ what. what ≡ (transition tables.now step (state_or caches value (kept_at blocks.old.items number))).outcome) }
+    ensures room { OnOk result (HasSpaceAt (decision_of tables.now step (state_or caches value (kept_at blocks.old.items number)))
+        (state_or caches value (kept_at blocks.old.items number)) (space_of (kept_at blocks.new.items number))) }
+    ensures succeeds { HasSpaceAt (decision_of tables.now step (state_or caches value (kept_at blocks.old.items number)))
+        (state_or caches value (kept_at blocks.old.items number)) (space_of (kept_at blocks.old.items number)) → IsOk result }
+    ensures light { IsLight tables.now step (state_or caches value (kept_at blocks.old.items number)) → IsOk result }
+{
+    if let Some(outcome) = touch(alloc, blocks, caches, value, number, tables, step)? {
+        return Ok(outcome);
+    }
+    let Some(block) = blocks.get_mut(number) else {
+        unreachable!();
+    };
+    block.ready(tables, step)
+}

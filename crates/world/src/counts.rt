@@ -1,0 +1,131 @@
+ghost use Rattle.std.specs.Prelude.{◌≡◌, ◌<◌, ◌≤◌, ◌^◌, IfNone, IfOk, IfSome, length, replicate, slice_set};
+ghost use Rattle.world.specs.inner.Counts.{all_in, FallsAt};
+
+use base::NoMemory;
+use rows::{Found, Sums};
+use std::alloc::Global;
+use std::marker::Model;
+
+/// For each block how many of its requests, heads of links and responses wouldn't be held.
+#[derive(Drop)]
+pub struct Counts {
+    requests: Sums,
+    heads: Sums,
+    responses: Sums,
+}
+
+/// The kinds of delivery, each of which has a row.
+#[derive(Clone, Copy)]
+pub enum Kind {
+    Request,
+    Head,
+    Response,
+}
+
+/// Where one of all the deliveries that are counted is.
+#[derive(Clone, Copy)]
+pub struct Spot {
+    pub kind: Kind,
+    /// The number of its block.
+    pub block: u32,
+    /// How many of this kind the block has before it.
+    pub rest: u32,
+}
+
+impl Model for Counts {
+    ghost use Rattle.world.specs.inner.Counts.{AreLevel, Rows};
+
+    ghost Value = { Rows };
+
+    ghost view = { λ c. record { requests = c.requests; heads = c.heads; responses = c.responses } };
+
+    ghost invariant = { λ c. AreLevel (record { requests = c.requests; heads = c.heads; responses = c.responses }) };
+}
+
+impl Counts {
+    /// Counts of so many blocks, of which none has anything to deliver.
+    pub fn open(alloc: Global, blocks: u32) -> Result<Counts, NoMemory>
+        requires { blocks ≤ 4096 }
+        ensures requests { IfOk result (λ counts. counts.requests ≡ replicate blocks 0) }
+        ensures heads { IfOk result (λ counts. counts.heads ≡ replicate blocks 0) }
+        ensures responses { IfOk result (λ counts. counts.responses ≡ replicate blocks 0) }
+    {
+        let requests = Sums::open(alloc, blocks)?;
+        let heads = Sums::open(alloc, blocks)?;
+        let responses = Sums::open(alloc, blocks)?;
+        Ok(Counts {
+            requests,
+            heads,
+            responses,
+        })
+    }
+
+    /// The same counts again.
+    pub fn try_clone(&self, alloc: Global) -> Result<Counts, NoMemory>
+        ensures { IfOk result (λ counts. counts ≡ self.now) }
+    {
+        let requests = self.requests.try_clone(alloc)?;
+        let heads = self.heads.try_clone(alloc)?;
+        let responses = self.responses.try_clone(alloc)?;
+        Ok(Counts {
+            requests,
+            heads,
+            responses,
+        })
+    }
+
+    /// Makes the counts of a block others.
+    pub fn set(&mut self, number: u32, requests: u32, heads: u32, responses: u32)
+        requires { number < length self.old.requests }
+        ensures requests { self.new.requests ≡ slice_set self.old.requests number requests }
+        ensures heads { self.new.heads ≡ slice_set self.old.heads number heads }
+        ensures responses { self.new.responses ≡ slice_set self.old.responses number responses }
+    {
+        let at = number as usize;
+        self.requests.set(at, requests);
+        self.heads.set(at, heads);
+        self.responses.set(at, responses);
+    }
+
+    /// How many there are of all kinds in all blocks.
+    pub fn total(&self) -> u64
+        ensures { result ≡ all_in self.now }
+    {
+        self.requests.total() + self.heads.total() + self.responses.total()
+    }
+
+    /// Where the k-th of all is, counted from 0, if there are so many: requests come first, then heads, then responses, each
+    /// of them block by block.
+    pub fn find(&self, k: u64) -> Option<Spot>
+        ensures some { IfSome result (λ spot. FallsAt self.now k spot) }
+        ensures none { IfNone result (all_in self.now ≤ k) }
+    {
+        let mut left = k;
+        let requests = self.requests.total();
+        if left < requests {
+            return Some(spot_of(Kind::Request, self.requests.find(left)));
+        }
+        left -= requests;
+        let heads = self.heads.total();
+        if left < heads {
+            return Some(spot_of(Kind::Head, self.heads.find(left)));
+        }
+        left -= heads;
+        if left < self.responses.total() {
+            return Some(spot_of(Kind::Response, self.responses.find(left)));
+        }
+        None
+    }
+}
+
+/// What was found in the row of a kind.
+fn spot_of(kind: Kind, found: Found) -> Spot
+    requires { found.place < 2 ^ 32 }
+    ensures { result ≡ record { kind = kind; block = found.place; rest = found.rest } }
+{
+    Spot {
+        kind,
+        block: found.place as u32,
+        rest: found.rest,
+    }
+}
