@@ -99,9 +99,9 @@ class Decision:
 
 
 class World:
-    def __init__(self, caches, blocks, tables):
+    def __init__(self, caches, opening, tables):
         self.caches, self.tables, self.broken = caches, tables, False
-        self.blocks = [Block(caches, 0) for _ in range(blocks)]
+        self.blocks = [Block(caches, value) for value in opening]
 
     def decide(self, step):
         if self.broken:
@@ -295,9 +295,9 @@ def violation(world, step, outcome, place, due):
 class Watched:
     """A world with what its loads are due."""
 
-    def __init__(self, caches, blocks, tables):
-        self.world = World(caches, blocks, tables)
-        self.due = [0] * blocks
+    def __init__(self, caches, blocks, tables, opening=None):
+        self.due = list(opening or [0] * blocks)
+        self.world = World(caches, self.due, tables)
 
     def step(self, step):
         """Makes a step, and answers its outcome and its violation."""

@@ -110,6 +110,23 @@ def spelled(cell):
     return ["blank" if cell is None else STALL]
 
 
+def cell_lines(tables):
+    """The lines of all cells, in order."""
+    for name, side in (("cache", CACHE), ("directory", DIRECTORY)):
+        for state in side.states:
+            for event in side.events:
+                entry = spelled(getattr(tables, name).get((state, event)))
+                yield " ".join(["cell", name, state, event, *entry])
+
+
+def text_of(shape, tables, opening, entries):
+    """The text of a recording."""
+    cells = [line for line, own in zip(cell_lines(tables), cell_lines(baseline())) if line != own]
+    values = "".join(f" {value}" for value in opening)
+    head = ["msi-recording 1", "shape {} {}".format(*shape), f"opening{values}", f"cells {len(cells)}"]
+    return "".join(f"{line}\n" for line in [*head, *cells, f"entries {len(entries)}", *entries, "end"])
+
+
 def entry_fault(line):
     """What is wrong with the line as an entry's, if anything is."""
     step, equals, outcome = line.partition(" = ")

@@ -1,0 +1,142 @@
+"""What msi has to answer: as the second model has it where it has an answer, and in the forms of docs/FORMATS.md always."""
+
+import re
+from dataclasses import dataclass
+
+from model.machine import Watched
+from model.recordings import cell_lines, refusal, text_of
+from model.refusals import OVERRIDES, SCENARIOS, fault_of_overrides, fault_of_scenario
+from model.replays import replayed
+from model.tables import baseline, overridden
+from model.texts import lines_of, step_of, value_of
+from model.trials import tree_of, trial
+
+OUTCOME = rb"(sent|moved|held|absent|idle|blank|broken|(load|store) \d+ \d+)"
+PLACE = rb"(cache \d+|directory)"
+VIOLATION = (
+    rb"(blank " + PLACE + rb"|second writer \d+ \d+|writer \d+ beside reader \d+|stale load got \d+ due \d+) block \d+"
+)
+RESULT = rb"((quiet|cut|stuck) \d+|broke \d+ " + VIOLATION + rb")"
+CELL = rb"cell (cache|directory) \S+ \S+ (blank|stall|act( \S+){1,9})"
+RECORDING = rb"msi-recording 1|shape \d+ \d+|opening( \d+)+|cells \d+|" + CELL + rb"|entries \d+|[^=]+ = " + OUTCOME + rb"|end"
+FORMS = {
+    "play": OUTCOME + rb"|violation " + VIOLATION,
+    "replay": rb"same \d+|violation \d+ " + VIOLATION + rb"|differs \d+ told " + OUTCOME + rb" found " + OUTCOME,
+    "tables": CELL,
+    "trial": RECORDING,
+    "batch": rb"\d+ " + RESULT + rb"|total (quiet|cut|stuck|broke) \d+",
+    "floor": rb"safe|violation \d+ " + VIOLATION,
+}
+TOLD = {
+    "trial": rb"verdict " + RESULT + rb"\n",
+    "batch": rb"(msi: \d+ of \d+ trials, \d+ steps, \d+ broke\n)*",
+}
+REFUSED = (
+    rb"msi: (line \d+: not a step|line \d+: not an ask of this shape|too many turns|a word isn't UTF-8"
+    rb"|(tables|scenario|recording line \d+) refused [1-6] [A-Z][A-Za-z]+)\n"
+)
+BAD_WORDS = rb"error: [^\n]+\n(.*\n)*"
+
+
+@dataclass
+class Answer:
+    """What has to be answered. Where a part isn't known it is `None`."""
+
+    status: int
+    out: bytes = None
+    errors: bytes = None
+
+
+def lines(these):
+    return "".join(f"{line}\n" for line in these).encode()
+
+
+def refused(message):
+    return Answer(2, b"", f"msi: {message}\n".encode())
+
+
+def has_form(form, text):
+    return re.fullmatch(rb"((" + form + rb")\n)*", text) is not None
+
+
+def fault_of_form(command, ended):
+    """What isn't of any form that msi may answer in, if anything isn't."""
+    if ended.status == 2:
+        may_stand = re.fullmatch(REFUSED, ended.errors) or re.fullmatch(BAD_WORDS, ended.errors)
+        return None if may_stand else "an unknown message"
+    if ended.status not in (0, 1):
+        return "an unexpected status"
+    if command not in FORMS:
+        return "more than help" if ended.status or ended.errors else None
+    if not has_form(FORMS[command], ended.out):
+        return "output of another form"
+    return None if re.fullmatch(TOLD.get(command, b""), ended.errors) else "text on standard error"
+
+
+def tables_of(overrides):
+    """The tables, or how they are refused."""
+    if overrides is None:
+        return baseline(), None
+    fault = fault_of_overrides(overrides)
+    if fault:
+        return None, refused(f"tables refused {OVERRIDES.index(fault) + 1} {fault}")
+    return overridden(value_of(overrides)), None
+
+
+def of_tables(tables):
+    return Answer(0, lines(cell_lines(tables)), b"")
+
+
+def of_play(shape, tables, text):
+    watched, printed = Watched(*shape, tables), []
+    for number, line in lines_of(text):
+        step = step_of(line)
+        if step is None:
+            return Answer(2, lines(printed), f"msi: line {number}: not a step\n".encode())
+        outcome, found = watched.step(step)
+        printed.append(outcome)
+        if found:
+            return Answer(1, lines([*printed, f"violation {found}"]), b"")
+    return Answer(0, lines(printed), b"")
+
+
+def of_replay(text):
+    refusal_of_text = refusal(text)
+    if refusal_of_text:
+        return Answer(2, b"", f"{refusal_of_text}\n".encode())
+    printed = replayed(text)
+    return Answer(int(len(printed) > 1 or printed[0].startswith("differs")), lines(printed), b"")
+
+
+def of_trial(shape, tables, text, setup):
+    fault = fault_of_scenario(text, shape)
+    if fault:
+        return refused(f"scenario refused {SCENARIOS.index(fault) + 1} {fault}")
+    seed, number, limit = setup
+    entries, verdict = trial(shape, tables, tree_of(value_of(text)), seed, number, limit)
+    recording = text_of(shape, tables, [0] * shape[1], entries)
+    return Answer(int(verdict.startswith("broke")), recording.encode(), f"verdict {verdict}\n".encode())
+
+
+def of_batch(shape, tables, text, setup):
+    fault = fault_of_scenario(text, shape)
+    if fault:
+        return refused(f"scenario refused {SCENARIOS.index(fault) + 1} {fault}")
+    seed, trials, limit = setup
+    tree = tree_of(value_of(text))
+    results = [trial(shape, tables, tree, seed, number, limit)[1] for number in range(trials)]
+    totals = {}
+    for result in results:
+        kind = result.split()[0]
+        totals[kind] = totals.get(kind, 0) + 1
+    told = [f"{number} {result}" for number, result in enumerate(results)]
+    return Answer(int("broke" in totals), lines(told + [f"total {kind} {count}" for kind, count in totals.items()]), b"")
+
+
+def of_floor(shape, text, overrides):
+    for number, line in lines_of(text):
+        step = step_of(line)
+        is_ask = hasattr(step, "kind") and step.cache < shape[0] and step.block < shape[1]
+        if not is_ask:
+            return Answer(2, b"", f"msi: line {number}: not an ask of this shape\n".encode())
+    return Answer(0, b"safe\n", b"") if overrides is None else None

@@ -1,0 +1,140 @@
+"""Random inputs for every command of msi, with what has to be answered."""
+
+import json
+from dataclasses import dataclass
+from typing import Callable, Optional
+
+from fuzzing import answers
+from fuzzing.damage import damaged
+from model.making import random_ask, random_overrides, random_scenario, random_steps
+from model.recordings import text_of
+from model.tables import baseline, overridden
+from model.trials import tree_of, trial
+
+TABLES = b"overrides.json"
+WORDS = (
+    b"play trial batch replay floor tables --caches --blocks --tables --seed --number --limit --trials --workers --seats --turns "
+    b"--progress --help --version -h -V help -- - --caches=2 --blocks=1 --colour 0 1 2 3 64 65 1024 1025 4096 4097 1000000 1000001 "
+    b"4294967295 4294967296 18446744073709551615 18446744073709551616 -1 +1 01 1.0 two overrides.json absent.json \xff \xe2\x80\x8b"
+).split(b" ") + [b"", b" "]
+
+
+@dataclass
+class Input:
+    """Words, standard input and the file of overrides, and what answers them, if the model has an answer."""
+
+    command: str
+    words: list
+    text: bytes
+    overrides: Optional[bytes]
+    answer: Callable
+
+
+def perhaps(dice, chance, text):
+    return damaged(dice, text) if dice.random() < chance else text
+
+
+def overrides_for(dice, tables_wanted, chance):
+    """Overrides and the tables that they make; valid ones but for damage."""
+    if dice.random() > tables_wanted:
+        return None
+    text = json.dumps(random_overrides(dice), indent=dice.choice([None, None, 1])).encode()
+    return perhaps(dice, chance, text)
+
+
+def shape_of(dice):
+    return dice.randrange(1, 4), dice.choice([1, 1, 1, 2])
+
+
+def world_words(shape, overrides):
+    words = [b"--caches", b"%d" % shape[0], b"--blocks", b"%d" % shape[1]]
+    return words + ([b"--tables", TABLES] if overrides is not None else [])
+
+
+def with_tables(overrides, answer):
+    """Answers by these tables, or as they are refused."""
+
+    def answered():
+        tables, refused = answers.tables_of(overrides)
+        return refused or answer(tables)
+
+    return answered
+
+
+def play(dice):
+    shape, overrides = shape_of(dice), overrides_for(dice, 0.3, 0.1)
+    steps = random_steps(dice, shape, baseline())
+    text = perhaps(dice, 0.6, "".join(f"{step}\n" for step in steps).encode())
+    answer = with_tables(overrides, lambda tables: answers.of_play(shape, tables, text))
+    return Input("play", [b"play", *world_words(shape, overrides)], text, overrides, answer)
+
+
+def tables(dice):
+    overrides = overrides_for(dice, 1.0, 0.8)
+    answer = with_tables(overrides, answers.of_tables)
+    return Input("tables", [b"tables", b"--tables", TABLES], b"", overrides, answer)
+
+
+def setup_of(dice, least):
+    return dice.choice([0, 1, 42, 2**64 - 1, dice.randrange(2**64)]), dice.randrange(least), dice.choice([0, 1, 5, 12, 25])
+
+
+def scenario_of(dice, shape, chance):
+    tree = {"both": [random_scenario(dice, shape, 3) for _ in range(dice.randrange(1, 3))]}
+    return perhaps(dice, chance, json.dumps(tree).encode())
+
+
+def recording(dice):
+    shape, changed = shape_of(dice), overridden(random_overrides(dice) if dice.random() < 0.5 else {})
+    tree = tree_of({"both": [random_scenario(dice, shape, 3) for _ in range(2)]})
+    entries, _ = trial(shape, changed, tree, dice.randrange(2**64), 0, dice.choice([0, 3, 12]))
+    return text_of(shape, changed, [0] * shape[1], entries).encode()
+
+
+def replay(dice):
+    text = perhaps(dice, 0.85, recording(dice))
+    return Input("replay", [b"replay"], text, None, lambda: answers.of_replay(text))
+
+
+def of_trials(dice, command, own, least, answer_of):
+    shape, overrides = shape_of(dice), overrides_for(dice, 0.3, 0.1)
+    text, setup = scenario_of(dice, shape, 0.6), setup_of(dice, least)
+    words = [b"--seed", b"%d" % setup[0], own, b"%d" % setup[1], b"--limit", b"%d" % setup[2]]
+    answer = with_tables(overrides, lambda tables: answer_of(shape, tables, text, setup))
+    return Input(command, [command.encode(), *world_words(shape, overrides), *words], text, overrides, answer)
+
+
+def one_trial(dice):
+    return of_trials(dice, "trial", b"--number", 2**32, answers.of_trial)
+
+
+def batch(dice):
+    made = of_trials(dice, "batch", b"--trials", 3, answers.of_batch)
+    made.words += dice.choice([[], [], [b"--workers", b"1"], [b"--workers", b"3"]])
+    return made
+
+
+def floor(dice):
+    shape, overrides = shape_of(dice), overrides_for(dice, 0.2, 0.1)
+    asks = "".join(f"{random_ask(dice, *shape)}\n" for _ in range(dice.randrange(9)))
+    text = perhaps(dice, 0.5, asks.encode())
+    own = [b"--seats", b"%d" % dice.randrange(1, 4), b"--turns", b"%d" % dice.randrange(12), b"--seed", b"%d" % dice.randrange(2**64)]
+    answer = with_tables(overrides, lambda tables: answers.of_floor(shape, text, overrides))
+    return Input("floor", [b"floor", *world_words(shape, overrides), *own], text, overrides, answer)
+
+
+def other_words(dice):
+    """Words of a command that are good but for some of them, or any words."""
+    made = dice.choice([play, tables, replay, one_trial, batch, floor])(dice)
+    words = list(made.words) if dice.random() < 0.8 else [dice.choice(WORDS) for _ in range(dice.randrange(8))]
+    for _ in range(dice.randrange(1, 4)):
+        at = dice.randrange(len(words) + 1)
+        words[at : at + dice.randrange(2)] = [dice.choice(WORDS)] * dice.choice([0, 1, 1, 1, 2])
+    return Input("words", [word for word in words if b"\0" not in word], made.text, made.overrides, lambda: None)
+
+
+KINDS = [play] * 6 + [replay] * 6 + [tables] * 4 + [one_trial] * 3 + [batch] * 2 + [floor, other_words]
+
+
+def random_input(dice):
+    return dice.choice(KINDS)(dice)
