@@ -41,7 +41,7 @@ fn wished(seat: u32, call: u32) -> Step {
 
 /// Wishes steps, then as many draws, and notes where it is told of another receipt than the last.
 #[derive(Drop)]
-struct Script<'a> {
+pub struct Script<'a> {
     seat: u32,
     calls: u32,
     mistaken: &'a AtomicBool,
@@ -70,7 +70,7 @@ impl<'a, F: Naming> Chooser<F> for Script<'a> {
 
 /// Lets nobody through its first call before so many have come, and notes calls that are out of order.
 #[derive(Drop)]
-struct Meeting {
+pub struct Meeting {
     awaited: u32,
     entered: AtomicU32,
     passed: [AtomicU32; 3],
@@ -79,7 +79,7 @@ struct Meeting {
 }
 
 impl Meeting {
-    fn of(awaited: u32) -> Meeting {
+    pub fn of(awaited: u32) -> Meeting {
         Meeting {
             awaited,
             entered: AtomicU32::new(0),
@@ -124,7 +124,7 @@ impl Gate for Meeting {
 }
 
 /// The seats with their scripts.
-fn cast<'a, F: Naming>(
+pub fn cast<'a, F: Naming>(
     alloc: Global,
     seats: Vec<Seat<F>>,
     mistaken: &'a AtomicBool,

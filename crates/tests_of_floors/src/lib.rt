@@ -13,6 +13,8 @@ mod entries;
 #[cfg(test)]
 mod jobs;
 #[cfg(test)]
+mod refusing;
+#[cfg(test)]
 mod setups;
 #[cfg(test)]
 mod spreading;

@@ -52,7 +52,7 @@ fn make<F: Naming, R: Wait + Abort>(
 }
 
 /// Compares what is closed with the entries of a floor's only seat.
-fn compare<F: Naming, R: Abort>(
+pub fn compare<F: Naming, R: Abort>(
     rt: &R,
     alloc: Global,
     closed: &Closed<F>,

@@ -1,0 +1,90 @@
+ghost use Rattle.std.specs.Prelude.{◌≡◌, All};
+ghost use Rattle.desk.specs.Plans.{IsResultOf, plan_of};
+
+use crate::asserting::same;
+use crate::jobs::racing_pair;
+use desk::{CloseFault, Desk, DeskFault, DeskSeat, Job, Naming, PostFault};
+use std::alloc::Global;
+use std::marker::Brand;
+use std::process::Abort;
+use std::test::Fail;
+use trials::{TrialResult, trial};
+
+fn posted<D: Naming, R: Abort>(
+    rt: &R,
+    desk: &Desk<'_, D>,
+    seat: &mut DeskSeat<D>,
+    made: TrialResult,
+)
+    requires seat { seat.old.desk ≡ desk.now.id }
+    requires made { IsResultOf D.plan 0 made }
+    ensures { seat.new.desk ≡ desk.now.id }
+{
+    if let Err((fault, back)) = desk.post(seat, 0, made) {
+        same(rt, &fault, &PostFault::NoMemory);
+        same(rt, &back, &made);
+        same(rt, &desk.look(seat, 0), &None);
+        same(rt, &desk.post(seat, 0, made), &Ok(()));
+    }
+    same(rt, &desk.look(seat, 0), &Some(made));
+}
+
+fn closed<'j, D: Naming, R: Abort>(
+    rt: &R,
+    desk: Desk<'j, D>,
+    seats: Vec<DeskSeat<D>>,
+) -> Result<Vec<Option<TrialResult>>, Fail>
+    requires { All (λ seat. seat.desk ≡ desk.id) seats.items }
+{
+    let (fault, desk, seats) = match desk.close(seats) {
+        Ok(places) => return Ok(places),
+        Err(refused) => refused,
+    };
+    same(rt, &fault, &CloseFault::NoMemory);
+    Ok(desk.close(seats).ok().ok_or("refused again")?)
+}
+
+/// One seat at a desk of three numbers posts the first one's result.
+fn one_post<D: Naming, R: Abort>(
+    rt: &R,
+    alloc: Global,
+    job: &Job,
+    made: TrialResult,
+) -> Result<bool, Fail>
+    requires plan { D.plan ≡ plan_of job.now }
+    requires made { IsResultOf D.plan 0 made }
+{
+    match Desk::<D>::new(alloc, job, 3, 1) {
+        Ok((desk, mut seats)) => {
+            let mut seat = seats.pop().ok_or("no seat")?;
+            same(rt, &desk.claim(&mut seat), &Some(0));
+            posted(rt, &desk, &mut seat, made);
+            seats.push(seat)?;
+            let places = closed(rt, desk, seats)?;
+            same(rt, &places.as_slice(), &[Some(made), None, None].as_slice());
+            Ok(true)
+        }
+        Err(fault) => {
+            same(rt, &fault, &DeskFault::NoMemory);
+            Ok(false)
+        }
+    }
+}
+
+fn posts<D: Naming, R: Abort>(rt: &R, alloc: Global, job: &Job) -> Result<(), Fail>
+    requires { D.plan ≡ plan_of job.now }
+{
+    let made = trial(alloc, &job.scenario, &job.setup, 0)?.result;
+    let is_made = one_post::<D, _>(rt, alloc, job, made)?;
+    if !is_made {
+        let is_made = one_post::<D, _>(rt, alloc, job, made)?;
+        same(rt, &is_made, &true);
+    }
+    Ok(())
+}
+
+#[test]
+fn a_desk_and_its_posts(rt: HostRuntime) -> Result<(), Fail> {
+    let job = racing_pair(rt.alloc())?;
+    posts::<Brand, _>(&rt, rt.alloc(), &job)
+}
