@@ -12,6 +12,7 @@ mod broken;
 mod cells;
 mod ends;
 mod racing;
+mod replaying;
 mod sharing;
 mod trying;
 mod worked;
