@@ -10,8 +10,10 @@ use std::thread::Threads;
 
 mod broken;
 mod cells;
+mod certificates;
 mod ends;
 mod racing;
+mod replaying;
 mod sharing;
 mod trying;
 mod worked;
