@@ -1,8 +1,12 @@
 """Which bytes are a recording's text, and where the first fault in others is, as docs/FORMATS.md describes it."""
 
 import re
+import sys
 
 from model.tables import CACHE, DIRECTORY, MOST_ACTIONS, STALL, Act, baseline
+
+# Numbers are of any size.
+sys.set_int_max_str_digits(0)
 
 KINDS = "BadHeader BadLine Truncated CountDiffers BadOutcome OverLimit".split()
 MOST_BYTES, MOST_CACHES, MOST_BLOCKS, MOST_CELLS, MOST_ENTRIES = 90_000, 1024, 4096, 160, 1_000_000
