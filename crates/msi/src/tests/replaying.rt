@@ -26,7 +26,8 @@ fn add_cells<R: Threads + Wait + Sync>(
     text.push_str(format!(in alloc; "cells {count}\n")?.as_str())?;
     for (found, own) in cells.lines().zip(CELLS.lines()) {
         if found != own {
-            text.push_str(format!(in alloc; "{found}\n")?.as_str())?;
+            text.push_str(found)?;
+            text.push_str("\n")?;
         }
     }
     Ok(())
@@ -47,7 +48,10 @@ fn add_entries<R: Threads + Wait + Sync>(
     let count = broken.steps.lines().count();
     text.push_str(format!(in alloc; "entries {count}\n")?.as_str())?;
     for (step, outcome) in broken.steps.lines().zip(outcomes.lines()) {
-        text.push_str(format!(in alloc; "{step} = {outcome}\n")?.as_str())?;
+        text.push_str(step)?;
+        text.push_str(" = ")?;
+        text.push_str(outcome)?;
+        text.push_str("\n")?;
     }
     text.push_str("end\n")?;
     Ok(())
@@ -74,9 +78,17 @@ fn compare<R: Threads + Wait + Abort + Sync>(
     let served = run(rt, alloc, "msi replay", recording)?;
     let count = broken.steps.lines().count();
     let last = count.saturating_sub(1);
-    let wanted = broken.violation.strip_prefix("violation ").ok_or("no violation")?;
+    let wanted = broken
+        .violation
+        .strip_prefix("violation ")
+        .ok_or("no violation")?;
     let text = format!(in alloc; "same {count}\nviolation {last} {wanted}\n")?;
-    assert_eq!(rt; served.output.as_slice(), text.as_str().as_bytes(), "at {}", broken.table);
+    assert_eq!(rt;
+        served.output.as_slice(),
+        text.as_str().as_bytes(),
+        "at {}",
+        broken.table
+    );
     assert_eq!(rt; served.status, 1);
     Ok(())
 }
