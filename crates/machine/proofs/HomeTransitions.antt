@@ -94,7 +94,7 @@ removed : (n : ℕ) (b : BlockState) (i : ℕ) (r : CacheId) (kind : RequestKind
     Without r.0 b.home.sharers (slice_set b.home.sharers r.0 false)
 removed n b i r kind h at = without-set r.0 b.home.sharers (omega (arith, put-below n b i r kind h at, h.sharers))
 
-puts-fine : (n : ℕ) (b : BlockState) (i : ℕ) (r : CacheId) (s : DirectoryState) → b.home.state ≡ s → Sound n b →
+pub puts-fine : (n : ℕ) (b : BlockState) (i : ℕ) (r : CacheId) (s : DirectoryState) → b.home.state ≡ s → Sound n b →
     Some (req request.PutS r) ≡ slice_get b.traffic.requests i
     → Fine n (carried_out (by_home_entry (baseline_entry s event.PutSNotLast) (home_input.Request (req request.PutS r)) (origin.Request i)) b)
 puts-fine n b i r home.I e h at =

@@ -164,7 +164,7 @@ kept : (b : BlockState) (s next : DirectoryState) → Valued b → b.home.state 
     (next ≡ home.I) ⊎ (next ≡ home.S) → b.home.memory ≡ b.latest
 kept b s next v e f p = v.memory (elim (f p) as (λ _. (b.home.state ≡ home.I) ⊎ (b.home.state ≡ home.S)) [ inl x ↦ inl (e ∙ x) | inr x ↦ inr (e ∙ x) ])
 
-puts-right : (n : ℕ) (b : BlockState) (i : ℕ) (r : CacheId) (s : DirectoryState) → b.home.state ≡ s → Sound n b → Valued b →
+pub puts-right : (n : ℕ) (b : BlockState) (i : ℕ) (r : CacheId) (s : DirectoryState) → b.home.state ≡ s → Sound n b → Valued b →
     Some (req request.PutS r) ≡ slice_get b.traffic.requests i
     → Right b (carried_out (by_home_entry (baseline_entry s event.PutSNotLast) (home_input.Request (req request.PutS r)) (origin.Request i)) b)
 puts-right n b i r home.I e h v at = record { valued = put-valued n b i request.PutS r _ h v at (kept b home.I home.I v e (λ p. p)); fits = refl }

@@ -50,5 +50,8 @@ pub mod Moves
 pub mod HeadMoves
 pub mod Idling
 pub mod Invariant
+pub mod Restraining
+pub mod ProvedCells
+pub mod Admitting
 pub mod Safety
 pub mod Progress

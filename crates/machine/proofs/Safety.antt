@@ -1,29 +1,45 @@
--- Under the baseline every run is safe.
-use Rattle.std.proofs.Common.{ℕ, ◌≤◌, List, [], subst, arith}
+-- Under restrained tables every run is safe.
+use Rattle.std.proofs.Common.{ℕ, inl, refl, ◌≤◌, List, [], subst, arith}
 use Rattle.base.specs.Extent.{Extent, IsWithinLimits}
 use Rattle.base.specs.declared.step.Step.{Step}
 use Rattle.machine.specs.Machine.{opened, outcomes_of}
-use Rattle.both_tables.specs.Tables.{baseline}
+use Rattle.both_tables.specs.Tables.{Tables, baseline}
+use Rattle.machine.specs.Block.{BlockState}
+use Rattle.machine.specs.Transition.{transition}
+use Rattle.machine.specs.Restraint.{Restrains}
 use Rattle.machine.specs.Completions.{completions}
 use Rattle.machine.specs.Coherence.{Safe}
 use Rattle.machine.proofs.Runs.{Guards, guarded, guarded-single, guarded-unmet}
-use Rattle.machine.proofs.StepValues.{transition-right}
 use Rattle.machine.proofs.Completing.{Follows, followed-explained}
 use Rattle.machine.proofs.Following.{followed-from, latests-opened}
-use Rattle.machine.proofs.Invariant.{Keeps, guards}
+use Rattle.machine.proofs.LineValues.{FitsLatest}
+use Rattle.machine.proofs.Admitting.{Holding, restrained-guards, restrained-fits}
 
 pub few-enough : (shape : Extent) → IsWithinLimits shape → shape.caches ≤ 4294967296
 few-enough shape within = omega (arith, within.few_caches)
 
--- under the baseline all runs are safe
+-- where a guarded invariant makes each transition fit, all runs are safe
+guarded-safe : (P : BlockState → Type 0) (tables : Tables) (shape : Extent) (opening : List ℕ) (steps : List Step) → Guards P tables shape.caches →
+    ((s : Step) (b : BlockState) → P b → FitsLatest (transition tables s b).outcome b.latest (transition tables s b).block.latest) → Safe shape tables opening steps
+guarded-safe P tables shape opening steps g fits = record {
+  single = λ front rest e. guarded-single P tables shape g opening front;
+  unmet = λ front rest s e. guarded-unmet P tables shape g opening front s;
+  explained = followed-explained opening (completions steps (outcomes_of tables (opened shape opening) steps))
+      (subst (λ (l : List ℕ). Follows l (completions steps (outcomes_of tables (opened shape opening) steps))) (latests-opened shape opening)
+      (followed-from P tables g.kept fits steps (opened shape opening) (guarded P tables shape g opening [])));
+}
+
+-- under restrained tables all runs are safe
+pub restrained-safe : (tables : Tables) (shape : Extent) (opening : List ℕ) (steps : List Step) → Restrains tables → IsWithinLimits shape →
+    Safe shape tables opening steps
+restrained-safe tables shape opening steps r within =
+    guarded-safe (Holding shape.caches) tables shape opening steps (restrained-guards tables shape.caches r (few-enough shape within))
+    (restrained-fits tables shape.caches r)
+
+-- the own tables are restrained
+pub own-restrained : Restrains baseline
+own-restrained = record { cache = λ s e. inl refl; directory = λ s e. inl refl }
+
+-- so under them all runs are safe
 pub safe : (shape : Extent) (opening : List ℕ) (steps : List Step) → IsWithinLimits shape → Safe shape baseline opening steps
-safe shape opening steps within =
-    let g : Guards (Keeps shape.caches) baseline shape.caches = guards shape.caches (few-enough shape within) in
-    record {
-      single = λ front rest e. guarded-single (Keeps shape.caches) baseline shape g opening front;
-      unmet = λ front rest s e. guarded-unmet (Keeps shape.caches) baseline shape g opening front s;
-      explained = followed-explained opening (completions steps (outcomes_of baseline (opened shape opening) steps))
-          (subst (λ (l : List ℕ). Follows l (completions steps (outcomes_of baseline (opened shape opening) steps))) (latests-opened shape opening)
-          (followed-from (Keeps shape.caches) baseline g.kept (λ s b h. (transition-right shape.caches s b h.sound h.valued).fits) steps
-          (opened shape opening) (guarded (Keeps shape.caches) baseline shape g opening [])));
-    }
+safe shape opening steps within = restrained-safe baseline shape opening steps own-restrained within

@@ -22,6 +22,7 @@ use Rattle.directory_table.specs.Table.{DirectoryEntry}
 use Rattle.directory_table.specs.declared.actions.DirectoryAction.TheVariants as directory_action
 use Rattle.both_tables.specs.Tables.{Tables, baseline}
 use Rattle.machine.specs.Machine.{opened, after}
+use Rattle.machine.specs.Restraint.{Restrains}
 use Rattle.machine.specs.Coherence.{Safe}
 use Rattle.machine.specs.Unstuck.{Unstuck}
 use Rattle.machine.specs.Rows.{cache, block, load, store, request, forward, response}
@@ -99,3 +100,7 @@ deaf_sharer = with_cache_cell cache_state.SiA cache_event.Inv table_entry.Stall
 abbrev pub DeafSharerIsStuck : Type 0
 DeafSharerIsStuck = ¬ Unstuck deaf_sharer (after deaf_sharer (opened two_by_one (0 ∷ []))
     (load 0 ∷ request 0 ∷ response 0 ∷ replace 0 ∷ store 1 5 ∷ request 1 ∷ response 0 ∷ request 0 ∷ [])).state
+
+-- yet all that its table does is stall where the own one acts
+abbrev pub DeafSharerIsRestrained : Type 0
+DeafSharerIsRestrained = Restrains deaf_sharer

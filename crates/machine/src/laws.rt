@@ -6,10 +6,11 @@ ghost use Rattle.base.specs.declared.step.Step.{Step};
 ghost use Rattle.machine.specs.declared.decision.Decision.{Decision};
 ghost use Rattle.both_tables.specs.Tables.{Tables, baseline};
 ghost use Rattle.machine.specs.Coherence.{Safe};
+ghost use Rattle.machine.specs.Restraint.{Restrains};
 ghost use Rattle.machine.specs.Unstuck.{Unstuck};
 ghost use Rattle.machine.specs.CoherenceRows.{StoreThenLoad, StaleLoadIsRefused, EarlyLoadIsRefused, OneWriterOrManyReaders};
 ghost use Rattle.machine.specs.WrongTables.{HastyReaderIsUnsafe, HastyLoadIsUnsafe, BlankCacheIsUnsafe, HastyWriterIsUnsafe, SecondWriterIsUnsafe};
-ghost use Rattle.machine.specs.WrongTables.{DroppedValueIsUnsafe, BlankDirectoryIsUnsafe, DeafSharerIsStuck};
+ghost use Rattle.machine.specs.WrongTables.{DroppedValueIsUnsafe, BlankDirectoryIsUnsafe, DeafSharerIsStuck, DeafSharerIsRestrained};
 ghost use Rattle.machine.specs.Block.{BlockState, IsBlockAmong};
 ghost use Rattle.machine.specs.Transition.{decision_of, decided_outcome, messages_of, transition};
 ghost use Rattle.machine.specs.Machine.{State, IsRefusal, next, opened, after, sent_by};
@@ -74,3 +75,19 @@ pub fn unstuck()
     ensures { (shape : Extent) (opening : List ℕ) (steps : List Step) → IsWithinLimits shape → length opening ≡ shape.blocks →
         Unstuck baseline (after baseline (opened shape opening) steps).state }
 {}
+
+/// Every run is safe too under restrained tables: each of their cells holds the protocol's own
+/// entry, or a stall, or stands where the own one is blank, or is one of those that were proved.
+pub fn restrained_tables_are_safe()
+    ensures own { Restrains baseline }
+    ensures safe { (tables : Tables) (shape : Extent) (opening : List ℕ) (steps : List Step) → Restrains tables → IsWithinLimits shape →
+        length opening ≡ shape.blocks → Safe shape tables opening steps }
+{}
+
+/// A run under restrained tables can get stuck all the same.
+pub fn restraint_can_get_stuck()
+    ensures restrained { DeafSharerIsRestrained }
+    ensures stuck { DeafSharerIsStuck }
+{
+    wrong_tables_are_refused();
+}

@@ -1,0 +1,8 @@
+use Rattle.machine.proofs.Safety.{own-restrained, restrained-safe}
+use Rattle.machine.proofs.laws.restrained_tables_are_safe.Goals as goal
+
+pub returns-clause-own : goal.returns-clause-own
+returns-clause-own c = own-restrained
+
+pub returns-clause-safe : goal.returns-clause-safe
+returns-clause-safe c tables shape opening steps restrains within opens = restrained-safe tables shape opening steps restrains within
