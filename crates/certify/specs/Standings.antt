@@ -1,0 +1,40 @@
+-- How the cells of changed tables stand to the protocol's own.
+use Rattle.std.specs.Prelude.{◌≡◌, ◌≢◌, ◌<◌, ℕ, List, Some, Contains, slice_get}
+use Rattle.base.specs.declared.controller.entry.Entry.{Entry}
+use Rattle.base.specs.declared.controller.entry.Entry.TheVariants as table_entry
+use Rattle.base.specs.declared.controller.entry.Change.{Change}
+use Rattle.cache_table.specs.Table as cache_table
+use Rattle.directory_table.specs.Table as directory_table
+use Rattle.both_tables.specs.Tables.{Tables, baseline}
+use Rattle.machine.specs.Restraint.{Admits, proved_lines, proved_homes, line_cell, home_cell}
+use Rattle.certify.specs.Cells.{all_cells}
+use Rattle.certify.specs.declared.cells.Cell.{Cell}
+use Rattle.certify.specs.declared.cells.Cell.TheVariants.{Cache, Directory}
+use Rattle.certify.specs.declared.standings.Standing.{Standing}
+use Rattle.certify.specs.declared.standings.Standing.TheVariants.{Own, Stall, NeverMet, Proved, Open}
+
+-- the first reason for which a cell may hold its entry in place of the own one; an open one may not
+abbrev pub IsReason : {S E A : Type 0} → List (Change S E A) → Entry S A → Change S E A → Standing → Type 0
+IsReason proved own c Own = c.entry ≡ own
+IsReason proved own c Stall = (c.entry ≢ own) × (c.entry ≡ table_entry.Stall)
+IsReason proved own c NeverMet = (c.entry ≢ own) × (c.entry ≢ table_entry.Stall) × (own ≡ table_entry.Blank)
+IsReason proved own c Proved = (c.entry ≢ own) × (c.entry ≢ table_entry.Stall) × (own ≢ table_entry.Blank) × Contains proved c
+IsReason proved own c Open = ¬ Admits proved own c
+
+-- how a cell of these tables stands to the own one
+abbrev pub HasStanding : Tables → Cell → Standing → Type 0
+HasStanding tables (Cache state event) s = IsReason proved_lines (cache_table.cell baseline.cache state event) (line_cell tables state event) s
+HasStanding tables (Directory state event) s =
+    IsReason proved_homes (directory_table.cell baseline.directory state event) (home_cell tables state event) s
+
+-- a cell holds what it may hold
+abbrev pub IsAdmitted : Tables → Cell → Type 0
+IsAdmitted tables (Cache state event) = Admits proved_lines (cache_table.cell baseline.cache state event) (line_cell tables state event)
+IsAdmitted tables (Directory state event) = Admits proved_homes (directory_table.cell baseline.directory state event) (home_cell tables state event)
+
+-- the first cell, in the order of all, that holds what it may not hold
+pub record IsFirstOpen (tables : Tables) (cell : Cell) : Type 0 where
+  pub number : ℕ
+  pub there : slice_get all_cells number ≡ Some cell
+  pub barred : ¬ IsAdmitted tables cell
+  pub before : (k : ℕ) (other : Cell) → k < number → slice_get all_cells k ≡ Some other → IsAdmitted tables other
