@@ -1,7 +1,7 @@
 //! The end of a floor.
 
 ghost use Rattle.std.specs.Prelude.{◌≡◌, ◌≢◌, ◌<◌, None, All, MatchBool};
-ghost use Rattle.both_tables.specs.Tables.{baseline};
+ghost use Rattle.machine.specs.Restraint.{Restrains};
 ghost use Rattle.record.specs.Kept.{IsLegal};
 ghost use Rattle.floor.specs.Turning.{IsFirstOf, recorded};
 ghost use Rattle.floor.specs.Closing.{AllThere, AreHistories, HaveOwners, IsMissing, IsThere};
@@ -9,7 +9,7 @@ ghost use Rattle.floor.specs.Closing.{AllThere, AreHistories, HaveOwners, IsMiss
 use crate::grounds::Naming;
 use crate::halls::Hall;
 use crate::seats::Seat;
-use monitor::{Violation, no_violation_under_the_own_tables};
+use monitor::{Violation, no_violation_under_restrained_tables};
 use record::Recording;
 use thiserror::Error;
 
@@ -65,10 +65,10 @@ pub(crate) fn end<F: Naming>(mut hall: Hall<F>, mut seats: Vec<Seat<F>>) -> Clos
     ensures owners { HaveOwners F.floor result.recording.entries result.owners.items }
     ensures histories { AreHistories result.recording.entries result.owners.items seats.items }
     ensures violation { IsFirstOf F.floor.setup result.recording.entries result.violation }
-    ensures clean { F.floor.setup.tables ≡ baseline → result.violation ≡ None }
+    ensures clean { Restrains F.floor.setup.tables → result.violation ≡ None }
     ensures seats { result.seats.items ≡ seats.items }
 {
-    no_violation_under_the_own_tables();
+    no_violation_under_restrained_tables();
     compare_all(&mut hall, &mut seats);
     let Hall {
         alloc: _,

@@ -56,7 +56,7 @@ pub struct Floor<F: Naming> {
 impl<F: Naming> Floor<F> {
     ghost use Rattle.std.specs.Prelude.{◌≡◌, ◌<◌, ◌≤◌, ◌++◌, ◌∷◌, ◌↔◌, ℕ, None, map, IfErr, IfNone, IfOk, IfSome, IsErrOf, MatchResult, OnErr};
     ghost use Rattle.std.specs.List.{range_with_len};
-    ghost use Rattle.both_tables.specs.Tables.{baseline};
+    ghost use Rattle.machine.specs.Restraint.{Restrains};
     ghost use Rattle.record.specs.Kept.{IsLegal};
     ghost use Rattle.floor.specs.FloorId.{names};
     ghost use Rattle.floor.specs.Turning.{IsFirstOf, new_seat, recorded, with_receipt};
@@ -139,7 +139,7 @@ impl<F: Naming> Floor<F> {
         ensures stand { IfOk result (λ closed. AllStand closed.recording.entries seats.items) }
         ensures received { IfOk result (λ closed. AllReceived closed.recording.entries seats.items) }
         ensures violation { IfOk result (λ closed. IsFirstOf F.floor.setup closed.recording.entries closed.violation) }
-        ensures clean { F.floor.setup.tables ≡ baseline → IfOk result (λ closed. closed.violation ≡ None) }
+        ensures clean { Restrains F.floor.setup.tables → IfOk result (λ closed. closed.violation ≡ None) }
         ensures seats { IfOk result (λ closed. closed.seats.items ≡ seats.items) }
     {
         if !all_there(&seats, self.seats) {

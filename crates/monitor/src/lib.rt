@@ -12,7 +12,7 @@ pub use laws::{
     one_violation_at_most, watch_knows_what_is_due,
 };
 pub use safety::{
-    no_violation_under_the_own_tables, one_step_more_may_have_the_first,
+    no_violation_under_restrained_tables, one_step_more_may_have_the_first,
     violations_are_what_isnt_safe,
 };
 pub use violation::Violation;

@@ -4,7 +4,8 @@ ghost use Rattle.std.specs.Prelude.{◌≡◌, ◌↔◌, ◌+◌, ◌++◌, ◌
 ghost use Rattle.base.specs.Extent.{Extent, IsWithinLimits};
 ghost use Rattle.base.specs.declared.step.Step.{Step};
 ghost use Rattle.machine.specs.Coherence.{Safe};
-ghost use Rattle.both_tables.specs.Tables.{Tables, baseline};
+ghost use Rattle.machine.specs.Restraint.{Restrains};
+ghost use Rattle.both_tables.specs.Tables.{Tables};
 ghost use Rattle.monitor.specs.Scenes.{HasNone, IsViolation};
 ghost use Rattle.monitor.specs.Watching.{scene_after};
 ghost use Rattle.monitor.specs.declared.violation.Violation.{Violation};
@@ -27,14 +28,14 @@ pub fn violations_are_what_isnt_safe()
     blank_has_a_place();
 }
 
-/// Under the protocol's own tables no steps have a violation.
-pub fn no_violation_under_the_own_tables()
-    ensures none { (shape : Extent) (opening : List ℕ) (steps : List Step) → IsWithinLimits shape → length opening ≡ shape.blocks →
-        HasNoViolation shape baseline opening steps }
-    ensures answer { (shape : Extent) (opening : List ℕ) (steps : List Step) (found : Option (ℕ × Violation)) →
-        IsWithinLimits shape → length opening ≡ shape.blocks → AnswersFirst shape baseline opening steps found → found ≡ None }
+/// Under restrained tables, of which the protocol's own are some, no steps have a violation.
+pub fn no_violation_under_restrained_tables()
+    ensures none { (shape : Extent) (tables : Tables) (opening : List ℕ) (steps : List Step) → Restrains tables → IsWithinLimits shape →
+        length opening ≡ shape.blocks → HasNoViolation shape tables opening steps }
+    ensures answer { (shape : Extent) (tables : Tables) (opening : List ℕ) (steps : List Step) (found : Option (ℕ × Violation)) →
+        Restrains tables → IsWithinLimits shape → length opening ≡ shape.blocks → AnswersFirst shape tables opening steps found → found ≡ None }
 {
-    machine::safe();
+    machine::restrained_tables_are_safe();
     violations_are_what_isnt_safe();
 }
 

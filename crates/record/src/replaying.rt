@@ -1,6 +1,6 @@
 ghost use Rattle.std.specs.Prelude.{◌≡◌, ◌↔◌, [], None, IfOk, IfErr};
 ghost use Rattle.machine.specs.Coherence.{Safe};
-ghost use Rattle.both_tables.specs.Tables.{baseline};
+ghost use Rattle.machine.specs.Restraint.{Restrains};
 ghost use Rattle.record.specs.Kept.{IsLegal, steps_of};
 ghost use Rattle.monitor.specs.Violations.{AnswersFirst};
 ghost use Rattle.record.specs.Replaying.{FaultOf};
@@ -8,7 +8,9 @@ ghost use Rattle.record.specs.inner.SoFar.{IsSoFar};
 
 use crate::recording::{Entry, Recording};
 use base::Outcome;
-use monitor::{Violation, Watch, no_violation_under_the_own_tables, violations_are_what_isnt_safe};
+use monitor::{
+    Violation, Watch, no_violation_under_restrained_tables, violations_are_what_isnt_safe,
+};
 use std::alloc::Global;
 use thiserror::Error;
 use world::World;
@@ -43,7 +45,7 @@ pub enum ReplayFault {
 ///
 /// It is refused `Differs` exactly where the recording isn't legal, memory aside: all outcomes are compared, also those
 /// behind a violation. No violation is found exactly where the steps are safe: where each block always has one writer or
-/// many readers, no blank cell is met, and each load returns the latest store. Under the protocol's own tables they are.
+/// many readers, no blank cell is met, and each load returns the latest store. Under restrained tables, of which the protocol's own are some, they are.
 pub fn replay(alloc: Global, recording: &Recording) -> Result<Replayed, ReplayFault>
     ensures legal { IfOk result (λ replayed. IsLegal recording.now) }
     ensures entries { IfOk result (λ replayed. replayed.entries.items ≡ recording.now.entries) }
@@ -51,11 +53,11 @@ pub fn replay(alloc: Global, recording: &Recording) -> Result<Replayed, ReplayFa
         (steps_of recording.now) replayed.violation) }
     ensures safe { IfOk result (λ replayed. replayed.violation ≡ None ↔ Safe recording.now.shape recording.now.tables recording.now.opening
         (steps_of recording.now)) }
-    ensures clean { recording.now.tables ≡ baseline → IfOk result (λ replayed. replayed.violation ≡ None) }
+    ensures clean { Restrains recording.now.tables → IfOk result (λ replayed. replayed.violation ≡ None) }
     ensures differs { IfErr result (FaultOf recording.now) }
 {
     violations_are_what_isnt_safe();
-    no_violation_under_the_own_tables();
+    no_violation_under_restrained_tables();
     let opening = recording.opening();
     let Ok(values) = Vec::from_slice(alloc, opening) else {
         return Err(ReplayFault::NoMemory);

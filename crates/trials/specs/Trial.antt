@@ -70,3 +70,7 @@ AreSound results = (number : ℕ) (result : TrialResult) → slice_get results n
 abbrev pub HasBroken : Verdict → Type 0
 HasBroken (Broke violation) = Unit {0}
 HasBroken other = ⊥
+
+-- none of these results broke
+abbrev pub AreUnbroken : List TrialResult → Type 0
+AreUnbroken results = (number : ℕ) (result : TrialResult) → slice_get results number ≡ Some result → ¬ HasBroken result.verdict

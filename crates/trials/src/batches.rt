@@ -1,8 +1,10 @@
 ghost use Rattle.std.specs.Prelude.{◌≡◌, ◌<◌, ◌↔◌, IfOk, IsErrOf};
 ghost use Rattle.both_tables.specs.Tables.{baseline};
+ghost use Rattle.machine.specs.Restraint.{Restrains};
 ghost use Rattle.scenario.specs.Tree.{plain};
-ghost use Rattle.trials.specs.Trial.{AreResults, AreSound};
+ghost use Rattle.trials.specs.Trial.{AreResults, AreSound, AreUnbroken};
 
+use crate::laws::trials_under_restrained_tables;
 use crate::making::trial;
 use crate::setup::Setup;
 use crate::verdict::TrialResult;
@@ -24,8 +26,8 @@ pub enum BatchFault {
     NoMemory,
 }
 
-/// The results of the trials of numbers 0 to `n` - 1, in order. It keeps no recording. Under the protocol's own tables
-/// none of them broke or is stuck.
+/// The results of the trials of numbers 0 to `n` - 1, in order. It keeps no recording. Under restrained
+/// tables, of which the protocol's own are some, none of them broke; under the protocol's own none is stuck either.
 ///
 /// It is refused `TooMany` exactly where `n` is over 1,000,000.
 pub fn batch<A: Allocator>(
@@ -36,8 +38,12 @@ pub fn batch<A: Allocator>(
 ) -> Result<Vec<TrialResult>, BatchFault>
     ensures ok { IfOk result (λ results. AreResults setup.now (plain scenario.now) n results.items) }
     ensures sound { setup.now.tables ≡ baseline → IfOk result (λ results. AreSound results.items) }
+    ensures unbroken { Restrains setup.now.tables → IfOk result (λ results. AreUnbroken results.items) }
     ensures too_many { IsErrOf result BatchFault.TooMany ↔ (1000000 < n) }
 {
+    trials_under_restrained_tables();
+    // Called for its contract: a setup is lawful.
+    let _limit = setup.limit();
     if n > MOST_TRIALS {
         return Err(BatchFault::TooMany);
     }

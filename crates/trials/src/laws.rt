@@ -2,6 +2,7 @@
 
 ghost use Rattle.std.specs.Prelude.{◌≡◌, ◌↔◌, ℕ, List};
 ghost use Rattle.machine.specs.Coherence.{Safe};
+ghost use Rattle.machine.specs.Restraint.{Restrains};
 ghost use Rattle.both_tables.specs.Tables.{baseline};
 ghost use Rattle.record.specs.Kept.{Kept, IsLegal, steps_of};
 ghost use Rattle.record.specs.declared.recording.Entry.{Entry};
@@ -9,7 +10,8 @@ ghost use Rattle.scenario.specs.Tree.{Tree};
 ghost use Rattle.trials.specs.Answering.{AnswersInTurn, AreSequential};
 ghost use Rattle.trials.specs.Moments.{Moment, IsPath};
 ghost use Rattle.trials.specs.Terms.{Terms, AreLawful};
-ghost use Rattle.trials.specs.Trial.{HasBroken, IsSound, IsTrial};
+ghost use Rattle.trials.specs.Trial.{AreResults, AreUnbroken, HasBroken, IsSound, IsTrial};
+ghost use Rattle.trials.specs.declared.verdict.TrialResult.{TrialResult};
 ghost use Rattle.trials.specs.declared.verdict.Verdict.{Verdict};
 
 /// Whatever the tables, each core's completions answer its loads and stores in its order.
@@ -29,18 +31,31 @@ pub fn trials_break_where_they_arent_safe()
     monitor::violations_are_what_isnt_safe();
 }
 
-/// Under the protocol's own tables no trial breaks or is stuck, and the completions of each are sequentially consistent.
+/// Under restrained tables, of which the protocol's own are some, no trial breaks, and the completions of each are sequentially
+/// consistent.
+pub fn trials_under_restrained_tables()
+    ensures unbroken { (terms : Terms) (tree : Tree) (number : ℕ) (recording : Kept) (verdict : Verdict) →
+        Restrains terms.tables → AreLawful terms → IsTrial terms tree number recording verdict →
+        ¬ HasBroken verdict }
+    ensures unbroken_batch { (terms : Terms) (tree : Tree) (n : ℕ) (results : List TrialResult) →
+        Restrains terms.tables → AreLawful terms → AreResults terms tree n results → AreUnbroken results }
+    ensures sequential { (terms : Terms) (tree : Tree) (number : ℕ) (recording : Kept) (verdict : Verdict) →
+        Restrains terms.tables → AreLawful terms → IsTrial terms tree number recording verdict →
+        AreSequential terms.opening recording.entries }
+{
+    machine::restrained_tables_are_safe();
+    cores_are_answered_in_turn();
+    trials_break_where_they_arent_safe();
+}
+
+/// Under the protocol's own tables no trial breaks or is stuck.
 pub fn trials_under_the_own_tables()
-    ensures sound { (terms : Terms) (tree : Tree) (number : ℕ) (recording : Kept) (verdict : Verdict) →
+    ensures { (terms : Terms) (tree : Tree) (number : ℕ) (recording : Kept) (verdict : Verdict) →
         terms.tables ≡ baseline → AreLawful terms → IsTrial terms tree number recording verdict →
         IsSound verdict }
-    ensures sequential { (terms : Terms) (tree : Tree) (number : ℕ) (recording : Kept) (verdict : Verdict) →
-        terms.tables ≡ baseline → AreLawful terms → IsTrial terms tree number recording verdict →
-        AreSequential terms.opening recording.entries }
 {
     machine::safe();
     machine::unstuck();
-    cores_are_answered_in_turn();
     trials_break_where_they_arent_safe();
 }
 

@@ -1,5 +1,6 @@
 ghost use Rattle.std.specs.Prelude.{◌≡◌, ◌↔◌, IfOk, length};
 ghost use Rattle.machine.specs.Coherence.{Safe};
+ghost use Rattle.machine.specs.Restraint.{Restrains};
 ghost use Rattle.both_tables.specs.Tables.{baseline};
 ghost use Rattle.record.specs.Kept.{IsLegal, steps_of};
 ghost use Rattle.scenario.specs.Tree.{plain};
@@ -8,7 +9,8 @@ ghost use Rattle.trials.specs.Trial.{HasBroken, IsSound, IsTrial};
 
 use crate::course::Course;
 use crate::laws::{
-    cores_are_answered_in_turn, trials_break_where_they_arent_safe, trials_under_the_own_tables,
+    cores_are_answered_in_turn, trials_break_where_they_arent_safe, trials_under_restrained_tables,
+    trials_under_the_own_tables,
 };
 use crate::setup::Setup;
 use crate::verdict::{Trial, TrialResult};
@@ -23,7 +25,8 @@ use std::alloc::{Allocator, Global};
 /// It borrows the scenario, and keeps in an arena of its own how far it has come. Each core has one load or store outstanding at most, and
 /// its completions answer its loads and stores in its order. The trial breaks exactly where its steps aren't safe: where
 /// a block has a writer beside another reader or writer, a blank cell is met, or a load doesn't return the latest store.
-/// Under the protocol's own tables it never breaks, is never stuck, and its completions are sequentially consistent.
+/// Under restrained tables, of which the protocol's own are some, it never breaks, and its completions are sequentially consistent; under
+/// the protocol's own it is never stuck either.
 pub fn trial<A: Allocator>(
     alloc: Global,
     scenario: &Scenario<A>,
@@ -38,10 +41,12 @@ pub fn trial<A: Allocator>(
     ensures broke { IfOk result (λ made. HasBroken made.result.verdict ↔
         (¬ Safe setup.now.shape setup.now.tables setup.now.opening (steps_of made.recording))) }
     ensures sound { setup.now.tables ≡ baseline → IfOk result (λ made. IsSound made.result.verdict) }
-    ensures sequential { setup.now.tables ≡ baseline → IfOk result (λ made. AreSequential setup.now.opening made.recording.entries) }
+    ensures unbroken { Restrains setup.now.tables → IfOk result (λ made. ¬ HasBroken made.result.verdict) }
+    ensures sequential { Restrains setup.now.tables → IfOk result (λ made. AreSequential setup.now.opening made.recording.entries) }
 {
     cores_are_answered_in_turn();
     trials_break_where_they_arent_safe();
+    trials_under_restrained_tables();
     trials_under_the_own_tables();
     let arena = Bump::new(alloc);
     let mut course = Course::open(alloc, scenario, setup, number)?;

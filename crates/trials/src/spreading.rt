@@ -1,9 +1,11 @@
 ghost use Rattle.std.specs.Prelude.{◌≡◌, ◌<◌, ◌↔◌, IfOk, IsErrOf};
 ghost use Rattle.both_tables.specs.Tables.{baseline};
+ghost use Rattle.machine.specs.Restraint.{Restrains};
 ghost use Rattle.scenario.specs.Tree.{plain};
-ghost use Rattle.trials.specs.Trial.{AreResults, AreSound, IsResult, IsSound};
+ghost use Rattle.trials.specs.Trial.{AreResults, AreSound, AreUnbroken, IsResult, IsSound};
 
 use crate::batches::{BatchFault, MOST_TRIALS};
+use crate::laws::trials_under_restrained_tables;
 use crate::making::trial;
 use crate::setup::Setup;
 use crate::verdict::TrialResult;
@@ -25,8 +27,12 @@ pub fn spread(
 ) -> Result<Vec<TrialResult>, BatchFault>
     ensures ok { IfOk result (λ results. AreResults setup.now (plain scenario.now) n results.items) }
     ensures sound { setup.now.tables ≡ baseline → IfOk result (λ results. AreSound results.items) }
+    ensures unbroken { Restrains setup.now.tables → IfOk result (λ results. AreUnbroken results.items) }
     ensures too_many { IsErrOf result BatchFault.TooMany ↔ (1000000 < n) }
 {
+    trials_under_restrained_tables();
+    // Called for its contract: a setup is lawful.
+    let _limit = setup.limit();
     if n > MOST_TRIALS {
         return Err(BatchFault::TooMany);
     }

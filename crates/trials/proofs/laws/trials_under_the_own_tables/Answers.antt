@@ -12,8 +12,8 @@ use Rattle.trials.proofs.Verdicts.{trial-told, trial-state, sound}
 use Rattle.trials.proofs.Rests.{at-rest, stays-whole}
 use Rattle.trials.proofs.laws.trials_under_the_own_tables.Goals as goal
 
-pub returns-clause-sound : goal.returns-clause-sound
-returns-clause-sound c terms tree number recording verdict own lawful trial =
+pub returns : goal.returns
+returns c terms tree number recording verdict own lawful trial =
     let safe : Safe terms.shape terms.tables terms.opening (steps_of recording) =
     subst (λ (t : Tables). Safe terms.shape t terms.opening (steps_of recording)) (sym own)
     (c.safe.ensures terms.shape terms.opening (steps_of recording) lawful.within lawful.each) in
@@ -28,15 +28,3 @@ returns-clause-sound c terms tree number recording verdict own lawful trial =
     (path-tracked terms tree number trial.moments recording.entries trial.path _ trial.last trial.at_last)
     (subst (λ (s : State). s.broken ≡ false) (sym state)
     (stays-whole terms.tables (opened terms.shape terms.opening) (steps_of recording) refl safe.unmet)) ends.1))
-
-pub returns-clause-sequential : goal.returns-clause-sequential
-returns-clause-sequential c terms tree number recording verdict own lawful trial =
-    let safe : Safe terms.shape terms.tables terms.opening (steps_of recording) =
-    subst (λ (t : Tables). Safe terms.shape t terms.opening (steps_of recording)) (sym own)
-    (c.safe.ensures terms.shape terms.opening (steps_of recording) lawful.within lawful.each) in
-    record {
-      in_turn = c.cores_are_answered_in_turn.ensures terms tree number trial.moments recording.entries trial.path;
-      latest =
-          subst (λ (told : List Outcome). Explained terms.opening (completions (steps_of recording) told))
-          (sym (trial-told terms tree number recording verdict trial)) safe.explained;
-    }
