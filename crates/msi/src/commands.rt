@@ -163,6 +163,11 @@ fn tables<'a>(alloc: Global) -> Result<Command<'a>, AllocError> {
     command(alloc, "tables", about, vec![in alloc; overrides(alloc)]?)
 }
 
+fn certify<'a>(alloc: Global) -> Result<Command<'a>, AllocError> {
+    let about = "Says of tables that they are proved safe, or names the first cell that isn't: then make trials";
+    command(alloc, "certify", about, vec![in alloc; overrides(alloc)]?)
+}
+
 fn replay<'a>(alloc: Global) -> Command<'a> {
     Command::new(alloc, "replay").about(
         "Reads a recording, makes its steps again and compares their outcomes",
@@ -180,7 +185,8 @@ pub fn msi<'a>(alloc: Global) -> Result<Command<'a>, AllocError> {
     let msi = with(msi, batch(alloc));
     let msi = with(msi, Ok(replay(alloc)));
     let msi = with(msi, floor(alloc));
-    with(msi, tables(alloc))
+    let msi = with(msi, tables(alloc));
+    with(msi, certify(alloc))
 }
 
 fn with<'a>(

@@ -7,6 +7,8 @@ pub enum Finding {
     Violation,
     /// A recording tells of another outcome than its step has, which was printed.
     Difference,
+    /// Tables aren't proved safe, and a cell that isn't was printed.
+    Unknown,
 }
 
 impl Finding {
@@ -14,7 +16,7 @@ impl Finding {
     pub fn status(self) -> u8 {
         match self {
             Finding::Nothing => 0,
-            Finding::Violation | Finding::Difference => 1,
+            Finding::Violation | Finding::Difference | Finding::Unknown => 1,
         }
     }
 }

@@ -2,6 +2,7 @@
 #![tactic(auto)]
 
 mod asks;
+mod certificates;
 mod commands;
 mod fault;
 mod files;

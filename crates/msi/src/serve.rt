@@ -1,3 +1,4 @@
+use crate::certificates::print_certificate;
 use crate::commands;
 use crate::fault::Fault;
 use crate::files::Files;
@@ -18,7 +19,7 @@ use std::thread::Threads;
 
 /// Serves the words of a command line over these files and streams, and answers the exit status. It may wait where threads
 /// race at a floor. The status is
-/// 0 where all went well, 1 where a violation or a difference was found, 2 for bad words or input, 3 for device and memory.
+/// 0 where all went well, 1 where a violation, a difference or a cell that isn't proved was found, 2 for bad words or input, 3 for device and memory.
 ///
 /// Where the words couldn't be had, it says why.
 pub fn serve<R: Threads + Wait + Sync, F: Files, I: Read + Drop, O: Write + Drop, E: Write + Drop>(
@@ -108,6 +109,7 @@ fn carry_out<R: Threads + Wait + Sync, I: Read + Drop, O: Write + Drop, E: Write
         Task::Floor(setup, seats, turns) => race(rt, alloc, &setup, seats, turns, input, output),
         Task::Replay => replay(alloc, input, output),
         Task::Tables(tables) => print_tables(alloc, &tables, output),
+        Task::Certify(tables) => print_certificate(alloc, &tables, output),
     };
     (errors, found)
 }

@@ -22,6 +22,8 @@ pub enum Task {
     Replay,
     /// Print the cells of these tables.
     Tables(Tables),
+    /// Print whether these tables are proved safe.
+    Certify(Tables),
 }
 
 /// How a batch is made.
@@ -53,6 +55,7 @@ impl Task {
             "floor" => Some(racing(alloc, options, files)?),
             "replay" => Some(Task::Replay),
             "tables" => Some(Task::Tables(tables(alloc, options, files)?)),
+            "certify" => Some(Task::Certify(tables(alloc, options, files)?)),
             _ => None,
         })
     }

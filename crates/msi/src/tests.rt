@@ -10,6 +10,7 @@ use std::thread::Threads;
 
 mod broken;
 mod cells;
+mod certificates;
 mod ends;
 mod racing;
 mod replaying;

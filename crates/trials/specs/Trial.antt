@@ -71,6 +71,11 @@ abbrev pub HasBroken : Verdict → Type 0
 HasBroken (Broke violation) = Unit {0}
 HasBroken other = ⊥
 
+-- the trial didn't break
+abbrev pub IsUnbroken : Verdict → Type 0
+IsUnbroken (Broke violation) = ⊥
+IsUnbroken other = Unit {0}
+
 -- none of these results broke
 abbrev pub AreUnbroken : List TrialResult → Type 0
-AreUnbroken results = (number : ℕ) (result : TrialResult) → slice_get results number ≡ Some result → ¬ HasBroken result.verdict
+AreUnbroken results = (number : ℕ) (result : TrialResult) → slice_get results number ≡ Some result → IsUnbroken result.verdict

@@ -10,7 +10,7 @@ ghost use Rattle.scenario.specs.Tree.{Tree};
 ghost use Rattle.trials.specs.Answering.{AnswersInTurn, AreSequential};
 ghost use Rattle.trials.specs.Moments.{Moment, IsPath};
 ghost use Rattle.trials.specs.Terms.{Terms, AreLawful};
-ghost use Rattle.trials.specs.Trial.{AreResults, AreUnbroken, HasBroken, IsSound, IsTrial};
+ghost use Rattle.trials.specs.Trial.{AreResults, AreUnbroken, HasBroken, IsSound, IsTrial, IsUnbroken};
 ghost use Rattle.trials.specs.declared.verdict.TrialResult.{TrialResult};
 ghost use Rattle.trials.specs.declared.verdict.Verdict.{Verdict};
 
@@ -36,7 +36,7 @@ pub fn trials_break_where_they_arent_safe()
 pub fn trials_under_restrained_tables()
     ensures unbroken { (terms : Terms) (tree : Tree) (number : ℕ) (recording : Kept) (verdict : Verdict) →
         Restrains terms.tables → AreLawful terms → IsTrial terms tree number recording verdict →
-        ¬ HasBroken verdict }
+        IsUnbroken verdict }
     ensures unbroken_batch { (terms : Terms) (tree : Tree) (n : ℕ) (results : List TrialResult) →
         Restrains terms.tables → AreLawful terms → AreResults terms tree n results → AreUnbroken results }
     ensures sequential { (terms : Terms) (tree : Tree) (number : ℕ) (recording : Kept) (verdict : Verdict) →

@@ -5,7 +5,7 @@ ghost use Rattle.both_tables.specs.Tables.{baseline};
 ghost use Rattle.record.specs.Kept.{IsLegal, steps_of};
 ghost use Rattle.scenario.specs.Tree.{plain};
 ghost use Rattle.trials.specs.Answering.{AnswersInTurn, AreSequential};
-ghost use Rattle.trials.specs.Trial.{HasBroken, IsSound, IsTrial};
+ghost use Rattle.trials.specs.Trial.{HasBroken, IsSound, IsTrial, IsUnbroken};
 
 use crate::course::Course;
 use crate::laws::{
@@ -41,7 +41,7 @@ pub fn trial<A: Allocator>(
     ensures broke { IfOk result (λ made. HasBroken made.result.verdict ↔
         (¬ Safe setup.now.shape setup.now.tables setup.now.opening (steps_of made.recording))) }
     ensures sound { setup.now.tables ≡ baseline → IfOk result (λ made. IsSound made.result.verdict) }
-    ensures unbroken { Restrains setup.now.tables → IfOk result (λ made. ¬ HasBroken made.result.verdict) }
+    ensures unbroken { Restrains setup.now.tables → IfOk result (λ made. IsUnbroken made.result.verdict) }
     ensures sequential { Restrains setup.now.tables → IfOk result (λ made. AreSequential setup.now.opening made.recording.entries) }
 {
     cores_are_answered_in_turn();

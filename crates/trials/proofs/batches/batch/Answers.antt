@@ -18,3 +18,8 @@ loop-number-preserved g c = (
   λ own. sound-more c.loop-number.results.items c.push_reserved.new.self.items c.in-Ok-trial.made.result (c.loop-number.invariant.2 own)
       (c.in-Ok-trial.ensures.sound own) c.push_reserved.ensures.items,
 )
+
+pub returns-clause-unbroken : goal.returns-clause-unbroken
+returns-clause-unbroken g c restrained =
+    c.trials_under_restrained_tables.ensures.unbroken_batch c.args.setup.now (plain c.args.scenario.now) c.loop-number.number c.loop-number.results.items
+    restrained c.limit-limit.ensures.lawful c.loop-number.invariant.1

@@ -1,14 +1,12 @@
-use Rattle.std.proofs.Common.{◌≡◌, List, false, refl, sym, subst}
-use Rattle.base.specs.declared.step.Outcome.{Outcome}
-use Rattle.machine.specs.Coherence.{Safe, Explained}
-use Rattle.machine.specs.Completions.{completions}
+use Rattle.std.proofs.Common.{◌≡◌, false, refl, sym, subst}
+use Rattle.machine.specs.Coherence.{Safe}
 use Rattle.machine.specs.Machine.{State, opened, state_after}
 use Rattle.both_tables.specs.Tables.{Tables}
 use Rattle.machine.specs.Unstuck.{Unstuck}
 use Rattle.record.specs.Kept.{steps_of}
 use Rattle.trials.specs.Trial.{IsVerdict}
 use Rattle.trials.proofs.Chosen.{path-tracked}
-use Rattle.trials.proofs.Verdicts.{trial-told, trial-state, sound}
+use Rattle.trials.proofs.Verdicts.{trial-state, sound}
 use Rattle.trials.proofs.Rests.{at-rest, stays-whole}
 use Rattle.trials.proofs.laws.trials_under_the_own_tables.Goals as goal
 

@@ -28,10 +28,15 @@ returns-clause-broke g c =
 
 pub returns-clause-sound : goal.returns-clause-sound
 returns-clause-sound g c own =
-    c.trials_under_the_own_tables.ensures.sound c.args.setup.now
+    c.trials_under_the_own_tables.ensures c.args.setup.now
     (plain c.args.scenario.now) c.args.number _ c.in_ok-verdict.verdict own c.limit.ensures.lawful (returns-clause-trial g c)
 
+pub returns-clause-unbroken : goal.returns-clause-unbroken
+returns-clause-unbroken g c restrained =
+    c.trials_under_restrained_tables.ensures.unbroken c.args.setup.now
+    (plain c.args.scenario.now) c.args.number _ c.in_ok-verdict.verdict restrained c.limit.ensures.lawful (returns-clause-trial g c)
+
 pub returns-clause-sequential : goal.returns-clause-sequential
-returns-clause-sequential g c own =
-    c.trials_under_the_own_tables.ensures.sequential c.args.setup.now
-    (plain c.args.scenario.now) c.args.number _ c.in_ok-verdict.verdict own c.limit.ensures.lawful (returns-clause-trial g c)
+returns-clause-sequential g c restrained =
+    c.trials_under_restrained_tables.ensures.sequential c.args.setup.now
+    (plain c.args.scenario.now) c.args.number _ c.in_ok-verdict.verdict restrained c.limit.ensures.lawful (returns-clause-trial g c)

@@ -1,0 +1,69 @@
+use super::{BROKEN, expect, run_over};
+use std::alloc::Global;
+use std::sync::Wait;
+use std::test::Fail;
+use std::thread::Threads;
+
+/// Tables that are proved safe, and what is printed of them.
+const SAFE: [(&str, &str); 4] = [
+    ("{}", "safe\n"),
+    (
+        r#"{"cache":[{"state":"SI^A","event":"Inv","entry":"stall"}]}"#,
+        "safe\nstall: cell cache SI^A Inv stall\n",
+    ),
+    (
+        r#"{"cache":[{"state":"I","event":"Inv","entry":{"next":"I","do":["inv-ack"]}},{"state":"I","event":"Put-Ack","entry":"stall"}]}"#,
+        "safe\nnever met: cell cache I Inv act I inv-ack\nstall: cell cache I Put-Ack stall\n",
+    ),
+    (
+        r#"{"directory":[{"state":"S","event":"PutS-Last","entry":{"next":"S","do":["remove-req","put-ack"]}}],"cache":[{"state":"S","event":"Replacement","entry":{"next":"SI^A","do":["putm"]}},{"state":"IS^D","event":"Load","entry":{"next":"IS^D","do":[]}}]}"#,
+        "safe\nproved: cell cache IS^D Load act IS^D\nproved: cell cache S Replacement act SI^A putm\nproved: cell directory S PutS-Last act S remove-req put-ack\n",
+    ),
+];
+
+/// Three cells that aren't proved, of which the first one is neither the first in the text nor of the directory.
+const THREE: &str = r#"{"directory":[{"state":"I","event":"GetS","entry":"blank"}],"cache":[{"state":"M","event":"Fwd-GetS","entry":"blank"},{"state":"IS^D","event":"Inv","entry":{"next":"IS^D","do":["inv-ack"]}}]}"#;
+
+const FIRST: &str = "unknown\nnot proved: cell cache IS^D Inv act IS^D inv-ack\nThat doesn't say unsafe: make trials, with msi batch.\n";
+
+const LINE: &str = "msi certify --tables table.json";
+
+#[test]
+fn tables_that_are_proved(rt: HostRuntime) -> Result<(), Fail> {
+    for (tables, text) in SAFE {
+        expect(&rt, &run_over(&rt, rt.alloc(), LINE, tables, "")?, 0, text, "");
+    }
+    Ok(())
+}
+
+/// How many lines are printed of tables, and whether the first two say that a cell isn't proved.
+fn lines_of<R: Threads + Wait + Sync>(
+    rt: &R,
+    alloc: Global,
+    tables: &'static str,
+) -> Result<(u8, usize, bool), Fail> {
+    let served = run_over(rt, alloc, LINE, tables, "")?;
+    let Ok(text) = str::from_utf8(served.output.as_slice()) else {
+        return Err(Fail::from("the certificate isn't text"));
+    };
+    let is_named = text.starts_with("unknown\nnot proved: cell ");
+    Ok((served.status, text.lines().count(), is_named))
+}
+
+#[test]
+fn broken_tables_are_not_proved(rt: HostRuntime) -> Result<(), Fail> {
+    for broken in BROKEN {
+        let found = lines_of(&rt, rt.alloc(), broken.table)?;
+        assert_eq!(rt; found, (1, 3, true), "at {}", broken.table);
+    }
+    Ok(())
+}
+
+#[test]
+fn the_first_cell_that_is_not_proved(rt: HostRuntime) -> Result<(), Fail> {
+    expect(&rt, &run_over(&rt, rt.alloc(), LINE, THREE, "")?, 1, FIRST, "");
+    let refused = r#"{"cache":[{"state":"Z","event":"Inv","entry":"stall"}]}"#;
+    let said = "msi: tables refused 3 UnknownState\n";
+    expect(&rt, &run_over(&rt, rt.alloc(), LINE, refused, "")?, 2, "", said);
+    Ok(())
+}
