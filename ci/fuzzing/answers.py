@@ -3,6 +3,7 @@
 import re
 from dataclasses import dataclass
 
+from model.certificates import ADVICE, certificate
 from model.machine import Watched
 from model.recordings import cell_lines, refusal, text_of
 from model.refusals import OVERRIDES, SCENARIOS, fault_of_overrides, fault_of_scenario
@@ -23,6 +24,7 @@ FORMS = {
     "play": OUTCOME + rb"|violation " + VIOLATION,
     "replay": rb"same \d+|violation \d+ " + VIOLATION + rb"|differs \d+ told " + OUTCOME + rb" found " + OUTCOME,
     "tables": CELL,
+    "certify": rb"safe|unknown|(stall|never met|proved|not proved): " + CELL + b"|" + ADVICE.encode(),
     "trial": RECORDING,
     "batch": rb"\d+ " + RESULT + rb"|total (quiet|cut|stuck|broke) \d+",
     "floor": rb"safe|violation \d+ " + VIOLATION,
@@ -85,6 +87,11 @@ def tables_of(overrides):
 
 def of_tables(tables):
     return Answer(0, lines(cell_lines(tables)), b"")
+
+
+def of_certify(tables):
+    status, certified = certificate(tables)
+    return Answer(status, lines(certified), b"")
 
 
 def of_play(shape, tables, text):

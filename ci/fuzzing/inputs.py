@@ -5,6 +5,7 @@ from dataclasses import dataclass
 from typing import Callable, Optional
 
 from fuzzing import answers
+from fuzzing.certified import admitted_overrides
 from fuzzing.damage import damaged
 from model.making import random_ask, random_overrides, random_scenario, random_steps
 from model.recordings import text_of
@@ -13,7 +14,7 @@ from model.trials import tree_of, trial
 
 TABLES = b"overrides.json"
 WORDS = (
-    b"play trial batch replay floor tables --caches --blocks --tables --seed --number --limit --trials --workers --seats --turns "
+    b"play trial batch replay floor tables certify --caches --blocks --tables --seed --number --limit --trials --workers --seats --turns "
     b"--progress --help --version -h -V help -- - --caches=2 --blocks=1 --colour 0 1 2 3 64 65 1024 1025 4096 4097 1000000 1000001 "
     b"4294967295 4294967296 18446744073709551615 18446744073709551616 -1 +1 01 1.0 two overrides.json absent.json \xff \xe2\x80\x8b"
 ).split(b" ") + [b"", b" "]
@@ -75,6 +76,14 @@ def tables(dice):
     return Input("tables", [b"tables", b"--tables", TABLES], b"", overrides, answer)
 
 
+def certify(dice):
+    overrides = overrides_for(dice, 1.0, 0.2)
+    if dice.random() < 0.5:
+        overrides = perhaps(dice, 0.1, json.dumps(admitted_overrides(dice)).encode())
+    answer = with_tables(overrides, answers.of_certify)
+    return Input("certify", [b"certify", b"--tables", TABLES], b"", overrides, answer)
+
+
 def setup_of(dice, least):
     return dice.choice([0, 1, 42, 2**64 - 1, dice.randrange(2**64)]), dice.randrange(least), dice.choice([0, 1, 5, 12, 25])
 
@@ -125,7 +134,7 @@ def floor(dice):
 
 def other_words(dice):
     """Words of a command that are good but for some of them, or any words."""
-    made = dice.choice([play, tables, replay, one_trial, batch, floor])(dice)
+    made = dice.choice([play, tables, certify, replay, one_trial, batch, floor])(dice)
     words = list(made.words) if dice.random() < 0.8 else [dice.choice(WORDS) for _ in range(dice.randrange(8))]
     for _ in range(dice.randrange(1, 4)):
         at = dice.randrange(len(words) + 1)
@@ -133,7 +142,7 @@ def other_words(dice):
     return Input("words", [word for word in words if b"\0" not in word], made.text, made.overrides, lambda: None)
 
 
-KINDS = [play] * 6 + [replay] * 6 + [tables] * 4 + [one_trial] * 3 + [batch] * 2 + [floor, other_words]
+KINDS = [play] * 6 + [replay] * 6 + [tables] * 3 + [certify] * 2 + [one_trial] * 3 + [batch] * 2 + [floor, other_words]
 
 
 def random_input(dice):

@@ -4,6 +4,8 @@
 #[cfg(test)]
 mod asserting;
 #[cfg(test)]
+mod certifying;
+#[cfg(test)]
 mod choosing;
 #[cfg(test)]
 mod entries;
