@@ -116,22 +116,30 @@ fn offers_before_deliveries(rt: HostRuntime) -> Result<(), Fail> {
     offers_first(&rt, rt.alloc(), &mut world, &scenario)
 }
 
-#[test]
-fn what_is_held_is_no_choice(rt: HostRuntime) -> Result<(), Fail> {
-    let alloc = rt.alloc();
-    let mut world = opened(alloc)?;
-    play(
-        &mut world,
-        &[
-            "ask 0 0 store 7",
-            "request 0 0",
-            "ask 1 0 load",
-            "request 0 0",
-        ],
-    )?;
+/// Compares the choices where a forward is held behind the Data.
+fn offers_no_held(
+    rt: &impl Abort,
+    alloc: Global,
+    world: &mut World,
+    scenario: &Scenario<Global>,
+) -> Result<(), Fail> {
+    let steps = [
+        "ask 0 0 store 7",
+        "request 0 0",
+        "ask 1 0 load",
+        "request 0 0",
+    ];
+    play(world, &steps)?;
     let response = Choice::Deliver(Step::Response {
         block: BLOCK,
         index: 0,
     });
-    expect(&rt, alloc, &world, &[], &Scenario::One(LOAD), &[response])
+    expect(rt, alloc, world, &[], scenario, &[response])
+}
+
+#[test]
+fn what_is_held_is_no_choice(rt: HostRuntime) -> Result<(), Fail> {
+    let scenario = Scenario::One(LOAD);
+    let mut world = opened(rt.alloc())?;
+    offers_no_held(&rt, rt.alloc(), &mut world, &scenario)
 }

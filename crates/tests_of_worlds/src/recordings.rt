@@ -17,10 +17,15 @@ fn recorded(alloc: Global, caches: u32, tables: Tables, lines: &[&str]) -> Resul
         return Err(Fail::from("a small shape is refused"));
     };
     let mut recording = Recording::open(alloc, shape, tables, vec![in alloc; 0]?)?;
+    push_all(&mut recording, lines)?;
+    Ok(recording)
+}
+
+fn push_all(recording: &mut Recording, lines: &[&str]) -> Result<(), Fail> {
     for line in lines {
         recording.push(entry_of(line).ok_or("not an entry")?)?;
     }
-    Ok(recording)
+    Ok(())
 }
 
 const ONE_LOAD: [&str; 3] = [

@@ -99,15 +99,19 @@ fn made(rt: &impl Abort, alloc: Global, world: &mut World, step: Step) -> Result
     Ok(world.step(step).ok().ok_or("refused again")?)
 }
 
+fn make_each(rt: &impl Abort, alloc: Global, world: &mut World) -> Result<(), Fail> {
+    for line in LATE_PUTS {
+        let entry = entry_of(line).ok_or("not an entry")?;
+        let outcome = made(rt, alloc, world, entry.step)?;
+        same(rt, &outcome, &entry.outcome);
+    }
+    Ok(())
+}
+
 #[test]
 fn a_step(rt: HostRuntime) -> Result<(), Fail> {
     let mut world = opened(rt.alloc())?;
-    for line in LATE_PUTS {
-        let entry = entry_of(line).ok_or("not an entry")?;
-        let outcome = made(&rt, rt.alloc(), &mut world, entry.step)?;
-        same(&rt, &outcome, &entry.outcome);
-    }
-    Ok(())
+    make_each(&rt, rt.alloc(), &mut world)
 }
 
 /// Compares the outcomes of the first steps of a run.
@@ -118,27 +122,57 @@ fn compare(rt: &impl Abort, outcomes: &[Outcome], count: usize) {
     }
 }
 
-#[test]
-fn a_run(rt: HostRuntime) -> Result<(), Fail> {
-    let alloc = rt.alloc();
+fn late_steps(alloc: Global) -> Result<Vec<Step>, Fail> {
     let mut steps = Vec::new(alloc);
     for line in LATE_PUTS {
         steps.push(entry_of(line).ok_or("not an entry")?.step)?;
     }
+    Ok(steps)
+}
+
+fn step_all(world: &mut World, steps: &[Step]) -> Result<(), Fail> {
+    for step in steps {
+        world.step(*step)?;
+    }
+    Ok(())
+}
+
+/// Compares a world with one that has made just these steps.
+fn has_made(rt: &impl Abort, alloc: Global, world: &World, steps: &[Step]) -> Result<(), Fail> {
+    let mut other = opened(alloc)?;
+    step_all(&mut other, steps)?;
+    same_worlds(rt, world, &other);
+    Ok(())
+}
+
+fn run_at_last(
+    rt: &impl Abort,
+    alloc: Global,
+    world: &mut World,
+    steps: &[Step],
+    outcomes: &mut Vec<Outcome>,
+) -> Result<(), Fail> {
+    if let Err(stop) = world.run(steps, outcomes) {
+        compare(rt, outcomes.as_slice(), stop.done);
+        let (front, rest) = steps.split_at(stop.done);
+        has_made(rt, alloc, world, front)?;
+        world.run(rest, outcomes).ok().ok_or("refused again")?;
+    }
+    Ok(())
+}
+
+fn run_late(rt: &impl Abort, alloc: Global, steps: &[Step]) -> Result<(), Fail> {
     let mut world = opened(alloc)?;
     let mut outcomes = Vec::new(alloc);
-    if let Err(stop) = world.run(steps.as_slice(), &mut outcomes) {
-        compare(&rt, outcomes.as_slice(), stop.done);
-        let mut other = opened(alloc)?;
-        let (front, rest) = steps.split_at(stop.done);
-        for step in front.iter() {
-            other.step(*step)?;
-        }
-        same_worlds(&rt, &world, &other);
-        world.run(rest, &mut outcomes).ok().ok_or("refused again")?;
-    }
-    compare(&rt, outcomes.as_slice(), LATE_PUTS.len());
+    run_at_last(rt, alloc, &mut world, steps, &mut outcomes)?;
+    compare(rt, outcomes.as_slice(), LATE_PUTS.len());
     Ok(())
+}
+
+#[test]
+fn a_run(rt: HostRuntime) -> Result<(), Fail> {
+    let steps = late_steps(rt.alloc())?;
+    run_late(&rt, rt.alloc(), steps.as_slice())
 }
 
 fn made_at_last(
@@ -163,9 +197,7 @@ fn racing_trial(alloc: Global) -> Result<Trial, Fail> {
     made_at_last(alloc, &pair, &setup, 54)
 }
 
-#[test]
-fn a_trial(rt: HostRuntime) -> Result<(), Fail> {
-    let made = racing_trial(rt.alloc())?;
+fn compare_trial(rt: &impl Abort, made: &Trial) {
     let lines = [
         "ask 1 0 store 9 = sent",
         "request 0 0 = moved",
@@ -174,37 +206,55 @@ fn a_trial(rt: HostRuntime) -> Result<(), Fail> {
         "request 0 0 = moved",
         "forward 0 1 = moved",
     ];
-    same(&rt, &made.recording.entries().len(), &lines.len());
+    same(rt, &made.recording.entries().len(), &lines.len());
     for (entry, line) in made.recording.entries().iter().zip(lines) {
-        same(&rt, &Some(*entry), &entry_of(line));
+        same(rt, &Some(*entry), &entry_of(line));
     }
-    same(&rt, &made.result.verdict, &Verdict::Cut);
-    same(&rt, &made.result.steps, &6);
-    Ok(())
+    same(rt, &made.result.verdict, &Verdict::Cut);
+    same(rt, &made.result.steps, &6);
 }
 
 #[test]
-fn a_batch(rt: HostRuntime) -> Result<(), Fail> {
-    let alloc = rt.alloc();
-    let load = scenario(alloc, ONE_LOAD, 1)?;
-    let setup = setup(alloc, 1, 9)?;
-    let results = match batch(alloc, &load, &setup, 3) {
-        Ok(results) => results,
-        Err(fault) => {
-            same(&rt, &fault, &BatchFault::NoMemory);
-            batch(alloc, &load, &setup, 3).ok().ok_or("refused again")?
-        }
-    };
-    same(&rt, &results.len(), &3);
+fn a_trial(rt: HostRuntime) -> Result<(), Fail> {
+    let made = racing_trial(rt.alloc())?;
+    compare_trial(&rt, &made);
+    Ok(())
+}
+
+fn compare_batch(rt: &impl Abort, results: &[TrialResult]) {
+    same(rt, &results.len(), &3);
     for (number, result) in results.iter().enumerate() {
         let wanted = TrialResult {
             number: number as u32,
             verdict: Verdict::Quiet,
             steps: 3,
         };
-        same(&rt, result, &wanted);
+        same(rt, result, &wanted);
     }
+}
+
+fn batch_at_last(
+    rt: &impl Abort,
+    alloc: Global,
+    load: &Scenario<Global>,
+    setup: &Setup,
+) -> Result<(), Fail> {
+    let results = match batch(alloc, load, setup, 3) {
+        Ok(results) => results,
+        Err(fault) => {
+            same(rt, &fault, &BatchFault::NoMemory);
+            batch(alloc, load, setup, 3).ok().ok_or("refused again")?
+        }
+    };
+    compare_batch(rt, results.as_slice());
     Ok(())
+}
+
+#[test]
+fn a_batch(rt: HostRuntime) -> Result<(), Fail> {
+    let load = scenario(rt.alloc(), ONE_LOAD, 1)?;
+    let setup = setup(rt.alloc(), 1, 9)?;
+    batch_at_last(&rt, rt.alloc(), &load, &setup)
 }
 
 /// Reads a text, at the second call where the first one is refused memory.

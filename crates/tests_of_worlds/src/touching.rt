@@ -76,14 +76,18 @@ fn made(rt: &impl Abort, world: &mut World, step: Step) -> Result<Outcome, Fail>
     }
 }
 
+fn make_a_load(rt: &impl Abort, world: &mut World) -> Result<(), Fail> {
+    let outcome = made(rt, world, load(2, 1))?;
+    same(rt, &outcome, &Outcome::Sent);
+    same(rt, &world.enabled_at(0), &Some(request(1)));
+    Ok(())
+}
+
 /// `ci/refuse-growths` refuses each of its growths in turn.
 #[test]
 fn a_refused_step_leaves_an_untouched_block_alone(rt: HostRuntime) -> Result<(), Fail> {
     let mut world = opened(rt.alloc(), 3, 2)?;
-    let outcome = made(&rt, &mut world, load(2, 1))?;
-    same(&rt, &outcome, &Outcome::Sent);
-    same(&rt, &world.enabled_at(0), &Some(request(1)));
-    Ok(())
+    make_a_load(&rt, &mut world)
 }
 
 /// One of the first deliveries that are enabled, or an ask of any cache for any block, where few are enabled more likely.
