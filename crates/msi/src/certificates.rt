@@ -34,14 +34,13 @@ fn print_safe<W: Write>(tables: &Tables, output: &mut W) -> Result<Finding, Faul
     Ok(Finding::Nothing)
 }
 
-fn print_unknown<W: Write>(
-    tables: &Tables,
-    cell: Cell,
-    output: &mut W,
-) -> Result<Finding, Fault> {
+fn print_unknown<W: Write>(tables: &Tables, cell: Cell, output: &mut W) -> Result<Finding, Fault> {
     writeln!(output, "unknown")?;
     print_reason(tables, cell, output)?;
-    writeln!(output, "That doesn't say unsafe: make trials, with msi batch.")?;
+    writeln!(
+        output,
+        "That doesn't say unsafe: make trials, with msi batch."
+    )?;
     Ok(Finding::Unknown)
 }
 

@@ -164,7 +164,8 @@ fn tables<'a>(alloc: Global) -> Result<Command<'a>, AllocError> {
 }
 
 fn certify<'a>(alloc: Global) -> Result<Command<'a>, AllocError> {
-    let about = "Says of tables that they are proved safe, or names the first cell that isn't: then make trials";
+    let about =
+        "Says of tables that they are proved safe, or names the first cell that isn't: then make trials";
     command(alloc, "certify", about, vec![in alloc; overrides(alloc)]?)
 }
 

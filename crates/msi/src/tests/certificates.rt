@@ -22,16 +22,24 @@ const SAFE: [(&str, &str); 4] = [
 ];
 
 /// Three cells that aren't proved, of which the first one is neither the first in the text nor of the directory.
-const THREE: &str = r#"{"directory":[{"state":"I","event":"GetS","entry":"blank"}],"cache":[{"state":"M","event":"Fwd-GetS","entry":"blank"},{"state":"IS^D","event":"Inv","entry":{"next":"IS^D","do":["inv-ack"]}}]}"#;
+const THREE: &str =
+    r#"{"directory":[{"state":"I","event":"GetS","entry":"blank"}],"cache":[{"state":"M","event":"Fwd-GetS","entry":"blank"},{"state":"IS^D","event":"Inv","entry":{"next":"IS^D","do":["inv-ack"]}}]}"#;
 
-const FIRST: &str = "unknown\nnot proved: cell cache IS^D Inv act IS^D inv-ack\nThat doesn't say unsafe: make trials, with msi batch.\n";
+const FIRST: &str =
+    "unknown\nnot proved: cell cache IS^D Inv act IS^D inv-ack\nThat doesn't say unsafe: make trials, with msi batch.\n";
 
 const LINE: &str = "msi certify --tables table.json";
 
 #[test]
 fn tables_that_are_proved(rt: HostRuntime) -> Result<(), Fail> {
     for (tables, text) in SAFE {
-        expect(&rt, &run_over(&rt, rt.alloc(), LINE, tables, "")?, 0, text, "");
+        expect(
+            &rt,
+            &run_over(&rt, rt.alloc(), LINE, tables, "")?,
+            0,
+            text,
+            "",
+        );
     }
     Ok(())
 }
@@ -61,9 +69,21 @@ fn broken_tables_are_not_proved(rt: HostRuntime) -> Result<(), Fail> {
 
 #[test]
 fn the_first_cell_that_is_not_proved(rt: HostRuntime) -> Result<(), Fail> {
-    expect(&rt, &run_over(&rt, rt.alloc(), LINE, THREE, "")?, 1, FIRST, "");
+    expect(
+        &rt,
+        &run_over(&rt, rt.alloc(), LINE, THREE, "")?,
+        1,
+        FIRST,
+        "",
+    );
     let refused = r#"{"cache":[{"state":"Z","event":"Inv","entry":"stall"}]}"#;
     let said = "msi: tables refused 3 UnknownState\n";
-    expect(&rt, &run_over(&rt, rt.alloc(), LINE, refused, "")?, 2, "", said);
+    expect(
+        &rt,
+        &run_over(&rt, rt.alloc(), LINE, refused, "")?,
+        2,
+        "",
+        said,
+    );
     Ok(())
 }
