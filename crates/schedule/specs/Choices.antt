@@ -1,5 +1,5 @@
 -- What can happen next: an ask that is offered, or a message that is delivered.
-use Rattle.std.specs.Prelude.{ℕ, ◌+◌, Bool, not, ◌&&◌, if◌then◌else◌, List, [], ◌∷◌, ◌++◌, map}
+use Rattle.std.specs.Prelude.{ℕ, ◌+◌, ◌<◌, length, Bool, not, ◌&&◌, if◌then◌else◌, List, [], ◌∷◌, ◌++◌, map}
 use Rattle.base.specs.declared.step.CoreAsk.{CoreAsk}
 use Rattle.base.specs.declared.step.Step.{Step}
 use Rattle.base.specs.declared.step.Step.TheVariants as step
@@ -7,7 +7,7 @@ use Rattle.cores.specs.Cores.{Core, is_free}
 use Rattle.machine.specs.Machine.{State, next}
 use Rattle.both_tables.specs.Tables.{Tables}
 use Rattle.scenario.specs.Tree.{Tree}
-use Rattle.scenario.specs.Taking.{offers}
+use Rattle.scenario.specs.Taking.{left, offers}
 use Rattle.world.specs.Enabled.{enabled_steps}
 use Rattle.blocks.specs.Looks.{is_held}
 use Rattle.schedule.specs.declared.choosing.Choice.{Choice}
@@ -36,3 +36,13 @@ choices_of tables state cores tree =
 abbrev pub chosen_step : Choice → Step
 chosen_step (Offer i ask) = step_of ask
 chosen_step (Deliver s) = s
+
+-- what is left of the scenario: an offer that is chosen is taken
+abbrev pub rest_after : Choice → Tree → Tree
+rest_after (Offer i ask) tree = left tree i
+rest_after (Deliver s) tree = tree
+
+-- an offer is there, where the choice is one
+abbrev pub IsOffered : Choice → Tree → Type 0
+IsOffered (Offer i ask) tree = i < length (offers tree)
+IsOffered (Deliver s) tree = Unit {0}

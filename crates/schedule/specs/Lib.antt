@@ -1,2 +1,4 @@
 pub mod Choices
+pub mod Lanes
 pub mod Words
+pub mod inner

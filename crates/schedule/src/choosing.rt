@@ -159,7 +159,7 @@ fn step_of(ask: CoreAsk) -> Step
 }
 
 /// Whether the ask can be put now: its core is free, and its step wouldn't be held.
-fn can_be_put(world: &World, cores: &Cores, ask: CoreAsk) -> bool
+pub(crate) fn can_be_put(world: &World, cores: &Cores, ask: CoreAsk) -> bool
     ensures { result ≡ can_be_put world.now.tables world.now.state cores.now ask }
 {
     cores.free(ask.core) && !world.held(step_of(ask))

@@ -3,8 +3,10 @@
 
 mod choosing;
 mod dice;
+mod lanes;
 mod laws;
 
 pub use choosing::{Choice, Menu, choices};
 pub use dice::Dice;
+pub use lanes::Lanes;
 pub use laws::{alike_trees_give_the_same_choices, draws_follow_the_words, first_words};

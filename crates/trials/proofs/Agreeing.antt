@@ -12,10 +12,10 @@ use Rattle.monitor.specs.Watching.{scene_after}
 use Rattle.record.specs.Kept.{Kept}
 use Rattle.record.specs.declared.recording.Entry.{Entry}
 use Rattle.monitor.specs.Violations.{IsFirstViolation}
-use Rattle.schedule.specs.Choices.{chosen_step}
+use Rattle.schedule.specs.Choices.{chosen_step, rest_after}
 use Rattle.schedule.specs.declared.choosing.Choice.{Choice}
 use Rattle.trials.specs.Terms.{Terms}
-use Rattle.trials.specs.Moments.{Moment, IsNext, choices_at, rest_after, entry_of, moment_behind}
+use Rattle.trials.specs.Moments.{Moment, IsNext, choices_at, entry_of, moment_behind}
 use Rattle.trials.specs.Trial.{IsVerdict, AreClean}
 use Rattle.trials.specs.declared.verdict.Verdict.{Verdict}
 use Rattle.trials.specs.declared.verdict.Verdict.TheVariants.{Quiet, Cut, Stuck, Broke}

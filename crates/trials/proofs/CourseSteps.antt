@@ -16,7 +16,7 @@ use Rattle.world.specs.View.{stepped}
 use Rattle.cores.specs.Cores.{Core}
 use Rattle.scenario.specs.Tree.{Tree}
 use Rattle.scenario.specs.Alike.{Alike}
-use Rattle.schedule.specs.Choices.{chosen_step}
+use Rattle.schedule.specs.Choices.{chosen_step, IsOffered, rest_after}
 use Rattle.schedule.specs.Words.{dice_after, word, word_of}
 use Rattle.schedule.specs.declared.choosing.Choice.{Choice}
 use Rattle.schedule.specs.declared.choosing.Choice.TheVariants.{Offer, Deliver}
@@ -24,8 +24,8 @@ use Rattle.record.specs.declared.recording.Entry.{Entry}
 use Rattle.record.specs.Kept.{Kept, steps_of}
 use Rattle.monitor.specs.Violations.{HasNoViolation, IsFirstViolation}
 use Rattle.trials.specs.Terms.{Terms}
-use Rattle.trials.specs.Moments.{Moment, IsNext, IsPath, cores_after, entry_of, moment_behind, rest_after}
-use Rattle.trials.specs.Going.{Chooses, Course, GoesOn, IsGoing, IsOffered, Makes, choices_on}
+use Rattle.trials.specs.Moments.{Moment, IsNext, IsPath, cores_after, entry_of, moment_behind}
+use Rattle.trials.specs.Going.{Chooses, Course, GoesOn, IsGoing, Makes, choices_on}
 use Rattle.trials.proofs.Pushing.{length-push}
 use Rattle.trials.proofs.Paths.{path-more, path-at}
 use Rattle.trials.proofs.Offered.{choice-offered}

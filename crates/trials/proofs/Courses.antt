@@ -44,9 +44,6 @@ SameLeft = (s t : Tree) (i : ℕ) → Alike s t → i < length (offers s) → Al
 abbrev pub SameChoices : Type 0
 SameChoices = (tables : Tables) (state : State) (cores : List Core) (s t : Tree) → Alike s t → choices_of tables state cores s ≡ choices_of tables state cores t
 
-same-alike : (s t : Tree) → s ≡ t → Alike s t
-same-alike s t is path = ap (λ (x : Tree). option_map seen (followed x path)) is
-
 -- ---- the start
 
 pub starts : NoWords → (terms : Terms) (tree : Tree) (number : ℕ) (c : Course) → Starts terms tree number c → IsGoing terms tree number c
@@ -63,7 +60,7 @@ starts none terms tree number c s =
       at_last = ap (λ (es : List Entry). slice_get (first_moment terms tree ∷ []) (length es)) nothing;
       state = s.state;
       cores = s.cores;
-      alike = same-alike c.rest tree s.rest;
+      alike = s.rest;
       drawn = s.dice ∙ sym (none terms.seed number) ∙ ap (λ (es : List Entry). dice_after terms.seed number (length es)) (sym nothing);
       led = s.state ∙ ap (state_after terms.tables (opened terms.shape terms.opening)) (sym steps);
       seen = subst (λ (ss : List Step). HasSeen c.world terms.opening ss c.watch) (sym steps) (s.watch c.world);

@@ -94,7 +94,7 @@ Effect before s made = Stays before s made ⊎ Puts before s made ⊎ PutsDone b
 
 -- ---- nothing happens
 
-none-put : (s : Step) (what : Outcome) → IsRefusal what → put_by s what ≡ []
+pub none-put : (s : Step) (what : Outcome) → IsRefusal what → put_by s what ≡ []
 none-put (step.Ask cache block Replace) what r = refl
 none-put (step.Ask cache block Load) outcome.Sent r = absurd r
 none-put (step.Ask cache block Load) outcome.Moved r = absurd r
@@ -118,7 +118,7 @@ none-put (step.Request block i) what r = refl
 none-put (step.Forward block cache) what r = refl
 none-put (step.Response block i) what r = refl
 
-none-done : (s : Step) (what : Outcome) → IsRefusal what → completed_by s what ≡ []
+pub none-done : (s : Step) (what : Outcome) → IsRefusal what → completed_by s what ≡ []
 none-done s outcome.Sent r = absurd r
 none-done s outcome.Moved r = absurd r
 none-done s (outcome.Load at v) r = absurd r

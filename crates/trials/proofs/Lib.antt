@@ -4,6 +4,8 @@ pub mod Places
 pub mod CoreSteps
 pub mod Pending
 pub mod Effects
+pub mod Apart
+pub mod Counted
 pub mod Tracking
 pub mod Chosen
 pub mod Offered

@@ -9,10 +9,9 @@ use Rattle.world.specs.Enabled.{enabled_steps}
 use Rattle.cores.specs.Cores.{Core}
 use Rattle.scenario.specs.Tree.{Tree}
 use Rattle.scenario.specs.Taking.{offers}
-use Rattle.schedule.specs.Choices.{can_be_put, choices_of, offers_from}
+use Rattle.schedule.specs.Choices.{IsOffered, can_be_put, choices_of, offers_from}
 use Rattle.schedule.specs.declared.choosing.Choice.{Choice}
 use Rattle.schedule.specs.declared.choosing.Choice.TheVariants.{Offer, Deliver}
-use Rattle.trials.specs.Going.{IsOffered}
 use Rattle.trials.proofs.Places.{same-some}
 
 -- an offer has a number below this

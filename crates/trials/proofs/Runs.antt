@@ -1,7 +1,5 @@
 -- The steps of a run of a trial, and its ends.
-use Rattle.std.proofs.Common.{◌≡◌, ◌<◌, ◌≤◌, ◌+◌, ℕ, Option, Some, None, Ok, Err, IfOk, length, ap, sym, subst, ◌∙◌, arith}
-use Rattle.std.specs.declared.result.Result.{Result}
-use Rattle.base.specs.declared.fault.NoMemory.{NoMemory}
+use Rattle.std.proofs.Common.{◌≡◌, ◌<◌, ◌≤◌, ◌+◌, ℕ, Option, Some, None, length, ap, sym, subst, ◌∙◌, arith}
 use Rattle.monitor.specs.declared.violation.Violation.{Violation}
 use Rattle.scenario.specs.Tree.{Tree}
 use Rattle.schedule.specs.Choices.{chosen_step}
@@ -11,7 +9,7 @@ use Rattle.trials.specs.declared.verdict.Verdict.{Verdict}
 use Rattle.trials.specs.declared.verdict.Verdict.TheVariants.{Cut}
 use Rattle.trials.specs.Terms.{Terms}
 use Rattle.trials.specs.Trial.{IsTrial}
-use Rattle.trials.specs.Going.{CanBeMade, Chooses, Course, Ends, GoesOn, IsGoing, IsStart, IsVerdictAtRest, Makes, Starts}
+use Rattle.trials.specs.Going.{CanBeMade, Chooses, Course, Ends, GoesOn, IsCounted, IsGoing, IsStart, IsVerdictAtRest, Makes, Starts}
 use Rattle.trials.proofs.Pushing.{length-push}
 
 -- whatever trial started so is going
@@ -32,18 +30,12 @@ abbrev pub LimitCuts : Type 0
 LimitCuts = (terms : Terms) (tree : Tree) (number : ℕ) (c chosen : Course) (choice : Choice) →
     IsGoing terms tree number c → length c.recording.entries ≡ terms.limit → Chooses c (Some choice) chosen → IsTrial terms tree number chosen.recording Cut
 
-if-ok : {T E : Type 0} (r : Result T E) (P Q : T → Type 0) → ((t : T) → P t → Q t) → IfOk r P → IfOk r Q
-if-ok (Ok t) P Q f h = f t h
-if-ok (Err e) P Q f h = tt
-
 -- there is no choice
-pub ends-without : RestEnds → (old c chosen : Course) (limit : ℕ) (choice : Option Choice) (r : Result Verdict NoMemory) → HasCome old limit c →
-    length c.recording.entries ≤ limit → Chooses c choice chosen → choice ≡ None →
-    IfOk r (λ verdict. IsVerdictAtRest chosen verdict) → IfOk r (λ verdict. Ends old limit chosen verdict)
-ends-without rest old c chosen limit choice r come few chooses none =
-    if-ok r (λ verdict. IsVerdictAtRest chosen verdict) (λ verdict. Ends old limit chosen verdict)
-    (λ verdict is terms tree number same starts. rest terms tree number c chosen verdict (come terms tree number same starts)
-    (omega (arith, few, same)) (subst (λ (x : Option Choice). Chooses c x chosen) none chooses) is)
+pub ends-without : RestEnds → (old c chosen : Course) (limit : ℕ) (choice : Option Choice) (verdict : Verdict) → HasCome old limit c →
+    length c.recording.entries ≤ limit → Chooses c choice chosen → choice ≡ None → IsVerdictAtRest chosen verdict → Ends old limit chosen verdict
+ends-without rest old c chosen limit choice verdict come few chooses none is terms tree number same starts =
+    rest terms tree number c chosen verdict (come terms tree number same starts) (omega (arith, few, same))
+    (subst (λ (x : Option Choice). Chooses c x chosen) none chooses) is
 
 -- a choice can be made
 pub choice-made : ((terms : Terms) (tree : Tree) (number : ℕ) (c chosen : Course) (choice : Choice) → IsGoing terms tree number c →
@@ -76,3 +68,8 @@ one-more-entry c chosen made found choice shown chooses is m =
     let taken : Chooses c (Some choice) chosen = subst (λ (x : Option Choice). Chooses c x chosen) is chooses in
     ap (λ (r : Kept). length r.entries) m.recorded ∙ length-push chosen.recording.entries (record { step = chosen_step choice; outcome = m.outcome })
     ∙ ap (λ (x : Course). length x.recording.entries + 1) taken.1
+
+-- a choice leaves what is counted
+pub counted-chosen : (c chosen : Course) (found : Option Choice) → Chooses c found chosen → IsCounted c → IsCounted chosen
+counted-chosen c chosen None chooses h = subst IsCounted (sym chooses.1) h
+counted-chosen c chosen (Some choice) chooses h = subst IsCounted (sym chooses.1) (record { kept = h.kept; ready = h.ready })

@@ -13,10 +13,10 @@ use Rattle.monitor.specs.Watching.{HasSeen, AnswersHistory, SeesNext}
 use Rattle.world.specs.View.{View, stepped}
 use Rattle.cores.specs.Cores.{Core, idle, is_free}
 use Rattle.scenario.specs.Tree.{Tree}
-use Rattle.scenario.specs.Cursors.{remaining}
 use Rattle.scenario.specs.Alike.{Alike}
 use Rattle.scenario.specs.Taking.{offers}
-use Rattle.schedule.specs.Choices.{chosen_step}
+use Rattle.schedule.specs.Choices.{chosen_step, IsOffered, rest_after}
+use Rattle.schedule.specs.Lanes.{AreReady, IsKept, Laned, laned, whole}
 use Rattle.schedule.specs.Words.{dice, dice_after, word_of}
 use Rattle.schedule.specs.declared.choosing.Choice.{Choice}
 use Rattle.schedule.specs.declared.choosing.Choice.TheVariants.{Offer, Deliver}
@@ -25,21 +25,35 @@ use Rattle.trials.specs.declared.verdict.Verdict.{Verdict}
 use Rattle.trials.specs.declared.verdict.Verdict.TheVariants.{Quiet, Stuck, Broke}
 use Rattle.trials.specs.declared.course.Course as course
 use Rattle.trials.specs.Terms.{Terms, AreLawful}
-use Rattle.trials.specs.Moments.{Moment, IsPath, choices_at, put_by, with_issued, cores_after, rest_after}
+use Rattle.trials.specs.Moments.{Moment, IsPath, choices_at, put_by, with_issued, cores_after}
 use Rattle.trials.specs.Trial.{AreClean, IsAtRest, IsTrial}
 
--- the parts of a trial: its world and what watches it, the cores, what is left of the scenario, the dice, and the recording
+-- the parts of a trial: its world and what watches it, the cores, what is left of the scenario, by its lanes, the dice, and the recording
 pub record Course : Type 0 where
   pub world : View
   pub watch : List ℕ
   pub cores : List Core
   pub rest : Tree
+  pub lanes : Laned
   pub dice : Lcg
   pub recording : Kept
 
 -- the parts of a trial, as its code keeps them
 abbrev pub parts_of : {A : Type 0} → course.Course A → Course
-parts_of c = record { world = c.world; watch = c.watch; cores = c.cores; rest = remaining c.rest; dice = c.dice; recording = c.recording }
+parts_of c = record {
+  world = c.world;
+  watch = c.watch;
+  cores = c.cores;
+  rest = whole (laned c.lanes);
+  lanes = laned c.lanes;
+  dice = c.dice;
+  recording = c.recording;
+}
+
+-- what is kept of the lanes is right, and so are the counts of what can be put
+pub record IsCounted (c : Course) : Type 0 where
+  pub kept : IsKept c.lanes
+  pub ready : AreReady c.world.tables c.world.state c.cores c.lanes
 
 -- the moment that it is at
 abbrev pub moment_of : Course → Moment
@@ -73,9 +87,10 @@ pub record Starts (terms : Terms) (tree : Tree) (number : ℕ) (c : Course) : Ty
   pub state : c.world.state ≡ opened terms.shape terms.opening
   pub watch : (world : View) → HasSeen world terms.opening [] c.watch
   pub cores : c.cores ≡ replicate terms.shape.caches idle
-  pub rest : c.rest ≡ tree
+  pub rest : Alike c.rest tree
   pub dice : c.dice ≡ dice terms.seed number
   pub recording : c.recording ≡ opened_recording terms.shape terms.tables terms.opening
+  pub counted : IsCounted c
 
 -- some trial starts so, of at most so many steps
 abbrev pub IsStart : ℕ → Course → Type 0
@@ -118,11 +133,6 @@ AreBusy done cores = All (λ c. is_free cores c.cache.0 ≡ false) done
 pub record CanBeNoted (step : Step) (outcome : Outcome) (cores : List Core) : Type 0 where
   pub asks : AreFree (put_by step outcome) cores
   pub completes : AreBusy (completed_by step outcome) (with_issued (put_by step outcome) cores)
-
--- an offer is there, where the choice is one
-abbrev pub IsOffered : Choice → Tree → Type 0
-IsOffered (Offer i ask) tree = i < length (offers tree)
-IsOffered (Deliver step) tree = Unit {0}
 
 -- a choice can be made: what it takes is offered, and what comes of its step can be noted
 pub record CanBeMade (choice : Choice) (c : Course) : Type 0 where

@@ -10,12 +10,10 @@ use Rattle.both_tables.specs.Tables.{Tables}
 use Rattle.machine.specs.Machine.{State, Next, opened, next}
 use Rattle.machine.specs.Completions.{Completion, completed_by}
 use Rattle.scenario.specs.Tree.{Tree}
-use Rattle.scenario.specs.Taking.{left}
 use Rattle.cores.specs.Cores.{Core, idle, issuing, finishing, with_core}
-use Rattle.schedule.specs.Choices.{choices_of, chosen_step}
+use Rattle.schedule.specs.Choices.{choices_of, chosen_step, rest_after}
 use Rattle.schedule.specs.Words.{word}
 use Rattle.schedule.specs.declared.choosing.Choice.{Choice}
-use Rattle.schedule.specs.declared.choosing.Choice.TheVariants.{Offer, Deliver}
 use Rattle.record.specs.declared.recording.Entry.{Entry}
 use Rattle.trials.specs.Terms.{Terms}
 
@@ -32,11 +30,6 @@ first_moment terms tree = record { state = opened terms.shape terms.opening; cor
 -- what can happen next
 abbrev pub choices_at : Tables → Moment → List Choice
 choices_at tables m = choices_of tables m.state m.cores m.rest
-
--- what is left of the scenario: an offer that is chosen is taken
-abbrev pub rest_after : Choice → Tree → Tree
-rest_after (Offer i a) tree = left tree i
-rest_after (Deliver s) tree = tree
 
 -- the load or store that a step put to its cache, if a cell acted on it: one at most
 abbrev pub put_by : Step → Outcome → List CoreAsk

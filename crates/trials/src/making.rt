@@ -50,7 +50,7 @@ pub fn trial<A: Allocator>(
     trials_under_the_own_tables();
     let arena = Bump::new(alloc);
     let mut course = Course::open(alloc, scenario, setup, number)?;
-    let verdict = course.run(alloc, &arena, setup.limit())?;
+    let verdict = course.run(&arena, setup.limit())?;
     let recording = course.into_recording();
     let steps = recording.entries().len() as u32;
     Ok(Trial {

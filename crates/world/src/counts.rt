@@ -89,7 +89,8 @@ impl Counts {
 
     /// How many there are of all kinds in all blocks.
     pub fn total(&self) -> u64
-        ensures { result ≡ all_in self.now }
+        ensures total { result ≡ all_in self.now }
+        ensures few { result < 2 ^ 46 }
     {
         self.requests.total() + self.heads.total() + self.responses.total()
     }

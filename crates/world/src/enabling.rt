@@ -10,7 +10,7 @@ use rows::Sparse;
 use std::alloc::Global;
 
 impl World {
-    ghost use Rattle.std.specs.Prelude.{◌≡◌, [], IfOk, OnErr, OnOk, length, slice_get};
+    ghost use Rattle.std.specs.Prelude.{◌≡◌, ◌<◌, ◌^◌, [], IfOk, OnErr, OnOk, length, slice_get};
     ghost use Rattle.world.specs.Enabled.{enabled_steps};
 
     /// The deliveries that are there and wouldn't be held: the requests by block and place, then
@@ -43,9 +43,10 @@ impl World {
         Ok(())
     }
 
-    /// How many deliveries [`enabled`](World::enabled) lists.
+    /// How many deliveries [`enabled`](World::enabled) lists: fewer than 2^46.
     pub fn enabled_count(&self) -> u64
-        ensures { result ≡ length (enabled_steps self.now.tables self.now.state) }
+        ensures count { result ≡ length (enabled_steps self.now.tables self.now.state) }
+        ensures few { result < 2 ^ 46 }
     {
         if self.met_blank {
             return 0;

@@ -7,9 +7,9 @@ use Rattle.world.proofs.worlds.World.list_enabled.Goals as goal
 pub loop-k-preserved : goal.loop-k-preserved
 loop-k-preserved c =
     taken-more (enabled_steps c.args.self.now.tables c.args.self.now.state) c.loop-k.steps.items c.push.new.self.items c.loop-k.k c.in-Some.step
-    (omega (arith, c.loop-k-test.true, c.enabled_count-k-end.ensures)) c.loop-k.invariant c.in-Some.ensures c.in_default-push.ensures.items
+    (omega (arith, c.loop-k-test.true, c.enabled_count-k-end.ensures.count)) c.loop-k.invariant c.in-Some.ensures c.in_default-push.ensures.items
 
 pub returns-clause-ok : goal.returns-clause-ok
 returns-clause-ok c =
     c.loop-k.invariant
-    ∙ take_all c.loop-k.k (enabled_steps c.args.self.now.tables c.args.self.now.state) (omega (arith, c.loop-k-test.false, c.enabled_count-k-end.ensures))
+    ∙ take_all c.loop-k.k (enabled_steps c.args.self.now.tables c.args.self.now.state) (omega (arith, c.loop-k-test.false, c.enabled_count-k-end.ensures.count))

@@ -1,0 +1,193 @@
+-- What is kept of lanes, and what it says of all offers.
+use Rattle.std.proofs.Common.{◌≡◌, ◌≢◌, ℕ, zero, suc, ◌+◌, ◌-◌, ◌<◌, ◌≤◌, ◌^◌, ◌⊎◌, inl, inr, nat_eq, Bool, true, false, if◌then◌else◌, List, [], ◌∷◌, ◌++◌, length, map, take, drop, add-one}
+use Rattle.std.proofs.Common.{Option, Some, None, get_or, set, slice_get, refl, sym, ap, ◌∙◌, subst, arith}
+use Rattle.std.specs.List.{Contains, sum}
+use Rattle.std.proofs.lemmas.List.{length-set, length-map, length-append, ext_get_or, get_or-map, get_or-set_same, get_or-set_other}
+use Rattle.std.proofs.lemmas.List.Sums.{sum_by_more_le}
+use Rattle.std.proofs.lemmas.Bool.{cases_eq}
+use Rattle.std.proofs.lemmas.Bool.Decides.{nat_tests}
+use Rattle.std.proofs.lemmas.Option.{slice_get-map}
+use Rattle.std.specs.Option.{option_map}
+use Rattle.base.specs.declared.step.CoreAsk.{CoreAsk}
+use Rattle.base.specs.declared.step.Step.{Step}
+use Rattle.rows.specs.Counts.{Finds}
+use Rattle.rows.proofs.Bridge.{get_front, get_behind_by}
+use Rattle.both_tables.specs.Tables.{Tables}
+use Rattle.machine.specs.Machine.{State}
+use Rattle.world.specs.Enabled.{enabled_steps}
+use Rattle.cores.specs.Cores.{Core}
+use Rattle.scenario.specs.Tree.{Tree, Seq, Both, Nil, trees_of}
+use Rattle.scenario.specs.Alike.{Alike, Takes}
+use Rattle.scenario.specs.Taking.{left, offers, offers_of_all}
+use Rattle.schedule.specs.Choices.{can_be_put, choices_of, offers_from}
+use Rattle.schedule.specs.declared.lanes.Lane.{Lane}
+use Rattle.scenario.specs.Cursors.{remaining}
+use Rattle.std.proofs.Math.Seq.{drop-cons}
+use Rattle.schedule.specs.Lanes.{AreReady, IsKept, IsLevel, IsListed, Laned, lanes_of, offers_at, puttable, tree_at, whole}
+use Rattle.schedule.specs.inner.Changes.{KeepsOthers, TakesFrom}
+use Rattle.schedule.specs.declared.choosing.Choice.{Choice}
+use Rattle.schedule.specs.declared.choosing.Choice.TheVariants.{Offer, Deliver}
+use Rattle.schedule.proofs.Offered.{CountsOf, all-counted, all-found}
+use Rattle.schedule.proofs.Rows.{lengths_of, sum-lengths, taken-there}
+
+-- the lengths are those of what the trees offer
+pub lengths-are : (l : Laned) → IsKept l → l.lengths ≡ lengths_of l.trees
+lengths-are l kept =
+    let many = kept.level.lengths in
+    let same = length-map l.trees (λ t. length (offers t)) in
+    ext_get_or 0 l.lengths (lengths_of l.trees) (many ∙ sym same) (λ i low.
+    let there : i < length l.trees = omega (arith, low, many) in
+    let listed = kept.listed i there in
+    listed.count ∙ ap length listed.offered ∙ sym (get_or-map (λ t. length (offers t)) l.trees i (Seq Nil) 0 there))
+
+pub all-lengths : (l : Laned) → IsKept l → sum l.lengths ≡ length (offers (whole l))
+all-lengths l kept = ap sum (lengths-are l kept) ∙ sum-lengths l.trees
+
+pub counts-are : (tables : Tables) (s : State) (cores : List Core) (l : Laned) → IsKept l → AreReady tables s cores l → s.broken ≡ false →
+    CountsOf tables s cores l.trees l.ready
+counts-are tables s cores l kept ready sound i low =
+    ready sound i low ∙ ap (puttable tables s cores) (kept.listed i low).offered
+
+-- the choices of a world that isn't broken
+pub choices-sound : (tables : Tables) (s : State) (cores : List Core) (t : Tree) → s.broken ≡ false →
+    choices_of tables s cores t ≡ offers_from tables s cores 0 (offers t) ++ map Deliver (enabled_steps tables s)
+choices-sound tables s cores t e =
+    ap (λ b. if b then [] else (offers_from tables s cores 0 (offers t) ++ map Deliver (enabled_steps tables s))) e
+
+pub choices-broken : (tables : Tables) (s : State) (cores : List Core) (t : Tree) → s.broken ≡ true → choices_of tables s cores t ≡ []
+choices-broken tables s cores t e =
+    ap (λ b. if b then [] else (offers_from tables s cores 0 (offers t) ++ map Deliver (enabled_steps tables s))) e
+
+pub offers-count : (tables : Tables) (s : State) (cores : List Core) (l : Laned) → IsKept l → AreReady tables s cores l → s.broken ≡ false →
+    length (offers_from tables s cores 0 (offers (whole l))) ≡ sum l.ready
+offers-count tables s cores l kept ready sound =
+    all-counted tables s cores 0 l.trees l.ready kept.level.ready (counts-are tables s cores l kept ready sound)
+
+pub choices-count : (tables : Tables) (s : State) (cores : List Core) (l : Laned) (offered enabled : ℕ) → IsKept l → AreReady tables s cores l →
+    s.broken ≡ false → offered ≡ sum l.ready → enabled ≡ length (enabled_steps tables s) → offered + enabled ≡ length (choices_of tables s cores (whole l))
+choices-count tables s cores l offered enabled kept ready sound one other =
+    let os = offers_from tables s cores 0 (offers (whole l)) in
+    let all = ap length (choices-sound tables s cores (whole l) sound) in
+    let both = length-append os (map Deliver (enabled_steps tables s)) in
+    let first = offers-count tables s cores l kept ready sound in
+    let second = length-map (enabled_steps tables s) Deliver in
+    omega (arith, one, other, all, both, first, second)
+
+pub found-within : (ns : List ℕ) (p r : ℕ) → r < get_or ns p 0 → p < length ns
+found-within [] p r w = absurd (omega (arith, w))
+found-within (n ∷ ns) zero r w = omega arith
+found-within (n ∷ ns) (suc p) r w = let h = found-within ns p r w in omega (arith, h)
+
+pub lane-there : (l : Laned) (k p r : ℕ) → IsKept l → Finds l.ready k p r → p < length l.trees
+lane-there l k p r kept found = let w = found-within l.ready p r found.within in let m = kept.level.ready in omega (arith, w, m)
+
+-- the k-th choice is an offer of the lane that k falls in, or a delivery
+pub choice-offered : (tables : Tables) (s : State) (cores : List Core) (l : Laned) (k p r first : ℕ) → IsKept l → AreReady tables s cores l →
+    s.broken ≡ false → Finds l.ready k p r → k < sum l.ready → first ≡ sum (take p l.lengths) →
+    slice_get (offers_from tables s cores first (offers_at l p)) r ≡ slice_get (choices_of tables s cores (whole l)) k
+choice-offered tables s cores l k p r first kept ready sound found low front =
+    let counts = counts-are tables s cores l kept ready sound in
+    let os = offers_from tables s cores 0 (offers (whole l)) in
+    let few = offers-count tables s cores l kept ready sound in
+    let here : p < length l.trees = lane-there l k p r kept found in
+    sym (ap (λ cs. slice_get cs k) (choices-sound tables s cores (whole l) sound)
+    ∙ get_front os (map Deliver (enabled_steps tables s)) k (omega (arith, low, few))
+    ∙ all-found tables s cores 0 l.trees l.ready k p r kept.level.ready counts found.front found.within
+    ∙ ap (λ ls. slice_get (offers_from tables s cores (0 + sum (take p ls)) (offers (tree_at l p))) r) (sym (lengths-are l kept))
+    ∙ ap (λ n. slice_get (offers_from tables s cores n (offers (tree_at l p))) r) (let z : 0 + sum (take p l.lengths) ≡ first = omega (arith, front) in z)
+    ∙ ap (λ xs. slice_get (offers_from tables s cores first xs) r) (sym (kept.listed p here).offered))
+
+pub choice-delivered : (tables : Tables) (s : State) (cores : List Core) (l : Laned) (k offered : ℕ) → IsKept l → AreReady tables s cores l →
+    s.broken ≡ false → offered ≡ sum l.ready → offered ≤ k →
+    option_map Deliver (slice_get (enabled_steps tables s) (k - offered)) ≡ slice_get (choices_of tables s cores (whole l)) k
+choice-delivered tables s cores l k offered kept ready sound all past =
+    let os = offers_from tables s cores 0 (offers (whole l)) in
+    let few = offers-count tables s cores l kept ready sound in
+    sym (ap (λ cs. slice_get cs k) (choices-sound tables s cores (whole l) sound)
+    ∙ get_behind_by os (map Deliver (enabled_steps tables s)) k (omega (arith, all, past, few))
+    ∙ ap (λ n. slice_get (map Deliver (enabled_steps tables s)) n) (let z : k - length os ≡ k - offered = omega (arith, all, few) in z)
+    ∙ slice_get-map Deliver (enabled_steps tables s) (k - offered))
+
+-- the numbers of a lane's offers fit
+pub numbers-fit : (l : Laned) (k p r first : ℕ) → IsKept l → Finds l.ready k p r → first ≡ sum (take p l.lengths) → sum l.lengths < 2 ^ 64 →
+    first + length (offers_at l p) < 2 ^ 64
+numbers-fit l k p r first kept found front fits =
+    let here = lane-there l k p r kept found in
+    let many = kept.level.lengths in
+    let count = (kept.listed p here).count in
+    let most : sum (take p l.lengths) + get_or l.lengths p 0 ≤ sum l.lengths = sum_by_more_le (λ x. x) l.lengths p 0 (omega (arith, here, many)) in
+    omega (arith, front, fits, count, most)
+
+pub few-puttable : (tables : Tables) (s : State) (cores : List Core) (i : ℕ) (asks : List CoreAsk) → length (offers_from tables s cores i asks) ≤ length asks
+few-puttable tables s cores i [] = omega arith
+few-puttable tables s cores i (ask ∷ asks) =
+    let r = few-puttable tables s cores (i + 1) asks in
+    elim (can_be_put tables s cores ask) as
+    (λ b. length ((if b then Offer i ask ∷ [] else []) ++ offers_from tables s cores (i + 1) asks) ≤ length (ask ∷ asks)) [
+      | true ↦ omega (arith, r)
+      | false ↦ omega (arith, r)
+    ]
+
+-- whether a list is empty, by its length
+pub none-or-some : (n : ℕ) (asks : List CoreAsk) → n ≡ length asks → (nat_eq n 0 ≡ true → asks ≡ []) × (asks ≡ [] → nat_eq n 0 ≡ true)
+none-or-some n [] e = (λ h. refl, λ h. let z : n ≡ 0 = e in grind (arith, nat_tests))
+none-or-some n (ask ∷ asks) e = (λ h. let z : n ≡ 0 = grind (arith, nat_tests) in absurd (omega (arith, e, z)), λ h. absurd (cc h))
+
+-- ---- going through a lane's offers
+
+head-step : (tables : Tables) (s : State) (cores : List Core) (i n : ℕ) (asks : List CoreAsk) (d : CoreAsk) → n < length asks →
+    offers_from tables s cores i (drop n asks)
+    ≡ (if can_be_put tables s cores (get_or asks n d) then Offer i (get_or asks n d) ∷ [] else []) ++ offers_from tables s cores (i + 1) (drop (n + 1) asks)
+head-step tables s cores i n asks d low =
+    ap (λ xs. offers_from tables s cores i xs) (drop-cons asks n d low)
+    ∙ ap (λ m. (if can_be_put tables s cores (get_or asks n d) then Offer i (get_or asks n d) ∷ [] else []) ++ offers_from tables s cores (i + 1) (drop m asks))
+    (sym (add-one n))
+
+first-counts : (b : Bool) (c : Choice) (cs : List Choice) → b ≡ true → 1 ≤ length ((if b then c ∷ [] else []) ++ cs)
+first-counts true c cs e = omega arith
+first-counts false c cs e = absurd (cc e)
+
+pub some-puttable : (tables : Tables) (s : State) (cores : List Core) (i n : ℕ) (asks : List CoreAsk) (d : CoreAsk) → n < length asks →
+    can_be_put tables s cores (get_or asks n d) ≡ true → 1 ≤ length (offers_from tables s cores i (drop n asks))
+some-puttable tables s cores i n asks d low e =
+    subst (λ cs. 1 ≤ length cs) (sym (head-step tables s cores i n asks d low))
+    (first-counts (can_be_put tables s cores (get_or asks n d)) (Offer i (get_or asks n d)) (offers_from tables s cores (i + 1) (drop (n + 1) asks)) e)
+
+get-later : (c : Choice) (cs : List Choice) (k : ℕ) → 0 < k → slice_get (c ∷ cs) k ≡ slice_get cs (k - 1)
+get-later c cs zero h = absurd (omega (arith, h))
+get-later c cs (suc k) h = ap (slice_get cs) (let z : k ≡ suc k - 1 = omega arith in z)
+
+pub passed-put : (tables : Tables) (s : State) (cores : List Core) (first n k : ℕ) (asks : List CoreAsk) (d : CoreAsk) → n < length asks →
+    can_be_put tables s cores (get_or asks n d) ≡ true → 0 < k →
+    slice_get (offers_from tables s cores (first + (n + 1)) (drop (n + 1) asks)) (k - 1) ≡ slice_get (offers_from tables s cores (first + n) (drop n asks)) k
+passed-put tables s cores first n k asks d low e some =
+    let later = offers_from tables s cores (first + n + 1) (drop (n + 1) asks) in
+    sym (ap (λ cs. slice_get cs k) (head-step tables s cores (first + n) n asks d low)
+    ∙ ap (λ b. slice_get ((if b then Offer (first + n) (get_or asks n d) ∷ [] else []) ++ later) k) e
+    ∙ get-later (Offer (first + n) (get_or asks n d)) later k some
+    ∙ ap (λ m. slice_get (offers_from tables s cores m (drop (n + 1) asks)) (k - 1)) (let z : first + n + 1 ≡ first + (n + 1) = omega arith in z))
+
+pub passed-held : (tables : Tables) (s : State) (cores : List Core) (first n k : ℕ) (asks : List CoreAsk) (d : CoreAsk) → n < length asks →
+    can_be_put tables s cores (get_or asks n d) ≡ false →
+    slice_get (offers_from tables s cores (first + (n + 1)) (drop (n + 1) asks)) k ≡ slice_get (offers_from tables s cores (first + n) (drop n asks)) k
+passed-held tables s cores first n k asks d low e =
+    let later = offers_from tables s cores (first + n + 1) (drop (n + 1) asks) in
+    sym (ap (λ cs. slice_get cs k) (head-step tables s cores (first + n) n asks d low)
+    ∙ ap (λ b. slice_get ((if b then Offer (first + n) (get_or asks n d) ∷ [] else []) ++ later) k) e
+    ∙ ap (λ m. slice_get (offers_from tables s cores m (drop (n + 1) asks)) k) (let z : first + n + 1 ≡ first + (n + 1) = omega arith in z))
+
+-- ---- a lane as it is kept
+
+pub lane-offers : {A B : Type 0} (lanes : List (Lane A B)) (p : ℕ) (lane : Lane A B) → p < length lanes → lane ≡ get_or lanes p lane →
+    lane.offers.items ≡ get_or (map (λ (l : Lane A B). l.offers.items) lanes) p []
+lane-offers lanes p lane low is =
+    ap (λ l. l.offers.items) is ∙ sym (get_or-map (λ l. l.offers.items) lanes p lane [] low)
+
+pub lane-tree : {A B : Type 0} (lanes : List (Lane A B)) (p : ℕ) (lane : Lane A B) → p < length lanes → lane ≡ get_or lanes p lane →
+    remaining lane.rest ≡ get_or (map (λ (l : Lane A B). remaining l.rest) lanes) p (Seq Nil)
+lane-tree lanes p lane low is =
+    ap (λ l. remaining l.rest) is ∙ sym (get_or-map (λ l. remaining l.rest) lanes p lane (Seq Nil) low)
+
+pub offers-of-lane : {A B : Type 0} (lanes : List (Lane A B)) (p : ℕ) (d : Lane A B) → p < length lanes →
+    (get_or lanes p d).offers.items ≡ get_or (map (λ (l : Lane A B). l.offers.items) lanes) p []
+offers-of-lane lanes p d low = sym (get_or-map (λ l. l.offers.items) lanes p d [] low)

@@ -1,0 +1,151 @@
+-- What listing a lane anew, and taking an offer from it, keeps of the lanes.
+use Rattle.std.proofs.Common.{◌≡◌, ◌≢◌, ℕ, ◌+◌, ◌-◌, ◌<◌, ◌≤◌, ◌^◌, ◌⊎◌, inl, inr, List, [], length, map, Option, Some, None, get_or, set, slice_get}
+use Rattle.std.proofs.Common.{refl, sym, ap, ◌∙◌, subst, arith}
+use Rattle.std.specs.List.{Contains}
+use Rattle.std.proofs.lemmas.List.{length-map, length-set, map-set, get_or-set_same, get_or-set_other}
+use Rattle.std.proofs.lemmas.Bool.{cases_eq}
+use Rattle.base.specs.declared.step.CoreAsk.{CoreAsk}
+use Rattle.rows.specs.Counts.{Finds}
+use Rattle.scenario.specs.Tree.{Tree, Seq, Both, Nil, trees_of}
+use Rattle.scenario.specs.Alike.{Alike, Takes}
+use Rattle.scenario.specs.Taking.{left, offers}
+use Rattle.schedule.specs.declared.lanes.Lane.{Lane}
+use Rattle.schedule.specs.declared.lanes.Lanes.{Lanes}
+use Rattle.scenario.specs.Cursors.{remaining}
+use Rattle.schedule.specs.Lanes.{laned, IsKept, IsLevel, IsListed, Laned, lanes_of, offers_at, tree_at, whole}
+use Rattle.schedule.specs.inner.Changes.{KeepsOthers, TakesFrom}
+use Rattle.std.proofs.Math.Seq.{map-set_same}
+use Rattle.schedule.proofs.Kept.{found-within, lane-tree, lengths-are}
+use Rattle.schedule.proofs.Rows.{lengths_of, taken-there}
+
+-- a lane was listed anew
+pub record Relists (lane : ℕ) (os : List CoreAsk) (old new : Laned) : Type 0 where
+  pub trees : new.trees ≡ old.trees
+  pub written : new.offers ≡ set old.offers lane os
+  pub lengths : new.lengths ≡ set old.lengths lane (length os)
+  pub ready : new.ready ≡ old.ready
+  pub more : (core other : ℕ) → Contains (lanes_of old.reached core) other → Contains (lanes_of new.reached core) other
+  pub reached : (at : ℕ) (ask : CoreAsk) → slice_get os at ≡ Some ask → Contains (lanes_of new.reached ask.core.0) lane
+  pub short : length os < 2 ^ 32
+  pub is : os ≡ offers (tree_at old lane)
+
+pub relisted : (lane : ℕ) (os : List CoreAsk) (old new : Laned) → Relists lane os old new → IsLevel old → lane < length old.trees → IsListed new lane
+relisted lane os old new r level low =
+    let mo = level.offers in
+    let ml = level.lengths in
+    let here : offers_at new lane ≡ os = ap (λ xs. get_or xs lane []) r.written ∙ get_or-set_same old.offers lane os [] (omega (arith, low, mo)) in
+    record {
+      offered = here ∙ r.is ∙ ap (λ ts. offers (get_or ts lane (Seq Nil))) (sym r.trees);
+      count = ap (λ ns. get_or ns lane 0) r.lengths ∙ get_or-set_same old.lengths lane (length os) 0 (omega (arith, low, ml)) ∙ ap length (sym here);
+      short = subst (λ xs. length xs < 2 ^ 32) (sym here) r.short;
+      reached = λ at ask e. r.reached at ask (ap (λ xs. slice_get xs at) (sym here) ∙ e);
+    }
+
+pub others-kept : (lane : ℕ) (os : List CoreAsk) (old new : Laned) → Relists lane os old new → KeepsOthers lane old new
+others-kept lane os old new r =
+    let same : (other : ℕ) → other ≢ lane → offers_at new other ≡ offers_at old other =
+    λ other ne. ap (λ xs. get_or xs other []) r.written ∙ get_or-set_other old.offers lane other os [] ne in
+    record {
+      count = ap length r.trees;
+      ready = r.ready;
+      offers = same;
+      listed = λ other ne h. record {
+        offered = same other ne ∙ h.offered ∙ ap (λ ts. offers (get_or ts other (Seq Nil))) (sym r.trees);
+        count = ap (λ ns. get_or ns other 0) r.lengths ∙ get_or-set_other old.lengths lane other (length os) 0 ne ∙ h.count ∙ ap length (sym (same other ne));
+        short = subst (λ xs. length xs < 2 ^ 32) (sym (same other ne)) h.short;
+        reached = λ at ask e. r.more ask.core.0 other (h.reached at ask (ap (λ xs. slice_get xs at) (sym (same other ne)) ∙ e));
+      };
+    }
+
+-- ---- taking an offer
+
+pub takes-alike : (t new : Tree) (r : ℕ) (taken : Option CoreAsk) → Takes t r taken new → r < length (offers t) → Alike new (left t r)
+takes-alike t new r None h low = absurd (omega (arith, h.0, low))
+takes-alike t new r (Some ask) h low = h.1
+
+-- of the lanes before the one that an offer was taken from is listed anew: another tree is left there
+pub record Steps (lane : ℕ) (new : Tree) (old mid : Laned) : Type 0 where
+  pub trees : mid.trees ≡ set old.trees lane new
+  pub offers : mid.offers ≡ old.offers
+  pub lengths : mid.lengths ≡ old.lengths
+  pub ready : mid.ready ≡ old.ready
+  pub reached : mid.reached ≡ old.reached
+
+listed-still : (lane : ℕ) (t : Tree) (old mid : Laned) → Steps lane t old mid → (other : ℕ) → other ≢ lane → IsListed old other → IsListed mid other
+listed-still lane t old mid s other ne h =
+    let same : offers_at mid other ≡ offers_at old other = ap (λ xs. get_or xs other []) s.offers in
+    record {
+      offered = same ∙ h.offered ∙ ap offers (sym (ap (λ ts. get_or ts other (Seq Nil)) s.trees ∙ get_or-set_other old.trees lane other t (Seq Nil) ne));
+      count = ap (λ ns. get_or ns other 0) s.lengths ∙ h.count ∙ ap length (sym same);
+      short = subst (λ xs. length xs < 2 ^ 32) (sym same) h.short;
+      reached = λ at ask e. subst (λ rs. Contains (lanes_of rs ask.core.0) other) (sym s.reached) (h.reached at ask (ap (λ xs. slice_get xs at) (sym same) ∙ e));
+    }
+
+pub takes-from : (lane offer rest : ℕ) (t : Tree) (taken : Option CoreAsk) (old mid new : Laned) → IsKept old → Finds old.lengths offer lane rest →
+    Takes (tree_at old lane) rest taken t → Steps lane t old mid → new.trees ≡ mid.trees → IsLevel new → IsListed new lane → KeepsOthers lane mid new →
+    TakesFrom lane offer old new
+takes-from lane offer rest t taken old mid new kept found takes steps trees level listed others =
+    let finds : Finds (lengths_of old.trees) offer lane rest = subst (λ ns. Finds ns offer lane rest) (lengths-are old kept) found in
+    let low : lane < length old.trees = (let h = found-within old.lengths lane rest found.within in let m = kept.level.lengths in omega (arith, h, m)) in
+    let here = kept.listed lane low in
+    let count = here.count in
+    let offered = ap length here.offered in
+    let within = found.within in
+    let alike : Alike t (left (tree_at old lane) rest) = takes-alike (tree_at old lane) t rest taken takes (omega (arith, count, offered, within)) in
+    let many : length new.trees ≡ length old.trees = ap length trees ∙ ap length steps.trees ∙ length-set old.trees lane t in
+    let still : (other : ℕ) → other ≢ lane → IsListed old other → IsListed new other =
+    λ other ne h. others.listed other ne (listed-still lane t old mid steps other ne h) in
+    record {
+      there = low;
+      rest = subst (λ ts. Alike (Both (trees_of ts)) (left (whole old) offer)) (sym (trees ∙ steps.trees)) (taken-there old.trees offer lane rest t finds alike);
+      kept = record {
+        level = level;
+        listed = λ other h. elim (cases_eq other lane) [
+          | inl e ↦ subst (IsListed new) (sym e) listed
+          | inr ne ↦ still other ne (kept.listed other (omega (arith, h, many)))
+        ];
+      };
+      others = record {
+        count = many;
+        ready = others.ready ∙ steps.ready;
+        offers = λ other ne. others.offers other ne ∙ ap (λ xs. get_or xs other []) steps.offers;
+        listed = still;
+      };
+    }
+
+-- ---- the same of lanes as they are kept
+
+pub lane-low : {A B : Type 0} (l : Lanes A B) (lane : ℕ) → lane < length (laned l).trees → lane < length l.lanes.items
+lane-low l lane low = let many = length-map l.lanes.items (λ x. remaining x.rest) in omega (arith, low, many)
+
+pub lane-relists : {A B : Type 0} (l new : Lanes A B) (lane n : ℕ) (old made : Lane A B) → lane < length l.lanes.items → old ≡ get_or l.lanes.items lane old →
+    new.lanes.items ≡ set l.lanes.items lane made → remaining made.rest ≡ remaining old.rest → made.offers.items ≡ offers (remaining old.rest) →
+    new.lengths ≡ set l.lengths lane n → n ≡ length made.offers.items → n < 2 ^ 32 → new.ready ≡ l.ready →
+    ((core other : ℕ) → Contains (lanes_of (laned l).reached core) other → Contains (lanes_of (laned new).reached core) other) →
+    ((at : ℕ) (ask : CoreAsk) → slice_get made.offers.items at ≡ Some ask → Contains (lanes_of (laned new).reached ask.core.0) lane) →
+    Relists lane made.offers.items (laned l) (laned new)
+lane-relists l new lane n old made low is lanes rest listed lengths count short ready more reached =
+    let left = ap (map (λ x. remaining x.rest)) lanes
+    ∙ map-set_same (λ x. remaining x.rest) l.lanes.items lane made old (rest ∙ ap (λ x. remaining x.rest) is) in
+    record {
+      trees = left;
+      written = ap (map (λ x. x.offers.items)) lanes ∙ map-set (λ x. x.offers.items) l.lanes.items lane made;
+      lengths = lengths ∙ ap (set l.lengths lane) count;
+      ready = ready;
+      more = more;
+      reached = reached;
+      short = subst (λ k. k < 2 ^ 32) count short;
+      is = listed ∙ ap offers (lane-tree l.lanes.items lane old low is);
+    }
+
+pub lane-steps : {A B : Type 0} (l mid : Lanes A B) (lane : ℕ) (old made : Lane A B) → old ≡ get_or l.lanes.items lane old →
+    mid.lanes.items ≡ set l.lanes.items lane made → made.offers ≡ old.offers → mid.lengths ≡ l.lengths → mid.ready ≡ l.ready →
+    mid.reached ≡ l.reached → Steps lane (remaining made.rest) (laned l) (laned mid)
+lane-steps l mid lane old made is lanes same lengths ready reached = record {
+  trees = ap (map (λ x. remaining x.rest)) lanes ∙ map-set (λ x. remaining x.rest) l.lanes.items lane made;
+  offers = ap (map (λ x. x.offers.items)) lanes
+      ∙ map-set_same (λ x. x.offers.items) l.lanes.items lane made old (ap (λ v. v.items) same ∙ ap (λ x. x.offers.items) is);
+  lengths = lengths;
+  ready = ready;
+  reached = ap (λ v. map (λ of. of.items) v.items) reached;
+}

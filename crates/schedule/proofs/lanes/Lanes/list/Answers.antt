@@ -1,0 +1,49 @@
+use Rattle.std.proofs.Common.{◌≡◌, ◌∙◌, ◌<◌, ℕ, [], Some, ap, sym, refl, subst, length, map, slice_get, get_or, set, Vec, Global}
+use Rattle.std.specs.List.{Contains}
+use Rattle.std.specs.Vec.{with_item}
+use Rattle.std.proofs.lemmas.Result.{on_ok_weaker}
+use Rattle.std.proofs.lemmas.List.{get_or-set_same}
+use Rattle.base.specs.declared.step.CoreAsk.{CoreAsk}
+use Rattle.schedule.specs.declared.lanes.Lane.{Lane}
+use Rattle.schedule.specs.declared.lanes.Lanes.{Lanes}
+use Rattle.schedule.specs.Lanes.{laned, lanes_of}
+use Rattle.schedule.proofs.Listing.{Relists, lane-low, lane-relists, others-kept, relisted}
+use Rattle.schedule.proofs.lanes.Lanes.list.Given as given
+use Rattle.schedule.proofs.lanes.Lanes.list.Goals as goal
+
+-- the lanes behind it
+abbrev made : (g : given.Over) → goal.After-reach g → Lanes g.row.A.Denot g.row.B.Denot
+made g c = record {
+  lanes = with_item c.args.self.now.lanes c.args.lane c.list.new.self;
+  lengths = c.set.new.self;
+  ready = c.args.self.now.ready;
+  reached = c.reach.new.reached;
+}
+
+relists : (g : given.Over) (c : goal.After-reach g) →
+    ((at : ℕ) (ask : CoreAsk) → slice_get c.as_slice-offers.result.now at ≡ Some ask → Contains (lanes_of (laned (made g c)).reached ask.core.0) c.args.lane) →
+    Relists c.args.lane c.list.new.self.offers.items (laned c.args.self.now) (laned (made g c))
+relists g c reached =
+    let low = lane-low c.args.self.now c.args.lane c.requires.there in
+    let listed : c.as_slice-offers.result.now ≡ c.list.new.self.offers.items =
+    c.as_slice-offers.ensures.value
+    ∙ ap (λ (x : Lane g.row.A.Denot g.row.B.Denot). x.offers.items)
+    (c.index.ensures ∙ get_or-set_same c.args.self.now.lanes.items c.args.lane c.list.new.self c.index.result.now low) in
+    let fits = c.in-Ok.ensures in
+    lane-relists c.args.self.now (made g c) c.args.lane c.in-Ok.length c.index_mut.result.now c.list.new.self low c.index_mut.ensures.value refl
+    c.list.ensures.rest c.in_ok-list.ensures.ok c.set.ensures (fits.1 ∙ ap length listed) (subst (λ n. n < 4294967296) (sym fits.1) fits.0) refl
+    c.reach.ensures.more (λ at ask e. reached at ask (ap (λ xs. slice_get xs at) listed ∙ e))
+
+pub returns-clause-trees : goal.returns-clause-trees
+returns-clause-trees g c = on_ok_weaker c.reach.result (λ h. (relists g c h).trees) c.reach.ensures.ok
+
+pub returns-clause-listed : goal.returns-clause-listed
+returns-clause-listed g c =
+    on_ok_weaker c.reach.result
+    (λ h. relisted c.args.lane c.list.new.self.offers.items (laned c.args.self.now) (laned (made g c)) (relists g c h) c.requires.level c.requires.there)
+    c.reach.ensures.ok
+
+pub returns-clause-others : goal.returns-clause-others
+returns-clause-others g c =
+    on_ok_weaker c.reach.result
+    (λ h. others-kept c.args.lane c.list.new.self.offers.items (laned c.args.self.now) (laned (made g c)) (relists g c h)) c.reach.ensures.ok

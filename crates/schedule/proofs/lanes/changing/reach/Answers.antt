@@ -1,0 +1,35 @@
+use Rattle.std.proofs.Common.{◌≡◌, ◌<◌, ◌∙◌, ap, sym, refl, arith, length, length-set}
+use Rattle.std.proofs.lemmas.Option.{slice_get_within}
+use Rattle.schedule.proofs.Reached.{grown-vec, now-in-vec, one-more}
+use Rattle.schedule.proofs.lanes.changing.reach.Goals as goal
+
+pub returns-in_err-add-clause-more : goal.returns-in_err-add-clause-more
+returns-in_err-add-clause-more c core other there =
+    let many = c.loop-ask.invariant.0 in
+    let some = c.requires in
+    let row = c.row_of-row.ensures in
+    let low : c.row_of-row.result < length c.loop-ask.reached.items = grind arith in
+    grown-vec c.loop-ask.reached.items c.row_of-row.result core other c.index_mut.result.now c.add.new.lanes low c.index_mut.ensures.value c.in_err-add.ensures.more
+    (c.loop-ask.invariant.1 core other there)
+
+pub loop-ask-preserved : goal.loop-ask-preserved
+loop-ask-preserved c =
+    let many = c.loop-ask.invariant.0 in
+    let some = c.requires in
+    let row = c.row_of-row.ensures in
+    let low : c.row_of-row.result < length c.loop-ask.reached.items = grind arith in (
+      length-set c.loop-ask.reached.items c.row_of-row.result c.add.new.lanes ∙ many,
+      λ core other there. grown-vec c.loop-ask.reached.items c.row_of-row.result core other c.index_mut.result.now c.add.new.lanes low c.index_mut.ensures.value
+          c.in_ok-add.ensures.more (c.loop-ask.invariant.1 core other there),
+      one-more c.args.offers.now c.loop-ask.ask-index c.args.lane _ _
+          (λ at ask l e. grown-vec c.loop-ask.reached.items c.row_of-row.result ask.core.0 c.args.lane c.index_mut.result.now c.add.new.lanes low
+          c.index_mut.ensures.value c.in_ok-add.ensures.more (c.loop-ask.invariant.2 at ask l e))
+          c.loop-ask-test.true
+          (now-in-vec c.loop-ask.reached.items c.row_of-row.result _ c.args.lane c.add.new.lanes low c.row_of-row.ensures c.in_ok-add.ensures.ok),
+    )
+
+pub returns-clause-ok : goal.returns-clause-ok
+returns-clause-ok c at ask e =
+    let low = slice_get_within c.args.offers.now at ask e in
+    let end = c.loop-ask-test.false in
+    c.loop-ask.invariant.2 at ask (omega (arith, low, end)) e

@@ -1,0 +1,94 @@
+-- What is left of a scenario, by its lanes: the trees that go on at once at its top.
+use Rattle.std.specs.Prelude.{◌≡◌, ◌≢◌, ◌<◌, ◌≤◌, ◌^◌, ◌-◌, ℕ, min, false, List, [], Option, Some, length, map, slice_get, slice_index, slice_index_or}
+use Rattle.std.specs.List.{Contains}
+use Rattle.base.specs.declared.ids.CacheId.{CacheId}
+use Rattle.base.specs.declared.ids.Place.{Place}
+use Rattle.base.specs.declared.ids.Place.TheVariants.{Cache}
+use Rattle.base.specs.declared.step.CoreAsk.{CoreAsk}
+use Rattle.both_tables.specs.Tables.{Tables}
+use Rattle.machine.specs.Machine.{State}
+use Rattle.machine.specs.Coherence.{line_at}
+use Rattle.cores.specs.Cores.{Core, is_free}
+use Rattle.scenario.specs.Tree.{Tree, Seq, Both, Nil, trees_of}
+use Rattle.scenario.specs.Taking.{offers}
+use Rattle.scenario.specs.Cursors.{remaining}
+use Rattle.schedule.specs.Choices.{offers_from}
+use Rattle.schedule.specs.declared.lanes.Lane.{Lane}
+use Rattle.schedule.specs.declared.lanes.Lanes.{Lanes}
+
+-- of each lane the tree that is left, what it offers, how many offers that is, and how many of them can be put; and of each
+-- core the lanes that may offer an ask of it
+pub record Laned : Type 0 where
+  pub trees : List Tree
+  pub offers : List (List CoreAsk)
+  pub lengths : List ℕ
+  pub ready : List ℕ
+  pub reached : List (List ℕ)
+
+-- lanes, as contracts see them
+abbrev pub laned : {A B : Type 0} → Lanes A B → Laned
+laned l = record {
+  trees = map (λ lane. remaining lane.rest) l.lanes.items;
+  offers = map (λ lane. lane.offers.items) l.lanes.items;
+  lengths = l.lengths;
+  ready = l.ready;
+  reached = map (λ of. of.items) l.reached.items;
+}
+
+-- the tree that lanes are: all of theirs at once
+abbrev pub whole : Laned → Tree
+whole l = Both (trees_of l.trees)
+
+-- the tree of a lane, and what is kept of its offers
+abbrev pub tree_at : Laned → ℕ → Tree
+tree_at l lane = slice_index_or l.trees lane (Seq Nil)
+
+abbrev pub offers_at : Laned → ℕ → List CoreAsk
+offers_at l lane = slice_index_or l.offers lane []
+
+-- how many of some asks can be put
+abbrev pub puttable : Tables → State → List Core → List CoreAsk → ℕ
+puttable tables state cores asks = length (offers_from tables state cores 0 asks)
+
+-- the row of a core among those of the cores; cores that have no row of their own share the last one
+abbrev pub row_of : List (List ℕ) → ℕ → ℕ
+row_of reached core = min core (length reached - 1)
+
+-- the lanes that may offer an ask of a core
+abbrev pub lanes_of : List (List ℕ) → ℕ → List ℕ
+lanes_of reached core = slice_index_or reached (row_of reached core) []
+
+-- what is kept of a lane's offers is what its tree offers, and the lane is among those of each core that has an ask there
+pub record IsListed (l : Laned) (lane : ℕ) : Type 0 where
+  pub offered : offers_at l lane ≡ offers (tree_at l lane)
+  pub count : slice_index l.lengths lane ≡ length (offers_at l lane)
+  pub short : length (offers_at l lane) < 2 ^ 32
+  pub reached : (at : ℕ) (ask : CoreAsk) → slice_get (offers_at l lane) at ≡ Some ask → Contains (lanes_of l.reached ask.core.0) lane
+
+-- as much is kept of each lane, and there are at most 2^31; there is a row for cores
+pub record IsLevel (l : Laned) : Type 0 where
+  pub offers : length l.offers ≡ length l.trees
+  pub lengths : length l.lengths ≡ length l.trees
+  pub ready : length l.ready ≡ length l.trees
+  pub few : length l.trees ≤ 2 ^ 31
+  pub rows : 1 ≤ length l.reached
+
+-- so it is of each lane
+pub record IsKept (l : Laned) : Type 0 where
+  pub level : IsLevel l
+  pub listed : (lane : ℕ) → lane < length l.trees → IsListed l lane
+
+-- where the world isn't broken, the counts of what can be put are right
+abbrev pub AreReady : Tables → State → List Core → Laned → Type 0
+AreReady tables state cores l =
+    state.broken ≡ false → (lane : ℕ) → lane < length l.trees → slice_index l.ready lane ≡ puttable tables state cores (offers_at l lane)
+
+-- two moments agree on a core: on whether it is free, and on the lines of its cache
+pub record Agree (core : ℕ) (before behind : State) (cores_before cores_behind : List Core) : Type 0 where
+  pub free : is_free cores_behind core ≡ is_free cores_before core
+  pub lines : (block : ℕ) → line_at behind core block ≡ line_at before core block
+
+-- they agree on each core but that of the cache where something was done, if it was done at a cache
+abbrev pub AgreeBut : Option Place → State → State → List Core → List Core → Type 0
+AgreeBut at before behind cores_before cores_behind =
+    (core : CacheId) → at ≢ Some (Cache core) → Agree core.0 before behind cores_before cores_behind

@@ -1,0 +1,33 @@
+//! What is left of a scenario by its lanes: the trees that go on at once at its top.
+
+mod changing;
+mod counting;
+mod making;
+
+use base::CoreAsk;
+use rows::Sums;
+use scenario::Cursor;
+use std::alloc::Allocator;
+
+/// What is left of a scenario, by its lanes: the trees that go on at once at its top, or itself alone where it is no such row.
+///
+/// Of each lane it keeps what it offers, and how many of these offers can be put. So nothing is listed to count the choices of
+/// a moment, or to find one of them; a step changes what can be put for one core, whose lanes are counted again.
+///
+/// A lane has at most 4,294,967,295 offers at once, which would take over 100 GB: more of them are refused for want of memory.
+#[derive(Drop)]
+pub struct Lanes<'s, A: Allocator, B: Allocator> {
+    lanes: Vec<Lane<'s, A, B>>,
+    // Of each lane how many offers it has, and how many of them can be put.
+    lengths: Sums,
+    ready: Sums,
+    // For each core the lanes that may offer an ask of it. A lane too many costs a count.
+    reached: Vec<Vec<u32>>,
+}
+
+/// One of the trees that go on at once: what is left of it, and what that offers.
+#[derive(Drop)]
+pub(crate) struct Lane<'s, A: Allocator, B: Allocator> {
+    rest: Cursor<'s, A, B>,
+    offers: Vec<CoreAsk>,
+}

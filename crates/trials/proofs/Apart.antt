@@ -1,0 +1,170 @@
+-- A step leaves the cores as they were, but for that of the cache that it goes to.
+use Rattle.std.proofs.Common.{◌≡◌, ◌≢◌, ℕ, List, [], ◌∷◌, Option, Some, None, Bool, true, false, slice_get, refl, sym, ap, ◌∙◌, subst}
+use Rattle.std.specs.Prelude.{is_none}
+use Rattle.std.specs.Option.{option_and_then}
+use Rattle.base.specs.Steps.{block_of}
+use Rattle.base.specs.declared.ids.CacheId.{CacheId}
+use Rattle.base.specs.declared.ids.Place.{Place}
+use Rattle.base.specs.declared.ids.Place.TheVariants.{Cache}
+use Rattle.base.specs.declared.step.Ask.TheVariants.{Load, Store, Replace}
+use Rattle.base.specs.declared.step.CoreAsk.{CoreAsk}
+use Rattle.base.specs.declared.step.Step.{Step}
+use Rattle.base.specs.declared.step.Step.TheVariants as step
+use Rattle.base.specs.declared.step.Outcome.{Outcome}
+use Rattle.base.specs.declared.step.Outcome.TheVariants as outcome
+use Rattle.control.specs.declared.line.Line.{Line}
+use Rattle.control.specs.declared.line.LineCompletion.{LineCompletion}
+use Rattle.control.specs.declared.line.LineCompletion.TheVariants as done
+use Rattle.control.specs.LineEffect.{line_completes}
+use Rattle.both_tables.specs.Tables.{Tables}
+use Rattle.machine.specs.declared.decision.Decision.{Decision}
+use Rattle.machine.specs.declared.decision.Decision.TheVariants.{Refused, AtLine, AtHome}
+use Rattle.machine.specs.declared.decision.Origin.{Origin}
+use Rattle.machine.specs.declared.decision.Origin.TheVariants as origin
+use Rattle.machine.specs.Block.{BlockState}
+use Rattle.machine.specs.Completions.{Completion, completed_by}
+use Rattle.machine.specs.Machine.{State, Next, next, next_at}
+use Rattle.machine.specs.Transition.{carried_out, decision_of, outcome_of}
+use Rattle.blocks.specs.Looks.{cache_place, place_in}
+use Rattle.world.specs.Looks.{place_at}
+use Rattle.cores.specs.Cores.{Core, finishing, idle, is_free, issuing, with_core}
+use Rattle.schedule.proofs.Touched.{GoesTo, decision-goes, next-sound}
+use Rattle.trials.specs.Moments.{cores_after, put_by, with_finished, with_issued}
+use Rattle.trials.proofs.CoreSteps.{with-other}
+use Rattle.trials.proofs.Effects.{none-done, none-put}
+
+-- ---- cores that others issue for, or complete
+
+other-free : (cores : List Core) (n m : ℕ) (f : Core → Core) → m ≢ n → is_free (with_core cores n f) m ≡ is_free cores m
+other-free cores n m f ne = ap (λ (core : Core). is_none core.outstanding) (with-other cores n m f ne)
+
+-- none of these is of a core
+abbrev NoAskOf : ℕ → List CoreAsk → Type 0
+NoAskOf core [] = Unit {0}
+NoAskOf core (a ∷ asks) = (core ≢ a.core.0) × NoAskOf core asks
+
+abbrev NoneDoneBy : ℕ → List Completion → Type 0
+NoneDoneBy core [] = Unit {0}
+NoneDoneBy core (c ∷ cs) = (core ≢ c.cache.0) × NoneDoneBy core cs
+
+issued-apart : (asks : List CoreAsk) (cores : List Core) (core : ℕ) → NoAskOf core asks → is_free (with_issued asks cores) core ≡ is_free cores core
+issued-apart [] cores core h = refl
+issued-apart (a ∷ asks) cores core h =
+    issued-apart asks (with_core cores a.core.0 (issuing a.ask)) core h.1 ∙ other-free cores a.core.0 core (issuing a.ask) h.0
+
+finished-apart : (cs : List Completion) (cores : List Core) (core : ℕ) → NoneDoneBy core cs → is_free (with_finished cs cores) core ≡ is_free cores core
+finished-apart [] cores core h = refl
+finished-apart (c ∷ cs) cores core h =
+    finished-apart cs (with_core cores c.cache.0 finishing) core h.1 ∙ other-free cores c.cache.0 core finishing h.0
+
+-- ---- what a step puts and completes
+
+-- an ask of another core, or no ask
+abbrev Asks : Step → ℕ → Type 0
+Asks (step.Ask cache block a) core = core ≢ cache.0
+Asks other core = Unit {0}
+
+-- the completion of another cache, or none
+abbrev Completes : Outcome → ℕ → Type 0
+Completes (outcome.Load at value) core = core ≢ at.0
+Completes (outcome.Store at value) core = core ≢ at.0
+Completes other core = Unit {0}
+
+put-apart : (s : Step) (what : Outcome) (core : ℕ) → Asks s core → NoAskOf core (put_by s what)
+put-apart (step.Ask cache block Replace) what core h = tt
+put-apart (step.Ask cache block Load) outcome.Sent core h = (h, tt)
+put-apart (step.Ask cache block Load) outcome.Moved core h = tt
+put-apart (step.Ask cache block Load) (outcome.Load at v) core h = (h, tt)
+put-apart (step.Ask cache block Load) (outcome.Store at v) core h = (h, tt)
+put-apart (step.Ask cache block Load) outcome.Held core h = tt
+put-apart (step.Ask cache block Load) outcome.Absent core h = tt
+put-apart (step.Ask cache block Load) outcome.Idle core h = tt
+put-apart (step.Ask cache block Load) outcome.Blank core h = tt
+put-apart (step.Ask cache block Load) outcome.Broken core h = tt
+put-apart (step.Ask cache block (Store x)) outcome.Sent core h = (h, tt)
+put-apart (step.Ask cache block (Store x)) outcome.Moved core h = tt
+put-apart (step.Ask cache block (Store x)) (outcome.Load at v) core h = (h, tt)
+put-apart (step.Ask cache block (Store x)) (outcome.Store at v) core h = (h, tt)
+put-apart (step.Ask cache block (Store x)) outcome.Held core h = tt
+put-apart (step.Ask cache block (Store x)) outcome.Absent core h = tt
+put-apart (step.Ask cache block (Store x)) outcome.Idle core h = tt
+put-apart (step.Ask cache block (Store x)) outcome.Blank core h = tt
+put-apart (step.Ask cache block (Store x)) outcome.Broken core h = tt
+put-apart (step.Request block i) what core h = tt
+put-apart (step.Forward block cache) what core h = tt
+put-apart (step.Response block i) what core h = tt
+
+done-apart : (s : Step) (what : Outcome) (core : ℕ) → Completes what core → NoneDoneBy core (completed_by s what)
+done-apart s outcome.Sent core h = tt
+done-apart s outcome.Moved core h = tt
+done-apart s (outcome.Load at v) core h = (h, tt)
+done-apart s (outcome.Store at v) core h = (h, tt)
+done-apart s outcome.Held core h = tt
+done-apart s outcome.Absent core h = tt
+done-apart s outcome.Idle core h = tt
+done-apart s outcome.Blank core h = tt
+done-apart s outcome.Broken core h = tt
+
+both-apart : (s : Step) (what : Outcome) (cores : List Core) (core : ℕ) → Asks s core → Completes what core →
+    is_free (cores_after s what cores) core ≡ is_free cores core
+both-apart s what cores core asks completes =
+    finished-apart (completed_by s what) (with_issued (put_by s what) cores) core (done-apart s what core completes)
+    ∙ issued-apart (put_by s what) cores core (put-apart s what core asks)
+
+outcome-apart : (cache : CacheId) (from : Origin) (completion : Option LineCompletion) (core : ℕ) → core ≢ cache.0 → Completes (outcome_of cache from completion) core
+outcome-apart cache origin.Core None core ne = tt
+outcome-apart cache (origin.Request i) None core ne = tt
+outcome-apart cache (origin.Head at) None core ne = tt
+outcome-apart cache (origin.Response i) None core ne = tt
+outcome-apart cache from (Some (done.Load value)) core ne = ne
+outcome-apart cache from (Some (done.Store value)) core ne = ne
+
+-- ---- where a step goes
+
+same-cache : (one other : CacheId) → Some (Cache one) ≡ Some (Cache other) → one ≡ other
+same-cache one other e = cc e
+
+asked-there : (asked cache : CacheId) (line : Option Line) → cache_place asked line ≡ Some (Cache cache) → asked ≡ cache
+asked-there asked cache None e = absurd (cc e)
+asked-there asked cache (Some line) e = same-cache asked cache e
+
+asks-there : (s : Step) (b : BlockState) (cache : CacheId) (core : ℕ) → place_in s b ≡ Some (Cache cache) → core ≢ cache.0 → Asks s core
+asks-there (step.Ask asked block a) b cache core e ne = λ q. ne (q ∙ ap (λ (c : CacheId). c.0) (asked-there asked cache (slice_get b.lines asked.0) e))
+asks-there (step.Request block i) b cache core e ne = tt
+asks-there (step.Forward block at) b cache core e ne = tt
+asks-there (step.Response block i) b cache core e ne = tt
+
+moved-puts-none : (s : Step) → put_by s outcome.Moved ≡ []
+moved-puts-none (step.Ask cache block Load) = refl
+moved-puts-none (step.Ask cache block (Store x)) = refl
+moved-puts-none (step.Ask cache block Replace) = refl
+moved-puts-none (step.Request block i) = refl
+moved-puts-none (step.Forward block cache) = refl
+moved-puts-none (step.Response block i) = refl
+
+nothing-put : (s : Step) (what : Outcome) (cores : List Core) (core : ℕ) → put_by s what ≡ [] → completed_by s what ≡ [] →
+    is_free (cores_after s what cores) core ≡ is_free cores core
+nothing-put s what cores core put finished =
+    ap (λ cs. is_free (with_finished cs (with_issued (put_by s what) cores)) core) finished ∙ ap (λ asks. is_free (with_issued asks cores) core) put
+
+free-at : (s : Step) (b : BlockState) (d : Decision) (cores : List Core) (core : CacheId) → GoesTo d (place_in s b) → place_in s b ≢ Some (Cache core) →
+    is_free (cores_after s (carried_out d b).outcome cores) core.0 ≡ is_free cores core.0
+free-at s b (Refused what) cores core g ne = nothing-put s what cores core.0 (none-put s what g) (none-done s what g)
+free-at s b (AtLine cache line input state actions from) cores core g ne =
+    let apart : core.0 ≢ cache.0 = λ e. ne (g ∙ ap (λ n. Some (Cache (record { 0 = n }))) (sym e)) in
+    both-apart s (outcome_of cache from (line_completes input state line)) cores core.0 (asks-there s b cache core.0 g apart)
+    (outcome-apart cache from (line_completes input state line) core.0 apart)
+free-at s b (AtHome input state actions from) cores core g ne = nothing-put s outcome.Moved cores core.0 (moved-puts-none s) refl
+
+free-in : (tables : Tables) (state : State) (s : Step) (found : Option BlockState) (cores : List Core) (core : CacheId) →
+    option_and_then (place_in s) found ≢ Some (Cache core) →
+    is_free (cores_after s (next_at tables state s found).outcome cores) core.0 ≡ is_free cores core.0
+free-in tables state s None cores core ne = nothing-put s outcome.Absent cores core.0 (none-put s outcome.Absent tt) (none-done s outcome.Absent tt)
+free-in tables state s (Some b) cores core ne = free-at s b (decision_of tables s b) cores core (decision-goes tables s b) ne
+
+-- a step leaves it to be whether a core is free, but for that of the cache that it goes to
+pub free-stays : (tables : Tables) (state : State) (s : Step) (cores : List Core) (core : CacheId) → state.broken ≡ false →
+    place_at state s ≢ Some (Cache core) → is_free (cores_after s (next tables state s).outcome cores) core.0 ≡ is_free cores core.0
+free-stays tables state s cores core sound ne =
+    ap (λ (n : Next). is_free (cores_after s n.outcome cores) core.0) (next-sound tables state s sound)
+    ∙ free-in tables state s (slice_get state.blocks (block_of s)) cores core ne

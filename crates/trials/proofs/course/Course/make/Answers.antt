@@ -1,0 +1,43 @@
+use Rattle.std.proofs.Common.{◌≡◌, ◌∙◌, refl, ap, sym, subst}
+use Rattle.both_tables.specs.Tables.{Tables}
+use Rattle.base.specs.declared.step.Step.{Step}
+use Rattle.base.specs.declared.step.Outcome.{Outcome}
+use Rattle.machine.specs.Machine.{next}
+use Rattle.monitor.specs.Watching.{AnswersHistory, SeesNext}
+use Rattle.record.specs.Kept.{with_entry}
+use Rattle.schedule.specs.Lanes.{AreReady, laned}
+use Rattle.trials.specs.Moments.{cores_after}
+use Rattle.trials.specs.Going.{Makes, parts_of}
+use Rattle.trials.proofs.Counted.{agree-but, sound-before}
+use Rattle.trials.proofs.course.Course.make.Given as given
+use Rattle.trials.proofs.course.Course.make.Goals as goal
+
+pub returns-clause-makes : goal.returns-clause-makes
+returns-clause-makes g c =
+    let is = c.step-step.ensures in
+    record {
+      outcome = c.in_ok-outcome.outcome;
+      made = ap (next c.args.self.now.world.tables c.args.self.now.world.state) (sym is) ∙ c.in_ok-outcome.ensures.ok;
+      shape = c.in_ok-outcome.ensures.shape;
+      tables = c.in_ok-outcome.ensures.tables;
+      cores = c.note.ensures ∙ ap (λ s. cores_after s c.in_ok-outcome.outcome c.args.self.now.cores) is;
+      rest = c.in_ok-follow.ensures.rest;
+      dice = refl;
+      recorded = c.in_default.ensures.ok ∙ ap (λ s. with_entry c.args.self.now.recording (record { step = s; outcome = c.in_ok-outcome.outcome })) is;
+      answer =
+          subst (λ (s : Step). AnswersHistory c.step.new.self c.args.self.now.watch s c.in_ok-outcome.outcome c.see.result) is c.see.ensures.history;
+      seen = subst (λ (s : Step). SeesNext c.step.new.self c.args.self.now.watch s c.in_ok-outcome.outcome c.see.new.self) is c.see.ensures.seen;
+    }
+
+pub returns-clause-counted : goal.returns-clause-counted
+returns-clause-counted g c = record {
+  kept = c.in_ok-follow.ensures.kept;
+  ready = λ sound.
+      let tables = c.in_ok-outcome.ensures.tables in
+      let made = c.in_ok-outcome.ensures.ok in
+      let before = sound-before c.args.self.now.world.tables c.args.self.now.world.state c.step.new.self.state c.step-step.result c.in_ok-outcome.outcome made sound in
+      c.in_ok-follow.ensures.ready c.args.self.now.world.state c.args.self.now.cores before
+      (subst (λ (t : Tables). AreReady t c.args.self.now.world.state c.args.self.now.cores (laned c.args.self.now.lanes)) (sym tables) c.requires.counted.ready)
+      (agree-but c.args.self.now.world.tables c.args.self.now.world.state c.step.new.self.state c.step-step.result c.in_ok-outcome.outcome c.at-at.result
+      c.args.self.now.cores c.note.new.cores made before c.at-at.ensures c.note.ensures) sound;
+}
