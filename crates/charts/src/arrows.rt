@@ -14,7 +14,7 @@ const TIP: i64 = 9;
 const HALF_TIP: i64 = 4;
 
 /// To which side an arrow goes.
-#[derive(Clone, Copy, Debug, PartialEq, Eq)]
+#[derive(Clone, Copy)]
 pub enum Heading {
     Left,
     Right,
@@ -58,7 +58,7 @@ struct Way {
 }
 
 /// What is drawn of arrows: their lines come under the boxes, and their names over them.
-#[derive(Clone, Copy, Debug, PartialEq, Eq)]
+#[derive(Clone, Copy)]
 pub enum Layer {
     Lines,
     Names,

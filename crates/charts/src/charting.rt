@@ -8,6 +8,7 @@ use crate::picture::Picture;
 use crate::style::STYLE;
 use crate::surroundings::{draw_bands, draw_findings, draw_legend, draw_lifelines, draw_plates};
 use crate::svg::{Pen, Point};
+use base::Shape;
 use record::Recording;
 use std::alloc::Global;
 use std::io::Write;
@@ -25,14 +26,18 @@ pub fn chart<W: Write>(
     output: &mut W,
 ) -> Result<Shown, ChartFault> {
     let picture = Picture::of(alloc, recording, part)?;
-    let layout = Layout::of(alloc, &picture, recording.shape())?;
-    let mut pen = Pen::new(alloc, output);
-    draw(&mut pen, &picture, &layout)?;
-    let mut shown = Shown::nothing();
-    for row in picture.rows.iter() {
-        shown.note(row);
-    }
-    Ok(shown)
+    draw_picture(alloc, &picture, recording.shape(), output)?;
+    Ok(picture.shown())
+}
+
+fn draw_picture<W: Write>(
+    alloc: Global,
+    picture: &Picture,
+    shape: Shape,
+    output: &mut W,
+) -> Result<(), ChartFault> {
+    let layout = Layout::of(alloc, picture, shape)?;
+    draw(&mut Pen::new(alloc, output), picture, &layout)
 }
 
 /// Draws a picture: what stands behind comes first.

@@ -4,7 +4,7 @@ use base::{BlockId, CacheId, NoMemory, Place, Shape};
 use std::alloc::Global;
 
 /// A controller that has a lifeline: a cache, or the home of a block.
-#[derive(Clone, Copy, Debug, PartialEq, Eq)]
+#[derive(Clone, Copy)]
 pub enum Lane {
     Cache(CacheId),
     Home(BlockId),
@@ -57,17 +57,17 @@ impl Lanes {
 
     fn line_up(&mut self, blocks: &[BlockId]) -> Result<(), NoMemory> {
         let all = self.caches.iter().filter(|lane| lane.is_some()).count();
-        let mut stand: usize = 0;
+        let mut placed: usize = 0;
         for (number, lane) in (0..u32::MAX).zip(self.caches.iter()) {
             if lane.is_some() {
-                if stand == all.div_ceil(2) {
+                if placed == all.div_ceil(2) {
                     push_homes(&mut self.order, blocks)?;
                 }
                 self.order.push(Lane::Cache(CacheId(number)))?;
-                stand = stand.saturating_add(1);
+                placed = placed.saturating_add(1);
             }
         }
-        if stand == all.div_ceil(2) {
+        if placed == all.div_ceil(2) {
             push_homes(&mut self.order, blocks)?;
         }
         Ok(())
@@ -75,12 +75,9 @@ impl Lanes {
 
     fn number(&mut self) {
         for (number, lane) in (0..u32::MAX).zip(self.order.iter()) {
-            let stands = match *lane {
-                Lane::Cache(cache) => self.caches.get_mut(cache.0 as usize),
-                Lane::Home(block) => self.homes.get_mut(block.0 as usize),
-            };
-            if let Some(stands) = stands {
-                *stands = Some(number);
+            match *lane {
+                Lane::Cache(cache) => stand(&mut self.caches, cache.0, number),
+                Lane::Home(block) => stand(&mut self.homes, block.0, number),
             }
         }
     }
@@ -98,6 +95,13 @@ impl Lanes {
         let from = self.of_place(trip.from(), trip.block)?;
         let to = self.of_place(trip.to(), trip.block)?;
         Some((from, to))
+    }
+}
+
+/// Notes where the controller of a number stands.
+fn stand(row: &mut Vec<Option<u32>>, controller: u32, number: u32) {
+    if let Some(lane) = row.get_mut(controller as usize) {
+        *lane = Some(number);
     }
 }
 

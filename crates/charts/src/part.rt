@@ -4,7 +4,7 @@ use record::Entry;
 use std::alloc::{AllocError, Global};
 
 /// Which steps of a recording are looked at: of so many entries from one on, counted from 0, those of one block or of all.
-#[derive(Clone, Copy, Debug, PartialEq, Eq)]
+#[derive(Clone, Copy)]
 pub struct Part {
     pub block: Option<BlockId>,
     pub from: u64,
@@ -12,7 +12,7 @@ pub struct Part {
 }
 
 /// What was shown, besides steps that did as they were told to.
-#[derive(Clone, Copy, Debug, PartialEq, Eq)]
+#[derive(Clone, Copy)]
 pub struct Shown {
     /// A step that made a violation.
     pub violation: bool,

@@ -1,6 +1,6 @@
 use crate::charting::MOST_ROWS;
 use crate::fault::ChartFault;
-use crate::part::Part;
+use crate::part::{Cut, Part, Shown};
 use crate::story::{Happening, Sight, Story, look};
 use crate::trips::Trip;
 use base::{BlockId, CacheId, NoMemory, Place};
@@ -51,15 +51,47 @@ impl Picture {
             return Err(ChartFault::TooManySteps(count));
         }
         let looked_at = part.blocks(alloc, recording.shape(), cut.chosen)?;
-        let mut picture = Picture::open(alloc, looked_at.as_slice())?;
+        Picture::of_blocks(alloc, recording, part, looked_at.as_slice())
+    }
+
+    /// The picture of a part that is about these blocks.
+    fn of_blocks(
+        alloc: Global,
+        recording: &Recording,
+        part: Part,
+        looked_at: &[bool],
+    ) -> Result<Picture, ChartFault> {
         let mut story = Story::open(alloc, recording)?;
-        story.skip(cut.before)?;
-        picture.begin(&story)?;
-        picture.tell(&mut story, part, cut.chosen)?;
-        let end = story.number();
-        picture.follow(&mut story, looked_at.as_slice(), cut.behind, end)?;
-        picture.leave(alloc, &story, end)?;
+        let cut = part.cut(recording.entries());
+        Picture::of_story(alloc, &mut story, part, cut, looked_at)
+    }
+
+    fn of_story(
+        alloc: Global,
+        story: &mut Story,
+        part: Part,
+        cut: Cut<'_>,
+        looked_at: &[bool],
+    ) -> Result<Picture, ChartFault> {
+        let mut picture = Picture::open(alloc, looked_at)?;
+        picture.fill(alloc, story, part, cut, looked_at)?;
         Ok(picture)
+    }
+
+    fn fill(
+        &mut self,
+        alloc: Global,
+        story: &mut Story,
+        part: Part,
+        cut: Cut<'_>,
+        looked_at: &[bool],
+    ) -> Result<(), NoMemory> {
+        story.skip(cut.before)?;
+        self.begin(story)?;
+        self.tell(story, part, cut.chosen)?;
+        let end = story.number();
+        self.follow(story, looked_at, cut.behind, end)?;
+        self.leave(alloc, story, end)
     }
 
     fn open(alloc: Global, looked_at: &[bool]) -> Result<Picture, NoMemory> {
@@ -81,6 +113,15 @@ impl Picture {
     /// Whether there are several blocks, which have to be told apart.
     pub fn has_blocks(&self) -> bool {
         self.blocks.len() > 1
+    }
+
+    /// What its rows show.
+    pub fn shown(&self) -> Shown {
+        let mut shown = Shown::nothing();
+        for row in self.rows.iter() {
+            shown.note(row);
+        }
+        shown
     }
 
     /// The row of the step of a number, if it is in the picture.

@@ -19,7 +19,7 @@ pub struct Story {
 }
 
 /// A controller, as it is in one block.
-#[derive(Clone, Copy, Debug, PartialEq, Eq)]
+#[derive(Clone, Copy)]
 pub enum Sight {
     Line(CacheId, Line),
     /// State, owner and memory of the home.
@@ -27,7 +27,7 @@ pub enum Sight {
 }
 
 /// What was seen of a step.
-#[derive(Clone, Copy, Debug)]
+#[derive(Clone, Copy)]
 pub struct Happening {
     pub number: u64,
     pub step: Step,

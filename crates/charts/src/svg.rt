@@ -5,7 +5,7 @@ use std::fmt::Write as _;
 use std::io::Write;
 
 /// A place in a picture, in pixels from its upper left corner.
-#[derive(Clone, Copy, Debug, PartialEq, Eq)]
+#[derive(Clone, Copy)]
 pub struct Point {
     pub x: i64,
     pub y: i64,
@@ -22,7 +22,7 @@ impl Point {
 }
 
 /// To which side of its place a text goes.
-#[derive(Clone, Copy, Debug, PartialEq, Eq)]
+#[derive(Clone, Copy)]
 pub enum Anchor {
     Start,
     Middle,

@@ -1,9 +1,10 @@
 use crate::fault::ChartFault;
-use crate::part::{Part, Shown};
+use crate::part::{Cut, Part, Shown};
 use crate::starting::write_start;
 use crate::story::{Happening, Sight, Story};
 use crate::trips::Trip;
 use crate::words::{HomeText, LineText, MessageText, push_holdings};
+use base::Shape;
 use record::{Entry, Recording};
 use std::alloc::{AllocError, Global};
 use std::fmt::Write as _;
@@ -25,11 +26,7 @@ pub fn show<W: Write>(
     let mut table = Table::open(alloc)?;
     table.measure(alloc, recording, part)?;
     let mut story = Story::open(alloc, recording)?;
-    let cut = part.cut(recording.entries());
-    story.skip(cut.before)?;
-    let blocks = part.blocks(alloc, recording.shape(), cut.chosen)?;
-    write_start(alloc, &story, blocks.as_slice(), output)?;
-    table.write(&mut story, part, cut.chosen, output)
+    table.print(alloc, &mut story, recording, part, output)
 }
 
 /// The lines of a table, of which one at a time is kept.
@@ -60,18 +57,41 @@ impl Table {
         part: Part,
     ) -> Result<(), ChartFault> {
         let mut story = Story::open(alloc, recording)?;
-        let cut = part.cut(recording.entries());
+        self.measure_all(&mut story, part, part.cut(recording.entries()))
+    }
+
+    fn measure_all(
+        &mut self,
+        story: &mut Story,
+        part: Part,
+        cut: Cut<'_>,
+    ) -> Result<(), ChartFault> {
         story.skip(cut.before)?;
         self.fill_headings()?;
         self.widen();
         for entry in cut.chosen {
             let happening = story.advance(*entry)?;
             if part.is_of(happening.step.block()) {
-                self.fill(&story, &happening)?;
+                self.fill(story, &happening)?;
                 self.widen();
             }
         }
         Ok(())
+    }
+
+    /// Writes the state at the start of a part of a recording, whose story is at its beginning, and the lines of the part.
+    fn print<W: Write>(
+        &mut self,
+        alloc: Global,
+        story: &mut Story,
+        recording: &Recording,
+        part: Part,
+        output: &mut W,
+    ) -> Result<Shown, ChartFault> {
+        let cut = part.cut(recording.entries());
+        story.skip(cut.before)?;
+        print_start(alloc, story, recording.shape(), part, cut.chosen, output)?;
+        self.write(story, part, cut.chosen, output)
     }
 
     fn widen(&mut self) {
@@ -216,6 +236,18 @@ impl Table {
         }
         write!(self.text, "violation {violation}")
     }
+}
+
+fn print_start<W: Write>(
+    alloc: Global,
+    story: &Story,
+    shape: Shape,
+    part: Part,
+    chosen: &[Entry],
+    output: &mut W,
+) -> Result<(), ChartFault> {
+    let blocks = part.blocks(alloc, shape, chosen)?;
+    write_start(alloc, story, blocks.as_slice(), output)
 }
 
 fn write_spaces<W: Write>(output: &mut W, count: usize) -> io::Result<()> {

@@ -2,7 +2,7 @@ use base::{BlockId, CacheId, Place};
 use network::{Message, Response};
 
 /// A message on its way, with the number of the step that sent it.
-#[derive(Clone, Copy, Debug, PartialEq, Eq)]
+#[derive(Clone, Copy)]
 pub struct Trip {
     pub block: BlockId,
     pub message: Message,
