@@ -1,6 +1,7 @@
 -- What the looks at one block show.
 use Rattle.std.specs.Prelude.{ℕ, ◌+◌, List, [], ◌∷◌, Option, Some, None}
 use Rattle.std.specs.Prelude.{Bool, true, false, if◌then◌else◌, slice_get}
+use Rattle.std.specs.Option.{option_map}
 use Rattle.base.specs.declared.ids.CacheId.{CacheId}
 use Rattle.base.specs.declared.ids.Place.{Place}
 use Rattle.base.specs.declared.ids.Place.TheVariants.{Dir, Cache}
@@ -12,7 +13,9 @@ use Rattle.network.specs.declared.message.Request.{Request}
 use Rattle.network.specs.declared.message.Forward.{Forward}
 use Rattle.network.specs.declared.message.Response.{Response}
 use Rattle.network.specs.declared.message.Response.TheVariants.{Data, InvAck}
-use Rattle.network.specs.Traffic.{link}
+use Rattle.network.specs.declared.message.Message.{Message}
+use Rattle.network.specs.declared.message.Message.TheVariants as message
+use Rattle.network.specs.Traffic.{Traffic, link}
 use Rattle.control.specs.declared.line.Line.{Line}
 use Rattle.control.specs.LineEffect.{is_writer}
 use Rattle.both_tables.specs.Tables.{Tables}
@@ -52,6 +55,13 @@ place_in (step.Ask cache block a) b = cache_place cache (slice_get b.lines cache
 place_in (step.Request block index) b = request_place (slice_get b.traffic.requests index)
 place_in (step.Forward block cache) b = forward_place cache (slice_get b.lines cache.0) (slice_get (link b.traffic cache.0) 0)
 place_in (step.Response block index) b = response_place b.lines (slice_get b.traffic.responses index)
+
+-- the message that a delivery serves, if it is there; an ask serves none
+abbrev pub message_in : Step → Traffic → Option Message
+message_in (step.Ask cache block a) w = None
+message_in (step.Request block index) w = option_map message.Request (slice_get w.requests index)
+message_in (step.Forward block cache) w = option_map (message.Forward cache) (slice_get (link w cache.0) 0)
+message_in (step.Response block index) w = option_map message.Response (slice_get w.responses index)
 
 -- the least cache that may write a block, where the lines are those of the caches from a number on
 abbrev pub writer_from : ℕ → List Line → Option CacheId

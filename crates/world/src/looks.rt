@@ -9,6 +9,7 @@ use base::{BlockId, CacheId, Outcome, Place, Shape, Step};
 use blocks::{Block, decide_opened, foreseen, is_stall, opened_line};
 use control::Line;
 use directory_table::DirectoryState;
+use network::{Forward, Message};
 use rows::Sparse;
 
 /// A block: what is kept of it, or its opening value where nothing is.
@@ -29,7 +30,7 @@ impl World {
     ghost use Rattle.machine.specs.Completions.{completions_of, due};
     ghost use Rattle.machine.specs.Coherence.{line_at};
     ghost use Rattle.world.specs.View.{home_at, shares_at};
-    ghost use Rattle.world.specs.Looks.{latest_at, readers_of, writer_of, all_quiet, place_at};
+    ghost use Rattle.world.specs.Looks.{latest_at, readers_of, writer_of, all_quiet, forward_at, message_at, place_at};
 
     /// How many caches and blocks there are.
     pub fn shape(&self) -> Shape
@@ -192,6 +193,27 @@ impl World {
         match self.find(step.block().0)? {
             Found::Kept(block) => block.place(step),
             Found::Opened(_) => place_opened(self.shape.caches(), step),
+        }
+    }
+
+    /// The message that a delivery would serve, whether or not it would be held. There is none where block or message isn't
+    /// there, nor of an ask.
+    pub fn message(&self, step: Step) -> Option<Message>
+        ensures { result ≡ message_at self.now.state step }
+    {
+        match self.find(step.block().0)? {
+            Found::Kept(block) => block.message(step),
+            Found::Opened(_) => None,
+        }
+    }
+
+    /// The message at a place of the link from a block's home to a cache, the first one at 0, if there is one.
+    pub fn forward(&self, block: BlockId, cache: CacheId, index: u64) -> Option<Forward>
+        ensures { result ≡ forward_at self.now.state block.0 cache.0 index }
+    {
+        match self.find(block.0)? {
+            Found::Kept(block) => block.forward(cache, index),
+            Found::Opened(_) => None,
         }
     }
 }

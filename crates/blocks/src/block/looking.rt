@@ -8,14 +8,14 @@ use base::{CacheId, Outcome, Place, Step};
 use both_tables::Tables;
 use control::line_completion;
 use machine::Decision;
-use network::Response;
+use network::{Forward, Message, Response};
 
 impl Block {
     ghost use Rattle.std.specs.Prelude.{◌≡◌, count_by, slice_get};
-    ghost use Rattle.network.specs.Traffic.{is_quiet};
+    ghost use Rattle.network.specs.Traffic.{is_quiet, link};
     ghost use Rattle.control.specs.LineEffect.{is_reader};
     ghost use Rattle.machine.specs.Transition.{transition};
-    ghost use Rattle.blocks.specs.Looks.{cache_place, place_in, response_place, writer_in};
+    ghost use Rattle.blocks.specs.Looks.{cache_place, message_in, place_in, response_place, writer_in};
     ghost use Rattle.blocks.specs.Looks.{held_in};
 
     /// The value of the last store.
@@ -98,6 +98,31 @@ impl Block {
             } => self.cache_place(to),
             Response::InvAck { from: _, to } => self.cache_place(to),
         }
+    }
+
+    /// The message that a delivery would serve, if it is there. An ask serves none.
+    pub fn message(&self, step: Step) -> Option<Message>
+        ensures { result ≡ message_in step self.now.state.traffic }
+    {
+        match step {
+            Step::Ask { .. } => None,
+            Step::Request { block: _, index } => {
+                Some(Message::Request(self.wires.request(index)?))
+            }
+            Step::Forward { block: _, cache } => {
+                Some(Message::Forward(cache, self.wires.head(cache)?))
+            }
+            Step::Response { block: _, index } => {
+                Some(Message::Response(self.wires.response(index)?))
+            }
+        }
+    }
+
+    /// The message at a place of the link to a cache, if there is one.
+    pub fn forward(&self, cache: CacheId, index: u64) -> Option<Forward>
+        ensures { result ≡ slice_get (link self.now.state.traffic cache.0) index }
+    {
+        self.wires.forward(cache, index)
     }
 
     /// The outcome that a step would have.
