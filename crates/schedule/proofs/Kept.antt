@@ -1,34 +1,30 @@
 -- What is kept of lanes, and what it says of all offers.
-use Rattle.std.proofs.Common.{◌≡◌, ◌≢◌, ℕ, zero, suc, ◌+◌, ◌-◌, ◌<◌, ◌≤◌, ◌^◌, ◌⊎◌, inl, inr, nat_eq, Bool, true, false, if◌then◌else◌, List, [], ◌∷◌, ◌++◌, length, map, take, drop, add-one}
-use Rattle.std.proofs.Common.{Option, Some, None, get_or, set, slice_get, refl, sym, ap, ◌∙◌, subst, arith}
-use Rattle.std.specs.List.{Contains, sum}
-use Rattle.std.proofs.lemmas.List.{length-set, length-map, length-append, ext_get_or, get_or-map, get_or-set_same, get_or-set_other}
+use Rattle.std.proofs.Common.{◌≡◌, ℕ, zero, suc, ◌+◌, ◌-◌, ◌<◌, ◌≤◌, ◌^◌, nat_eq, Bool, true, false, if◌then◌else◌, List, [], ◌∷◌, ◌++◌, length, map, take, drop, add-one}
+use Rattle.std.proofs.Common.{get_or, slice_get, refl, sym, ap, ◌∙◌, subst, arith}
+use Rattle.std.specs.List.{sum}
+use Rattle.std.proofs.lemmas.List.{length-map, length-append, ext_get_or, get_or-map}
 use Rattle.std.proofs.lemmas.List.Sums.{sum_by_more_le}
-use Rattle.std.proofs.lemmas.Bool.{cases_eq}
 use Rattle.std.proofs.lemmas.Bool.Decides.{nat_tests}
 use Rattle.std.proofs.lemmas.Option.{slice_get-map}
 use Rattle.std.specs.Option.{option_map}
 use Rattle.base.specs.declared.step.CoreAsk.{CoreAsk}
-use Rattle.base.specs.declared.step.Step.{Step}
 use Rattle.rows.specs.Counts.{Finds}
 use Rattle.rows.proofs.Bridge.{get_front, get_behind_by}
 use Rattle.both_tables.specs.Tables.{Tables}
 use Rattle.machine.specs.Machine.{State}
 use Rattle.world.specs.Enabled.{enabled_steps}
 use Rattle.cores.specs.Cores.{Core}
-use Rattle.scenario.specs.Tree.{Tree, Seq, Both, Nil, trees_of}
-use Rattle.scenario.specs.Alike.{Alike, Takes}
-use Rattle.scenario.specs.Taking.{left, offers, offers_of_all}
+use Rattle.scenario.specs.Tree.{Tree, Seq, Nil}
+use Rattle.scenario.specs.Taking.{offers}
 use Rattle.schedule.specs.Choices.{can_be_put, choices_of, offers_from}
 use Rattle.schedule.specs.declared.lanes.Lane.{Lane}
 use Rattle.scenario.specs.Cursors.{remaining}
 use Rattle.std.proofs.Math.Seq.{drop-cons}
-use Rattle.schedule.specs.Lanes.{AreReady, IsKept, IsLevel, IsListed, Laned, lanes_of, offers_at, puttable, tree_at, whole}
-use Rattle.schedule.specs.inner.Changes.{KeepsOthers, TakesFrom}
+use Rattle.schedule.specs.Lanes.{AreReady, IsKept, Laned, offers_at, puttable, tree_at, whole}
 use Rattle.schedule.specs.declared.choosing.Choice.{Choice}
 use Rattle.schedule.specs.declared.choosing.Choice.TheVariants.{Offer, Deliver}
 use Rattle.schedule.proofs.Offered.{CountsOf, all-counted, all-found}
-use Rattle.schedule.proofs.Rows.{lengths_of, sum-lengths, taken-there}
+use Rattle.schedule.proofs.Rows.{lengths_of, sum-lengths}
 
 -- the lengths are those of what the trees offer
 pub lengths-are : (l : Laned) → IsKept l → l.lengths ≡ lengths_of l.trees

@@ -1,23 +1,20 @@
 -- The choices of a row of trees: those of each tree, one behind the other, and then the deliveries.
-use Rattle.std.proofs.Common.{◌≡◌, ℕ, zero, suc, ◌+◌, ◌-◌, ◌<◌, ◌≤◌, Bool, true, false, if◌then◌else◌, List, [], ◌∷◌, ◌++◌, length, map, take}
-use Rattle.std.proofs.Common.{Option, Some, None, get_or, slice_get, refl, sym, ap, ◌∙◌, subst, arith, append_assoc, add-zero}
+use Rattle.std.proofs.Common.{◌≡◌, ℕ, zero, suc, ◌+◌, ◌<◌, true, false, if◌then◌else◌, List, [], ◌∷◌, ◌++◌, length, take}
+use Rattle.std.proofs.Common.{get_or, slice_get, refl, sym, ap, ◌∙◌, arith, append_assoc, add-zero}
 use Rattle.std.specs.List.{sum}
-use Rattle.std.proofs.lemmas.List.{length-append, length-map}
+use Rattle.std.proofs.lemmas.List.{length-append}
 use Rattle.std.proofs.lemmas.List.Sums.{sum_by-cons}
 use Rattle.base.specs.declared.step.CoreAsk.{CoreAsk}
-use Rattle.base.specs.declared.step.Step.{Step}
-use Rattle.rows.specs.Counts.{Finds}
 use Rattle.rows.proofs.Bridge.{get_front, get_behind}
 use Rattle.both_tables.specs.Tables.{Tables}
 use Rattle.machine.specs.Machine.{State}
-use Rattle.world.specs.Enabled.{enabled_steps}
 use Rattle.cores.specs.Cores.{Core}
-use Rattle.scenario.specs.Tree.{Tree, Seq, Both, Nil, trees_of}
+use Rattle.scenario.specs.Tree.{Tree, Seq, Nil, trees_of}
 use Rattle.scenario.specs.Taking.{offers, offers_of_all}
-use Rattle.schedule.specs.Choices.{can_be_put, choices_of, offers_from}
+use Rattle.schedule.specs.Choices.{can_be_put, offers_from}
 use Rattle.schedule.specs.Lanes.{puttable}
 use Rattle.schedule.specs.declared.choosing.Choice.{Choice}
-use Rattle.schedule.specs.declared.choosing.Choice.TheVariants.{Offer, Deliver}
+use Rattle.schedule.specs.declared.choosing.Choice.TheVariants.{Offer}
 use Rattle.schedule.proofs.Rows.{lengths_of}
 
 -- offers are numbered, and how many there are is the same from any number on

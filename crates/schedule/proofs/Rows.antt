@@ -1,14 +1,13 @@
 -- Trees that go on at once: each of them may be another that is alike, and an offer of all is an offer of one.
-use Rattle.std.proofs.Common.{◌≡◌, ◌≢◌, ℕ, zero, suc, ◌+◌, ◌-◌, ◌<◌, ◌≤◌, Bool, true, false, ◌&&◌, if◌then◌else◌, nat_lt, List, [], ◌∷◌, ◌++◌, length, map, take}
-use Rattle.std.proofs.Common.{Option, Some, None, option_map, get_or, set, slice_get, refl, sym, ap, ◌∙◌, subst, arith, append-nil}
+use Rattle.std.proofs.Common.{◌≡◌, ℕ, zero, suc, ◌+◌, ◌-◌, ◌<◌, Bool, true, false, ◌&&◌, if◌then◌else◌, nat_lt, List, [], ◌∷◌, length, map, take}
+use Rattle.std.proofs.Common.{option_map, get_or, set, refl, sym, ap, ◌∙◌, subst, arith, append-nil}
 use Rattle.std.specs.List.{sum}
 use Rattle.std.proofs.lemmas.List.{length-append}
 use Rattle.std.proofs.lemmas.List.Sums.{sum_by-cons}
-use Rattle.base.specs.declared.step.CoreAsk.{CoreAsk}
 use Rattle.rows.specs.Counts.{Finds}
 use Rattle.scenario.specs.Tree.{Tree, Trees, Seq, Both, Nil, Cons, trees_of}
 use Rattle.scenario.specs.Taking.{ends, all_end, offers, offers_of_all, left, left_of_all}
-use Rattle.scenario.specs.Alike.{Alike, Seen, followed, seen}
+use Rattle.scenario.specs.Alike.{Alike, followed, seen}
 use Rattle.scenario.proofs.Alikes.{alike-offers, alike-ends, alike-left, follow_if}
 use Rattle.scenario.proofs.Places.{is_below, isnt_below, by_test}
 

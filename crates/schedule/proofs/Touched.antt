@@ -1,10 +1,9 @@
 -- A step changes the lines of one cache at most, that of the controller it goes to; and whether an ask is held is a matter of its line.
-use Rattle.std.proofs.Common.{◌≡◌, ◌≢◌, ℕ, zero, suc, List, [], ◌∷◌, Option, Some, None, Bool, true, false, not, ◌&&◌, if◌then◌else◌, inl, inr}
+use Rattle.std.proofs.Common.{◌≡◌, ◌≢◌, ℕ, zero, suc, List, [], ◌∷◌, Option, Some, None, Bool, true, false, if◌then◌else◌, inl, inr}
 use Rattle.std.proofs.Common.{slice_get, slice_set, refl, sym, ap, ◌∙◌, subst}
 use Rattle.std.proofs.lemmas.Bool.{cases_eq}
 use Rattle.std.specs.Option.{option_and_then}
 use Rattle.base.specs.Steps.{block_of}
-use Rattle.base.specs.declared.ids.BlockId.{BlockId}
 use Rattle.base.specs.declared.ids.CacheId.{CacheId}
 use Rattle.base.specs.declared.ids.Place.{Place}
 use Rattle.base.specs.declared.ids.Place.TheVariants.{Dir, Cache}
@@ -12,7 +11,6 @@ use Rattle.base.specs.declared.step.Ask.{Ask}
 use Rattle.base.specs.declared.step.CoreAsk.{CoreAsk}
 use Rattle.base.specs.declared.step.Step.{Step}
 use Rattle.base.specs.declared.step.Step.TheVariants as step
-use Rattle.base.specs.declared.step.Outcome.{Outcome}
 use Rattle.base.specs.declared.step.Outcome.TheVariants as outcome
 use Rattle.network.specs.declared.message.Request.{Request}
 use Rattle.network.specs.declared.message.Forward.{Forward}
@@ -27,12 +25,9 @@ use Rattle.directory_table.specs.Table.{DirectoryEntry}
 use Rattle.control.specs.declared.line.Line.{Line}
 use Rattle.control.specs.declared.line.LineInput.{LineInput}
 use Rattle.control.specs.declared.line.LineInput.TheVariants as line_input
-use Rattle.control.specs.declared.line.LineCompletion.{LineCompletion}
-use Rattle.control.specs.declared.line.LineCompletion.TheVariants as done
 use Rattle.control.specs.declared.home.Home.{Home}
 use Rattle.control.specs.declared.home.HomeInput.{HomeInput}
 use Rattle.control.specs.declared.home.HomeInput.TheVariants as home_input
-use Rattle.control.specs.LineEffect.{line_completes}
 use Rattle.machine.specs.declared.decision.Decision.{Decision}
 use Rattle.machine.specs.declared.decision.Decision.TheVariants.{Refused, AtLine, AtHome}
 use Rattle.machine.specs.declared.decision.Origin.{Origin}
@@ -40,10 +35,10 @@ use Rattle.machine.specs.declared.decision.Origin.TheVariants as origin
 use Rattle.both_tables.specs.Tables.{Tables}
 use Rattle.machine.specs.Block.{BlockState}
 use Rattle.machine.specs.Coherence.{line_at}
-use Rattle.machine.specs.Transition.{by_line_entry, at_line, at_ask, by_home_entry, at_home, at_request, at_forward, at_response, is_idle}
-use Rattle.machine.specs.Transition.{carried_out, decided_outcome, decision_of, outcome_of, transition}
-use Rattle.machine.specs.Machine.{State, Next, IsRefusal, next, next_at, with_transition}
-use Rattle.blocks.specs.Looks.{cache_place, forward_place, is_held, place_in, request_place, response_place}
+use Rattle.machine.specs.Transition.{by_line_entry, at_line, at_ask, by_home_entry, at_request, at_forward, at_response, is_idle}
+use Rattle.machine.specs.Transition.{carried_out, decided_outcome, decision_of, transition}
+use Rattle.machine.specs.Machine.{State, Next, IsRefusal, next, next_at}
+use Rattle.blocks.specs.Looks.{cache_place, forward_place, is_held, place_in, response_place}
 use Rattle.world.specs.Looks.{place_at}
 
 -- ---- where a decision acts

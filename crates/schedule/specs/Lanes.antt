@@ -13,7 +13,6 @@ use Rattle.scenario.specs.Tree.{Tree, Seq, Both, Nil, trees_of}
 use Rattle.scenario.specs.Taking.{offers}
 use Rattle.scenario.specs.Cursors.{remaining}
 use Rattle.schedule.specs.Choices.{offers_from}
-use Rattle.schedule.specs.declared.lanes.Lane.{Lane}
 use Rattle.schedule.specs.declared.lanes.Lanes.{Lanes}
 
 -- of each lane the tree that is left, what it offers, how many offers that is, and how many of them can be put; and of each

@@ -221,16 +221,18 @@ fn a_trial(rt: HostRuntime) -> Result<(), Fail> {
     Ok(())
 }
 
-fn compare_batch(rt: &impl Abort, results: &[TrialResult]) {
-    same(rt, &results.len(), &3);
-    for (number, result) in results.iter().enumerate() {
-        let wanted = TrialResult {
-            number: number as u32,
-            verdict: Verdict::Quiet,
-            steps: 3,
-        };
-        same(rt, result, &wanted);
+/// The result of a trial that made three steps and came to its end.
+fn quiet(number: u32) -> TrialResult {
+    TrialResult {
+        number,
+        verdict: Verdict::Quiet,
+        steps: 3,
     }
+}
+
+fn compare_batch(rt: &impl Abort, results: &[TrialResult]) {
+    let wanted = [quiet(0), quiet(1), quiet(2)];
+    same(rt, &results, &wanted.as_slice());
 }
 
 fn batch_at_last(

@@ -1,10 +1,9 @@
 -- A step leaves the cores as they were, but for that of the cache that it goes to.
-use Rattle.std.proofs.Common.{◌≡◌, ◌≢◌, ℕ, List, [], ◌∷◌, Option, Some, None, Bool, true, false, slice_get, refl, sym, ap, ◌∙◌, subst}
+use Rattle.std.proofs.Common.{◌≡◌, ◌≢◌, ℕ, List, [], ◌∷◌, Option, Some, None, false, slice_get, refl, sym, ap, ◌∙◌}
 use Rattle.std.specs.Prelude.{is_none}
 use Rattle.std.specs.Option.{option_and_then}
 use Rattle.base.specs.Steps.{block_of}
 use Rattle.base.specs.declared.ids.CacheId.{CacheId}
-use Rattle.base.specs.declared.ids.Place.{Place}
 use Rattle.base.specs.declared.ids.Place.TheVariants.{Cache}
 use Rattle.base.specs.declared.step.Ask.TheVariants.{Load, Store, Replace}
 use Rattle.base.specs.declared.step.CoreAsk.{CoreAsk}
@@ -27,7 +26,7 @@ use Rattle.machine.specs.Machine.{State, Next, next, next_at}
 use Rattle.machine.specs.Transition.{carried_out, decision_of, outcome_of}
 use Rattle.blocks.specs.Looks.{cache_place, place_in}
 use Rattle.world.specs.Looks.{place_at}
-use Rattle.cores.specs.Cores.{Core, finishing, idle, is_free, issuing, with_core}
+use Rattle.cores.specs.Cores.{Core, finishing, is_free, issuing, with_core}
 use Rattle.schedule.proofs.Touched.{GoesTo, decision-goes, next-sound}
 use Rattle.trials.specs.Moments.{cores_after, put_by, with_finished, with_issued}
 use Rattle.trials.proofs.CoreSteps.{with-other}

@@ -1,6 +1,5 @@
 -- What a step leaves of the lanes.
-use Rattle.std.proofs.Common.{◌≡◌, ◌≢◌, ℕ, List, Option, Some, false, sym, ap, ◌∙◌, subst}
-use Rattle.base.specs.declared.ids.CacheId.{CacheId}
+use Rattle.std.proofs.Common.{◌≡◌, ◌≢◌, List, Option, Some, false, sym, ap, ◌∙◌, subst}
 use Rattle.base.specs.declared.ids.Place.{Place}
 use Rattle.base.specs.declared.ids.Place.TheVariants.{Cache}
 use Rattle.base.specs.declared.step.Step.{Step}
@@ -11,7 +10,7 @@ use Rattle.machine.specs.Coherence.{line_at}
 use Rattle.world.specs.Looks.{place_at}
 use Rattle.world.specs.View.{stepped}
 use Rattle.cores.specs.Cores.{Core, is_free}
-use Rattle.schedule.specs.Lanes.{Agree, AgreeBut}
+use Rattle.schedule.specs.Lanes.{AgreeBut}
 use Rattle.schedule.proofs.Touched.{lines-stay, was-sound}
 use Rattle.trials.specs.Moments.{cores_after}
 use Rattle.trials.proofs.Apart.{free-stays}

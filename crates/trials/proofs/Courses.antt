@@ -1,7 +1,5 @@
 -- Trials on their way: how they start, go on and end.
 use Rattle.std.proofs.Common.{◌≡◌, ◌<◌, ◌≤◌, ◌+◌, ℕ, List, [], ◌∷◌, Some, None, length, slice_get, ap, sym, subst, ◌∙◌}
-use Rattle.std.specs.Option.{option_map}
-use Rattle.rand_pcg.specs.Lcg.{Lcg}
 use Rattle.rand_pcg.specs.Pcg.{multiplier_64}
 use Rattle.rand_pcg.specs.Lcg as lcg
 use Rattle.base.specs.declared.step.Step.{Step}
@@ -11,7 +9,7 @@ use Rattle.monitor.specs.Watching.{HasSeen}
 use Rattle.world.specs.Looks.{all_quiet}
 use Rattle.cores.specs.Cores.{Core, is_free}
 use Rattle.scenario.specs.Tree.{Tree}
-use Rattle.scenario.specs.Alike.{Alike, seen, followed}
+use Rattle.scenario.specs.Alike.{Alike, seen}
 use Rattle.scenario.specs.Taking.{left, offers}
 use Rattle.schedule.specs.Choices.{choices_of}
 use Rattle.schedule.specs.Words.{dice, dice_after}

@@ -1,5 +1,5 @@
 -- A trial on its way. Only private clauses cite this file.
-use Rattle.std.specs.Prelude.{◌≡◌, ◌%◌, ◌<◌, ℕ, true, false, All, List, [], Option, Some, None, length, slice_get, replicate}
+use Rattle.std.specs.Prelude.{◌≡◌, ◌%◌, ℕ, true, false, All, List, [], Option, Some, None, length, slice_get, replicate}
 use Rattle.rand_pcg.specs.Lcg.{Lcg, next}
 use Rattle.rand_pcg.specs.Pcg.{multiplier_64}
 use Rattle.base.specs.declared.step.CoreAsk.{CoreAsk}
@@ -14,12 +14,10 @@ use Rattle.world.specs.View.{View, stepped}
 use Rattle.cores.specs.Cores.{Core, idle, is_free}
 use Rattle.scenario.specs.Tree.{Tree}
 use Rattle.scenario.specs.Alike.{Alike}
-use Rattle.scenario.specs.Taking.{offers}
 use Rattle.schedule.specs.Choices.{chosen_step, IsOffered, rest_after}
 use Rattle.schedule.specs.Lanes.{AreReady, IsKept, Laned, laned, whole}
 use Rattle.schedule.specs.Words.{dice, dice_after, word_of}
 use Rattle.schedule.specs.declared.choosing.Choice.{Choice}
-use Rattle.schedule.specs.declared.choosing.Choice.TheVariants.{Offer, Deliver}
 use Rattle.record.specs.Kept.{Kept, opened_recording, steps_of, with_entry}
 use Rattle.trials.specs.declared.verdict.Verdict.{Verdict}
 use Rattle.trials.specs.declared.verdict.Verdict.TheVariants.{Quiet, Stuck, Broke}

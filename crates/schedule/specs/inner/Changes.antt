@@ -6,7 +6,7 @@ use Rattle.both_tables.specs.Tables.{Tables}
 use Rattle.cores.specs.Cores.{Core}
 use Rattle.scenario.specs.Alike.{Alike}
 use Rattle.scenario.specs.Taking.{left}
-use Rattle.schedule.specs.Lanes.{Laned, IsKept, IsLevel, IsListed, offers_at, puttable, whole}
+use Rattle.schedule.specs.Lanes.{Laned, IsKept, IsListed, offers_at, puttable, whole}
 use Rattle.std.specs.List.{Contains}
 
 -- one lane was listed anew: of the others the same is kept, and they are where they were

@@ -1,7 +1,6 @@
-use Rattle.std.proofs.Common.{◌≡◌, ◌∙◌, ◌<◌, ◌+◌, ◌^◌, [], ap, sym, subst, Option, None, Some, arith, length, slice_get}
+use Rattle.std.proofs.Common.{◌≡◌, ◌∙◌, ◌<◌, ◌+◌, ◌^◌, ap, sym, subst, arith, length, slice_get}
 use Rattle.std.proofs.lemmas.List.{length-map}
 use Rattle.std.specs.Option.{option_map}
-use Rattle.base.specs.declared.step.Step.{Step}
 use Rattle.schedule.specs.declared.choosing.Choice.TheVariants.{Deliver}
 use Rattle.schedule.specs.declared.lanes.Lane.{Lane}
 use Rattle.scenario.specs.Cursors.{remaining}

@@ -1,4 +1,4 @@
-use Rattle.std.proofs.Common.{◌≡◌, ◌∙◌, ap, sym, subst}
+use Rattle.std.proofs.Common.{ap, subst}
 use Rattle.base.specs.declared.ids.Place.{Place}
 use Rattle.std.proofs.Common.{Option}
 use Rattle.schedule.specs.Lanes.{AgreeBut, Laned, laned}

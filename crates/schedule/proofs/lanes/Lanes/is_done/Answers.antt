@@ -1,6 +1,4 @@
-use Rattle.std.proofs.Common.{◌≡◌, ◌∙◌, List, [], ◌∷◌, nat_eq, true, length, ap, sym, subst, arith, ℕ}
-use Rattle.std.proofs.lemmas.Bool.Decides.{nat_tests}
-use Rattle.base.specs.declared.step.CoreAsk.{CoreAsk}
+use Rattle.std.proofs.Common.{◌∙◌}
 use Rattle.scenario.specs.Taking.{offers}
 use Rattle.schedule.specs.Lanes.{laned, whole}
 use Rattle.schedule.proofs.Kept.{all-lengths, none-or-some}

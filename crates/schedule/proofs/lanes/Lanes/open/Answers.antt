@@ -1,4 +1,4 @@
-use Rattle.std.proofs.Common.{◌≡◌, ◌∙◌, ◌<◌, ℕ, ap, sym, subst, arith, length}
+use Rattle.std.proofs.Common.{◌≡◌, ◌∙◌, ap, sym, subst, arith, length}
 use Rattle.std.proofs.lemmas.List.{length-map}
 use Rattle.scenario.specs.Tree.{Both, plain, trees_of}
 use Rattle.scenario.specs.Alike.{Alike}

@@ -1,4 +1,4 @@
-use Rattle.std.proofs.Common.{◌≡◌, ◌<◌, ℕ, false, length}
+use Rattle.std.proofs.Common.{◌≡◌, ◌<◌, ℕ, length}
 use Rattle.scenario.specs.Alike.{Alike}
 use Rattle.scenario.specs.Tree.{plain}
 use Rattle.schedule.specs.Lanes.{IsLevel, IsListed, laned, offers_at, puttable, whole}

@@ -1,4 +1,4 @@
-use Rattle.std.proofs.Common.{◌≡◌, ◌∙◌, ◌<◌, ℕ, ap, sym, refl, subst, arith, length}
+use Rattle.std.proofs.Common.{refl, subst, arith}
 use Rattle.std.specs.Vec.{with_item}
 use Rattle.scenario.specs.Alike.{Takes}
 use Rattle.scenario.specs.Cursors.{remaining}

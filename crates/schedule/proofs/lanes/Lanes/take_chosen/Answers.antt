@@ -1,5 +1,5 @@
 use Rattle.schedule.specs.Lanes.{laned}
-use Rattle.schedule.proofs.Counting.{counted-kept, ready-or-were}
+use Rattle.schedule.proofs.Counting.{counted-kept}
 use Rattle.schedule.proofs.lanes.Lanes.take_chosen.Goals as goal
 
 pub returns-in_ok-lane-in-Offer-clause-kept : goal.returns-in_ok-lane-in-Offer-clause-kept

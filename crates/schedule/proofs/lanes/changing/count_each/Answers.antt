@@ -1,4 +1,4 @@
-use Rattle.std.proofs.Common.{◌≡◌, ◌∙◌, ◌<◌, ◌⊎◌, inl, inr, ℕ, List, [], ap, sym, subst, arith, length, map, get_or, set}
+use Rattle.std.proofs.Common.{◌∙◌, ◌<◌, inl, inr, ℕ, List, ap, sym, subst, arith, length, map}
 use Rattle.std.proofs.lemmas.List.{length-set, length-map}
 use Rattle.base.specs.declared.step.CoreAsk.{CoreAsk}
 use Rattle.schedule.specs.declared.lanes.Lane.{Lane}

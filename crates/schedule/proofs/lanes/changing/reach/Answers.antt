@@ -1,4 +1,4 @@
-use Rattle.std.proofs.Common.{◌≡◌, ◌<◌, ◌∙◌, ap, sym, refl, arith, length, length-set}
+use Rattle.std.proofs.Common.{◌<◌, ◌∙◌, arith, length, length-set}
 use Rattle.std.proofs.lemmas.Option.{slice_get_within}
 use Rattle.schedule.proofs.Reached.{grown-vec, now-in-vec, one-more}
 use Rattle.schedule.proofs.lanes.changing.reach.Goals as goal

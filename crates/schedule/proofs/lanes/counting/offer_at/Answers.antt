@@ -1,6 +1,5 @@
-use Rattle.std.proofs.Common.{◌≡◌, ◌<◌, ◌+◌, ◌-◌, ◌∙◌, sym, ap, arith, drop, slice_get}
+use Rattle.std.proofs.Common.{◌<◌, ◌∙◌, sym, arith}
 use Rattle.std.proofs.lemmas.Bool.Decides.{nat_tests}
-use Rattle.schedule.specs.Choices.{offers_from}
 use Rattle.schedule.proofs.Kept.{passed-held, passed-put}
 use Rattle.schedule.proofs.lanes.counting.offer_at.Goals as goal
 use Rattle.schedule.proofs.lanes.counting.offer_at.Goals.{then-can_be_put+else-left-eq0, else-can_be_put}

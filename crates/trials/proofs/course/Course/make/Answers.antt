@@ -1,13 +1,11 @@
-use Rattle.std.proofs.Common.{◌≡◌, ◌∙◌, refl, ap, sym, subst}
+use Rattle.std.proofs.Common.{◌∙◌, refl, ap, sym, subst}
 use Rattle.both_tables.specs.Tables.{Tables}
 use Rattle.base.specs.declared.step.Step.{Step}
-use Rattle.base.specs.declared.step.Outcome.{Outcome}
 use Rattle.machine.specs.Machine.{next}
 use Rattle.monitor.specs.Watching.{AnswersHistory, SeesNext}
 use Rattle.record.specs.Kept.{with_entry}
 use Rattle.schedule.specs.Lanes.{AreReady, laned}
 use Rattle.trials.specs.Moments.{cores_after}
-use Rattle.trials.specs.Going.{Makes, parts_of}
 use Rattle.trials.proofs.Counted.{agree-but, sound-before}
 use Rattle.trials.proofs.course.Course.make.Given as given
 use Rattle.trials.proofs.course.Course.make.Goals as goal
