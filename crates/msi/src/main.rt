@@ -8,7 +8,6 @@ mod fault;
 mod files;
 mod finding;
 mod lines;
-mod picturing;
 mod play;
 mod players;
 mod racing;
