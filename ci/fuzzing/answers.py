@@ -2,6 +2,7 @@
 
 import re
 from dataclasses import dataclass
+from xml.etree import ElementTree
 
 from model.certificates import ADVICE, certificate
 from model.machine import Watched
@@ -28,6 +29,8 @@ FORMS = {
     "trial": RECORDING,
     "batch": rb"\d+ " + RESULT + rb"|total (quiet|cut|stuck|broke) \d+",
     "floor": rb"safe|violation \d+ " + VIOLATION,
+    "show": rb"[ -~]*",
+    "chart": rb"[ -~]*",
 }
 TOLD = {
     "trial": rb"verdict " + RESULT + rb"\n",
@@ -72,7 +75,16 @@ def fault_of_form(command, ended):
         return "more than help" if ended.status or ended.errors else None
     if not has_form(FORMS[command], ended.out):
         return "output of another form"
+    if command == "chart" and not is_picture(ended.out):
+        return "a picture that isn't one"
     return None if re.fullmatch(TOLD.get(command, b""), ended.errors) else "text on standard error"
+
+
+def is_picture(text):
+    try:
+        return ElementTree.fromstring(text).tag.endswith("}svg")
+    except ElementTree.ParseError:
+        return False
 
 
 def tables_of(overrides):
@@ -113,6 +125,14 @@ def of_replay(text):
         return Answer(2, b"", f"{refusal_of_text}\n".encode())
     printed = replayed(text)
     return Answer(int(len(printed) > 1 or printed[0].startswith("differs")), lines(printed), b"")
+
+
+def of_show(text, whole):
+    """What a table or a chart ends with: of all of a recording, 1 where a replay finds something."""
+    refusal_of_text = refusal(text)
+    if refusal_of_text:
+        return Answer(2, b"", f"{refusal_of_text}\n".encode())
+    return Answer(of_replay(text).status if whole else None, None, b"")
 
 
 def of_trial(shape, tables, text, setup):

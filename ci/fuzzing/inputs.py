@@ -14,7 +14,7 @@ from model.trials import tree_of, trial
 
 TABLES = b"overrides.json"
 WORDS = (
-    b"play trial batch replay floor tables certify --caches --blocks --tables --seed --number --limit --trials --workers --seats --turns "
+    b"play trial batch replay floor tables certify show chart --block --from --steps --caches --blocks --tables --seed --number --limit --trials --workers --seats --turns "
     b"--progress --help --version -h -V help -- - --caches=2 --blocks=1 --colour 0 1 2 3 64 65 1024 1025 4096 4097 1000000 1000001 "
     b"4294967295 4294967296 18446744073709551615 18446744073709551616 -1 +1 01 1.0 two overrides.json absent.json \xff \xe2\x80\x8b"
 ).split(b" ") + [b"", b" "]
@@ -105,6 +105,12 @@ def replay(dice):
     return Input("replay", [b"replay"], text, None, lambda: answers.of_replay(text))
 
 
+def shown(dice):
+    command, text = dice.choice(["show", "chart"]), perhaps(dice, 0.5, recording(dice))
+    part = dice.choice([[], [], [b"--block", b"%d" % dice.randrange(3)], [b"--from", b"%d" % dice.randrange(9), b"--steps", b"%d" % dice.randrange(9)]])
+    return Input(command, [command.encode(), *part], text, None, lambda: answers.of_show(text, not part))
+
+
 def of_trials(dice, command, own, least, answer_of):
     shape, overrides = shape_of(dice), overrides_for(dice, 0.3, 0.1)
     text, setup = scenario_of(dice, shape, 0.6), setup_of(dice, least)
@@ -134,7 +140,7 @@ def floor(dice):
 
 def other_words(dice):
     """Words of a command that are good but for some of them, or any words."""
-    made = dice.choice([play, tables, certify, replay, one_trial, batch, floor])(dice)
+    made = dice.choice([play, tables, certify, replay, shown, one_trial, batch, floor])(dice)
     words = list(made.words) if dice.random() < 0.8 else [dice.choice(WORDS) for _ in range(dice.randrange(8))]
     for _ in range(dice.randrange(1, 4)):
         at = dice.randrange(len(words) + 1)
@@ -142,7 +148,7 @@ def other_words(dice):
     return Input("words", [word for word in words if b"\0" not in word], made.text, made.overrides, lambda: None)
 
 
-KINDS = [play] * 6 + [replay] * 6 + [tables] * 3 + [certify] * 2 + [one_trial] * 3 + [batch] * 2 + [floor, other_words]
+KINDS = [play] * 6 + [replay] * 6 + [shown] * 2 + [tables] * 3 + [certify] * 2 + [one_trial] * 3 + [batch] * 2 + [floor, other_words]
 
 
 def random_input(dice):

@@ -175,6 +175,36 @@ fn replay<'a>(alloc: Global) -> Command<'a> {
     )
 }
 
+/// An option that takes a number, and may be left out.
+fn choice<'a>(alloc: Global, name: &'a str, value: &'a str, help: &'a str) -> Arg<'a> {
+    Arg::new(alloc, name)
+        .long(name)
+        .value_name(value)
+        .help(help)
+        .action(ArgAction::Set)
+        .value_parser(value_parser!(u32))
+}
+
+/// The options that choose a part of a recording.
+fn options_of_parts<'a>(alloc: Global) -> Result<Vec<Arg<'a>>, AllocError> {
+    let options = vec![in alloc;
+        choice(alloc, "block", "B", "Only the steps of this block"),
+        choice(alloc, "from", "K", "The first entry, counted from 0"),
+        choice(alloc, "steps", "N", "How many entries from there on"),
+    ]?;
+    Ok(options)
+}
+
+fn show<'a>(alloc: Global) -> Result<Command<'a>, AllocError> {
+    let about = "Reads a recording, and prints a table of what each step did";
+    command(alloc, "show", about, options_of_parts(alloc)?)
+}
+
+fn chart<'a>(alloc: Global) -> Result<Command<'a>, AllocError> {
+    let about = "Reads a recording, and prints it as a message sequence chart, in SVG";
+    command(alloc, "chart", about, options_of_parts(alloc)?)
+}
+
 /// The command line of `msi`.
 pub fn msi<'a>(alloc: Global) -> Result<Command<'a>, AllocError> {
     let msi = Command::new(alloc, "msi")
@@ -185,6 +215,8 @@ pub fn msi<'a>(alloc: Global) -> Result<Command<'a>, AllocError> {
     let msi = with(msi, trial(alloc));
     let msi = with(msi, batch(alloc));
     let msi = with(msi, Ok(replay(alloc)));
+    let msi = with(msi, show(alloc));
+    let msi = with(msi, chart(alloc));
     let msi = with(msi, floor(alloc));
     let msi = with(msi, tables(alloc));
     with(msi, certify(alloc))

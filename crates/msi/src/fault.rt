@@ -1,6 +1,7 @@
 use crate::files::LoadFault;
 use base::{NoMemory, ShapeFault};
 use both_tables::TablesFault;
+use charts::{ChartFault, MOST_ROWS};
 use record::{ReadFault, ReadKind, WriteFault};
 use scenario::ScenarioFault;
 use std::alloc::{AllocError, AllocFailed};
@@ -38,6 +39,9 @@ pub enum Fault {
     /// The recording is refused at a line, counted from 1.
     #[error("msi: recording line {0} refused {1}")]
     Recording(u64, Refusal<ReadKind>),
+    /// More steps are chosen than a picture has room for.
+    #[error("msi: {0} steps, and a picture has room for {MOST_ROWS}: choose fewer, by --from and --steps or by --block")]
+    TooManySteps(u64),
     /// A read or a write failed.
     #[error("msi: device")]
     Device,
@@ -66,7 +70,8 @@ impl Fault {
             | Fault::Setup(_)
             | Fault::Tables(_)
             | Fault::Scenario(_)
-            | Fault::Recording(..) => 2,
+            | Fault::Recording(..)
+            | Fault::TooManySteps(_) => 2,
             Fault::Device | Fault::NoMemory => 3,
         }
     }
@@ -97,6 +102,16 @@ impl From<ReadFault> for Fault {
                     fault: kind,
                 },
             ),
+        }
+    }
+}
+
+impl From<ChartFault> for Fault {
+    fn from(fault: ChartFault) -> Fault {
+        match fault {
+            ChartFault::TooManySteps(count) => Fault::TooManySteps(count),
+            ChartFault::Device => Fault::Device,
+            ChartFault::NoMemory => Fault::NoMemory,
         }
     }
 }

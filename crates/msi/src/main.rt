@@ -8,6 +8,7 @@ mod fault;
 mod files;
 mod finding;
 mod lines;
+mod picturing;
 mod play;
 mod players;
 mod racing;

@@ -3,6 +3,7 @@ use crate::commands;
 use crate::fault::Fault;
 use crate::files::Files;
 use crate::finding::Finding;
+use crate::picturing::print_recording;
 use crate::play::play;
 use crate::racing::race;
 use crate::replay::replay;
@@ -108,6 +109,7 @@ fn carry_out<R: Threads + Wait + Sync, I: Read + Drop, O: Write + Drop, E: Write
         }
         Task::Floor(setup, seats, turns) => race(rt, alloc, &setup, seats, turns, input, output),
         Task::Replay => replay(alloc, input, output),
+        Task::Show(form, part) => print_recording(alloc, form, part, input, output),
         Task::Tables(tables) => print_tables(alloc, &tables, output),
         Task::Certify(tables) => print_certificate(alloc, &tables, output),
     };

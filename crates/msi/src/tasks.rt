@@ -1,7 +1,9 @@
 use crate::fault::Fault;
 use crate::files::Files;
-use base::Shape;
+use crate::picturing::Form;
+use base::{BlockId, Shape};
 use both_tables::Tables;
+use charts::Part;
 use clap::ArgMatches;
 use record::MOST_ENTRIES;
 use std::alloc::Global;
@@ -20,6 +22,8 @@ pub enum Task {
     Floor(Setup, u32, u32),
     /// Replay a recording.
     Replay,
+    /// Show a part of a recording in this form.
+    Show(Form, Part),
     /// Print the cells of these tables.
     Tables(Tables),
     /// Print whether these tables are proved safe.
@@ -54,6 +58,8 @@ impl Task {
             "batch" => Some(Task::Batch(trying(alloc, options, files)?, plan(options))),
             "floor" => Some(racing(alloc, options, files)?),
             "replay" => Some(Task::Replay),
+            "show" => Some(Task::Show(Form::Table, part(options))),
+            "chart" => Some(Task::Show(Form::Chart, part(options))),
             "tables" => Some(Task::Tables(tables(alloc, options, files)?)),
             "certify" => Some(Task::Certify(tables(alloc, options, files)?)),
             _ => None,
@@ -63,6 +69,15 @@ impl Task {
 
 fn shape(options: &ArgMatches<'_>) -> Result<Shape, Fault> {
     Ok(Shape::new(number(options, "caches"), number(options, "blocks"))?)
+}
+
+/// The part of a recording that the options choose: all of it, where they are left out.
+fn part(options: &ArgMatches<'_>) -> Part {
+    Part {
+        block: options.get_one::<u32>("block").map(BlockId),
+        from: u64::from(number(options, "from")),
+        steps: u64::from(options.get_one::<u32>("steps").unwrap_or(u32::MAX)),
+    }
 }
 
 fn trying<F: Files>(

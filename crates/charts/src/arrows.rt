@@ -1,0 +1,218 @@
+use crate::captions::{ArrowText, BlockText, EndText, length};
+use crate::fault::ChartFault;
+use crate::layout::{LETTER, Layout};
+use crate::picture::{Arrow, Picture};
+use crate::svg::{Anchor, Pen, Point};
+use network::Message;
+use std::io::Write;
+
+/// How far above a row's middle messages come in, and how far below it they go out.
+const BESIDE: i64 = 5;
+/// How long the tip of an arrow is, and half of how wide.
+const TIP: i64 = 9;
+
+const HALF_TIP: i64 = 4;
+
+/// To which side an arrow goes.
+#[derive(Clone, Copy)]
+pub enum Heading {
+    Left,
+    Right,
+}
+
+impl Heading {
+    /// From one place to another one, and to the left from a place to itself.
+    pub fn of(from: u32, to: u32) -> Heading {
+        if to > from {
+            Heading::Right
+        } else {
+            Heading::Left
+        }
+    }
+
+    /// How far right it is to go so far along.
+    pub fn along(self, distance: i64) -> i64 {
+        match self {
+            Heading::Left => distance.saturating_neg(),
+            Heading::Right => distance,
+        }
+    }
+
+    pub fn back(self) -> Heading {
+        match self {
+            Heading::Left => Heading::Right,
+            Heading::Right => Heading::Left,
+        }
+    }
+}
+
+/// The way of an arrow: slanted at first, and level where its name stands, before its tip.
+#[derive(Clone, Copy)]
+struct Way {
+    from: Point,
+    bend: Point,
+    tip: Point,
+    heading: Heading,
+    /// Whether it goes back to where it comes from.
+    is_loop: bool,
+}
+
+/// What is drawn of arrows: their lines come under the boxes, and their names over them.
+#[derive(Clone, Copy)]
+pub enum Layer {
+    Lines,
+    Names,
+}
+
+/// Draws a layer of the arrows of a picture.
+pub fn draw_arrows<W: Write>(
+    pen: &mut Pen<'_, W>,
+    picture: &Picture,
+    layout: &Layout,
+    layer: Layer,
+) -> Result<(), ChartFault> {
+    let mut left: usize = 0;
+    for arrow in picture.arrows.iter() {
+        let row = arrow.row_in(picture);
+        let height = match row {
+            Some(row) => layout.row_y(row),
+            None => layout.tail_y(left),
+        };
+        if let Some(way) = Way::of(picture, layout, arrow, row, height) {
+            match layer {
+                Layer::Lines => draw(pen, arrow, row, way)?,
+                Layer::Names => name(pen, picture, arrow, row, way)?,
+            }
+        }
+        if row.is_none() {
+            left = left.saturating_add(1);
+        }
+    }
+    Ok(())
+}
+
+impl Way {
+    fn of(
+        picture: &Picture,
+        layout: &Layout,
+        arrow: &Arrow,
+        row: Option<usize>,
+        height: i64,
+    ) -> Option<Way> {
+        let (from, to) = layout.lanes.of_trip(&arrow.trip)?;
+        let heading = Heading::of(from, to);
+        let half = layout.half(picture, row);
+        let tip = Point {
+            x: layout.lane_x(to).saturating_add(heading.back().along(half)),
+            y: height.saturating_sub(BESIDE),
+        };
+        let level = length(&name_of(picture, arrow))
+            .saturating_mul(LETTER)
+            .saturating_add(TIP + 6);
+        Some(Way {
+            from: start_of(picture, layout, arrow, from, to),
+            bend: tip.moved(heading.back().along(level), 0),
+            tip,
+            heading,
+            is_loop: from == to,
+        })
+    }
+
+    /// A place so far before the tip.
+    fn before_tip(&self, distance: i64) -> Point {
+        self.tip.moved(self.heading.back().along(distance), 0)
+    }
+}
+
+/// Where an arrow begins: beside its sender, or at the upper edge.
+fn start_of(picture: &Picture, layout: &Layout, arrow: &Arrow, from: u32, to: u32) -> Point {
+    let lane = layout.lane_x(from);
+    let Some(sent) = picture.row_of(arrow.trip.sent) else {
+        return Point {
+            x: lane,
+            y: layout.top(picture),
+        };
+    };
+    let half = layout.half(picture, Some(sent));
+    let aside = if from == to {
+        half
+    } else {
+        Heading::of(from, to).along(half)
+    };
+    Point {
+        x: lane.saturating_add(aside),
+        y: layout.row_y(sent).saturating_add(BESIDE),
+    }
+}
+
+/// Draws an arrow's line and tip. What is served behind the picture has no tip.
+fn draw<W: Write>(
+    pen: &mut Pen<'_, W>,
+    arrow: &Arrow,
+    row: Option<usize>,
+    way: Way,
+) -> Result<(), ChartFault> {
+    pen.group("arrow", kind_of(arrow), end_of(arrow, row))?;
+    let stop = way.before_tip(TIP - 1);
+    if way.is_loop {
+        let turn = way.bend.moved(8, 0);
+        let corner = Point {
+            x: turn.x,
+            y: way.from.y,
+        };
+        pen.path("wire", &[way.from, corner, turn, stop])?;
+    } else {
+        pen.path("wire", &[way.from, way.bend, stop])?;
+    }
+    if row.is_some() || arrow.served.is_none() {
+        let back = way.before_tip(TIP);
+        let corners = [way.tip, back.moved(0, -HALF_TIP), back.moved(0, HALF_TIP)];
+        pen.shape("head", &corners)?;
+    }
+    pen.markup("</g>\n")
+}
+
+/// Writes an arrow's name above its level part, and behind its tip how it ends where that isn't in the picture.
+fn name<W: Write>(
+    pen: &mut Pen<'_, W>,
+    picture: &Picture,
+    arrow: &Arrow,
+    row: Option<usize>,
+    way: Way,
+) -> Result<(), ChartFault> {
+    let name = name_of(picture, arrow);
+    let half = length(&name).saturating_mul(LETTER) / 2;
+    let at = way.before_tip(half.saturating_add(TIP + 2)).moved(0, -4);
+    pen.text("label", at, Anchor::Middle, &name)?;
+    if row.is_some() {
+        return Ok(());
+    }
+    let (at, anchor) = match way.heading {
+        Heading::Right => (way.tip.moved(12, 4), Anchor::Start),
+        Heading::Left => (way.tip.moved(-12, 4), Anchor::End),
+    };
+    pen.text("met", at, anchor, &EndText(arrow.served))
+}
+
+fn name_of(picture: &Picture, arrow: &Arrow) -> ArrowText {
+    ArrowText {
+        trip: arrow.trip,
+        block: BlockText::of(picture, arrow.trip.block),
+    }
+}
+
+fn kind_of(arrow: &Arrow) -> &'static str {
+    match arrow.trip.message {
+        Message::Request(_) => "request",
+        Message::Forward(..) => "forward",
+        Message::Response(_) => "response",
+    }
+}
+
+fn end_of(arrow: &Arrow, row: Option<usize>) -> &'static str {
+    match (row, arrow.served) {
+        (Some(_), _) => "",
+        (None, Some(_)) => " later",
+        (None, None) => " never",
+    }
+}

@@ -1,0 +1,228 @@
+use crate::lanes::Lane;
+use crate::picture::Picture;
+use crate::story::{Happening, Sight};
+use crate::trips::Trip;
+use crate::words::{AskText, LabelText, state_name};
+use base::{Ask, BlockId, Outcome, Step};
+use monitor::Violation;
+use std::fmt;
+use std::fmt::Write as _;
+
+/// Which block something in a picture is of, where this has to be told.
+#[derive(Clone, Copy)]
+pub struct BlockText(Option<BlockId>);
+
+impl BlockText {
+    pub fn of(picture: &Picture, block: BlockId) -> BlockText {
+        if picture.has_blocks() {
+            BlockText(Some(block))
+        } else {
+            BlockText(None)
+        }
+    }
+}
+
+impl fmt::Display for BlockText {
+    fn fmt<W: fmt::Write>(&self, f: &mut fmt::Formatter<W>) -> fmt::Result {
+        match self.0 {
+            None => Ok(()),
+            Some(block) => write!(f, " b{}", block.0),
+        }
+    }
+}
+
+/// The name on an arrow.
+#[derive(Clone, Copy)]
+pub struct ArrowText {
+    pub trip: Trip,
+    pub block: BlockText,
+}
+
+impl fmt::Display for ArrowText {
+    fn fmt<W: fmt::Write>(&self, f: &mut fmt::Formatter<W>) -> fmt::Result {
+        write!(f, "{}{}", LabelText(self.trip.message), self.block)
+    }
+}
+
+/// How a message ends that isn't served in the picture.
+#[derive(Clone, Copy)]
+pub struct EndText(pub Option<u64>);
+
+impl fmt::Display for EndText {
+    fn fmt<W: fmt::Write>(&self, f: &mut fmt::Formatter<W>) -> fmt::Result {
+        match self.0 {
+            None => f.write_str("never served"),
+            Some(number) => write!(f, "served by step {number}"),
+        }
+    }
+}
+
+/// What stands in a controller's box: its state.
+#[derive(Clone, Copy)]
+pub struct BoxText {
+    pub sight: Sight,
+    pub block: BlockText,
+}
+
+impl BoxText {
+    pub fn of(picture: &Picture, sight: Sight, block: BlockId) -> BoxText {
+        BoxText {
+            sight,
+            block: BlockText::of(picture, block),
+        }
+    }
+}
+
+impl fmt::Display for BoxText {
+    fn fmt<W: fmt::Write>(&self, f: &mut fmt::Formatter<W>) -> fmt::Result {
+        f.write_str(state_name(self.sight))?;
+        match self.sight {
+            Sight::Line(..) => write!(f, "{}", self.block),
+            Sight::Home(..) => Ok(()),
+        }
+    }
+}
+
+/// What a core asks.
+#[derive(Clone, Copy)]
+pub struct AskedText {
+    pub ask: Ask,
+    pub block: BlockText,
+}
+
+impl fmt::Display for AskedText {
+    fn fmt<W: fmt::Write>(&self, f: &mut fmt::Formatter<W>) -> fmt::Result {
+        write!(f, "asks {}{}", AskText(self.ask), self.block)
+    }
+}
+
+/// What stands beside a controller: the load or store that completed, or why nothing was done.
+#[derive(Clone, Copy)]
+pub struct MarkText {
+    pub outcome: Outcome,
+    pub block: BlockText,
+}
+
+impl fmt::Display for MarkText {
+    fn fmt<W: fmt::Write>(&self, f: &mut fmt::Formatter<W>) -> fmt::Result {
+        match self.outcome {
+            Outcome::Sent | Outcome::Moved => Ok(()),
+            Outcome::Load { value, .. } => write!(f, "load {value}{}", self.block),
+            Outcome::Store { value, .. } => write!(f, "store {value}{}", self.block),
+            other => write!(f, "{other}"),
+        }
+    }
+}
+
+/// The step of a row, with its outcome where there is no controller to put it beside.
+#[derive(Clone, Copy)]
+pub struct StepText(pub Happening);
+
+impl fmt::Display for StepText {
+    fn fmt<W: fmt::Write>(&self, f: &mut fmt::Formatter<W>) -> fmt::Result {
+        write!(f, "{}", self.0.step)?;
+        match self.0.place {
+            Some(_) => Ok(()),
+            None => write!(f, " {}", self.0.outcome),
+        }
+    }
+}
+
+/// The ask of a step, if it is one.
+pub fn ask_of(step: Step) -> Option<Ask> {
+    match step {
+        Step::Ask { ask, .. } => Some(ask),
+        _ => None,
+    }
+}
+
+/// How many bytes a text has.
+pub fn length<D: fmt::Display>(text: &D) -> i64 {
+    let mut counter = Counter(0);
+    let _ = write!(counter, "{text}");
+    counter.0
+}
+
+#[derive(Drop)]
+struct Counter(i64);
+
+impl fmt::Write for Counter {
+    fn write_str(&mut self, text: &str) -> fmt::Result {
+        self.0 = self
+            .0
+            .saturating_add(i64::try_from(text.len()).unwrap_or(0));
+        Ok(())
+    }
+}
+
+/// The name of a lifeline.
+#[derive(Clone, Copy)]
+pub struct LaneText {
+    lane: Lane,
+    has_blocks: bool,
+}
+
+impl LaneText {
+    pub fn of(picture: &Picture, lane: Lane) -> LaneText {
+        LaneText {
+            lane,
+            has_blocks: picture.has_blocks(),
+        }
+    }
+}
+
+impl fmt::Display for LaneText {
+    fn fmt<W: fmt::Write>(&self, f: &mut fmt::Formatter<W>) -> fmt::Result {
+        match self.lane {
+            Lane::Cache(cache) => write!(f, "cache {}", cache.0),
+            Lane::Home(block) if self.has_blocks => write!(f, "home of b{}", block.0),
+            Lane::Home(_) => f.write_str("home"),
+        }
+    }
+}
+
+/// What stands before the controllers at the start.
+#[derive(Clone, Copy)]
+pub struct StartText(pub BlockText);
+
+impl fmt::Display for StartText {
+    fn fmt<W: fmt::Write>(&self, f: &mut fmt::Formatter<W>) -> fmt::Result {
+        write!(f, "at the start{}", self.0)
+    }
+}
+
+/// Which outcome was told of a step that has another one.
+#[derive(Clone, Copy)]
+pub struct ToldText(pub Happening);
+
+impl fmt::Display for ToldText {
+    fn fmt<W: fmt::Write>(&self, f: &mut fmt::Formatter<W>) -> fmt::Result {
+        write!(f, "told {}, found {}", self.0.told, self.0.outcome)
+    }
+}
+
+/// What is wrong after a step.
+#[derive(Clone, Copy)]
+pub struct ViolationText(pub Violation);
+
+impl fmt::Display for ViolationText {
+    fn fmt<W: fmt::Write>(&self, f: &mut fmt::Formatter<W>) -> fmt::Result {
+        write!(f, "violation {}", self.0)
+    }
+}
+
+/// What a picture is about.
+#[derive(Clone, Copy)]
+pub struct TitleText {
+    pub steps: usize,
+}
+
+impl fmt::Display for TitleText {
+    fn fmt<W: fmt::Write>(&self, f: &mut fmt::Formatter<W>) -> fmt::Result {
+        write!(
+            f,
+            "{} steps of a recording, as a message sequence chart",
+            self.steps
+        )
+    }
+}

@@ -1,0 +1,65 @@
+use crate::arrows::{Layer, draw_arrows};
+use crate::captions::TitleText;
+use crate::fault::ChartFault;
+use crate::layout::Layout;
+use crate::marks::{draw_guides, draw_rows, draw_starts};
+use crate::part::{Part, Shown};
+use crate::picture::Picture;
+use crate::style::STYLE;
+use crate::surroundings::{draw_bands, draw_findings, draw_legend, draw_lifelines, draw_plates};
+use crate::svg::{Pen, Point};
+use base::Shape;
+use record::Recording;
+use std::alloc::Global;
+use std::io::Write;
+
+/// The most steps that one picture has.
+pub const MOST_ROWS: u64 = 2000;
+
+/// Makes the steps of a recording again, and draws a part of them as a message sequence chart, in SVG.
+///
+/// It is refused `TooManySteps` where the part has more than [`MOST_ROWS`] steps; nothing is written then.
+pub fn chart<W: Write>(
+    alloc: Global,
+    recording: &Recording,
+    part: Part,
+    output: &mut W,
+) -> Result<Shown, ChartFault> {
+    let picture = Picture::of(alloc, recording, part)?;
+    draw_picture(alloc, &picture, recording.shape(), output)?;
+    Ok(picture.shown())
+}
+
+fn draw_picture<W: Write>(
+    alloc: Global,
+    picture: &Picture,
+    shape: Shape,
+    output: &mut W,
+) -> Result<(), ChartFault> {
+    let layout = Layout::of(alloc, picture, shape)?;
+    draw(&mut Pen::new(alloc, output), picture, &layout)
+}
+
+/// Draws a picture: what stands behind comes first.
+fn draw<W: Write>(
+    pen: &mut Pen<'_, W>,
+    picture: &Picture,
+    layout: &Layout,
+) -> Result<(), ChartFault> {
+    pen.begin(layout.size, STYLE)?;
+    pen.title(&TitleText {
+        steps: picture.rows.len(),
+    })?;
+    pen.rectangle("page", Point { x: 0, y: 0 }, layout.size)?;
+    draw_bands(pen, picture, layout)?;
+    draw_guides(pen, picture, layout)?;
+    draw_lifelines(pen, layout)?;
+    draw_arrows(pen, picture, layout, Layer::Lines)?;
+    draw_plates(pen, picture, layout)?;
+    draw_starts(pen, picture, layout)?;
+    draw_rows(pen, picture, layout)?;
+    draw_arrows(pen, picture, layout, Layer::Names)?;
+    draw_findings(pen, picture, layout)?;
+    draw_legend(pen, layout)?;
+    pen.markup("</svg>\n")
+}

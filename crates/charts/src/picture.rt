@@ -1,0 +1,242 @@
+use crate::charting::MOST_ROWS;
+use crate::fault::ChartFault;
+use crate::part::{Cut, Part, Shown};
+use crate::story::{Happening, Sight, Story, look};
+use crate::trips::Trip;
+use base::{BlockId, CacheId, NoMemory, Place};
+use cache_table::CacheState;
+use record::{Entry, Recording};
+use std::alloc::Global;
+
+/// What is drawn of a part of a recording.
+#[derive(Drop)]
+pub struct Picture {
+    pub rows: Vec<Happening>,
+    /// The numbers of the rows' steps.
+    numbers: Vec<u64>,
+    pub arrows: Vec<Arrow>,
+    /// The blocks that are looked at.
+    pub blocks: Vec<BlockId>,
+    /// What controllers are at the part's start, but for lines in I where there are several blocks.
+    pub starts: Vec<Start>,
+}
+
+/// A message, with the number of the step that served it, if one did.
+#[derive(Clone, Copy)]
+pub struct Arrow {
+    pub trip: Trip,
+    pub served: Option<u64>,
+}
+
+impl Arrow {
+    /// The row that it is served in, if that is in the picture.
+    pub fn row_in(&self, picture: &Picture) -> Option<usize> {
+        picture.row_of(self.served?)
+    }
+}
+
+/// A controller at the part's start.
+#[derive(Clone, Copy)]
+pub struct Start {
+    pub block: BlockId,
+    pub sight: Sight,
+}
+
+impl Picture {
+    /// The picture of a part of a recording, whose steps are made again.
+    pub fn of(alloc: Global, recording: &Recording, part: Part) -> Result<Picture, ChartFault> {
+        let cut = part.cut(recording.entries());
+        let count = count(part, cut.chosen);
+        if count > MOST_ROWS {
+            return Err(ChartFault::TooManySteps(count));
+        }
+        let looked_at = part.blocks(alloc, recording.shape(), cut.chosen)?;
+        Picture::of_blocks(alloc, recording, part, looked_at.as_slice())
+    }
+
+    /// The picture of a part that is about these blocks.
+    fn of_blocks(
+        alloc: Global,
+        recording: &Recording,
+        part: Part,
+        looked_at: &[bool],
+    ) -> Result<Picture, ChartFault> {
+        let mut story = Story::open(alloc, recording)?;
+        let cut = part.cut(recording.entries());
+        Picture::of_story(alloc, &mut story, part, cut, looked_at)
+    }
+
+    fn of_story(
+        alloc: Global,
+        story: &mut Story,
+        part: Part,
+        cut: Cut<'_>,
+        looked_at: &[bool],
+    ) -> Result<Picture, ChartFault> {
+        let mut picture = Picture::open(alloc, looked_at)?;
+        picture.fill(alloc, story, part, cut, looked_at)?;
+        Ok(picture)
+    }
+
+    fn fill(
+        &mut self,
+        alloc: Global,
+        story: &mut Story,
+        part: Part,
+        cut: Cut<'_>,
+        looked_at: &[bool],
+    ) -> Result<(), NoMemory> {
+        story.skip(cut.before)?;
+        self.begin(story)?;
+        self.tell(story, part, cut.chosen)?;
+        let end = story.number();
+        self.follow(story, looked_at, cut.behind, end)?;
+        self.leave(alloc, story, end)
+    }
+
+    fn open(alloc: Global, looked_at: &[bool]) -> Result<Picture, NoMemory> {
+        let mut blocks = Vec::new(alloc);
+        for (number, looked_at) in (0..u32::MAX).zip(looked_at.iter()) {
+            if *looked_at {
+                blocks.push(BlockId(number))?;
+            }
+        }
+        Ok(Picture {
+            rows: Vec::new(alloc),
+            numbers: Vec::new(alloc),
+            arrows: Vec::new(alloc),
+            blocks,
+            starts: Vec::new(alloc),
+        })
+    }
+
+    /// Whether there are several blocks, which have to be told apart.
+    pub fn has_blocks(&self) -> bool {
+        self.blocks.len() > 1
+    }
+
+    /// What its rows show.
+    pub fn shown(&self) -> Shown {
+        let mut shown = Shown::nothing();
+        for row in self.rows.iter() {
+            shown.note(row);
+        }
+        shown
+    }
+
+    /// The row of the step of a number, if it is in the picture.
+    pub fn row_of(&self, number: u64) -> Option<usize> {
+        self.numbers.as_slice().binary_search(&number).ok()
+    }
+
+    /// Notes what the controllers are before the first row.
+    fn begin(&mut self, story: &Story) -> Result<(), NoMemory> {
+        let shows_all = !self.has_blocks();
+        for block in self.blocks.iter() {
+            if let Some(sight) = look(story.world(), *block, Some(Place::Dir)) {
+                self.starts.push(Start {
+                    block: *block,
+                    sight,
+                })?;
+            }
+            begin_lines(story, *block, shows_all, &mut self.starts)?;
+        }
+        Ok(())
+    }
+
+    /// Makes the steps of the rows.
+    fn tell(&mut self, story: &mut Story, part: Part, chosen: &[Entry]) -> Result<(), NoMemory> {
+        for entry in chosen {
+            let happening = story.advance(*entry)?;
+            if part.is_of(happening.step.block()) {
+                self.rows.push(happening)?;
+                self.numbers.push(happening.number)?;
+                self.end(happening)?;
+            }
+        }
+        Ok(())
+    }
+
+    /// Makes the steps behind the rows, and notes which messages of before their end are served.
+    fn follow(
+        &mut self,
+        story: &mut Story,
+        looked_at: &[bool],
+        behind: &[Entry],
+        end: u64,
+    ) -> Result<(), NoMemory> {
+        for entry in behind {
+            let happening = story.advance(*entry)?;
+            let block = happening.step.block();
+            if looked_at.get(block.0 as usize) == Some(&true) && was_sent_before(&happening, end) {
+                self.end(happening)?;
+            }
+        }
+        Ok(())
+    }
+
+    /// Notes the message that a step has served.
+    fn end(&mut self, happening: Happening) -> Result<(), NoMemory> {
+        if let Some(trip) = happening.served {
+            let served = Some(happening.number);
+            self.arrows.push(Arrow { trip, served })?;
+        }
+        Ok(())
+    }
+
+    /// Notes the messages of before the rows' end that no step has served.
+    fn leave(&mut self, alloc: Global, story: &Story, end: u64) -> Result<(), NoMemory> {
+        let mut trips = Vec::new(alloc);
+        for block in self.blocks.iter() {
+            story.flights().list(*block, &mut trips)?;
+        }
+        for trip in trips.iter() {
+            if trip.sent < end {
+                let arrow = Arrow {
+                    trip: *trip,
+                    served: None,
+                };
+                self.arrows.push(arrow)?;
+            }
+        }
+        Ok(())
+    }
+}
+
+/// How many of these entries are in a part.
+fn count(part: Part, chosen: &[Entry]) -> u64 {
+    let mut count: u64 = 0;
+    for entry in chosen {
+        if part.is_of(entry.step.block()) {
+            count = count.saturating_add(1);
+        }
+    }
+    count
+}
+
+fn was_sent_before(happening: &Happening, end: u64) -> bool {
+    match happening.served {
+        Some(trip) => trip.sent < end,
+        None => false,
+    }
+}
+
+fn begin_lines(
+    story: &Story,
+    block: BlockId,
+    shows_all: bool,
+    starts: &mut Vec<Start>,
+) -> Result<(), NoMemory> {
+    let world = story.world();
+    for number in 0..world.shape().caches() {
+        let cache = CacheId(number);
+        let Some(line) = world.line(cache, block) else {
+            break;
+        };
+        if shows_all || line.state != CacheState::I {
+            let sight = Sight::Line(cache, line);
+            starts.push(Start { block, sight })?;
+        }
+    }
+    Ok(())
+}

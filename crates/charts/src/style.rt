@@ -1,0 +1,52 @@
+/// How the parts of a chart look, in light and in dark surroundings. Kinds of messages differ by their strokes, not by
+/// colour alone.
+pub const STYLE: &str = "\
+.page{fill:#ffffff}
+text{font:11px monospace;fill:#1a1a1a}
+.life{stroke:#9a9a9a;stroke-width:1}
+.guide{stroke:#e2e2e2;stroke-width:1}
+.number{fill:#6b6b6b}
+.plate{fill:#e9e9e9;stroke:#1a1a1a;stroke-width:1}
+.title{font-weight:bold}
+.wire{fill:none;stroke-width:1.4}
+.request .wire{stroke:#1b57b3}
+.forward .wire{stroke:#a24300;stroke-dasharray:6 3}
+.response .wire{stroke:#17703a;stroke-width:3}
+.request .head{fill:#1b57b3;stroke:#1b57b3}
+.forward .head{fill:#a24300;stroke:#a24300}
+.response .head{fill:#17703a;stroke:#17703a}
+.never .head{fill:#ffffff}
+.label,.ask,.mark,.met{paint-order:stroke;stroke:#ffffff;stroke-width:4px;stroke-linejoin:round}
+.mark{font-weight:bold}
+.ask,.met{font-style:italic}
+.box,.dot,.tried,.loaded{fill:#ffffff;stroke:#1a1a1a;stroke-width:1}
+.dot,.stored{fill:#1a1a1a}
+.of-home{fill:#e9e9e9}
+.band{fill:#ffd6d6;stroke:#b00020;stroke-width:1}
+.why{fill:#b00020;font-weight:bold;paint-order:stroke;stroke:#ffd6d6;stroke-width:4px;stroke-linejoin:round}
+.told-band{fill:#f0f0f0;stroke:#1a1a1a;stroke-width:1;stroke-dasharray:2 2}
+.told{paint-order:stroke;stroke:#f0f0f0;stroke-width:4px;stroke-linejoin:round}
+@media (prefers-color-scheme:dark){
+.page{fill:#16181c}
+text{fill:#e6e6e6}
+.life{stroke:#7a7f87}
+.guide{stroke:#2c3036}
+.number{fill:#9aa0a8}
+.plate,.of-home{fill:#30343b;stroke:#e6e6e6}
+.request .wire{stroke:#7fb0ff}
+.forward .wire{stroke:#ffb070}
+.response .wire{stroke:#74d99a}
+.request .head{fill:#7fb0ff;stroke:#7fb0ff}
+.forward .head{fill:#ffb070;stroke:#ffb070}
+.response .head{fill:#74d99a;stroke:#74d99a}
+.never .head{fill:#16181c}
+.label,.ask,.mark,.met{stroke:#16181c}
+.box,.tried,.loaded{fill:#16181c;stroke:#e6e6e6}
+.box.of-home{fill:#30343b}
+.dot,.stored{fill:#e6e6e6;stroke:#e6e6e6}
+.band{fill:#5c1620;stroke:#ff8a95}
+.why{fill:#ffb3ba;stroke:#5c1620}
+.told-band{fill:#2a2d33;stroke:#e6e6e6}
+.told{stroke:#2a2d33}
+}
+";
