@@ -1,10 +1,8 @@
 use crate::captions::{ArrowText, BlockText, EndText, length};
-use crate::fault::ChartFault;
 use crate::layout::{LETTER, Layout};
 use crate::picture::{Arrow, Picture};
 use crate::svg::{Anchor, Pen, Point};
 use network::Message;
-use std::io::Write;
 
 /// How far above a row's middle messages come in, and how far below it they go out.
 const BESIDE: i64 = 5;
@@ -65,12 +63,12 @@ pub enum Layer {
 }
 
 /// Draws a layer of the arrows of a picture.
-pub fn draw_arrows<W: Write>(
-    pen: &mut Pen<'_, W>,
+pub fn draw_arrows(
+    pen: &mut Pen,
     picture: &Picture,
     layout: &Layout,
     layer: Layer,
-) -> Result<(), ChartFault> {
+) {
     let mut left: usize = 0;
     for arrow in picture.arrows.iter() {
         let row = arrow.row_in(picture);
@@ -80,15 +78,14 @@ pub fn draw_arrows<W: Write>(
         };
         if let Some(way) = Way::of(picture, layout, arrow, row, height) {
             match layer {
-                Layer::Lines => draw(pen, arrow, row, way)?,
-                Layer::Names => name(pen, picture, arrow, row, way)?,
+                Layer::Lines => draw(pen, arrow, row, way),
+                Layer::Names => name(pen, picture, arrow, row, way),
             }
         }
         if row.is_none() {
             left = left.saturating_add(1);
         }
     }
-    Ok(())
 }
 
 impl Way {
@@ -146,13 +143,13 @@ fn start_of(picture: &Picture, layout: &Layout, arrow: &Arrow, from: u32, to: u3
 }
 
 /// Draws an arrow's line and tip. What is served behind the picture has no tip.
-fn draw<W: Write>(
-    pen: &mut Pen<'_, W>,
+fn draw(
+    pen: &mut Pen,
     arrow: &Arrow,
     row: Option<usize>,
     way: Way,
-) -> Result<(), ChartFault> {
-    pen.group("arrow", kind_of(arrow), end_of(arrow, row))?;
+) {
+    pen.group("arrow", kind_of(arrow), end_of(arrow, row));
     let stop = way.before_tip(TIP - 1);
     if way.is_loop {
         let turn = way.bend.moved(8, 0);
@@ -160,38 +157,38 @@ fn draw<W: Write>(
             x: turn.x,
             y: way.from.y,
         };
-        pen.path("wire", &[way.from, corner, turn, stop])?;
+        pen.path("wire", &[way.from, corner, turn, stop]);
     } else {
-        pen.path("wire", &[way.from, way.bend, stop])?;
+        pen.path("wire", &[way.from, way.bend, stop]);
     }
     if row.is_some() || arrow.served.is_none() {
         let back = way.before_tip(TIP);
         let corners = [way.tip, back.moved(0, -HALF_TIP), back.moved(0, HALF_TIP)];
-        pen.shape("head", &corners)?;
+        pen.shape("head", &corners);
     }
-    pen.markup("</g>\n")
+    pen.end_group();
 }
 
 /// Writes an arrow's name above its level part, and behind its tip how it ends where that isn't in the picture.
-fn name<W: Write>(
-    pen: &mut Pen<'_, W>,
+fn name(
+    pen: &mut Pen,
     picture: &Picture,
     arrow: &Arrow,
     row: Option<usize>,
     way: Way,
-) -> Result<(), ChartFault> {
+) {
     let name = name_of(picture, arrow);
     let half = length(&name).saturating_mul(LETTER) / 2;
     let at = way.before_tip(half.saturating_add(TIP + 2)).moved(0, -4);
-    pen.text("label", at, Anchor::Middle, &name)?;
+    pen.text("label", at, Anchor::Middle, &name);
     if row.is_some() {
-        return Ok(());
+        return;
     }
     let (at, anchor) = match way.heading {
         Heading::Right => (way.tip.moved(12, 4), Anchor::Start),
         Heading::Left => (way.tip.moved(-12, 4), Anchor::End),
     };
-    pen.text("met", at, anchor, &EndText(arrow.served))
+    pen.text("met", at, anchor, &EndText(arrow.served));
 }
 
 fn name_of(picture: &Picture, arrow: &Arrow) -> ArrowText {

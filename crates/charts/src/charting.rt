@@ -5,6 +5,7 @@ use crate::layout::Layout;
 use crate::marks::{draw_guides, draw_rows, draw_starts};
 use crate::part::{Part, Shown};
 use crate::picture::Picture;
+use crate::sheet::Sheet;
 use crate::style::STYLE;
 use crate::surroundings::{draw_bands, draw_findings, draw_legend, draw_lifelines, draw_plates};
 use crate::svg::{Pen, Point};
@@ -26,40 +27,42 @@ pub fn chart<W: Write>(
     output: &mut W,
 ) -> Result<Shown, ChartFault> {
     let picture = Picture::of(alloc, recording, part)?;
-    draw_picture(alloc, &picture, recording.shape(), output)?;
+    print(alloc, &picture, recording.shape(), output)?;
     Ok(picture.shown())
 }
 
-fn draw_picture<W: Write>(
+fn print<W: Write>(
     alloc: Global,
     picture: &Picture,
     shape: Shape,
     output: &mut W,
 ) -> Result<(), ChartFault> {
     let layout = Layout::of(alloc, picture, shape)?;
-    draw(&mut Pen::new(alloc, output), picture, &layout)
+    let sheet = drawn(alloc, picture, &layout);
+    output.write_all(sheet.text()?.as_bytes())?;
+    Ok(())
 }
 
-/// Draws a picture: what stands behind comes first.
-fn draw<W: Write>(
-    pen: &mut Pen<'_, W>,
-    picture: &Picture,
-    layout: &Layout,
-) -> Result<(), ChartFault> {
-    pen.begin(layout.size, STYLE)?;
+/// A picture: what stands behind comes first.
+fn drawn(alloc: Global, picture: &Picture, layout: &Layout) -> Sheet {
+    let mut pen = Pen::begin(alloc, layout.size, STYLE);
+    draw(&mut pen, picture, layout);
+    pen.end()
+}
+
+fn draw(pen: &mut Pen, picture: &Picture, layout: &Layout) {
     pen.title(&TitleText {
         steps: picture.rows.len(),
-    })?;
-    pen.rectangle("page", Point { x: 0, y: 0 }, layout.size)?;
-    draw_bands(pen, picture, layout)?;
-    draw_guides(pen, picture, layout)?;
-    draw_lifelines(pen, layout)?;
-    draw_arrows(pen, picture, layout, Layer::Lines)?;
-    draw_plates(pen, picture, layout)?;
-    draw_starts(pen, picture, layout)?;
-    draw_rows(pen, picture, layout)?;
-    draw_arrows(pen, picture, layout, Layer::Names)?;
-    draw_findings(pen, picture, layout)?;
-    draw_legend(pen, layout)?;
-    pen.markup("</svg>\n")
+    });
+    pen.rectangle("page", Point { x: 0, y: 0 }, layout.size);
+    draw_bands(pen, picture, layout);
+    draw_guides(pen, picture, layout);
+    draw_lifelines(pen, layout);
+    draw_arrows(pen, picture, layout, Layer::Lines);
+    draw_plates(pen, picture, layout);
+    draw_starts(pen, picture, layout);
+    draw_rows(pen, picture, layout);
+    draw_arrows(pen, picture, layout, Layer::Names);
+    draw_findings(pen, picture, layout);
+    draw_legend(pen, layout);
 }

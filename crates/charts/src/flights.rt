@@ -72,17 +72,16 @@ impl Flights {
         flights.add(sent.as_slice())
     }
 
-    /// The messages of a block that are on their way: requests, then those on links, then responses.
-    pub fn list(&self, block: BlockId, trips: &mut Vec<Trip>) -> Result<(), NoMemory> {
-        let Some(flights) = self.blocks.get(block.0 as usize) else {
-            return Ok(());
-        };
-        for row in [&flights.requests, &flights.forwards, &flights.responses] {
-            for trip in row.iter() {
-                trips.push(*trip)?;
-            }
+    /// The messages of a block that are on their way: requests, those on links, and responses.
+    pub fn of(&self, block: BlockId) -> [&[Trip]; 3] {
+        match self.blocks.get(block.0 as usize) {
+            None => [&[], &[], &[]],
+            Some(flights) => [
+                flights.requests.as_slice(),
+                flights.forwards.as_slice(),
+                flights.responses.as_slice(),
+            ],
         }
-        Ok(())
     }
 }
 

@@ -12,6 +12,7 @@ mod layout;
 mod marks;
 mod part;
 mod picture;
+mod sheet;
 mod starting;
 mod story;
 mod style;

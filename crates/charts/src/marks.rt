@@ -2,13 +2,11 @@ use crate::arrows::Heading;
 use crate::captions::{
     AskedText, BlockText, BoxText, MarkText, StartText, StepText, ask_of, length,
 };
-use crate::fault::ChartFault;
 use crate::layout::{LETTER, Layout, changed, half_box};
 use crate::picture::Picture;
 use crate::story::{Happening, Sight};
 use crate::svg::{Anchor, Pen, Point};
 use base::{BlockId, Outcome, Place};
-use std::io::Write;
 
 /// Half of how high a box is.
 const HALF_BOX: i64 = 9;
@@ -16,11 +14,11 @@ const HALF_BOX: i64 = 9;
 const BASE: i64 = 4;
 
 /// Draws for each row a line from its step to where that step goes.
-pub fn draw_guides<W: Write>(
-    pen: &mut Pen<'_, W>,
+pub fn draw_guides(
+    pen: &mut Pen,
     picture: &Picture,
     layout: &Layout,
-) -> Result<(), ChartFault> {
+) {
     for (number, row) in picture.rows.iter().enumerate() {
         if let Some(center) = center_of(layout, number, row) {
             let text = length(&StepText(*row)).saturating_mul(LETTER);
@@ -28,10 +26,9 @@ pub fn draw_guides<W: Write>(
                 x: layout.steps.saturating_add(text).saturating_add(5),
                 y: center.y,
             };
-            pen.line("guide", from, center)?;
+            pen.line("guide", from, center);
         }
     }
-    Ok(())
 }
 
 /// Where the controller of a row stands, if it has one.
@@ -44,11 +41,11 @@ fn center_of(layout: &Layout, number: usize, row: &Happening) -> Option<Point> {
 }
 
 /// Draws what the controllers are at the start.
-pub fn draw_starts<W: Write>(
-    pen: &mut Pen<'_, W>,
+pub fn draw_starts(
+    pen: &mut Pen,
     picture: &Picture,
     layout: &Layout,
-) -> Result<(), ChartFault> {
+) {
     for (number, block) in picture.blocks.iter().enumerate() {
         let at = Point {
             x: layout.steps,
@@ -59,7 +56,7 @@ pub fn draw_starts<W: Write>(
             at,
             Anchor::Start,
             &StartText(BlockText::of(picture, *block)),
-        )?;
+        );
     }
     for start in picture.starts.iter() {
         let number = picture
@@ -72,10 +69,9 @@ pub fn draw_starts<W: Write>(
                 x: layout.lane_x(lane),
                 y: layout.start_y(number),
             };
-            draw_box(pen, picture, center, start.sight, start.block)?;
+            draw_box(pen, picture, center, start.sight, start.block);
         }
     }
-    Ok(())
 }
 
 fn place_of(sight: Sight) -> Place {
@@ -85,13 +81,13 @@ fn place_of(sight: Sight) -> Place {
     }
 }
 
-fn draw_box<W: Write>(
-    pen: &mut Pen<'_, W>,
+fn draw_box(
+    pen: &mut Pen,
     picture: &Picture,
     center: Point,
     sight: Sight,
     block: BlockId,
-) -> Result<(), ChartFault> {
+) {
     let text = BoxText::of(picture, sight, block);
     let half = half_box(&text);
     let class = match sight {
@@ -102,52 +98,51 @@ fn draw_box<W: Write>(
         x: half.saturating_mul(2),
         y: HALF_BOX * 2,
     };
-    pen.rectangle(class, center.moved(half.saturating_neg(), -HALF_BOX), size)?;
-    pen.text("state", center.moved(0, BASE), Anchor::Middle, &text)
+    pen.rectangle(class, center.moved(half.saturating_neg(), -HALF_BOX), size);
+    pen.text("state", center.moved(0, BASE), Anchor::Middle, &text);
 }
 
 /// Draws the rows: the step, and what its controller did.
-pub fn draw_rows<W: Write>(
-    pen: &mut Pen<'_, W>,
+pub fn draw_rows(
+    pen: &mut Pen,
     picture: &Picture,
     layout: &Layout,
-) -> Result<(), ChartFault> {
+) {
     for (number, row) in picture.rows.iter().enumerate() {
         let at = Point {
             x: layout.steps,
             y: layout.row_y(number).saturating_add(BASE),
         };
-        pen.text("number", at.moved(-8, 0), Anchor::End, &row.number)?;
-        pen.text("step", at, Anchor::Start, &StepText(*row))?;
+        pen.text("number", at.moved(-8, 0), Anchor::End, &row.number);
+        pen.text("step", at, Anchor::Start, &StepText(*row));
         if let Some(center) = center_of(layout, number, row) {
-            draw_row(pen, picture, layout, number, row, center)?;
+            draw_row(pen, picture, layout, number, row, center);
         }
     }
-    Ok(())
 }
 
-fn draw_row<W: Write>(
-    pen: &mut Pen<'_, W>,
+fn draw_row(
+    pen: &mut Pen,
     picture: &Picture,
     layout: &Layout,
     number: usize,
     row: &Happening,
     center: Point,
-) -> Result<(), ChartFault> {
+) {
     match (changed(row), row.acted) {
-        (Some(sight), _) => draw_box(pen, picture, center, sight, row.step.block())?,
-        (None, Some(_)) => pen.circle("dot", center, 3)?,
-        (None, None) => pen.circle("tried", center, 3)?,
+        (Some(sight), _) => draw_box(pen, picture, center, sight, row.step.block()),
+        (None, Some(_)) => pen.circle("dot", center, 3),
+        (None, None) => pen.circle("tried", center, 3),
     }
     let half = layout.half(picture, Some(number));
     let block = BlockText::of(picture, row.step.block());
     if let Some(ask) = ask_of(row.step) {
         let at = center.moved(half.saturating_add(7).saturating_neg(), -3);
-        pen.text("ask", at, Anchor::End, &AskedText { ask, block })?;
+        pen.text("ask", at, Anchor::End, &AskedText { ask, block });
     }
     let side = side_of(layout, row);
     let beside = center.moved(side.along(half.saturating_add(7)), -3);
-    draw_mark(pen, row.outcome, block, side, beside)
+    draw_mark(pen, row.outcome, block, side, beside);
 }
 
 /// On which side of its controller the outcome of a row stands: where no message comes in.
@@ -158,23 +153,23 @@ fn side_of(layout: &Layout, row: &Happening) -> Heading {
     }
 }
 
-fn draw_mark<W: Write>(
-    pen: &mut Pen<'_, W>,
+fn draw_mark(
+    pen: &mut Pen,
     outcome: Outcome,
     block: BlockText,
     side: Heading,
     beside: Point,
-) -> Result<(), ChartFault> {
+) {
     let anchor = match side {
         Heading::Left => Anchor::End,
         Heading::Right => Anchor::Start,
     };
     let text = MarkText { outcome, block };
     match outcome {
-        Outcome::Sent | Outcome::Moved => Ok(()),
+        Outcome::Sent | Outcome::Moved => {}
         Outcome::Load { .. } | Outcome::Store { .. } => {
-            pen.circle(mark_class(outcome), beside.moved(side.along(4), -4), 4)?;
-            pen.text("mark", beside.moved(side.along(12), 0), anchor, &text)
+            pen.circle(mark_class(outcome), beside.moved(side.along(4), -4), 4);
+            pen.text("mark", beside.moved(side.along(12), 0), anchor, &text);
         }
         _ => pen.text("met", beside, anchor, &text),
     }

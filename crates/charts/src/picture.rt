@@ -74,13 +74,12 @@ impl Picture {
         looked_at: &[bool],
     ) -> Result<Picture, ChartFault> {
         let mut picture = Picture::open(alloc, looked_at)?;
-        picture.fill(alloc, story, part, cut, looked_at)?;
+        picture.fill(story, part, cut, looked_at)?;
         Ok(picture)
     }
 
     fn fill(
         &mut self,
-        alloc: Global,
         story: &mut Story,
         part: Part,
         cut: Cut<'_>,
@@ -91,7 +90,7 @@ impl Picture {
         self.tell(story, part, cut.chosen)?;
         let end = story.number();
         self.follow(story, looked_at, cut.behind, end)?;
-        self.leave(alloc, story, end)
+        self.leave(story, end)
     }
 
     fn open(alloc: Global, looked_at: &[bool]) -> Result<Picture, NoMemory> {
@@ -185,22 +184,27 @@ impl Picture {
     }
 
     /// Notes the messages of before the rows' end that no step has served.
-    fn leave(&mut self, alloc: Global, story: &Story, end: u64) -> Result<(), NoMemory> {
-        let mut trips = Vec::new(alloc);
+    fn leave(&mut self, story: &Story, end: u64) -> Result<(), NoMemory> {
         for block in self.blocks.iter() {
-            story.flights().list(*block, &mut trips)?;
-        }
-        for trip in trips.iter() {
-            if trip.sent < end {
-                let arrow = Arrow {
-                    trip: *trip,
-                    served: None,
-                };
-                self.arrows.push(arrow)?;
+            for row in story.flights().of(*block) {
+                leave_row(&mut self.arrows, row, end)?;
             }
         }
         Ok(())
     }
+}
+
+/// Notes those of these messages that were sent before a step, as served by none.
+fn leave_row(arrows: &mut Vec<Arrow>, row: &[Trip], end: u64) -> Result<(), NoMemory> {
+    for trip in row {
+        if trip.sent < end {
+            arrows.push(Arrow {
+                trip: *trip,
+                served: None,
+            })?;
+        }
+    }
+    Ok(())
 }
 
 /// How many of these entries are in a part.

@@ -1,86 +1,73 @@
-use crate::fault::ChartFault;
+use crate::sheet::Sheet;
 use crate::story::Story;
-use crate::words::{HomeText, LineText, MessageText, push_holdings};
+use crate::words::{HomeText, LineText, MessageText, put_holdings};
 use base::{BlockId, CacheId};
 use control::Line;
-use std::alloc::Global;
-use std::fmt::Write as _;
-use std::io::Write;
 use world::World;
 
-/// Writes the state at a moment of a story, of those blocks that are looked at: each home, the lines that aren't as they
+/// Puts the state at a moment of a story, of those blocks that are looked at: each home, the lines that aren't as they
 /// open, and the messages that are on their way.
-pub fn write_start<W: Write>(
-    alloc: Global,
-    story: &Story,
-    blocks: &[bool],
-    output: &mut W,
-) -> Result<(), ChartFault> {
-    writeln!(output, "before step {}", story.number())?;
+pub fn put_start(story: &Story, blocks: &[bool], sheet: &mut Sheet) {
+    sheet.push("before step ");
+    sheet.put(&story.number());
+    sheet.push("\n");
     for (number, looked_at) in (0..u32::MAX).zip(blocks.iter()) {
         if *looked_at {
             let block = BlockId(number);
-            write_home(alloc, story.world(), block, output)?;
-            write_lines(story.world(), block, output)?;
-            write_trips(alloc, story, block, output)?;
+            put_home(story.world(), block, sheet);
+            put_lines(story.world(), block, sheet);
+            put_trips(story, block, sheet);
         }
     }
-    Ok(())
 }
 
-fn write_home<W: Write>(
-    alloc: Global,
-    world: &World,
-    block: BlockId,
-    output: &mut W,
-) -> Result<(), ChartFault> {
-    let Some((state, owner, memory)) = world.home(block) else {
-        return Ok(());
-    };
-    let mut holdings = String::new(alloc);
-    push_holdings(world, block, memory, &mut holdings)?;
-    let home = HomeText {
-        before: state,
-        after: state,
-        owner,
-    };
-    writeln!(output, "block {} {home}{holdings}", block.0)?;
-    Ok(())
+/// Begins a line about a block.
+fn put_block(block: BlockId, sheet: &mut Sheet) {
+    sheet.push("block ");
+    sheet.put(&block.0);
+    sheet.push(" ");
 }
 
-fn write_lines<W: Write>(world: &World, block: BlockId, output: &mut W) -> Result<(), ChartFault> {
+fn put_home(world: &World, block: BlockId, sheet: &mut Sheet) {
+    if let Some((state, owner, memory)) = world.home(block) {
+        put_block(block, sheet);
+        sheet.put(&HomeText {
+            before: state,
+            after: state,
+            owner,
+        });
+        put_holdings(world, block, memory, sheet);
+        sheet.push("\n");
+    }
+}
+
+fn put_lines(world: &World, block: BlockId, sheet: &mut Sheet) {
     for number in 0..world.shape().caches() {
         let cache = CacheId(number);
         let Some(line) = world.line(cache, block) else {
             break;
         };
         if line != Line::opened() {
-            let text = LineText {
+            put_block(block, sheet);
+            sheet.put(&LineText {
                 cache,
                 before: line,
                 after: line,
-            };
-            writeln!(output, "block {} {text}", block.0)?;
+            });
+            sheet.push("\n");
         }
     }
-    Ok(())
 }
 
-fn write_trips<W: Write>(
-    alloc: Global,
-    story: &Story,
-    block: BlockId,
-    output: &mut W,
-) -> Result<(), ChartFault> {
-    let mut trips = Vec::new(alloc);
-    story.flights().list(block, &mut trips)?;
-    for trip in trips.iter() {
-        let text = MessageText(trip.message);
-        writeln!(
-            output,
-            "block {} on its way: {text}, sent by step {}",
-            block.0, trip.sent
-        )?;
+fn put_trips(story: &Story, block: BlockId, sheet: &mut Sheet) {
+    for row in story.flights().of(block) {
+        for trip in row.iter() {
+            put_block(block, sheet);
+            sheet.push("on its way: ");
+            sheet.put(&MessageText(trip.message));
+            sheet.push(", sent by step ");
+            sheet.put(&trip.sent);
+            sheet.push("\n");
+        }
     }
-    Ok(())
 }

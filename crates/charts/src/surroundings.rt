@@ -1,9 +1,7 @@
 use crate::captions::{LaneText, ToldText, ViolationText, length};
-use crate::fault::ChartFault;
 use crate::layout::{BAND, LEGEND, LETTER, Layout};
 use crate::picture::Picture;
 use crate::svg::{Anchor, Pen, Point};
-use std::io::Write;
 
 /// How far below the middle of a row the first band behind it begins.
 const BEHIND: i64 = 14;
@@ -13,41 +11,39 @@ const MARGIN: i64 = 10;
 const HALF_PLATE: i64 = 11;
 
 /// Draws a lifeline for each controller that takes part.
-pub fn draw_lifelines<W: Write>(pen: &mut Pen<'_, W>, layout: &Layout) -> Result<(), ChartFault> {
+pub fn draw_lifelines(pen: &mut Pen, layout: &Layout) {
     let (Some(upper), Some(lower)) = (layout.plates.first(), layout.plates.last()) else {
-        return Ok(());
+        return;
     };
     for lane in 0..layout.lanes.count() {
         let x = layout.lane_x(lane);
         let (from, to) = (Point { x, y: *upper }, Point { x, y: *lower });
-        pen.line("life", from, to)?;
+        pen.line("life", from, to);
     }
-    Ok(())
 }
 
 /// Writes the names of the lifelines, above, below and in between.
-pub fn draw_plates<W: Write>(
-    pen: &mut Pen<'_, W>,
+pub fn draw_plates(
+    pen: &mut Pen,
     picture: &Picture,
     layout: &Layout,
-) -> Result<(), ChartFault> {
+) {
     for y in layout.plates.iter() {
         for (number, lane) in (0..u32::MAX).zip(layout.lanes.order.iter()) {
             let center = Point {
                 x: layout.lane_x(number),
                 y: *y,
             };
-            draw_plate(pen, center, &LaneText::of(picture, *lane))?;
+            draw_plate(pen, center, &LaneText::of(picture, *lane));
         }
     }
-    Ok(())
 }
 
-fn draw_plate<W: Write>(
-    pen: &mut Pen<'_, W>,
+fn draw_plate(
+    pen: &mut Pen,
     center: Point,
     name: &LaneText,
-) -> Result<(), ChartFault> {
+) {
     let half = length(name).saturating_mul(LETTER).saturating_add(14) / 2;
     let size = Point {
         x: half.saturating_mul(2),
@@ -57,16 +53,16 @@ fn draw_plate<W: Write>(
         "plate",
         center.moved(half.saturating_neg(), -HALF_PLATE),
         size,
-    )?;
-    pen.text("title", center.moved(0, 4), Anchor::Middle, name)
+    );
+    pen.text("title", center.moved(0, 4), Anchor::Middle, name);
 }
 
 /// Draws a band behind each row that has a violation, or another outcome than was told.
-pub fn draw_bands<W: Write>(
-    pen: &mut Pen<'_, W>,
+pub fn draw_bands(
+    pen: &mut Pen,
     picture: &Picture,
     layout: &Layout,
-) -> Result<(), ChartFault> {
+) {
     let size = Point {
         x: layout.size.x,
         y: BAND - 2,
@@ -77,40 +73,38 @@ pub fn draw_bands<W: Write>(
             y: layout.row_y(number).saturating_add(BEHIND),
         };
         if row.differs() {
-            pen.rectangle("told-band", corner, size)?;
+            pen.rectangle("told-band", corner, size);
             corner = corner.moved(0, BAND);
         }
         if row.violation.is_some() {
-            pen.rectangle("band", corner, size)?;
+            pen.rectangle("band", corner, size);
         }
     }
-    Ok(())
 }
 
 /// Writes what the bands are about.
-pub fn draw_findings<W: Write>(
-    pen: &mut Pen<'_, W>,
+pub fn draw_findings(
+    pen: &mut Pen,
     picture: &Picture,
     layout: &Layout,
-) -> Result<(), ChartFault> {
+) {
     for (number, row) in picture.rows.iter().enumerate() {
         let mut at = Point {
             x: MARGIN,
             y: layout.row_y(number).saturating_add(BEHIND + 13),
         };
         if row.differs() {
-            pen.text("told", at, Anchor::Start, &ToldText(*row))?;
+            pen.text("told", at, Anchor::Start, &ToldText(*row));
             at = at.moved(0, BAND);
         }
         if let Some(violation) = row.violation {
-            pen.text("why", at, Anchor::Start, &ViolationText(violation))?;
+            pen.text("why", at, Anchor::Start, &ViolationText(violation));
         }
     }
-    Ok(())
 }
 
 /// Draws what the strokes and the marks mean.
-pub fn draw_legend<W: Write>(pen: &mut Pen<'_, W>, layout: &Layout) -> Result<(), ChartFault> {
+pub fn draw_legend(pen: &mut Pen, layout: &Layout) {
     let mut at = Point {
         x: MARGIN,
         y: layout.legend,
@@ -122,35 +116,34 @@ pub fn draw_legend<W: Write>(pen: &mut Pen<'_, W>, layout: &Layout) -> Result<()
         ("request never", true, "a message that is never served"),
         ("request later", false, "a message that is served later"),
     ] {
-        draw_sample(pen, at, kind, has_tip, meaning)?;
+        draw_sample(pen, at, kind, has_tip, meaning);
         at = at.moved(0, LEGEND);
     }
     for (class, meaning) in [
         ("stored", "a store completes"),
         ("loaded", "a load completes"),
     ] {
-        pen.circle(class, at.moved(20, 0), 4)?;
-        pen.text("meaning", at.moved(52, 4), Anchor::Start, &meaning)?;
+        pen.circle(class, at.moved(20, 0), 4);
+        pen.text("meaning", at.moved(52, 4), Anchor::Start, &meaning);
         at = at.moved(0, LEGEND);
     }
-    Ok(())
 }
 
-fn draw_sample<W: Write>(
-    pen: &mut Pen<'_, W>,
+fn draw_sample(
+    pen: &mut Pen,
     at: Point,
     kind: &str,
     has_tip: bool,
     meaning: &str,
-) -> Result<(), ChartFault> {
-    pen.group("sample", kind, "")?;
-    pen.path("wire", &[at, at.moved(32, 0)])?;
+) {
+    pen.group("sample", kind, "");
+    pen.path("wire", &[at, at.moved(32, 0)]);
     if has_tip {
         pen.shape(
             "head",
             &[at.moved(40, 0), at.moved(31, -4), at.moved(31, 4)],
-        )?;
+        );
     }
-    pen.markup("</g>\n")?;
-    pen.text("meaning", at.moved(52, 4), Anchor::Start, &meaning)
+    pen.end_group();
+    pen.text("meaning", at.moved(52, 4), Anchor::Start, &meaning);
 }

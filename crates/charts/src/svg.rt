@@ -1,8 +1,6 @@
-use crate::fault::ChartFault;
+use crate::sheet::Sheet;
 use std::alloc::Global;
 use std::fmt;
-use std::fmt::Write as _;
-use std::io::Write;
 
 /// A place in a picture, in pixels from its upper left corner.
 #[derive(Clone, Copy)]
@@ -39,133 +37,150 @@ impl Anchor {
     }
 }
 
-/// Writes the elements of a picture.
+/// Writes the elements of a picture onto a sheet.
 #[derive(Drop)]
-pub struct Pen<'a, W> {
-    output: &'a mut W,
-    /// The text that is being written, before it is escaped.
-    text: String,
+pub struct Pen {
+    sheet: Sheet,
 }
 
-impl<'a, W: Write> Pen<'a, W> {
-    pub fn new(alloc: Global, output: &'a mut W) -> Pen<'a, W> {
-        Pen {
-            output,
-            text: String::new(alloc),
-        }
+impl Pen {
+    /// Begins a picture of this size, with its style.
+    pub fn begin(alloc: Global, size: Point, style: &str) -> Pen {
+        let mut pen = Pen {
+            sheet: Sheet::new(alloc),
+        };
+        pen.markup("<svg xmlns=\"http://www.w3.org/2000/svg\"");
+        pen.number("width", size.x);
+        pen.number("height", size.y);
+        pen.markup(" viewBox=\"0 0 ");
+        pen.sheet.put(&size.x);
+        pen.markup(" ");
+        pen.sheet.put(&size.y);
+        pen.markup("\">\n<style>\n");
+        pen.markup(style);
+        pen.markup("</style>\n");
+        pen
     }
 
-    /// Markup, as it is.
-    pub fn markup(&mut self, markup: &str) -> Result<(), ChartFault> {
-        self.output.write_all(markup.as_bytes())?;
-        Ok(())
+    /// Ends the picture.
+    pub fn end(mut self) -> Sheet {
+        self.markup("</svg>\n");
+        self.sheet
     }
 
-    /// The head of a picture of this size, with its style and its title.
-    pub fn begin(&mut self, size: Point, style: &str) -> Result<(), ChartFault> {
-        let Point { x, y } = size;
-        writeln!(
-            self.output,
-            "<svg xmlns=\"http://www.w3.org/2000/svg\" width=\"{x}\" height=\"{y}\" viewBox=\"0 0 {x} {y}\">"
-        )?;
-        writeln!(self.output, "<style>\n{style}</style>")?;
-        Ok(())
+    fn markup(&mut self, markup: &str) {
+        self.sheet.push(markup);
+    }
+
+    /// Begins an element of a class.
+    fn open(&mut self, name: &str, class: &str) {
+        self.markup("<");
+        self.markup(name);
+        self.word("class", class);
+    }
+
+    fn word(&mut self, name: &str, value: &str) {
+        self.markup(" ");
+        self.markup(name);
+        self.markup("=\"");
+        self.markup(value);
+        self.markup("\"");
+    }
+
+    fn number(&mut self, name: &str, value: i64) {
+        self.markup(" ");
+        self.markup(name);
+        self.markup("=\"");
+        self.sheet.put(&value);
+        self.markup("\"");
+    }
+
+    fn close(&mut self) {
+        self.markup("/>\n");
     }
 
     /// Begins a group of elements, of a class with two more words.
-    pub fn group(&mut self, class: &str, kind: &str, more: &str) -> Result<(), ChartFault> {
-        writeln!(self.output, "<g class=\"{class} {kind}{more}\">")?;
-        Ok(())
+    pub fn group(&mut self, class: &str, kind: &str, more: &str) {
+        self.markup("<g class=\"");
+        self.markup(class);
+        self.markup(" ");
+        self.markup(kind);
+        self.markup(more);
+        self.markup("\">\n");
     }
 
-    pub fn line(&mut self, class: &str, from: Point, to: Point) -> Result<(), ChartFault> {
-        writeln!(
-            self.output,
-            "<line class=\"{class}\" x1=\"{}\" y1=\"{}\" x2=\"{}\" y2=\"{}\"/>",
-            from.x, from.y, to.x, to.y
-        )?;
-        Ok(())
+    pub fn end_group(&mut self) {
+        self.markup("</g>\n");
+    }
+
+    pub fn line(&mut self, class: &str, from: Point, to: Point) {
+        self.open("line", class);
+        self.number("x1", from.x);
+        self.number("y1", from.y);
+        self.number("x2", to.x);
+        self.number("y2", to.y);
+        self.close();
     }
 
     /// A rectangle from its upper left corner.
-    pub fn rectangle(&mut self, class: &str, corner: Point, size: Point) -> Result<(), ChartFault> {
-        writeln!(
-            self.output,
-            "<rect class=\"{class}\" x=\"{}\" y=\"{}\" width=\"{}\" height=\"{}\"/>",
-            corner.x, corner.y, size.x, size.y
-        )?;
-        Ok(())
+    pub fn rectangle(&mut self, class: &str, corner: Point, size: Point) {
+        self.open("rect", class);
+        self.number("x", corner.x);
+        self.number("y", corner.y);
+        self.number("width", size.x);
+        self.number("height", size.y);
+        self.close();
     }
 
-    pub fn circle(&mut self, class: &str, center: Point, radius: i64) -> Result<(), ChartFault> {
-        writeln!(
-            self.output,
-            "<circle class=\"{class}\" cx=\"{}\" cy=\"{}\" r=\"{radius}\"/>",
-            center.x, center.y
-        )?;
-        Ok(())
+    pub fn circle(&mut self, class: &str, center: Point, radius: i64) {
+        self.open("circle", class);
+        self.number("cx", center.x);
+        self.number("cy", center.y);
+        self.number("r", radius);
+        self.close();
     }
 
     /// A line through these points.
-    pub fn path(&mut self, class: &str, points: &[Point]) -> Result<(), ChartFault> {
-        write!(self.output, "<polyline class=\"{class}\" points=\"")?;
-        self.points(points)?;
-        self.markup("\"/>\n")
+    pub fn path(&mut self, class: &str, points: &[Point]) {
+        self.open("polyline", class);
+        self.points(points);
+        self.close();
     }
 
     /// A filled shape with these corners.
-    pub fn shape(&mut self, class: &str, points: &[Point]) -> Result<(), ChartFault> {
-        write!(self.output, "<polygon class=\"{class}\" points=\"")?;
-        self.points(points)?;
-        self.markup("\"/>\n")
+    pub fn shape(&mut self, class: &str, points: &[Point]) {
+        self.open("polygon", class);
+        self.points(points);
+        self.close();
     }
 
-    fn points(&mut self, points: &[Point]) -> Result<(), ChartFault> {
-        for (number, point) in points.iter().enumerate() {
-            let before = if number == 0 { "" } else { " " };
-            write!(self.output, "{before}{},{}", point.x, point.y)?;
+    fn points(&mut self, points: &[Point]) {
+        let mut before = " points=\"";
+        for point in points {
+            self.markup(before);
+            self.sheet.put(&point.x);
+            self.markup(",");
+            self.sheet.put(&point.y);
+            before = " ";
         }
-        Ok(())
+        self.markup("\"");
     }
 
     /// A text, which is escaped.
-    pub fn text<D: fmt::Display>(
-        &mut self,
-        class: &str,
-        at: Point,
-        anchor: Anchor,
-        text: &D,
-    ) -> Result<(), ChartFault> {
-        let name = anchor.name();
-        write!(
-            self.output,
-            "<text class=\"{class}\" x=\"{}\" y=\"{}\" text-anchor=\"{name}\">",
-            at.x, at.y
-        )?;
-        self.content(text)?;
-        self.markup("</text>\n")
+    pub fn text<D: fmt::Display>(&mut self, class: &str, at: Point, anchor: Anchor, text: &D) {
+        self.open("text", class);
+        self.number("x", at.x);
+        self.number("y", at.y);
+        self.word("text-anchor", anchor.name());
+        self.markup(">");
+        self.sheet.put_escaped(text);
+        self.markup("</text>\n");
     }
 
     /// What the whole picture is called.
-    pub fn title<D: fmt::Display>(&mut self, text: &D) -> Result<(), ChartFault> {
-        self.markup("<title>")?;
-        self.content(text)?;
-        self.markup("</title>\n")
-    }
-
-    fn content<D: fmt::Display>(&mut self, text: &D) -> Result<(), ChartFault> {
-        self.text.clear();
-        write!(self.text, "{text}")?;
-        for letter in self.text.chars() {
-            match letter {
-                '&' => self.output.write_all(b"&amp;")?,
-                '<' => self.output.write_all(b"&lt;")?,
-                '>' => self.output.write_all(b"&gt;")?,
-                '"' => self.output.write_all(b"&quot;")?,
-                '\'' => self.output.write_all(b"&#39;")?,
-                other => write!(self.output, "{other}")?,
-            }
-        }
-        Ok(())
+    pub fn title<D: fmt::Display>(&mut self, text: &D) {
+        self.markup("<title>");
+        self.sheet.put_escaped(text);
+        self.markup("</title>\n");
     }
 }

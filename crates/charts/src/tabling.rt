@@ -1,13 +1,13 @@
 use crate::fault::ChartFault;
-use crate::part::{Cut, Part, Shown};
-use crate::starting::write_start;
+use crate::part::{Part, Shown};
+use crate::sheet::Sheet;
+use crate::starting::put_start;
 use crate::story::{Happening, Sight, Story};
 use crate::trips::Trip;
-use crate::words::{HomeText, LineText, MessageText, push_holdings};
+use crate::words::{HomeText, LineText, MessageText, ServedText, put_holdings};
 use base::Shape;
 use record::{Entry, Recording};
-use std::alloc::{AllocError, Global};
-use std::fmt::Write as _;
+use std::alloc::Global;
 use std::io::{self, Write};
 
 /// What the columns have.
@@ -23,30 +23,49 @@ pub fn show<W: Write>(
     part: Part,
     output: &mut W,
 ) -> Result<Shown, ChartFault> {
-    let mut table = Table::open(alloc)?;
+    let mut table = Table::open(alloc);
     table.measure(alloc, recording, part)?;
     let mut story = Story::open(alloc, recording)?;
-    table.print(alloc, &mut story, recording, part, output)
+    story.skip(part.cut(recording.entries()).before)?;
+    print_start(alloc, &story, recording, part, output)?;
+    table.print(&mut story, recording, part, output)
+}
+
+/// Writes the state at the start of a part, to which the story has come.
+fn print_start<W: Write>(
+    alloc: Global,
+    story: &Story,
+    recording: &Recording,
+    part: Part,
+    output: &mut W,
+) -> Result<(), ChartFault> {
+    let chosen = part.cut(recording.entries()).chosen;
+    let blocks = part.blocks(alloc, recording.shape(), chosen)?;
+    let mut sheet = Sheet::new(alloc);
+    put_start(story, blocks.as_slice(), &mut sheet);
+    output.write_all(sheet.text()?.as_bytes())?;
+    Ok(())
 }
 
 /// The lines of a table, of which one at a time is kept.
 #[derive(Drop)]
 struct Table {
     /// The texts of a line's columns, one behind the other.
-    text: String,
-    /// Where each of them ends.
-    ends: Vec<usize>,
-    widths: Vec<usize>,
+    sheet: Sheet,
+    /// Where those columns end that are filled.
+    ends: [usize; 7],
+    filled: usize,
+    widths: [usize; 7],
 }
 
 impl Table {
-    fn open(alloc: Global) -> Result<Table, AllocError> {
-        let widths = vec![in alloc; 0; HEADINGS.len()]?;
-        Ok(Table {
-            text: String::new(alloc),
-            ends: Vec::new(alloc),
-            widths,
-        })
+    fn open(alloc: Global) -> Table {
+        Table {
+            sheet: Sheet::new(alloc),
+            ends: [0; 7],
+            filled: 0,
+            widths: [0; 7],
+        }
     }
 
     /// Makes each column as wide as the texts of a part's lines are.
@@ -57,41 +76,26 @@ impl Table {
         part: Part,
     ) -> Result<(), ChartFault> {
         let mut story = Story::open(alloc, recording)?;
-        self.measure_all(&mut story, part, part.cut(recording.entries()))
+        story.skip(part.cut(recording.entries()).before)?;
+        self.measure_all(&mut story, part, part.cut(recording.entries()).chosen)
     }
 
     fn measure_all(
         &mut self,
         story: &mut Story,
         part: Part,
-        cut: Cut<'_>,
+        chosen: &[Entry],
     ) -> Result<(), ChartFault> {
-        story.skip(cut.before)?;
-        self.fill_headings()?;
+        self.fill_headings();
         self.widen();
-        for entry in cut.chosen {
+        for entry in chosen {
             let happening = story.advance(*entry)?;
             if part.is_of(happening.step.block()) {
-                self.fill(story, &happening)?;
+                self.fill(story, &happening);
                 self.widen();
             }
         }
         Ok(())
-    }
-
-    /// Writes the state at the start of a part of a recording, whose story is at its beginning, and the lines of the part.
-    fn print<W: Write>(
-        &mut self,
-        alloc: Global,
-        story: &mut Story,
-        recording: &Recording,
-        part: Part,
-        output: &mut W,
-    ) -> Result<Shown, ChartFault> {
-        let cut = part.cut(recording.entries());
-        story.skip(cut.before)?;
-        print_start(alloc, story, recording.shape(), part, cut.chosen, output)?;
-        self.write(story, part, cut.chosen, output)
     }
 
     fn widen(&mut self) {
@@ -105,22 +109,22 @@ impl Table {
         }
     }
 
-    /// Writes the lines of these entries, the next ones of a story.
-    fn write<W: Write>(
+    /// Writes the lines of a part, to which the story has come.
+    fn print<W: Write>(
         &mut self,
         story: &mut Story,
+        recording: &Recording,
         part: Part,
-        chosen: &[Entry],
         output: &mut W,
     ) -> Result<Shown, ChartFault> {
-        self.fill_headings()?;
+        self.fill_headings();
         self.write_line(output)?;
         let mut shown = Shown::nothing();
-        for entry in chosen {
+        for entry in part.cut(recording.entries()).chosen {
             let happening = story.advance(*entry)?;
             if part.is_of(happening.step.block()) {
                 shown.note(&happening);
-                self.fill(story, &happening)?;
+                self.fill(story, &happening);
                 self.write_line(output)?;
             }
         }
@@ -128,10 +132,16 @@ impl Table {
     }
 
     /// Writes the line that is kept, each text at its column.
-    fn write_line<W: Write>(&self, output: &mut W) -> io::Result<()> {
+    fn write_line<W: Write>(&self, output: &mut W) -> Result<(), ChartFault> {
+        let line = self.sheet.text()?.as_bytes();
+        self.write_columns(line, output)?;
+        Ok(())
+    }
+
+    fn write_columns<W: Write>(&self, line: &[u8], output: &mut W) -> io::Result<()> {
         let (mut start, mut spaces) = (0, 0);
         for (end, width) in self.ends.iter().zip(self.widths.iter()) {
-            let text = self.text.as_bytes().get(start..*end).unwrap_or(b"");
+            let text = line.get(start..*end).unwrap_or(b"");
             if !text.is_empty() {
                 write_spaces(output, spaces)?;
                 output.write_all(text)?;
@@ -147,107 +157,89 @@ impl Table {
     }
 
     fn clear(&mut self) {
-        self.text.clear();
-        self.ends.clear();
+        self.sheet.clear();
+        self.filled = 0;
     }
 
-    fn end_text(&mut self) -> Result<(), AllocError> {
-        self.ends.push(self.text.len())?;
-        Ok(())
+    /// Ends the column that is being filled.
+    fn end_column(&mut self) {
+        if let Some(end) = self.ends.get_mut(self.filled) {
+            *end = self.sheet.len();
+        }
+        self.filled = self.filled.saturating_add(1);
     }
 
-    fn fill_headings(&mut self) -> Result<(), AllocError> {
+    fn fill_headings(&mut self) {
         self.clear();
         for heading in HEADINGS {
-            self.text.push_str(heading)?;
-            self.end_text()?;
+            self.sheet.push(heading);
+            self.end_column();
         }
-        Ok(())
     }
 
     /// Puts the texts of a step's line in place of what is kept.
-    fn fill(&mut self, story: &Story, happening: &Happening) -> Result<(), AllocError> {
+    fn fill(&mut self, story: &Story, happening: &Happening) {
         self.clear();
-        write!(self.text, "{}", happening.number)?;
-        self.end_text()?;
-        write!(self.text, "{}", happening.step)?;
-        self.end_text()?;
-        write!(self.text, "{}", happening.outcome)?;
-        self.end_text()?;
-        if let Some(trip) = happening.served {
-            write!(self.text, "{}", MessageText(trip.message))?;
-        }
-        self.end_text()?;
-        self.push_changes(story, happening)?;
-        self.end_text()?;
-        self.push_sent(story.sent())?;
-        self.end_text()?;
-        self.push_finds(happening)?;
-        self.end_text()
+        self.sheet.put(&happening.number);
+        self.end_column();
+        self.sheet.put(&happening.step);
+        self.end_column();
+        self.sheet.put(&happening.outcome);
+        self.end_column();
+        self.sheet.put(&ServedText(happening.served));
+        self.end_column();
+        self.put_changes(story, happening);
+        self.end_column();
+        self.put_sent(story.sent());
+        self.end_column();
+        self.put_finds(happening);
+        self.end_column();
     }
 
-    fn push_changes(&mut self, story: &Story, happening: &Happening) -> Result<(), AllocError> {
+    fn put_changes(&mut self, story: &Story, happening: &Happening) {
         match happening.acted {
             Some((Sight::Line(cache, before), Sight::Line(_, after))) => {
-                let line = LineText {
+                self.sheet.put(&LineText {
                     cache,
                     before,
                     after,
-                };
-                write!(self.text, "{line}")
+                });
             }
             Some((Sight::Home(before, ..), Sight::Home(after, owner, memory))) => {
-                let home = HomeText {
+                self.sheet.put(&HomeText {
                     before,
                     after,
                     owner,
-                };
-                write!(self.text, "{home}")?;
-                push_holdings(
-                    story.world(),
-                    happening.step.block(),
-                    memory,
-                    &mut self.text,
-                )
+                });
+                let block = happening.step.block();
+                put_holdings(story.world(), block, memory, &mut self.sheet);
             }
-            _ => Ok(()),
+            _ => {}
         }
     }
 
-    fn push_sent(&mut self, sent: &[Trip]) -> Result<(), AllocError> {
-        for (number, trip) in sent.iter().enumerate() {
-            if number > 0 {
-                self.text.push_str("; ")?;
-            }
-            write!(self.text, "{}", MessageText(trip.message))?;
+    fn put_sent(&mut self, sent: &[Trip]) {
+        let mut before = "";
+        for trip in sent {
+            self.sheet.push(before);
+            self.sheet.put(&MessageText(trip.message));
+            before = "; ";
         }
-        Ok(())
     }
 
-    fn push_finds(&mut self, happening: &Happening) -> Result<(), AllocError> {
+    fn put_finds(&mut self, happening: &Happening) {
+        let mut before = "";
         if happening.differs() {
-            write!(self.text, "told {}", happening.told)?;
+            self.sheet.push("told ");
+            self.sheet.put(&happening.told);
+            before = "; ";
         }
-        let Some(violation) = happening.violation else {
-            return Ok(());
-        };
-        if happening.differs() {
-            self.text.push_str("; ")?;
+        if let Some(violation) = happening.violation {
+            self.sheet.push(before);
+            self.sheet.push("violation ");
+            self.sheet.put(&violation);
         }
-        write!(self.text, "violation {violation}")
     }
-}
-
-fn print_start<W: Write>(
-    alloc: Global,
-    story: &Story,
-    shape: Shape,
-    part: Part,
-    chosen: &[Entry],
-    output: &mut W,
-) -> Result<(), ChartFault> {
-    let blocks = part.blocks(alloc, shape, chosen)?;
-    write_start(alloc, story, blocks.as_slice(), output)
 }
 
 fn write_spaces<W: Write>(output: &mut W, count: usize) -> io::Result<()> {

@@ -1,12 +1,12 @@
+use crate::sheet::Sheet;
 use crate::story::Sight;
+use crate::trips::Trip;
 use base::controller::Listed;
 use base::{Ask, BlockId, CacheId, Place};
 use control::{Line, may_read};
 use directory_table::DirectoryState;
 use network::{Forward, ForwardKind, Message, Request, RequestKind, Response};
-use std::alloc::AllocError;
 use std::fmt;
-use std::fmt::Write as _;
 use world::World;
 
 /// A controller: `home`, or `cache 3`.
@@ -70,6 +70,19 @@ impl fmt::Display for MessageText {
             Message::Response(Response::InvAck { from, to }) => {
                 write!(f, "Inv-Ack to cache {} from cache {}", to.0, from.0)
             }
+        }
+    }
+}
+
+/// The message that a step has served, if it has served one.
+#[derive(Clone, Copy)]
+pub struct ServedText(pub Option<Trip>);
+
+impl fmt::Display for ServedText {
+    fn fmt<W: fmt::Write>(&self, f: &mut fmt::Formatter<W>) -> fmt::Result {
+        match self.0 {
+            None => Ok(()),
+            Some(trip) => write!(f, "{}", MessageText(trip.message)),
         }
     }
 }
@@ -193,23 +206,20 @@ pub fn state_name(sight: Sight) -> &'static str {
     }
 }
 
-/// Adds a home's sharers and its memory to a text.
-pub fn push_holdings(
-    world: &World,
-    block: BlockId,
-    memory: u64,
-    text: &mut String,
-) -> Result<(), AllocError> {
-    text.push_str(", sharers")?;
+/// Puts a home's sharers and its memory.
+pub fn put_holdings(world: &World, block: BlockId, memory: u64, sheet: &mut Sheet) {
+    sheet.push(", sharers");
     let mut has_none = true;
     for number in 0..world.shape().caches() {
         if world.shares(CacheId(number), block) {
-            write!(text, " {number}")?;
+            sheet.push(" ");
+            sheet.put(&number);
             has_none = false;
         }
     }
     if has_none {
-        text.push_str(" none")?;
+        sheet.push(" none");
     }
-    write!(text, ", memory {memory}")
+    sheet.push(", memory ");
+    sheet.put(&memory);
 }
