@@ -3,7 +3,7 @@ use crate::fault::ChartFault;
 use crate::part::{Cut, Part, Shown};
 use crate::story::{Happening, Sight, Story, look};
 use crate::trips::Trip;
-use base::{BlockId, CacheId, NoMemory, Place};
+use base::{BlockId, CacheId, NoMemory, Place, Shape};
 use cache_table::CacheState;
 use record::{Entry, Recording};
 use std::alloc::Global;
@@ -15,8 +15,9 @@ pub struct Picture {
     /// The numbers of the rows' steps.
     numbers: Vec<u64>,
     pub arrows: Vec<Arrow>,
-    /// The blocks that are looked at.
+    /// The blocks that are looked at, and for each block whether it is one of them.
     pub blocks: Vec<BlockId>,
+    looked_at: Vec<bool>,
     /// What controllers are at the part's start, but for lines in I where there are several blocks.
     pub starts: Vec<Start>,
 }
@@ -50,63 +51,52 @@ impl Picture {
         if count > MOST_ROWS {
             return Err(ChartFault::TooManySteps(count));
         }
-        let looked_at = part.blocks(alloc, recording.shape(), cut.chosen)?;
-        Picture::of_blocks(alloc, recording, part, looked_at.as_slice())
-    }
-
-    /// The picture of a part that is about these blocks.
-    fn of_blocks(
-        alloc: Global,
-        recording: &Recording,
-        part: Part,
-        looked_at: &[bool],
-    ) -> Result<Picture, ChartFault> {
-        let mut story = Story::open(alloc, recording)?;
-        let cut = part.cut(recording.entries());
-        Picture::of_story(alloc, &mut story, part, cut, looked_at)
-    }
-
-    fn of_story(
-        alloc: Global,
-        story: &mut Story,
-        part: Part,
-        cut: Cut<'_>,
-        looked_at: &[bool],
-    ) -> Result<Picture, ChartFault> {
-        let mut picture = Picture::open(alloc, looked_at)?;
-        picture.fill(story, part, cut, looked_at)?;
+        let mut picture = Picture::open(alloc, recording.shape(), part, cut.chosen)?;
+        picture.fill(alloc, recording, part)?;
         Ok(picture)
     }
 
-    fn fill(
-        &mut self,
-        story: &mut Story,
+    /// A picture of nothing so far, about those blocks that the part is about.
+    fn open(
+        alloc: Global,
+        shape: Shape,
         part: Part,
-        cut: Cut<'_>,
-        looked_at: &[bool],
-    ) -> Result<(), NoMemory> {
-        story.skip(cut.before)?;
-        self.begin(story)?;
-        self.tell(story, part, cut.chosen)?;
-        let end = story.number();
-        self.follow(story, looked_at, cut.behind, end)?;
-        self.leave(story, end)
-    }
-
-    fn open(alloc: Global, looked_at: &[bool]) -> Result<Picture, NoMemory> {
-        let mut blocks = Vec::new(alloc);
-        for (number, looked_at) in (0..u32::MAX).zip(looked_at.iter()) {
-            if *looked_at {
-                blocks.push(BlockId(number))?;
-            }
-        }
+        chosen: &[Entry],
+    ) -> Result<Picture, NoMemory> {
+        let looked_at = part.blocks(alloc, shape, chosen)?;
         Ok(Picture {
             rows: Vec::new(alloc),
             numbers: Vec::new(alloc),
             arrows: Vec::new(alloc),
-            blocks,
+            blocks: Vec::new(alloc),
+            looked_at,
             starts: Vec::new(alloc),
         })
+    }
+
+    fn fill(&mut self, alloc: Global, recording: &Recording, part: Part) -> Result<(), NoMemory> {
+        let mut story = Story::open(alloc, recording)?;
+        self.follow(&mut story, part, part.cut(recording.entries()))
+    }
+
+    /// Follows a story from its beginning to its end.
+    fn follow(&mut self, story: &mut Story, part: Part, cut: Cut<'_>) -> Result<(), NoMemory> {
+        self.list_blocks()?;
+        story.skip(cut.before)?;
+        self.begin(story)?;
+        self.tell(story, part, cut.chosen)?;
+        let end = story.number();
+        self.look_behind(story, cut.behind, end)?;
+        self.leave(story, end)
+    }
+
+    fn list_blocks(&mut self) -> Result<(), NoMemory> {
+        for (number, looked_at) in (0..u32::MAX).zip(self.looked_at.iter()) {
+            if *looked_at {
+                self.blocks.push(BlockId(number))?;
+            }
+        }
+        Ok(())
     }
 
     /// Whether there are several blocks, which have to be told apart.
@@ -157,21 +147,23 @@ impl Picture {
     }
 
     /// Makes the steps behind the rows, and notes which messages of before their end are served.
-    fn follow(
+    fn look_behind(
         &mut self,
         story: &mut Story,
-        looked_at: &[bool],
         behind: &[Entry],
         end: u64,
     ) -> Result<(), NoMemory> {
         for entry in behind {
             let happening = story.advance(*entry)?;
-            let block = happening.step.block();
-            if looked_at.get(block.0 as usize) == Some(&true) && was_sent_before(&happening, end) {
+            if self.looks_at(happening.step.block()) && was_sent_before(&happening, end) {
                 self.end(happening)?;
             }
         }
         Ok(())
+    }
+
+    fn looks_at(&self, block: BlockId) -> bool {
+        self.looked_at.get(block.0 as usize) == Some(&true)
     }
 
     /// Notes the message that a step has served.
