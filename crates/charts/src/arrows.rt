@@ -63,12 +63,7 @@ pub enum Layer {
 }
 
 /// Draws a layer of the arrows of a picture.
-pub fn draw_arrows(
-    pen: &mut Pen,
-    picture: &Picture,
-    layout: &Layout,
-    layer: Layer,
-) {
+pub fn draw_arrows(pen: &mut Pen, picture: &Picture, layout: &Layout, layer: Layer) {
     let mut left: usize = 0;
     for arrow in picture.arrows.iter() {
         let row = arrow.row_in(picture);
@@ -143,12 +138,7 @@ fn start_of(picture: &Picture, layout: &Layout, arrow: &Arrow, from: u32, to: u3
 }
 
 /// Draws an arrow's line and tip. What is served behind the picture has no tip.
-fn draw(
-    pen: &mut Pen,
-    arrow: &Arrow,
-    row: Option<usize>,
-    way: Way,
-) {
+fn draw(pen: &mut Pen, arrow: &Arrow, row: Option<usize>, way: Way) {
     pen.group("arrow", kind_of(arrow), end_of(arrow, row));
     let stop = way.before_tip(TIP - 1);
     if way.is_loop {
@@ -170,13 +160,7 @@ fn draw(
 }
 
 /// Writes an arrow's name above its level part, and behind its tip how it ends where that isn't in the picture.
-fn name(
-    pen: &mut Pen,
-    picture: &Picture,
-    arrow: &Arrow,
-    row: Option<usize>,
-    way: Way,
-) {
+fn name(pen: &mut Pen, picture: &Picture, arrow: &Arrow, row: Option<usize>, way: Way) {
     let name = name_of(picture, arrow);
     let half = length(&name).saturating_mul(LETTER) / 2;
     let at = way.before_tip(half.saturating_add(TIP + 2)).moved(0, -4);

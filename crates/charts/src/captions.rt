@@ -2,9 +2,11 @@ use crate::lanes::Lane;
 use crate::picture::Picture;
 use crate::story::{Happening, Sight};
 use crate::trips::Trip;
-use crate::words::{AskText, LabelText, state_name};
+use crate::words::{AcksText, AskText, RequestText, RequestorText, forward_name};
+use base::controller::Listed;
 use base::{Ask, BlockId, Outcome, Step};
 use monitor::Violation;
+use network::{Message, Response};
 use std::fmt;
 use std::fmt::Write as _;
 
@@ -27,6 +29,26 @@ impl fmt::Display for BlockText {
         match self.0 {
             None => Ok(()),
             Some(block) => write!(f, " b{}", block.0),
+        }
+    }
+}
+
+/// A message without its ends: `Fwd-GetS for 1`.
+#[derive(Clone, Copy)]
+struct LabelText(Message);
+
+impl fmt::Display for LabelText {
+    fn fmt<W: fmt::Write>(&self, f: &mut fmt::Formatter<W>) -> fmt::Result {
+        match self.0 {
+            Message::Request(request) => write!(f, "{}", RequestText(request)),
+            Message::Forward(_, forward) => {
+                let name = forward_name(forward.kind);
+                write!(f, "{name}{}", RequestorText(forward))
+            }
+            Message::Response(Response::Data { value, acks, .. }) => {
+                write!(f, "Data {value}{}", AcksText(acks))
+            }
+            Message::Response(Response::InvAck { .. }) => f.write_str("Inv-Ack"),
         }
     }
 }
@@ -75,10 +97,9 @@ impl BoxText {
 
 impl fmt::Display for BoxText {
     fn fmt<W: fmt::Write>(&self, f: &mut fmt::Formatter<W>) -> fmt::Result {
-        f.write_str(state_name(self.sight))?;
         match self.sight {
-            Sight::Line(..) => write!(f, "{}", self.block),
-            Sight::Home(..) => Ok(()),
+            Sight::Line(_, line) => write!(f, "{}{}", line.state.name(), self.block),
+            Sight::Home(state, ..) => f.write_str(state.name()),
         }
     }
 }
@@ -120,10 +141,9 @@ pub struct StepText(pub Happening);
 
 impl fmt::Display for StepText {
     fn fmt<W: fmt::Write>(&self, f: &mut fmt::Formatter<W>) -> fmt::Result {
-        write!(f, "{}", self.0.step)?;
         match self.0.place {
-            Some(_) => Ok(()),
-            None => write!(f, " {}", self.0.outcome),
+            Some(_) => write!(f, "{}", self.0.step),
+            None => write!(f, "{} {}", self.0.step, self.0.outcome),
         }
     }
 }

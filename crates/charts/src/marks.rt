@@ -14,11 +14,7 @@ const HALF_BOX: i64 = 9;
 const BASE: i64 = 4;
 
 /// Draws for each row a line from its step to where that step goes.
-pub fn draw_guides(
-    pen: &mut Pen,
-    picture: &Picture,
-    layout: &Layout,
-) {
+pub fn draw_guides(pen: &mut Pen, picture: &Picture, layout: &Layout) {
     for (number, row) in picture.rows.iter().enumerate() {
         if let Some(center) = center_of(layout, number, row) {
             let text = length(&StepText(*row)).saturating_mul(LETTER);
@@ -41,11 +37,7 @@ fn center_of(layout: &Layout, number: usize, row: &Happening) -> Option<Point> {
 }
 
 /// Draws what the controllers are at the start.
-pub fn draw_starts(
-    pen: &mut Pen,
-    picture: &Picture,
-    layout: &Layout,
-) {
+pub fn draw_starts(pen: &mut Pen, picture: &Picture, layout: &Layout) {
     for (number, block) in picture.blocks.iter().enumerate() {
         let at = Point {
             x: layout.steps,
@@ -81,13 +73,7 @@ fn place_of(sight: Sight) -> Place {
     }
 }
 
-fn draw_box(
-    pen: &mut Pen,
-    picture: &Picture,
-    center: Point,
-    sight: Sight,
-    block: BlockId,
-) {
+fn draw_box(pen: &mut Pen, picture: &Picture, center: Point, sight: Sight, block: BlockId) {
     let text = BoxText::of(picture, sight, block);
     let half = half_box(&text);
     let class = match sight {
@@ -103,11 +89,7 @@ fn draw_box(
 }
 
 /// Draws the rows: the step, and what its controller did.
-pub fn draw_rows(
-    pen: &mut Pen,
-    picture: &Picture,
-    layout: &Layout,
-) {
+pub fn draw_rows(pen: &mut Pen, picture: &Picture, layout: &Layout) {
     for (number, row) in picture.rows.iter().enumerate() {
         let at = Point {
             x: layout.steps,
@@ -153,13 +135,7 @@ fn side_of(layout: &Layout, row: &Happening) -> Heading {
     }
 }
 
-fn draw_mark(
-    pen: &mut Pen,
-    outcome: Outcome,
-    block: BlockText,
-    side: Heading,
-    beside: Point,
-) {
+fn draw_mark(pen: &mut Pen, outcome: Outcome, block: BlockText, side: Heading, beside: Point) {
     let anchor = match side {
         Heading::Left => Anchor::End,
         Heading::Right => Anchor::Start,

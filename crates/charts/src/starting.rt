@@ -1,6 +1,7 @@
 use crate::sheet::Sheet;
 use crate::story::Story;
-use crate::words::{HomeText, LineText, MessageText, put_holdings};
+use crate::trips::Trip;
+use crate::words::{put_holdings, put_home as put_home_line, put_line, put_message};
 use base::{BlockId, CacheId};
 use control::Line;
 use world::World;
@@ -31,11 +32,7 @@ fn put_block(block: BlockId, sheet: &mut Sheet) {
 fn put_home(world: &World, block: BlockId, sheet: &mut Sheet) {
     if let Some((state, owner, memory)) = world.home(block) {
         put_block(block, sheet);
-        sheet.put(&HomeText {
-            before: state,
-            after: state,
-            owner,
-        });
+        put_home_line(state, state, owner, sheet);
         put_holdings(world, block, memory, sheet);
         sheet.push("\n");
     }
@@ -49,25 +46,26 @@ fn put_lines(world: &World, block: BlockId, sheet: &mut Sheet) {
         };
         if line != Line::opened() {
             put_block(block, sheet);
-            sheet.put(&LineText {
-                cache,
-                before: line,
-                after: line,
-            });
+            put_line(cache, line, line, sheet);
             sheet.push("\n");
         }
     }
 }
 
 fn put_trips(story: &Story, block: BlockId, sheet: &mut Sheet) {
-    for row in story.flights().of(block) {
-        for trip in row.iter() {
-            put_block(block, sheet);
-            sheet.push("on its way: ");
-            sheet.put(&MessageText(trip.message));
-            sheet.push(", sent by step ");
-            sheet.put(&trip.sent);
-            sheet.push("\n");
-        }
+    let [requests, forwards, responses] = story.flights().of(block);
+    put_row(block, requests, sheet);
+    put_row(block, forwards, sheet);
+    put_row(block, responses, sheet);
+}
+
+fn put_row(block: BlockId, trips: &[Trip], sheet: &mut Sheet) {
+    for trip in trips {
+        put_block(block, sheet);
+        sheet.push("on its way: ");
+        put_message(trip.message, sheet);
+        sheet.push(", sent by step ");
+        sheet.put(&trip.sent);
+        sheet.push("\n");
     }
 }

@@ -23,11 +23,7 @@ pub fn draw_lifelines(pen: &mut Pen, layout: &Layout) {
 }
 
 /// Writes the names of the lifelines, above, below and in between.
-pub fn draw_plates(
-    pen: &mut Pen,
-    picture: &Picture,
-    layout: &Layout,
-) {
+pub fn draw_plates(pen: &mut Pen, picture: &Picture, layout: &Layout) {
     for y in layout.plates.iter() {
         for (number, lane) in (0..u32::MAX).zip(layout.lanes.order.iter()) {
             let center = Point {
@@ -39,11 +35,7 @@ pub fn draw_plates(
     }
 }
 
-fn draw_plate(
-    pen: &mut Pen,
-    center: Point,
-    name: &LaneText,
-) {
+fn draw_plate(pen: &mut Pen, center: Point, name: &LaneText) {
     let half = length(name).saturating_mul(LETTER).saturating_add(14) / 2;
     let size = Point {
         x: half.saturating_mul(2),
@@ -58,11 +50,7 @@ fn draw_plate(
 }
 
 /// Draws a band behind each row that has a violation, or another outcome than was told.
-pub fn draw_bands(
-    pen: &mut Pen,
-    picture: &Picture,
-    layout: &Layout,
-) {
+pub fn draw_bands(pen: &mut Pen, picture: &Picture, layout: &Layout) {
     let size = Point {
         x: layout.size.x,
         y: BAND - 2,
@@ -83,11 +71,7 @@ pub fn draw_bands(
 }
 
 /// Writes what the bands are about.
-pub fn draw_findings(
-    pen: &mut Pen,
-    picture: &Picture,
-    layout: &Layout,
-) {
+pub fn draw_findings(pen: &mut Pen, picture: &Picture, layout: &Layout) {
     for (number, row) in picture.rows.iter().enumerate() {
         let mut at = Point {
             x: MARGIN,
@@ -129,13 +113,7 @@ pub fn draw_legend(pen: &mut Pen, layout: &Layout) {
     }
 }
 
-fn draw_sample(
-    pen: &mut Pen,
-    at: Point,
-    kind: &str,
-    has_tip: bool,
-    meaning: &str,
-) {
+fn draw_sample(pen: &mut Pen, at: Point, kind: &str, has_tip: bool, meaning: &str) {
     pen.group("sample", kind, "");
     pen.path("wire", &[at, at.moved(32, 0)]);
     if has_tip {

@@ -1,11 +1,11 @@
 use crate::fault::ChartFault;
-use crate::part::{Part, Shown};
+use crate::part::{Cut, Part, Shown};
 use crate::sheet::Sheet;
 use crate::starting::put_start;
 use crate::story::{Happening, Sight, Story};
 use crate::trips::Trip;
-use crate::words::{HomeText, LineText, MessageText, ServedText, put_holdings};
-use base::Shape;
+use crate::words::{put_holdings, put_home, put_line, put_message};
+use base::NoMemory;
 use record::{Entry, Recording};
 use std::alloc::Global;
 use std::io::{self, Write};
@@ -25,26 +25,7 @@ pub fn show<W: Write>(
 ) -> Result<Shown, ChartFault> {
     let mut table = Table::open(alloc);
     table.measure(alloc, recording, part)?;
-    let mut story = Story::open(alloc, recording)?;
-    story.skip(part.cut(recording.entries()).before)?;
-    print_start(alloc, &story, recording, part, output)?;
-    table.print(&mut story, recording, part, output)
-}
-
-/// Writes the state at the start of a part, to which the story has come.
-fn print_start<W: Write>(
-    alloc: Global,
-    story: &Story,
-    recording: &Recording,
-    part: Part,
-    output: &mut W,
-) -> Result<(), ChartFault> {
-    let chosen = part.cut(recording.entries()).chosen;
-    let blocks = part.blocks(alloc, recording.shape(), chosen)?;
-    let mut sheet = Sheet::new(alloc);
-    put_start(story, blocks.as_slice(), &mut sheet);
-    output.write_all(sheet.text()?.as_bytes())?;
-    Ok(())
+    table.print(alloc, recording, part, output)
 }
 
 /// The lines of a table, of which one at a time is kept.
@@ -76,19 +57,19 @@ impl Table {
         part: Part,
     ) -> Result<(), ChartFault> {
         let mut story = Story::open(alloc, recording)?;
-        story.skip(part.cut(recording.entries()).before)?;
-        self.measure_all(&mut story, part, part.cut(recording.entries()).chosen)
+        self.measure_all(&mut story, part, part.cut(recording.entries()))
     }
 
     fn measure_all(
         &mut self,
         story: &mut Story,
         part: Part,
-        chosen: &[Entry],
+        cut: Cut<'_>,
     ) -> Result<(), ChartFault> {
+        story.skip(cut.before)?;
         self.fill_headings();
         self.widen();
-        for entry in chosen {
+        for entry in cut.chosen {
             let happening = story.advance(*entry)?;
             if part.is_of(happening.step.block()) {
                 self.fill(story, &happening);
@@ -109,18 +90,64 @@ impl Table {
         }
     }
 
-    /// Writes the lines of a part, to which the story has come.
+    /// Writes the state at the start of a part, and its lines.
     fn print<W: Write>(
         &mut self,
-        story: &mut Story,
+        alloc: Global,
         recording: &Recording,
         part: Part,
+        output: &mut W,
+    ) -> Result<Shown, ChartFault> {
+        let mut story = Story::open(alloc, recording)?;
+        self.print_all(
+            alloc,
+            &mut story,
+            part,
+            part.cut(recording.entries()),
+            output,
+        )
+    }
+
+    fn print_all<W: Write>(
+        &mut self,
+        alloc: Global,
+        story: &mut Story,
+        part: Part,
+        cut: Cut<'_>,
+        output: &mut W,
+    ) -> Result<Shown, ChartFault> {
+        story.skip(cut.before)?;
+        self.fill_start(alloc, story, part, cut.chosen)?;
+        output.write_all(self.sheet.text()?.as_bytes())?;
+        self.print_lines(story, part, cut.chosen, output)
+    }
+
+    /// Puts the state at the start of a part in place of what is kept.
+    fn fill_start(
+        &mut self,
+        alloc: Global,
+        story: &Story,
+        part: Part,
+        chosen: &[Entry],
+    ) -> Result<(), NoMemory> {
+        let blocks = part.blocks(alloc, story.world().shape(), chosen)?;
+        self.clear();
+        put_start(story, blocks.as_slice(), &mut self.sheet);
+        Ok(())
+    }
+
+    /// Writes the lines of these entries, the next ones of a story.
+    fn print_lines<W: Write>(
+        &mut self,
+        story: &mut Story,
+        part: Part,
+        chosen: &[Entry],
         output: &mut W,
     ) -> Result<Shown, ChartFault> {
         self.fill_headings();
         self.write_line(output)?;
         let mut shown = Shown::nothing();
-        for entry in part.cut(recording.entries()).chosen {
+        for entry in chosen {
             let happening = story.advance(*entry)?;
             if part.is_of(happening.step.block()) {
                 shown.note(&happening);
@@ -133,8 +160,8 @@ impl Table {
 
     /// Writes the line that is kept, each text at its column.
     fn write_line<W: Write>(&self, output: &mut W) -> Result<(), ChartFault> {
-        let line = self.sheet.text()?.as_bytes();
-        self.write_columns(line, output)?;
+        let line = self.sheet.text()?;
+        self.write_columns(line.as_bytes(), output)?;
         Ok(())
     }
 
@@ -186,7 +213,9 @@ impl Table {
         self.end_column();
         self.sheet.put(&happening.outcome);
         self.end_column();
-        self.sheet.put(&ServedText(happening.served));
+        if let Some(trip) = happening.served {
+            put_message(trip.message, &mut self.sheet);
+        }
         self.end_column();
         self.put_changes(story, happening);
         self.end_column();
@@ -199,18 +228,10 @@ impl Table {
     fn put_changes(&mut self, story: &Story, happening: &Happening) {
         match happening.acted {
             Some((Sight::Line(cache, before), Sight::Line(_, after))) => {
-                self.sheet.put(&LineText {
-                    cache,
-                    before,
-                    after,
-                });
+                put_line(cache, before, after, &mut self.sheet);
             }
             Some((Sight::Home(before, ..), Sight::Home(after, owner, memory))) => {
-                self.sheet.put(&HomeText {
-                    before,
-                    after,
-                    owner,
-                });
+                put_home(before, after, owner, &mut self.sheet);
                 let block = happening.step.block();
                 put_holdings(story.world(), block, memory, &mut self.sheet);
             }
@@ -222,7 +243,7 @@ impl Table {
         let mut before = "";
         for trip in sent {
             self.sheet.push(before);
-            self.sheet.put(&MessageText(trip.message));
+            put_message(trip.message, &mut self.sheet);
             before = "; ";
         }
     }

@@ -1,6 +1,4 @@
 use crate::sheet::Sheet;
-use crate::story::Sight;
-use crate::trips::Trip;
 use base::controller::Listed;
 use base::{Ask, BlockId, CacheId, Place};
 use control::{Line, may_read};
@@ -36,88 +34,23 @@ impl fmt::Display for AskText {
     }
 }
 
-/// A message with both its ends: `Fwd-GetS to cache 0 for 1`.
+/// A request without its ends: `PutM 7`.
 #[derive(Clone, Copy)]
-pub struct MessageText(pub Message);
+pub struct RequestText(pub Request);
 
-impl fmt::Display for MessageText {
+impl fmt::Display for RequestText {
     fn fmt<W: fmt::Write>(&self, f: &mut fmt::Formatter<W>) -> fmt::Result {
-        match self.0 {
-            Message::Request(request) => {
-                write_request(f, request)?;
-                write!(f, " to home from cache {}", request.from.0)
-            }
-            Message::Forward(to, forward) => {
-                write!(f, "{} to cache {}", forward_name(forward.kind), to.0)?;
-                write_requestor(f, forward)
-            }
-            Message::Response(
-                Response::Data {
-                    from,
-                    to,
-                    value,
-                    acks,
-                },
-            ) => {
-                write!(
-                    f,
-                    "Data {value} to {} from {}",
-                    PlaceText(to),
-                    PlaceText(from)
-                )?;
-                write_acks(f, acks)
-            }
-            Message::Response(Response::InvAck { from, to }) => {
-                write!(f, "Inv-Ack to cache {} from cache {}", to.0, from.0)
-            }
+        match self.0.kind {
+            RequestKind::GetS => f.write_str("GetS"),
+            RequestKind::GetM => f.write_str("GetM"),
+            RequestKind::PutS => f.write_str("PutS"),
+            RequestKind::PutM(value) => write!(f, "PutM {value}"),
         }
     }
 }
 
-/// The message that a step has served, if it has served one.
-#[derive(Clone, Copy)]
-pub struct ServedText(pub Option<Trip>);
-
-impl fmt::Display for ServedText {
-    fn fmt<W: fmt::Write>(&self, f: &mut fmt::Formatter<W>) -> fmt::Result {
-        match self.0 {
-            None => Ok(()),
-            Some(trip) => write!(f, "{}", MessageText(trip.message)),
-        }
-    }
-}
-
-/// A message without its ends: `Fwd-GetS for 1`.
-#[derive(Clone, Copy)]
-pub struct LabelText(pub Message);
-
-impl fmt::Display for LabelText {
-    fn fmt<W: fmt::Write>(&self, f: &mut fmt::Formatter<W>) -> fmt::Result {
-        match self.0 {
-            Message::Request(request) => write_request(f, request),
-            Message::Forward(_, forward) => {
-                f.write_str(forward_name(forward.kind))?;
-                write_requestor(f, forward)
-            }
-            Message::Response(Response::Data { value, acks, .. }) => {
-                write!(f, "Data {value}")?;
-                write_acks(f, acks)
-            }
-            Message::Response(Response::InvAck { .. }) => f.write_str("Inv-Ack"),
-        }
-    }
-}
-
-fn write_request<W: fmt::Write>(f: &mut fmt::Formatter<W>, request: Request) -> fmt::Result {
-    match request.kind {
-        RequestKind::GetS => f.write_str("GetS"),
-        RequestKind::GetM => f.write_str("GetM"),
-        RequestKind::PutS => f.write_str("PutS"),
-        RequestKind::PutM(value) => write!(f, "PutM {value}"),
-    }
-}
-
-fn forward_name(kind: ForwardKind) -> &'static str {
+/// The name of a message to a cache.
+pub fn forward_name(kind: ForwardKind) -> &'static str {
     match kind {
         ForwardKind::FwdGetS => "Fwd-GetS",
         ForwardKind::FwdGetM => "Fwd-GetM",
@@ -127,82 +60,117 @@ fn forward_name(kind: ForwardKind) -> &'static str {
 }
 
 /// Who is to be answered. A Put-Ack is an answer itself.
-fn write_requestor<W: fmt::Write>(f: &mut fmt::Formatter<W>, forward: Forward) -> fmt::Result {
-    match forward.kind {
-        ForwardKind::PutAck => Ok(()),
-        _ => write!(f, " for {}", forward.requestor.0),
-    }
-}
-
-fn write_acks<W: fmt::Write>(f: &mut fmt::Formatter<W>, acks: u32) -> fmt::Result {
-    match acks {
-        0 => Ok(()),
-        1 => f.write_str(", 1 ack"),
-        _ => write!(f, ", {acks} acks"),
-    }
-}
-
-/// A line, with the state that it has left behind it where that is another one: `cache 0: IS^D > S, value 7`.
 #[derive(Clone, Copy)]
-pub struct LineText {
-    pub cache: CacheId,
-    pub before: Line,
-    pub after: Line,
-}
+pub struct RequestorText(pub Forward);
 
-impl fmt::Display for LineText {
+impl fmt::Display for RequestorText {
     fn fmt<W: fmt::Write>(&self, f: &mut fmt::Formatter<W>) -> fmt::Result {
-        let line = self.after;
-        write!(f, "cache {}: ", self.cache.0)?;
-        write_states(f, self.before.state.name(), line.state.name())?;
-        if may_read(line.state) || line.value != self.before.value {
-            write!(f, ", value {}", line.value)?;
-        }
-        if line.acks != 0 {
-            write!(f, ", acks {}", line.acks)?;
-        }
-        match line.pending {
-            None => Ok(()),
-            Some(ask) => write!(f, ", pending {}", AskText(ask)),
+        match self.0.kind {
+            ForwardKind::PutAck => Ok(()),
+            _ => write!(f, " for {}", self.0.requestor.0),
         }
     }
 }
 
-fn write_states<W: fmt::Write>(
-    f: &mut fmt::Formatter<W>,
-    before: &str,
-    after: &str,
-) -> fmt::Result {
+/// How many acknowledgements a Data tells to wait for, if any.
+#[derive(Clone, Copy)]
+pub struct AcksText(pub u32);
+
+impl fmt::Display for AcksText {
+    fn fmt<W: fmt::Write>(&self, f: &mut fmt::Formatter<W>) -> fmt::Result {
+        match self.0 {
+            0 => Ok(()),
+            1 => f.write_str(", 1 ack"),
+            acks => write!(f, ", {acks} acks"),
+        }
+    }
+}
+
+/// Puts a message with both its ends: `Fwd-GetS to cache 0 for 1`.
+pub fn put_message(message: Message, sheet: &mut Sheet) {
+    match message {
+        Message::Request(request) => {
+            sheet.put(&RequestText(request));
+            sheet.push(" to home from cache ");
+            sheet.put(&request.from.0);
+        }
+        Message::Forward(to, forward) => {
+            sheet.push(forward_name(forward.kind));
+            sheet.push(" to cache ");
+            sheet.put(&to.0);
+            sheet.put(&RequestorText(forward));
+        }
+        Message::Response(response) => put_response(response, sheet),
+    }
+}
+
+fn put_response(response: Response, sheet: &mut Sheet) {
+    match response {
+        Response::Data {
+            from,
+            to,
+            value,
+            acks,
+        } => {
+            sheet.push("Data ");
+            sheet.put(&value);
+            put_ends(to, from, sheet);
+            sheet.put(&AcksText(acks));
+        }
+        Response::InvAck { from, to } => {
+            sheet.push("Inv-Ack");
+            put_ends(Place::Cache(to), Place::Cache(from), sheet);
+        }
+    }
+}
+
+fn put_ends(to: Place, from: Place, sheet: &mut Sheet) {
+    sheet.push(" to ");
+    sheet.put(&PlaceText(to));
+    sheet.push(" from ");
+    sheet.put(&PlaceText(from));
+}
+
+/// Puts a line, with the state that it has left behind it where that is another one: `cache 0: IS^D > S, value 7`.
+pub fn put_line(cache: CacheId, before: Line, line: Line, sheet: &mut Sheet) {
+    sheet.put(&PlaceText(Place::Cache(cache)));
+    sheet.push(": ");
+    put_states(before.state.name(), line.state.name(), sheet);
+    if may_read(line.state) || line.value != before.value {
+        sheet.push(", value ");
+        sheet.put(&line.value);
+    }
+    if line.acks != 0 {
+        sheet.push(", acks ");
+        sheet.put(&line.acks);
+    }
+    if let Some(ask) = line.pending {
+        sheet.push(", pending ");
+        sheet.put(&AskText(ask));
+    }
+}
+
+fn put_states(before: &str, after: &str, sheet: &mut Sheet) {
     if before.as_bytes() != after.as_bytes() {
-        write!(f, "{before} > ")?;
+        sheet.push(before);
+        sheet.push(" > ");
     }
-    f.write_str(after)
+    sheet.push(after);
 }
 
-/// A home but for its sharers, with the state that it has left behind it where that is another one.
-#[derive(Clone, Copy)]
-pub struct HomeText {
-    pub before: DirectoryState,
-    pub after: DirectoryState,
-    pub owner: Option<CacheId>,
-}
-
-impl fmt::Display for HomeText {
-    fn fmt<W: fmt::Write>(&self, f: &mut fmt::Formatter<W>) -> fmt::Result {
-        f.write_str("home: ")?;
-        write_states(f, self.before.name(), self.after.name())?;
-        match self.owner {
-            None => f.write_str(", owner none"),
-            Some(owner) => write!(f, ", owner {}", owner.0),
-        }
-    }
-}
-
-/// The name of a controller's state.
-pub fn state_name(sight: Sight) -> &'static str {
-    match sight {
-        Sight::Line(_, line) => line.state.name(),
-        Sight::Home(state, ..) => state.name(),
+/// Puts the state and the owner of a home, with the state that it has left behind it where that is another one.
+pub fn put_home(
+    before: DirectoryState,
+    after: DirectoryState,
+    owner: Option<CacheId>,
+    sheet: &mut Sheet,
+) {
+    sheet.push("home: ");
+    put_states(before.name(), after.name(), sheet);
+    sheet.push(", owner ");
+    match owner {
+        None => sheet.push("none"),
+        Some(owner) => sheet.put(&owner.0),
     }
 }
 
