@@ -1,14 +1,12 @@
 use crate::lanes::Lane;
 use crate::picture::Picture;
-use crate::story::{Happening, Sight};
-use crate::trips::Trip;
-use crate::words::{AcksText, AskText, RequestText, RequestorText, forward_name};
 use base::controller::Listed;
 use base::{Ask, BlockId, Outcome, Step};
 use monitor::Violation;
 use network::{Message, Response};
 use std::fmt;
 use std::fmt::Write as _;
+use story::{AcksText, AskText, Happening, RequestText, RequestorText, Sight, Trip, forward_name};
 
 /// Which block something in a picture is of, where this has to be told.
 #[derive(Clone, Copy)]

@@ -3,9 +3,7 @@ use crate::captions::TitleText;
 use crate::fault::ChartFault;
 use crate::layout::Layout;
 use crate::marks::{draw_guides, draw_rows, draw_starts};
-use crate::part::{Part, Shown};
 use crate::picture::Picture;
-use crate::sheet::Sheet;
 use crate::style::STYLE;
 use crate::surroundings::{draw_bands, draw_findings, draw_legend, draw_lifelines, draw_plates};
 use crate::svg::{Pen, Point};
@@ -13,6 +11,7 @@ use base::Shape;
 use record::Recording;
 use std::alloc::Global;
 use std::io::Write;
+use story::{Part, Sheet, Shown};
 
 /// The most steps that one picture has.
 pub const MOST_ROWS: u64 = 2000;

@@ -3,7 +3,7 @@ use std::alloc::{AllocError, AllocFailed};
 use std::io;
 use thiserror::Error;
 
-/// Why a table or a chart wasn't written to its end.
+/// Why a chart wasn't written.
 #[derive(Debug, Drop, Error)]
 pub enum ChartFault {
     /// So many steps are chosen, which are too many for one picture.

@@ -1,7 +1,7 @@
 use crate::picture::Picture;
-use crate::trips::Trip;
 use base::{BlockId, CacheId, NoMemory, Place, Shape};
 use std::alloc::Global;
+use story::Trip;
 
 /// A controller that has a lifeline: a cache, or the home of a block.
 #[derive(Clone, Copy)]

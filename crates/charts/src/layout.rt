@@ -3,10 +3,10 @@ use crate::captions::{
 };
 use crate::lanes::{Lane, Lanes};
 use crate::picture::Picture;
-use crate::story::{Happening, Sight};
 use crate::svg::Point;
 use base::{NoMemory, Shape};
 use std::alloc::Global;
+use story::{Happening, Sight};
 
 /// How wide a letter is taken to be.
 pub const LETTER: i64 = 7;

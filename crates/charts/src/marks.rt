@@ -4,9 +4,9 @@ use crate::captions::{
 };
 use crate::layout::{LETTER, Layout, changed, half_box};
 use crate::picture::Picture;
-use crate::story::{Happening, Sight};
 use crate::svg::{Anchor, Pen, Point};
 use base::{BlockId, Outcome, Place};
+use story::{Happening, Sight};
 
 /// Half of how high a box is.
 const HALF_BOX: i64 = 9;

@@ -1,12 +1,10 @@
 use crate::charting::MOST_ROWS;
 use crate::fault::ChartFault;
-use crate::part::{Cut, Part, Shown};
-use crate::story::{Happening, Sight, Story, look};
-use crate::trips::Trip;
 use base::{BlockId, CacheId, NoMemory, Place, Shape};
 use cache_table::CacheState;
 use record::{Entry, Recording};
 use std::alloc::Global;
+use story::{Cut, Happening, Part, Shown, Sight, Story, Trip, look};
 
 /// What is drawn of a part of a recording.
 #[derive(Drop)]

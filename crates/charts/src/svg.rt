@@ -1,6 +1,6 @@
-use crate::sheet::Sheet;
 use std::alloc::Global;
 use std::fmt;
+use story::Sheet;
 
 /// A place in a picture, in pixels from its upper left corner.
 #[derive(Clone, Copy)]

@@ -6,6 +6,7 @@ use record::{ReadFault, ReadKind, WriteFault};
 use scenario::ScenarioFault;
 use std::alloc::{AllocError, AllocFailed};
 use std::{fmt, io};
+use story::ShowFault;
 use thiserror::Error;
 use trials::SetupFault;
 
@@ -102,6 +103,15 @@ impl From<ReadFault> for Fault {
                     fault: kind,
                 },
             ),
+        }
+    }
+}
+
+impl From<ShowFault> for Fault {
+    fn from(fault: ShowFault) -> Fault {
+        match fault {
+            ShowFault::Device => Fault::Device,
+            ShowFault::NoMemory => Fault::NoMemory,
         }
     }
 }

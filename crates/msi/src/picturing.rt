@@ -1,10 +1,11 @@
 use crate::fault::Fault;
 use crate::finding::Finding;
 use base::FromRead;
-use charts::{Part, Shown, chart, show};
+use charts::chart;
 use record::Recording;
 use std::alloc::Global;
 use std::io::{BufWriter, Read, Write};
+use story::{Part, Shown, show};
 
 /// How a recording is shown.
 #[derive(Clone, Copy, Debug, PartialEq, Eq)]
@@ -36,10 +37,10 @@ fn print_part<W: Write>(
     output: &mut W,
 ) -> Result<Finding, Fault> {
     let shown = match form {
-        Form::Table => show(alloc, recording, part, output),
-        Form::Chart => chart(alloc, recording, part, output),
+        Form::Table => show(alloc, recording, part, output)?,
+        Form::Chart => chart(alloc, recording, part, output)?,
     };
-    Ok(finding(shown?))
+    Ok(finding(shown))
 }
 
 fn finding(shown: Shown) -> Finding {

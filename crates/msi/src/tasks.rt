@@ -3,10 +3,10 @@ use crate::files::Files;
 use crate::picturing::Form;
 use base::{BlockId, Shape};
 use both_tables::Tables;
-use charts::Part;
 use clap::ArgMatches;
 use record::MOST_ENTRIES;
 use std::alloc::Global;
+use story::Part;
 use trials::Setup;
 
 /// What a command line asks for, with all that its options and their files say.

@@ -1,7 +1,7 @@
 use crate::sheet::Sheet;
-use crate::story::Story;
+use crate::telling::Story;
 use crate::trips::Trip;
-use crate::words::{put_holdings, put_home as put_home_line, put_line, put_message};
+use crate::words::{put_holdings, put_home, put_line, put_message};
 use base::{BlockId, CacheId};
 use control::Line;
 use world::World;
@@ -15,7 +15,7 @@ pub fn put_start(story: &Story, blocks: &[bool], sheet: &mut Sheet) {
     for (number, looked_at) in (0..u32::MAX).zip(blocks.iter()) {
         if *looked_at {
             let block = BlockId(number);
-            put_home(story.world(), block, sheet);
+            put_block_home(story.world(), block, sheet);
             put_lines(story.world(), block, sheet);
             put_trips(story, block, sheet);
         }
@@ -29,10 +29,10 @@ fn put_block(block: BlockId, sheet: &mut Sheet) {
     sheet.push(" ");
 }
 
-fn put_home(world: &World, block: BlockId, sheet: &mut Sheet) {
+fn put_block_home(world: &World, block: BlockId, sheet: &mut Sheet) {
     if let Some((state, owner, memory)) = world.home(block) {
         put_block(block, sheet);
-        put_home_line(state, state, owner, sheet);
+        put_home(state, state, owner, sheet);
         put_holdings(world, block, memory, sheet);
         sheet.push("\n");
     }

@@ -1,8 +1,8 @@
-use crate::fault::ChartFault;
+use crate::fault::ShowFault;
 use crate::part::{Cut, Part, Shown};
 use crate::sheet::Sheet;
 use crate::starting::put_start;
-use crate::story::{Happening, Sight, Story};
+use crate::telling::{Happening, Sight, Story};
 use crate::trips::Trip;
 use crate::words::{put_holdings, put_home, put_line, put_message};
 use base::NoMemory;
@@ -22,7 +22,7 @@ pub fn show<W: Write>(
     recording: &Recording,
     part: Part,
     output: &mut W,
-) -> Result<Shown, ChartFault> {
+) -> Result<Shown, ShowFault> {
     let mut table = Table::open(alloc);
     table.measure(alloc, recording, part)?;
     table.print(alloc, recording, part, output)
@@ -55,7 +55,7 @@ impl Table {
         alloc: Global,
         recording: &Recording,
         part: Part,
-    ) -> Result<(), ChartFault> {
+    ) -> Result<(), ShowFault> {
         let mut story = Story::open(alloc, recording)?;
         self.measure_all(&mut story, part, part.cut(recording.entries()))
     }
@@ -65,7 +65,7 @@ impl Table {
         story: &mut Story,
         part: Part,
         cut: Cut<'_>,
-    ) -> Result<(), ChartFault> {
+    ) -> Result<(), ShowFault> {
         story.skip(cut.before)?;
         self.fill_headings();
         self.widen();
@@ -97,7 +97,7 @@ impl Table {
         recording: &Recording,
         part: Part,
         output: &mut W,
-    ) -> Result<Shown, ChartFault> {
+    ) -> Result<Shown, ShowFault> {
         let mut story = Story::open(alloc, recording)?;
         self.print_all(
             alloc,
@@ -115,7 +115,7 @@ impl Table {
         part: Part,
         cut: Cut<'_>,
         output: &mut W,
-    ) -> Result<Shown, ChartFault> {
+    ) -> Result<Shown, ShowFault> {
         story.skip(cut.before)?;
         self.fill_start(alloc, story, part, cut.chosen)?;
         output.write_all(self.sheet.text()?.as_bytes())?;
@@ -143,7 +143,7 @@ impl Table {
         part: Part,
         chosen: &[Entry],
         output: &mut W,
-    ) -> Result<Shown, ChartFault> {
+    ) -> Result<Shown, ShowFault> {
         self.fill_headings();
         self.write_line(output)?;
         let mut shown = Shown::nothing();
@@ -159,7 +159,7 @@ impl Table {
     }
 
     /// Writes the line that is kept, each text at its column.
-    fn write_line<W: Write>(&self, output: &mut W) -> Result<(), ChartFault> {
+    fn write_line<W: Write>(&self, output: &mut W) -> Result<(), ShowFault> {
         let line = self.sheet.text()?;
         self.write_columns(line.as_bytes(), output)?;
         Ok(())

@@ -1,4 +1,4 @@
-use crate::story::Happening;
+use crate::telling::Happening;
 use base::{BlockId, Shape};
 use record::Entry;
 use std::alloc::{AllocError, Global};

@@ -1,0 +1,22 @@
+//! Recordings, told again: their steps are made once more, in a world of their own, with what is seen of each. And a table of
+//! that, one line a step.
+#![tactic(auto)]
+
+mod fault;
+mod flights;
+mod part;
+mod sheet;
+mod starting;
+mod tabling;
+mod telling;
+mod trips;
+mod words;
+
+pub use fault::ShowFault;
+pub use flights::Flights;
+pub use part::{Cut, Part, Shown};
+pub use sheet::Sheet;
+pub use tabling::show;
+pub use telling::{Happening, Sight, Story, look};
+pub use trips::Trip;
+pub use words::{AcksText, AskText, RequestText, RequestorText, forward_name};
