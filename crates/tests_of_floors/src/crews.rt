@@ -168,6 +168,51 @@ fn compare_closed<F: Naming, R: Abort>(
     Ok(())
 }
 
+/// Has the seats play their scripts, once so many have come, and hands them back.
+fn played<F: Naming + Send + Sync, R: Threads + Wait + Abort + Sync>(
+    rt: &R,
+    alloc: Global,
+    floor: &Floor<F>,
+    seats: Vec<Seat<F>>,
+    awaited: u32,
+) -> Result<Vec<(Seat<F>, Option<TurnFault>)>, Fail> {
+    let mistaken = AtomicBool::new(false);
+    let gate = Meeting::of(awaited);
+    let members = cast(alloc, seats, &mistaken)?;
+    let back = crew(rt, alloc, floor, &gate, members)
+        .ok()
+        .ok_or("no crew")?;
+    same(rt, &mistaken.load(Ordering::SeqCst), &false);
+    same(rt, &gate.mistaken.load(Ordering::SeqCst), &false);
+    Ok(back)
+}
+
+/// Compares the seats that came back with what they wished, and answers how many receipts they have.
+fn compare_all<F: Naming, R: Abort>(
+    rt: &R,
+    alloc: Global,
+    back: Vec<(Seat<F>, Option<TurnFault>)>,
+) -> Result<(Vec<Seat<F>>, usize), Fail> {
+    let mut made = 0usize;
+    let mut seats = Vec::new(alloc);
+    for (seat, ended) in back {
+        made = made.saturating_add(compare(rt, &seat, &ended));
+        seats.push(seat)?;
+    }
+    Ok((seats, made))
+}
+
+fn closes<F: Naming, R: Abort>(
+    rt: &R,
+    alloc: Global,
+    floor: Floor<F>,
+    seats: Vec<Seat<F>>,
+    made: usize,
+) -> Result<(), Fail> {
+    let closed = floor.close(seats).ok().ok_or("not closed")?;
+    compare_closed(rt, alloc, &closed, made)
+}
+
 fn race<F: Naming + Send + Sync, R: Threads + Wait + Abort + Sync>(
     rt: &R,
     alloc: Global,
@@ -178,22 +223,9 @@ fn race<F: Naming + Send + Sync, R: Threads + Wait + Abort + Sync>(
     requires { F.floor ≡ names ground setup.now count 600 }
 {
     let (floor, seats) = Floor::<F>::open(ground, alloc, setup, count, 600)?;
-    let mistaken = AtomicBool::new(false);
-    let gate = Meeting::of(count);
-    let members = cast(alloc, seats, &mistaken)?;
-    let back = crew(rt, alloc, &floor, &gate, members)
-        .ok()
-        .ok_or("no crew")?;
-    same(rt, &mistaken.load(Ordering::SeqCst), &false);
-    same(rt, &gate.mistaken.load(Ordering::SeqCst), &false);
-    let mut made = 0usize;
-    let mut seats = Vec::new(alloc);
-    for (seat, ended) in back {
-        made = made.saturating_add(compare(rt, &seat, &ended));
-        seats.push(seat)?;
-    }
-    let closed = floor.close(seats).ok().ok_or("not closed")?;
-    compare_closed(rt, alloc, &closed, made)
+    let back = played(rt, alloc, &floor, seats, count)?;
+    let (seats, made) = compare_all(rt, alloc, back)?;
+    closes(rt, alloc, floor, seats, made)
 }
 
 #[test]
@@ -218,14 +250,9 @@ fn nobody<F: Naming + Send + Sync, R: Threads + Wait + Abort + Sync>(
     requires { F.floor ≡ names ground setup.now 2 600 }
 {
     let (floor, seats) = Floor::<F>::open(ground, alloc, setup, 2, 600)?;
-    let mistaken = AtomicBool::new(false);
-    let members = cast(alloc, Vec::new(alloc), &mistaken)?;
-    let back = crew(rt, alloc, &floor, &Meeting::of(0), members)
-        .ok()
-        .ok_or("no crew")?;
-    assert!(rt; back.is_empty());
-    let closed = floor.close(seats).ok().ok_or("not closed")?;
-    compare_closed(rt, alloc, &closed, 0)
+    let back = played(rt, alloc, &floor, Vec::new(alloc), 0)?;
+    same(rt, &back.is_empty(), &true);
+    closes(rt, alloc, floor, seats, 0)
 }
 
 #[test]

@@ -110,14 +110,14 @@ fn refusal<D: Naming>(alloc: Global, job: &Job, n: u32, seats: u32) -> Option<De
 #[test]
 fn desks_that_are_not_made(rt: HostRuntime) -> Result<(), Fail> {
     let job = racing_pair(rt.alloc())?;
-    for (n, seats, fault) in [
+    for (n, seats, fault) in &[
         (1_000_001, 0, Some(DeskFault::TooMany)),
         (1_000_000, 0, Some(DeskFault::NoSeats)),
         (3, 65, Some(DeskFault::TooManySeats)),
         (0, 64, None),
         (1_000_000, 2, None),
     ] {
-        same(&rt, &refusal::<Brand>(rt.alloc(), &job, n, seats), &fault);
+        same(&rt, &refusal::<Brand>(rt.alloc(), &job, *n, *seats), fault);
     }
     Ok(())
 }

@@ -5,7 +5,9 @@ use both_tables::Tables;
 use desk::Job;
 use scenario::Scenario;
 use std::alloc::Global;
+use std::process::Abort;
 use std::test::Fail;
+use std::thread::Threads;
 use trials::{BatchFault, Setup, TrialResult, Verdict, batch, spread};
 
 const ONE_LOAD: &str = r#"{"op":"load","core":0,"block":0}"#;
@@ -19,35 +21,49 @@ fn one_load(alloc: Global, limit: u32) -> Result<Job, Fail> {
     Ok(Job { scenario, setup })
 }
 
+/// Compares the results of a batch, which are alike but for their numbers.
+fn are_alike(rt: &impl Abort, results: &[TrialResult], verdict: Verdict, steps: u32) {
+    same(rt, &results.len(), &3);
+    for (number, made) in (0..u32::MAX).zip(results) {
+        let wanted = TrialResult {
+            number,
+            verdict,
+            steps,
+        };
+        same(rt, made, &wanted);
+    }
+}
+
 #[test]
 fn one_load_is_spread(rt: HostRuntime) -> Result<(), Fail> {
-    let alloc = rt.alloc();
-    for (limit, verdict, steps) in [(9, Verdict::Quiet, 3), (2, Verdict::Cut, 2)] {
-        let job = one_load(alloc, limit)?;
-        let results = spread(&rt, alloc, &job.scenario, &job.setup, 3)?;
-        same(&rt, &results.len(), &3);
-        for (number, made) in results.iter().enumerate() {
-            let wanted = TrialResult {
-                number: number as u32,
-                verdict,
-                steps,
-            };
-            same(&rt, &*made, &wanted);
-        }
+    for (limit, verdict, steps) in &[(9, Verdict::Quiet, 3), (2, Verdict::Cut, 2)] {
+        let job = one_load(rt.alloc(), *limit)?;
+        let results = spread(&rt, rt.alloc(), &job.scenario, &job.setup, 3)?;
+        are_alike(&rt, results.as_slice(), *verdict, *steps);
     }
+    Ok(())
+}
+
+/// Compares what is spread with the batch.
+fn is_batch<R: Threads + Abort + Sync>(
+    rt: &R,
+    alloc: Global,
+    job: &Job,
+    n: u32,
+) -> Result<(), Fail> {
+    let results = spread(rt, alloc, &job.scenario, &job.setup, n)?;
+    let wanted = batch(alloc, &job.scenario, &job.setup, n)?;
+    same(rt, &results.as_slice(), &wanted.as_slice());
     Ok(())
 }
 
 #[test]
 fn what_is_spread_is_the_batch(rt: HostRuntime) -> Result<(), Fail> {
-    let alloc = rt.alloc();
-    let job = racing_pair(alloc)?;
-    for n in [0, 1, 200] {
-        let results = spread(&rt, alloc, &job.scenario, &job.setup, n)?;
-        let wanted = batch(alloc, &job.scenario, &job.setup, n)?;
-        same(&rt, &results.as_slice(), &wanted.as_slice());
+    let job = racing_pair(rt.alloc())?;
+    for n in &[0, 1, 200] {
+        is_batch(&rt, rt.alloc(), &job, *n)?;
     }
-    let refused = spread(&rt, alloc, &job.scenario, &job.setup, 1_000_001);
+    let refused = spread(&rt, rt.alloc(), &job.scenario, &job.setup, 1_000_001);
     same(&rt, &refused.err(), &Some(BatchFault::TooMany));
     Ok(())
 }

@@ -88,6 +88,20 @@ fn closes<F: Naming, R: Wait + Abort>(
     compare(rt, alloc, &closed, lines)
 }
 
+/// Makes as many steps as a floor takes, and compares what it answers to more.
+fn fills<F: Naming, R: Wait + Abort>(
+    rt: &R,
+    floor: &Floor<F>,
+    seat: &mut Seat<F>,
+) -> Result<(), Fail> {
+    make(rt, floor, seat, &ONE_LOAD)?;
+    let refused = floor.turn(rt, seat, RESPONSE).err();
+    same(rt, &refused, &Some(TurnFault::Full));
+    let refused = floor.turn_any(rt, seat, 0).err();
+    same(rt, &refused, &Some(TurnFault::Full));
+    Ok(())
+}
+
 fn one_load<F: Naming, R: Wait + Abort>(
     rt: &R,
     alloc: Global,
@@ -98,11 +112,7 @@ fn one_load<F: Naming, R: Wait + Abort>(
 {
     let (floor, mut seats) = Floor::<F>::open(ground, alloc, setup, 1, 2)?;
     let mut seat = seats.pop().ok_or("no seat")?;
-    make(rt, &floor, &mut seat, &ONE_LOAD)?;
-    let refused = floor.turn(rt, &mut seat, RESPONSE).err();
-    same(rt, &refused, &Some(TurnFault::Full));
-    let refused = floor.turn_any(rt, &mut seat, 0).err();
-    same(rt, &refused, &Some(TurnFault::Full));
+    fills(rt, &floor, &mut seat)?;
     closes(rt, alloc, floor, seat, &ONE_LOAD)
 }
 
@@ -132,6 +142,21 @@ fn a_store_and_a_load(rt: HostRuntime) -> Result<(), Fail> {
     store_and_load::<Brand, _>(&rt, rt.alloc(), Ground::new(rt.alloc())?, &setup)
 }
 
+/// Draws where nothing can be delivered, and then behind an ask.
+fn asks_and_draws<F: Naming, R: Wait + Abort>(
+    rt: &R,
+    floor: &Floor<F>,
+    seat: &mut Seat<F>,
+) -> Result<(), Fail> {
+    let none = floor.turn_any(rt, seat, 5)?.is_none();
+    same(rt, &none, &true);
+    make(rt, floor, seat, &["ask 0 0 load = sent"])?;
+    let receipt = floor.turn_any(rt, seat, 5)?.ok_or("nothing is drawn")?;
+    same(rt, &receipt.number(), &1);
+    same(rt, &Some(receipt.entry()), &entry_of("request 0 0 = moved"));
+    Ok(())
+}
+
 fn draws<F: Naming, R: Wait + Abort>(
     rt: &R,
     alloc: Global,
@@ -142,11 +167,7 @@ fn draws<F: Naming, R: Wait + Abort>(
 {
     let (floor, mut seats) = Floor::<F>::open(ground, alloc, setup, 1, 4)?;
     let mut seat = seats.pop().ok_or("no seat")?;
-    assert!(rt; floor.turn_any(rt, &mut seat, 5)?.is_none());
-    make(rt, &floor, &mut seat, &["ask 0 0 load = sent"])?;
-    let receipt = floor.turn_any(rt, &mut seat, 5)?.ok_or("nothing is drawn")?;
-    same(rt, &receipt.number(), &1);
-    same(rt, &Some(receipt.entry()), &entry_of("request 0 0 = moved"));
+    asks_and_draws(rt, &floor, &mut seat)?;
     closes(rt, alloc, floor, seat, &ONE_LOAD)
 }
 
@@ -154,6 +175,25 @@ fn draws<F: Naming, R: Wait + Abort>(
 fn a_drawn_delivery(rt: HostRuntime) -> Result<(), Fail> {
     let setup = setup(rt.alloc(), 2)?;
     draws::<Brand, _>(&rt, rt.alloc(), Ground::new(rt.alloc())?, &setup)
+}
+
+/// Asks by a seat for the first cache, and then makes what is everybody's: there is no such response yet.
+fn asks_and_responds<F: Naming, R: Wait + Abort>(
+    rt: &R,
+    floor: &Floor<F>,
+    seat: &mut Seat<F>,
+) -> Result<(), Fail> {
+    let refused = if seat.number() == 0 {
+        None
+    } else {
+        Some(TurnFault::NotYours)
+    };
+    let answer = floor.turn(rt, seat, LOAD).err();
+    same(rt, &answer, &refused);
+    let receipt = floor.turn(rt, seat, RESPONSE)?;
+    let absent = entry_of("response 0 0 = absent");
+    same(rt, &Some(receipt.entry()), &absent);
+    Ok(())
 }
 
 fn foreign_steps<F: Naming, R: Wait + Abort>(
@@ -166,20 +206,7 @@ fn foreign_steps<F: Naming, R: Wait + Abort>(
 {
     let (floor, mut seats) = Floor::<F>::open(ground, alloc, setup, 3, 4)?;
     for seat in seats.iter_mut() {
-        let answer = floor.turn(rt, seat, LOAD).err();
-        let refused = if seat.number() == 0 {
-            None
-        } else {
-            Some(TurnFault::NotYours)
-        };
-        same(rt, &answer, &refused);
-        // There is no such response yet, so it is everybody's.
-        let receipt = floor.turn(rt, seat, RESPONSE)?;
-        same(
-            rt,
-            &Some(receipt.entry()),
-            &entry_of("response 0 0 = absent"),
-        );
+        asks_and_responds(rt, &floor, seat)?;
     }
     let closed = floor.close(seats).ok().ok_or("not closed")?;
     same(rt, &closed.owners.as_slice(), &[0u32, 0, 1, 2].as_slice());
@@ -214,9 +241,9 @@ fn floors_that_are_not_opened(rt: HostRuntime) -> Result<(), Fail> {
         (64, 1_000_001, Some(FloorFault::OverLimit)),
         (64, 1_000_000, None),
     ];
-    for (seats, capacity, fault) in rows {
-        let found = refusal::<Brand>(alloc, Ground::new(alloc)?, &setup, seats, capacity);
-        same(&rt, &found, &fault);
+    for (seats, capacity, fault) in &rows {
+        let found = refusal::<Brand>(alloc, Ground::new(alloc)?, &setup, *seats, *capacity);
+        same(&rt, &found, fault);
     }
     Ok(())
 }

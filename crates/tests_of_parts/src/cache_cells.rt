@@ -1,57 +1,69 @@
-use crate::asserting::same;
+use crate::asserting::{same, same_at};
 use cache_table::{CacheAction, CacheActions, CacheEntry, CacheEvent, CacheState, CacheTable};
+use std::process::Abort;
 use std::test::Fail;
 
-/// An entry that does these actions, if they aren't too many.
-fn act(next: CacheState, actions: &[CacheAction]) -> Option<CacheEntry> {
-    let actions = CacheActions::of(actions)?;
-    Some(CacheEntry::Act { next, actions })
+const HELD: [(CacheState, CacheEvent, CacheEntry); 4] = [
+    (CacheState::I, CacheEvent::Inv, CacheEntry::Blank),
+    (CacheState::IsD, CacheEvent::Inv, CacheEntry::Stall),
+    (CacheState::SmAd, CacheEvent::DataOwner, CacheEntry::Blank),
+    (CacheState::IiA, CacheEvent::Store, CacheEntry::Stall),
+];
+
+#[test]
+fn baseline_cells_that_do_not_act(rt: HostRuntime) {
+    let table = CacheTable::baseline();
+    for (state, event, entry) in &HELD {
+        same_at(&rt, &table.entry(*state, *event), entry, &(*state, *event));
+    }
+}
+
+const ACTING: [(CacheState, CacheEvent, CacheState, &[CacheAction]); 6] = [
+    (
+        CacheState::I,
+        CacheEvent::Load,
+        CacheState::IsD,
+        &[CacheAction::GetS],
+    ),
+    (
+        CacheState::ImAd,
+        CacheEvent::DataDirMore,
+        CacheState::ImA,
+        &[],
+    ),
+    (CacheState::SmA, CacheEvent::LastInvAck, CacheState::M, &[]),
+    (
+        CacheState::M,
+        CacheEvent::FwdGetS,
+        CacheState::S,
+        &[CacheAction::DataReq, CacheAction::DataDir],
+    ),
+    (
+        CacheState::SiA,
+        CacheEvent::Inv,
+        CacheState::IiA,
+        &[CacheAction::InvAck],
+    ),
+    (CacheState::IiA, CacheEvent::PutAck, CacheState::I, &[]),
+];
+
+/// Compares a baseline cell with an entry that goes to a state and does these actions.
+fn acts(
+    rt: &impl Abort,
+    state: CacheState,
+    event: CacheEvent,
+    next: CacheState,
+    actions: &[CacheAction],
+) {
+    let found = CacheTable::baseline().entry(state, event);
+    let wanted = CacheActions::of(actions).map(|actions| CacheEntry::Act { next, actions });
+    same_at(rt, &Some(found), &wanted, &(state, event));
 }
 
 #[test]
-fn baseline_cells_of_each_kind(rt: HostRuntime) {
-    let cells = [
-        (
-            CacheState::I,
-            CacheEvent::Load,
-            act(CacheState::IsD, &[CacheAction::GetS]),
-        ),
-        (CacheState::I, CacheEvent::Inv, Some(CacheEntry::Blank)),
-        (CacheState::IsD, CacheEvent::Inv, Some(CacheEntry::Stall)),
-        (
-            CacheState::ImAd,
-            CacheEvent::DataDirMore,
-            act(CacheState::ImA, &[]),
-        ),
-        (
-            CacheState::SmAd,
-            CacheEvent::DataOwner,
-            Some(CacheEntry::Blank),
-        ),
-        (
-            CacheState::SmA,
-            CacheEvent::LastInvAck,
-            act(CacheState::M, &[]),
-        ),
-        (
-            CacheState::M,
-            CacheEvent::FwdGetS,
-            act(CacheState::S, &[CacheAction::DataReq, CacheAction::DataDir]),
-        ),
-        (
-            CacheState::SiA,
-            CacheEvent::Inv,
-            act(CacheState::IiA, &[CacheAction::InvAck]),
-        ),
-        (CacheState::IiA, CacheEvent::Store, Some(CacheEntry::Stall)),
-        (CacheState::IiA, CacheEvent::PutAck, act(CacheState::I, &[])),
-    ];
-    for (state, event, entry) in cells {
-        assert_eq!(rt;
-            Some(CacheTable::baseline().entry(state, event)),
-            entry,
-            "at {state:?} {event:?}"
-        );
+fn baseline_cells_that_act(rt: HostRuntime) {
+    for (state, event, next, actions) in &ACTING {
+        acts(&rt, *state, *event, *next, actions);
     }
 }
 
@@ -81,6 +93,12 @@ fn one_cell_is_replaced(rt: HostRuntime) {
     );
 }
 
+fn are_eight(rt: &impl Abort, found: &CacheActions, wanted: &[CacheAction]) {
+    same(rt, &found.as_slice(), &wanted);
+    same(rt, &found.len(), &8);
+    same(rt, &found.is_empty(), &false);
+}
+
 #[test]
 fn at_most_eight_actions(rt: HostRuntime) -> Result<(), Fail> {
     let nine = [
@@ -95,12 +113,8 @@ fn at_most_eight_actions(rt: HostRuntime) -> Result<(), Fail> {
         CacheAction::GetS,
     ];
     same(&rt, &CacheActions::of(&nine), &None);
-    let Some(eight) = CacheActions::of(&nine[..8]) else {
-        return Err(Fail::from("eight actions are refused"));
-    };
-    same(&rt, &eight.as_slice(), &&nine[..8]);
-    same(&rt, &eight.len(), &8);
-    assert!(rt; !eight.is_empty());
-    assert!(rt; CacheActions::none().is_empty());
+    let eight = CacheActions::of(&nine[..8]).ok_or("eight actions are refused")?;
+    are_eight(&rt, &eight, &nine[..8]);
+    same(&rt, &CacheActions::none().is_empty(), &true);
     Ok(())
 }

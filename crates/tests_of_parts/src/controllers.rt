@@ -1,7 +1,7 @@
 ghost use Rattle.std.specs.Prelude.{◌≡◌, OnOk, length};
 ghost use Rattle.control.specs.HomeEffect.{sender_of, IsBelow, NamesBelow};
 
-use crate::asserting::same;
+use crate::asserting::{same, same_at};
 use base::{Ask, CacheId, NoMemory, Place};
 use cache_table::{CacheAction, CacheActions, CacheEvent, CacheState};
 use control::{
@@ -11,6 +11,7 @@ use control::{
 use directory_table::{DirectoryAction, DirectoryActions, DirectoryEvent, DirectoryState};
 use network::{Forward, ForwardKind, Request, RequestKind, Response, Wires};
 use std::alloc::Global;
+use std::process::Abort;
 use std::test::Fail;
 
 const FIRST: CacheId = CacheId(0);
@@ -75,9 +76,15 @@ fn home_act_as_needed(
     Ok(())
 }
 
+/// Compares the event of what comes to a line that has got so many acks.
+fn comes_as(rt: &impl Abort, acks: i64, input: LineInput, event: CacheEvent) {
+    let mut line = Line::opened();
+    line.acks = acks;
+    same_at(rt, &line_event(&line, input), &event, &(acks, input));
+}
+
 #[test]
 fn events_at_a_line(rt: HostRuntime) {
-    let mut line = Line::opened();
     let ack = LineInput::Response(Response::InvAck {
         from: SECOND,
         to: FIRST,
@@ -87,7 +94,7 @@ fn events_at_a_line(rt: HostRuntime) {
         requestor: SECOND,
     });
     same(&rt, &line_ask_event(Ask::Replace), &CacheEvent::Replacement);
-    for (acks, input, event) in [
+    for (acks, input, event) in &[
         (0, LineInput::Ask(Ask::Store(1)), CacheEvent::Store),
         (0, inv, CacheEvent::Inv),
         (0, data(Place::Dir, 0), CacheEvent::DataDirZero),
@@ -100,153 +107,231 @@ fn events_at_a_line(rt: HostRuntime) {
         (0, ack, CacheEvent::InvAck),
         (2, ack, CacheEvent::InvAck),
     ] {
-        line.acks = acks;
-        assert_eq!(rt; line_event(&line, input), event, "with {acks} at {input:?}");
+        comes_as(&rt, *acks, *input, *event);
     }
+}
+
+/// Compares what a store needs, and sends its request.
+fn asks(rt: &impl Abort, line: &mut Line, wires: &mut Wires) -> Result<(), Fail> {
+    let ask = LineInput::Ask(Ask::Store(7));
+    let getm = CacheActions::none().with(CacheAction::GetM);
+    let needs = Needs {
+        requests: 1,
+        responses: 0,
+    };
+    same(rt, &line_needs(ask, getm), &needs);
+    line_reserve(ask, getm, wires)?;
+    let sent = line_act_as_needed(line, ask, CacheState::ImAd, getm, wires)?;
+    same(rt, &sent, &None);
+    same(rt, &line.pending, &Some(Ask::Store(7)));
+    let request = Request {
+        kind: RequestKind::GetM,
+        from: FIRST,
+    };
+    same(rt, &wires.request(0), &Some(request));
+    Ok(())
+}
+
+/// Hands the data to the line that waits for it.
+fn stores(rt: &impl Abort, line: &mut Line, wires: &mut Wires) -> Result<(), Fail> {
+    let came = data(Place::Dir, 0);
+    let done = Some(LineCompletion::Store(7));
+    same(rt, &line_completion(line, came, CacheState::M), &done);
+    let quiet = CacheActions::none();
+    let made = line_act(line, FIRST, came, CacheState::M, quiet, wires)?;
+    same(rt, &made, &done);
+    let stored = Line {
+        state: CacheState::M,
+        value: 7,
+        acks: 0,
+        pending: None,
+    };
+    same(rt, line, &stored);
+    Ok(())
+}
+
+fn asks_and_stores(rt: &impl Abort, wires: &mut Wires) -> Result<(), Fail> {
+    let mut line = Line::opened();
+    asks(rt, &mut line, wires)?;
+    stores(rt, &mut line, wires)
 }
 
 #[test]
 fn a_store_waits_for_its_data(rt: HostRuntime) -> Result<(), Fail> {
     let mut wires = Wires::open(rt.alloc(), 2)?;
-    let mut line = Line::opened();
-    let ask = LineInput::Ask(Ask::Store(7));
-    let getm = CacheActions::none().with(CacheAction::GetM);
-    same(
-        &rt,
-        &line_needs(ask, getm),
-        &Needs {
-            requests: 1,
-            responses: 0,
-        },
+    asks_and_stores(&rt, &mut wires)
+}
+
+/// Compares the event of a request that comes to a home.
+fn meets(rt: &impl Abort, home: &Home, kind: RequestKind, from: CacheId, event: DirectoryEvent) {
+    let input = request(kind, from);
+    same_at(rt, &home_event(home, input), &event, &input);
+}
+
+/// Compares the events at a home of which the second cache is the owner, and the first one the only sharer.
+fn meets_each(rt: &impl Abort, home: &Home) {
+    meets(rt, home, RequestKind::GetS, FIRST, DirectoryEvent::GetS);
+    meets(rt, home, RequestKind::PutS, FIRST, DirectoryEvent::PutSLast);
+    meets(
+        rt,
+        home,
+        RequestKind::PutS,
+        SECOND,
+        DirectoryEvent::PutSNotLast,
     );
-    line_reserve(ask, getm, &mut wires)?;
-    let sent = line_act_as_needed(&mut line, ask, CacheState::ImAd, getm, &mut wires)?;
-    same(&rt, &sent, &None);
-    same(&rt, &line.pending, &Some(Ask::Store(7)));
-    same(
-        &rt,
-        &wires.request(0),
-        &Some(Request {
-            kind: RequestKind::GetM,
-            from: FIRST,
-        }),
+    meets(
+        rt,
+        home,
+        RequestKind::PutM(1),
+        FIRST,
+        DirectoryEvent::PutMNonOwner,
     );
-    let came = data(Place::Dir, 0);
-    let done = Some(LineCompletion::Store(7));
-    same(&rt, &line_completion(&line, came, CacheState::M), &done);
-    let quiet = CacheActions::none();
-    same(
-        &rt,
-        &line_act(&mut line, FIRST, came, CacheState::M, quiet, &mut wires)?,
-        &done,
+    meets(
+        rt,
+        home,
+        RequestKind::PutM(1),
+        SECOND,
+        DirectoryEvent::PutMOwner,
     );
-    same(
-        &rt,
-        &line,
-        &Line {
-            state: CacheState::M,
-            value: 7,
-            acks: 0,
-            pending: None,
-        },
-    );
-    Ok(())
+    let data = home_event(home, HomeInput::Data(1));
+    same(rt, &data, &DirectoryEvent::Data);
+}
+
+/// Adds both caches to the sharers, and removes the second one again.
+fn share(rt: &impl Abort, home: &mut Home)
+    requires { length home.old.sharers ≡ 2 }
+{
+    same(rt, &home.sharers.caches(), &2);
+    home.sharers.add(FIRST);
+    home.sharers.add(SECOND);
+    same(rt, &home.sharers.is_only(FIRST), &false);
+    home.sharers.remove(SECOND);
 }
 
 #[test]
 fn events_at_a_home(rt: HostRuntime) -> Result<(), Fail> {
     let mut home = Home::open(rt.alloc(), 2, 5)?;
-    same(&rt, &home.sharers.caches(), &2);
     home.owner = Some(SECOND);
-    home.sharers.add(FIRST);
-    home.sharers.add(SECOND);
-    assert!(rt; !home.sharers.is_only(FIRST));
-    home.sharers.remove(SECOND);
-    for (input, event) in [
-        (request(RequestKind::GetS, FIRST), DirectoryEvent::GetS),
-        (request(RequestKind::PutS, FIRST), DirectoryEvent::PutSLast),
-        (
-            request(RequestKind::PutS, SECOND),
-            DirectoryEvent::PutSNotLast,
-        ),
-        (
-            request(RequestKind::PutM(1), FIRST),
-            DirectoryEvent::PutMNonOwner,
-        ),
-        (
-            request(RequestKind::PutM(1), SECOND),
-            DirectoryEvent::PutMOwner,
-        ),
-        (HomeInput::Data(1), DirectoryEvent::Data),
-    ] {
-        assert_eq!(rt; home_event(&home, input), event, "at {input:?}");
-    }
+    share(&rt, &mut home);
+    meets_each(&rt, &home);
     home.sharers.clear();
-    same(
+    meets(
         &rt,
-        &home_event(&home, request(RequestKind::PutS, FIRST)),
-        &DirectoryEvent::PutSNotLast,
+        &home,
+        RequestKind::PutS,
+        FIRST,
+        DirectoryEvent::PutSNotLast,
     );
     Ok(())
 }
 
-#[test]
-fn a_sharer_is_invalidated(rt: HostRuntime) -> Result<(), Fail> {
-    let alloc = rt.alloc();
-    let mut wires = Wires::open(alloc, 2)?;
-    let mut home = Home::open(alloc, 2, 5)?;
+/// Makes the first cache a sharer.
+fn reads(rt: &impl Abort, alloc: Global, home: &mut Home, wires: &mut Wires) -> Result<(), Fail>
+    requires flags { NamesBelow (length home.old.sharers) home.old }
+    requires links { NamesBelow (length wires.old.traffic.links) home.old }
+    requires flag_count { length home.old.sharers ≡ 2 }
+    requires link_count { length wires.old.traffic.links ≡ 2 }
+    ensures flags { OnOk result (NamesBelow (length home.new.sharers) home.new) }
+    ensures links { OnOk result (NamesBelow (length wires.new.traffic.links) home.new) }
+    ensures flag_count { OnOk result (length home.new.sharers ≡ 2) }
+    ensures link_count { OnOk result (length wires.new.traffic.links ≡ 2) }
+{
     let gets = request(RequestKind::GetS, FIRST);
     let shares = DirectoryActions::none()
         .with(DirectoryAction::DataReq)
         .with(DirectoryAction::AddReq);
-    let next = DirectoryState::S;
-    home_act_as_needed(alloc, &mut home, gets, next, shares, &mut wires)?;
-    assert!(rt; home.sharers.contains(FIRST));
+    home_act_as_needed(alloc, home, gets, DirectoryState::S, shares, wires)?;
+    same(rt, &home.sharers.contains(FIRST), &true);
+    Ok(())
+}
+
+/// Makes the second cache the owner.
+fn owns(rt: &impl Abort, home: &mut Home, wires: &mut Wires) -> Result<(), Fail>
+    requires flags { NamesBelow (length home.old.sharers) home.old }
+    requires links { NamesBelow (length wires.old.traffic.links) home.old }
+    requires flag_count { length home.old.sharers ≡ 2 }
+    requires link_count { length wires.old.traffic.links ≡ 2 }
+{
     let getm = request(RequestKind::GetM, SECOND);
     let owns = DirectoryActions::none()
         .with(DirectoryAction::DataAcks)
         .with(DirectoryAction::InvSharers)
         .with(DirectoryAction::ClearSharers)
         .with(DirectoryAction::SetOwner);
-    home_reserve(&home, getm, owns, &mut wires)?;
-    home_act(&mut home, getm, DirectoryState::M, owns, &mut wires)?;
-    same(&rt, &home.owner, &Some(SECOND));
-    assert!(rt; !home.sharers.contains(FIRST));
+    home_reserve(home, getm, owns, wires)?;
+    home_act(home, getm, DirectoryState::M, owns, wires)?;
+    same(rt, &home.owner, &Some(SECOND));
+    same(rt, &home.sharers.contains(FIRST), &false);
+    Ok(())
+}
+
+/// Compares what went to the sharer and to the owner.
+fn has_sent(rt: &impl Abort, wires: &Wires) {
     let inv = Forward {
         kind: ForwardKind::Inv,
         requestor: SECOND,
     };
-    same(&rt, &wires.head(FIRST), &Some(inv));
+    same(rt, &wires.head(FIRST), &Some(inv));
     let data = Response::Data {
         from: Place::Dir,
         to: Place::Cache(SECOND),
         value: 5,
         acks: 1,
     };
-    same(&rt, &wires.response(1), &Some(data));
+    same(rt, &wires.response(1), &Some(data));
+}
+
+fn is_invalidated(
+    rt: &impl Abort,
+    alloc: Global,
+    home: &mut Home,
+    wires: &mut Wires,
+) -> Result<(), Fail>
+    requires flags { NamesBelow (length home.old.sharers) home.old }
+    requires links { NamesBelow (length wires.old.traffic.links) home.old }
+    requires flag_count { length home.old.sharers ≡ 2 }
+    requires link_count { length wires.old.traffic.links ≡ 2 }
+{
+    reads(rt, alloc, home, wires)?;
+    owns(rt, home, wires)?;
+    has_sent(rt, wires);
     Ok(())
 }
 
+fn home_invalidates(rt: &impl Abort, alloc: Global, wires: &mut Wires) -> Result<(), Fail>
+    requires { length wires.old.traffic.links ≡ 2 }
+{
+    let mut home = Home::open(alloc, 2, 5)?;
+    is_invalidated(rt, alloc, &mut home, wires)
+}
+
 #[test]
-fn links_that_an_act_needs(rt: HostRuntime) -> Result<(), Fail> {
-    let alloc = rt.alloc();
-    let home = Home::open(alloc, 2, 5)?;
-    let mut links = Vec::new(alloc);
+fn a_sharer_is_invalidated(rt: HostRuntime) -> Result<(), Fail> {
+    let mut wires = Wires::open(rt.alloc(), 2)?;
+    home_invalidates(&rt, rt.alloc(), &mut wires)
+}
+
+/// Compares what an act needs that answers a cache twice which isn't a sharer.
+fn needs_links(rt: &impl Abort, home: &Home, links: &mut Vec<CacheId>) -> Result<(), Fail> {
     let unflagged = CacheId(7);
     let put = request(RequestKind::PutS, unflagged);
     let twice = DirectoryActions::none()
         .with(DirectoryAction::PutAck)
         .with(DirectoryAction::DataReq)
         .with(DirectoryAction::PutAck);
-    let needs = home_needs(&home, put, twice, &mut links)?;
-    same(
-        &rt,
-        &needs,
-        &Needs {
-            requests: 0,
-            responses: 1,
-        },
-    );
-    same(&rt, &links.as_slice(), &[unflagged, unflagged].as_slice());
+    let needs = home_needs(home, put, twice, links)?;
+    let wanted = Needs {
+        requests: 0,
+        responses: 1,
+    };
+    same(rt, &needs, &wanted);
+    same(rt, &links.as_slice(), &[unflagged, unflagged].as_slice());
     Ok(())
+}
+
+#[test]
+fn links_that_an_act_needs(rt: HostRuntime) -> Result<(), Fail> {
+    let home = Home::open(rt.alloc(), 2, 5)?;
+    let mut links = Vec::new(rt.alloc());
+    needs_links(&rt, &home, &mut links)
 }

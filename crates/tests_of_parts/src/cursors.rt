@@ -9,32 +9,88 @@ use std::test::Fail;
 
 type InArena<'t, 'b> = Cursor<'t, Global, &'b Bump>;
 
-#[test]
-fn many_turns_take_little_memory(rt: HostRuntime) -> Result<(), Fail> {
-    let heap = rt.alloc();
-    let text = format!(in heap;
-        r#"{{"times":50000,"of":{{"any":[{{"seq":[{LOAD},{STORE}]}},{{"both":[{LOAD},{STORE}]}}]}}}}"#
-    )?;
-    let source = read(heap, text.as_str())?;
-    let bump = Bump::new(heap);
-    let mut cursor: InArena<'_, '_> = Cursor::open(&source);
-    same(&rt, &bump.allocated_bytes(), &0);
-    for _ in 0..25_000 {
-        // The first turn is one of the row, and the next one of the children that go on at once.
-        for (at, ask) in [(0, 'L'), (0, 'S'), (2, 'S'), (0, 'L')] {
-            let taken = cursor.take(&bump, at)?;
-            same(&rt, &taken.and_then(letter), &Some(ask));
-        }
-    }
-    same(&rt, &offered(&rt, heap, &cursor)?.as_str(), &"");
-    assert!(rt; cursor.may_end());
-    assert!(rt; bump.allocated_bytes() < 4096);
+/// The offers as letters.
+fn letters(rt: &impl Abort, heap: Global, cursor: &InArena<'_, '_>) -> Result<String, Fail> {
+    offered(rt, heap, cursor)
+}
+
+/// Compares the offers.
+fn offers(
+    rt: &impl Abort,
+    heap: Global,
+    cursor: &InArena<'_, '_>,
+    wanted: &str,
+) -> Result<(), Fail> {
+    let found = letters(rt, heap, cursor)?;
+    same(rt, &found.as_str(), &wanted);
     Ok(())
 }
 
+/// Compares what is left where nothing is.
+fn has_ended(rt: &impl Abort, heap: Global, cursor: &InArena<'_, '_>) -> Result<(), Fail> {
+    same(rt, &cursor.may_end(), &true);
+    offers(rt, heap, cursor, "")
+}
+
+/// Takes an offer, and compares its ask.
+fn takes<'b>(
+    rt: &impl Abort,
+    cursor: &mut InArena<'_, 'b>,
+    bump: &'b Bump,
+    at: usize,
+    wanted: Option<char>,
+) -> Result<(), Fail> {
+    let taken = cursor.take(bump, at)?;
+    same(rt, &taken.and_then(letter), &wanted);
+    Ok(())
+}
+
+/// Takes two turns so many times: first one of the row, and then one of the children that go on at once.
+fn take_turns<'b>(
+    rt: &impl Abort,
+    cursor: &mut InArena<'_, 'b>,
+    bump: &'b Bump,
+    count: u32,
+) -> Result<(), Fail> {
+    for _ in 0..count {
+        for (at, ask) in &[(0, 'L'), (0, 'S'), (2, 'S'), (0, 'L')] {
+            takes(rt, cursor, bump, *at, Some(*ask))?;
+        }
+    }
+    Ok(())
+}
+
+/// Takes 50,000 turns, behind which nothing is left, and compares how much memory they took.
+fn take_all_turns<'b>(
+    rt: &impl Abort,
+    heap: Global,
+    cursor: &mut InArena<'_, 'b>,
+    bump: &'b Bump,
+) -> Result<(), Fail> {
+    same(rt, &bump.allocated_bytes(), &0);
+    take_turns(rt, cursor, bump, 25_000)?;
+    has_ended(rt, heap, cursor)?;
+    same(rt, &(bump.allocated_bytes() < 4096), &true);
+    Ok(())
+}
+
+fn many_turns(heap: Global) -> Result<Scenario<Global>, Fail> {
+    let text = format!(in heap;
+        r#"{{"times":50000,"of":{{"any":[{{"seq":[{LOAD},{STORE}]}},{{"both":[{LOAD},{STORE}]}}]}}}}"#
+    )?;
+    read(heap, text.as_str())
+}
+
 #[test]
-fn a_deep_scenario_has_its_one_offer(rt: HostRuntime) -> Result<(), Fail> {
-    let heap = rt.alloc();
+fn many_turns_take_little_memory(rt: HostRuntime) -> Result<(), Fail> {
+    let source = many_turns(rt.alloc())?;
+    let bump = Bump::new(rt.alloc());
+    let mut cursor: InArena<'_, '_> = Cursor::open(&source);
+    take_all_turns(&rt, rt.alloc(), &mut cursor, &bump)
+}
+
+/// A load at the deepest level.
+fn deep_load(heap: Global) -> Result<Scenario<Global>, Fail> {
     let mut text = String::new(heap);
     for _ in 0..47 {
         text.push_str(r#"{"seq":["#)?;
@@ -43,14 +99,42 @@ fn a_deep_scenario_has_its_one_offer(rt: HostRuntime) -> Result<(), Fail> {
     for _ in 0..47 {
         text.push_str("]}")?;
     }
-    let source = read(heap, text.as_str())?;
-    let bump = Bump::new(heap);
+    read(heap, text.as_str())
+}
+
+/// Takes the only offer.
+fn take_only_load<'b>(
+    rt: &impl Abort,
+    heap: Global,
+    cursor: &mut InArena<'_, 'b>,
+    bump: &'b Bump,
+) -> Result<(), Fail> {
+    offers(rt, heap, cursor, "L")?;
+    takes(rt, cursor, bump, 1, None)?;
+    takes(rt, cursor, bump, 0, Some('L'))?;
+    has_ended(rt, heap, cursor)
+}
+
+#[test]
+fn a_deep_scenario_has_its_one_offer(rt: HostRuntime) -> Result<(), Fail> {
+    let source = deep_load(rt.alloc())?;
+    let bump = Bump::new(rt.alloc());
     let mut cursor: InArena<'_, '_> = Cursor::open(&source);
-    same(&rt, &offered(&rt, heap, &cursor)?.as_str(), &"L");
-    same(&rt, &cursor.take(&bump, 1)?.and_then(letter), &None);
-    same(&rt, &cursor.take(&bump, 0)?.and_then(letter), &Some('L'));
-    same(&rt, &offered(&rt, heap, &cursor)?.as_str(), &"");
-    assert!(rt; cursor.may_end());
+    take_only_load(&rt, rt.alloc(), &mut cursor, &bump)
+}
+
+/// Takes three loads, behind which there are more.
+fn take_loads<'b>(
+    rt: &impl Abort,
+    heap: Global,
+    cursor: &mut InArena<'_, 'b>,
+    bump: &'b Bump,
+) -> Result<(), Fail> {
+    for _ in 0..3 {
+        offers(rt, heap, cursor, "L")?;
+        takes(rt, cursor, bump, 0, Some('L'))?;
+    }
+    same(rt, &cursor.may_end(), &false);
     Ok(())
 }
 
@@ -65,12 +149,7 @@ fn the_most_turns_are_counted(rt: HostRuntime) -> Result<(), Fail> {
     let source = Scenario::Times(4_294_967_295, Box::new(heap, Scenario::One(load))?);
     let bump = Bump::new(heap);
     let mut cursor: InArena<'_, '_> = Cursor::open(&source);
-    for _ in 0..3 {
-        same(&rt, &offered(&rt, heap, &cursor)?.as_str(), &"L");
-        same(&rt, &cursor.take(&bump, 0)?.and_then(letter), &Some('L'));
-    }
-    assert!(rt; !cursor.may_end());
-    Ok(())
+    take_loads(&rt, heap, &mut cursor, &bump)
 }
 
 /// Takes offer 0 with ever more memory, until it isn't refused, and answers how often it was. A refusal changes nothing.
@@ -81,39 +160,62 @@ fn take_at_last<'b>(
     bump: &'b Bump,
     wanted: char,
 ) -> Result<usize, Fail> {
-    let before = offered(rt, heap, cursor)?;
+    let before = letters(rt, heap, cursor)?;
     for refused in 0..64_usize {
         bump.set_allocation_limit(Some(refused.saturating_mul(256)));
         if let Ok(taken) = cursor.take(bump, 0) {
-            same(&rt, &taken.and_then(letter), &Some(wanted));
+            same(rt, &taken.and_then(letter), &Some(wanted));
             return Ok(refused);
         }
-        same(&rt, &offered(rt, heap, cursor)?.as_str(), &before.as_str());
+        offers(rt, heap, cursor, before.as_str())?;
     }
     Err(Fail::from("NoMemory"))
 }
 
-#[test]
-fn a_refused_take_leaves_a_cursor_as_it_was(rt: HostRuntime) -> Result<(), Fail> {
-    let heap = rt.alloc();
-    let turn = format!(in heap;
-        r#"{{"both":[{{"times":2,"of":{{"seq":[{LOAD},{STORE}]}}}},{{"seq":[{LOAD},{STORE}]}}]}}"#
-    )?;
-    let text = format!(in heap;
-        r#"{{"seq":[{{"times":2,"of":{{"seq":[{turn},{turn}]}}}},{STORE}]}}"#
-    )?;
-    let source = read(heap, text.as_str())?;
-    let bump = Bump::new(heap);
-    let mut cursor: InArena<'_, '_> = Cursor::open(&source);
+/// Takes four turns of six asks and a last one, of which some are refused at first, and behind which nothing is left.
+fn take_all<'b>(
+    rt: &impl Abort,
+    heap: Global,
+    cursor: &mut InArena<'_, 'b>,
+    bump: &'b Bump,
+) -> Result<(), Fail> {
     let mut refusals = 0_usize;
     for _ in 0..4 {
-        for wanted in ['L', 'S', 'L', 'S', 'L', 'S'] {
-            let refused = take_at_last(&rt, heap, &mut cursor, &bump, wanted)?;
+        for wanted in &['L', 'S', 'L', 'S', 'L', 'S'] {
+            let refused = take_at_last(rt, heap, cursor, bump, *wanted)?;
             refusals = refusals.saturating_add(refused);
         }
     }
-    take_at_last(&rt, heap, &mut cursor, &bump, 'S')?;
-    assert!(rt; cursor.may_end());
-    assert!(rt; refusals > 1);
+    take_at_last(rt, heap, cursor, bump, 'S')?;
+    same(rt, &cursor.may_end(), &true);
+    same(rt, &(refusals > 1), &true);
     Ok(())
+}
+
+/// Two rows that go on at once.
+fn two_rows(heap: Global) -> Result<String, Fail> {
+    Ok(format!(in heap;
+        r#"{{"both":[{{"times":2,"of":{{"seq":[{LOAD},{STORE}]}}}},{{"seq":[{LOAD},{STORE}]}}]}}"#
+    )?)
+}
+
+/// This text twice one behind the other, again twice, and a store behind them.
+fn four_times(heap: Global, turn: &str) -> Result<Scenario<Global>, Fail> {
+    let text = format!(in heap;
+        r#"{{"seq":[{{"times":2,"of":{{"seq":[{turn},{turn}]}}}},{STORE}]}}"#
+    )?;
+    read(heap, text.as_str())
+}
+
+fn four_turns(heap: Global) -> Result<Scenario<Global>, Fail> {
+    let turn = two_rows(heap)?;
+    four_times(heap, turn.as_str())
+}
+
+#[test]
+fn a_refused_take_leaves_a_cursor_as_it_was(rt: HostRuntime) -> Result<(), Fail> {
+    let source = four_turns(rt.alloc())?;
+    let bump = Bump::new(rt.alloc());
+    let mut cursor: InArena<'_, '_> = Cursor::open(&source);
+    take_all(&rt, rt.alloc(), &mut cursor, &bump)
 }

@@ -1,100 +1,112 @@
-use crate::asserting::same;
+use crate::asserting::{same, same_at};
 use directory_table::{
     DirectoryAction, DirectoryActions, DirectoryEntry, DirectoryEvent, DirectoryState,
     DirectoryTable,
 };
+use std::process::Abort;
 use std::test::Fail;
 
-/// An entry that does these actions, if they aren't too many.
-fn act(next: DirectoryState, actions: &[DirectoryAction]) -> Option<DirectoryEntry> {
-    let actions = DirectoryActions::of(actions)?;
-    Some(DirectoryEntry::Act { next, actions })
+const HELD: [(DirectoryState, DirectoryEvent, DirectoryEntry); 3] = [
+    (
+        DirectoryState::I,
+        DirectoryEvent::PutMOwner,
+        DirectoryEntry::Blank,
+    ),
+    (
+        DirectoryState::M,
+        DirectoryEvent::Data,
+        DirectoryEntry::Blank,
+    ),
+    (
+        DirectoryState::SD,
+        DirectoryEvent::GetM,
+        DirectoryEntry::Stall,
+    ),
+];
+
+#[test]
+fn baseline_cells_that_do_not_act(rt: HostRuntime) {
+    let table = DirectoryTable::baseline();
+    for (state, event, entry) in &HELD {
+        same_at(&rt, &table.entry(*state, *event), entry, &(*state, *event));
+    }
+}
+
+const ACTING: [(
+    DirectoryState,
+    DirectoryEvent,
+    DirectoryState,
+    &[DirectoryAction],
+); 6] = [
+    (
+        DirectoryState::I,
+        DirectoryEvent::GetS,
+        DirectoryState::S,
+        &[DirectoryAction::DataReq, DirectoryAction::AddReq],
+    ),
+    (
+        DirectoryState::S,
+        DirectoryEvent::GetM,
+        DirectoryState::M,
+        &[
+            DirectoryAction::DataAcks,
+            DirectoryAction::InvSharers,
+            DirectoryAction::ClearSharers,
+            DirectoryAction::SetOwner,
+        ],
+    ),
+    (
+        DirectoryState::S,
+        DirectoryEvent::PutSLast,
+        DirectoryState::I,
+        &[DirectoryAction::RemoveReq, DirectoryAction::PutAck],
+    ),
+    (
+        DirectoryState::M,
+        DirectoryEvent::GetS,
+        DirectoryState::SD,
+        &[
+            DirectoryAction::FwdGetS,
+            DirectoryAction::AddReq,
+            DirectoryAction::AddOwner,
+            DirectoryAction::ClearOwner,
+        ],
+    ),
+    (
+        DirectoryState::M,
+        DirectoryEvent::PutMOwner,
+        DirectoryState::I,
+        &[
+            DirectoryAction::CopyData,
+            DirectoryAction::ClearOwner,
+            DirectoryAction::PutAck,
+        ],
+    ),
+    (
+        DirectoryState::SD,
+        DirectoryEvent::Data,
+        DirectoryState::S,
+        &[DirectoryAction::CopyData],
+    ),
+];
+
+/// Compares a baseline cell with an entry that goes to a state and does these actions.
+fn acts(
+    rt: &impl Abort,
+    state: DirectoryState,
+    event: DirectoryEvent,
+    next: DirectoryState,
+    actions: &[DirectoryAction],
+) {
+    let found = DirectoryTable::baseline().entry(state, event);
+    let wanted = DirectoryActions::of(actions).map(|actions| DirectoryEntry::Act { next, actions });
+    same_at(rt, &Some(found), &wanted, &(state, event));
 }
 
 #[test]
-fn baseline_cells_of_each_kind(rt: HostRuntime) {
-    let cells = [
-        (
-            DirectoryState::I,
-            DirectoryEvent::GetS,
-            act(
-                DirectoryState::S,
-                &[DirectoryAction::DataReq, DirectoryAction::AddReq],
-            ),
-        ),
-        (
-            DirectoryState::I,
-            DirectoryEvent::PutMOwner,
-            Some(DirectoryEntry::Blank),
-        ),
-        (
-            DirectoryState::S,
-            DirectoryEvent::GetM,
-            act(
-                DirectoryState::M,
-                &[
-                    DirectoryAction::DataAcks,
-                    DirectoryAction::InvSharers,
-                    DirectoryAction::ClearSharers,
-                    DirectoryAction::SetOwner,
-                ],
-            ),
-        ),
-        (
-            DirectoryState::S,
-            DirectoryEvent::PutSLast,
-            act(
-                DirectoryState::I,
-                &[DirectoryAction::RemoveReq, DirectoryAction::PutAck],
-            ),
-        ),
-        (
-            DirectoryState::M,
-            DirectoryEvent::GetS,
-            act(
-                DirectoryState::SD,
-                &[
-                    DirectoryAction::FwdGetS,
-                    DirectoryAction::AddReq,
-                    DirectoryAction::AddOwner,
-                    DirectoryAction::ClearOwner,
-                ],
-            ),
-        ),
-        (
-            DirectoryState::M,
-            DirectoryEvent::PutMOwner,
-            act(
-                DirectoryState::I,
-                &[
-                    DirectoryAction::CopyData,
-                    DirectoryAction::ClearOwner,
-                    DirectoryAction::PutAck,
-                ],
-            ),
-        ),
-        (
-            DirectoryState::M,
-            DirectoryEvent::Data,
-            Some(DirectoryEntry::Blank),
-        ),
-        (
-            DirectoryState::SD,
-            DirectoryEvent::GetM,
-            Some(DirectoryEntry::Stall),
-        ),
-        (
-            DirectoryState::SD,
-            DirectoryEvent::Data,
-            act(DirectoryState::S, &[DirectoryAction::CopyData]),
-        ),
-    ];
-    for (state, event, entry) in cells {
-        assert_eq!(rt;
-            Some(DirectoryTable::baseline().entry(state, event)),
-            entry,
-            "at {state:?} {event:?}"
-        );
+fn baseline_cells_that_act(rt: HostRuntime) {
+    for (state, event, next, actions) in &ACTING {
+        acts(&rt, *state, *event, *next, actions);
     }
 }
 
@@ -132,6 +144,12 @@ fn one_cell_is_replaced(rt: HostRuntime) {
     );
 }
 
+fn are_eight(rt: &impl Abort, found: &DirectoryActions, wanted: &[DirectoryAction]) {
+    same(rt, &found.as_slice(), &wanted);
+    same(rt, &found.len(), &8);
+    same(rt, &found.is_empty(), &false);
+}
+
 #[test]
 fn at_most_eight_actions(rt: HostRuntime) -> Result<(), Fail> {
     let nine = [
@@ -146,12 +164,8 @@ fn at_most_eight_actions(rt: HostRuntime) -> Result<(), Fail> {
         DirectoryAction::CopyData,
     ];
     same(&rt, &DirectoryActions::of(&nine), &None);
-    let Some(eight) = DirectoryActions::of(&nine[..8]) else {
-        return Err(Fail::from("eight actions are refused"));
-    };
-    same(&rt, &eight.as_slice(), &&nine[..8]);
-    same(&rt, &eight.len(), &8);
-    assert!(rt; !eight.is_empty());
-    assert!(rt; DirectoryActions::none().is_empty());
+    let eight = DirectoryActions::of(&nine[..8]).ok_or("eight actions are refused")?;
+    are_eight(&rt, &eight, &nine[..8]);
+    same(&rt, &DirectoryActions::none().is_empty(), &true);
     Ok(())
 }

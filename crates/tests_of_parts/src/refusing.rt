@@ -2,7 +2,7 @@
 //! nothing is refused they are plain calls.
 
 use crate::asserting::same;
-use crate::scenario_taking::{letter, offered};
+use crate::scenario_taking::{has_ended, letter, offered, offers};
 use base::{Buffer, Shape};
 use scenario::{Cursor, Rest, SaveFault, Scenario, ScenarioFault};
 use std::alloc::Global;
@@ -44,6 +44,27 @@ fn read_at_last(rt: &impl Abort, alloc: Global, text: &str) -> Result<Scenario<G
     }
 }
 
+/// Compares what came of a write that was refused: nothing where memory was.
+fn came_of_refusal(rt: &impl Abort, out: &[u8], text: &str, fault: SaveFault) {
+    let written = match fault {
+        SaveFault::NoMemory => 0,
+        SaveFault::Device { written } => written,
+    };
+    same(rt, &text.as_bytes().starts_with(out), &true);
+    same(rt, &(out.len() as u64), &written);
+}
+
+/// Compares what a tree is written as by a call that may be refused, and answers whether it was.
+fn was_refused(rt: &impl Abort, alloc: Global, tree: &Scenario<Global>, text: &str) -> bool {
+    let mut sink = Buffer::open(alloc);
+    if let Err(fault) = tree.write(alloc, &mut sink) {
+        came_of_refusal(rt, sink.bytes(), text, fault);
+        return true;
+    }
+    same(rt, &sink.bytes(), &text.as_bytes());
+    false
+}
+
 /// Compares what a tree is written as. Of a write that was refused memory nothing went out.
 fn is_written(
     rt: &impl Abort,
@@ -51,22 +72,28 @@ fn is_written(
     tree: &Scenario<Global>,
     text: &str,
 ) -> Result<(), Fail> {
-    let mut sink = Buffer::open(alloc);
-    match tree.write(alloc, &mut sink) {
-        Ok(()) => {}
-        Err(fault) => {
-            let out = sink.bytes();
-            let written = match fault {
-                SaveFault::NoMemory => 0,
-                SaveFault::Device { written } => written,
-            };
-            assert!(rt; text.as_bytes().starts_with(out));
-            same(rt, &(out.len() as u64), &written);
-            sink = Buffer::open(alloc);
-            tree.write(alloc, &mut sink).ok().ok_or("refused again")?;
-        }
+    if was_refused(rt, alloc, tree, text) && was_refused(rt, alloc, tree, text) {
+        return Err(Fail::from("refused again"));
     }
-    same(rt, &sink.bytes(), &text.as_bytes());
+    Ok(())
+}
+
+/// Takes the first offer, at the second call where the first one is refused memory and changes nothing.
+fn take_at_last<R: Rest<Alloc = Global>>(
+    rt: &impl Abort,
+    alloc: Global,
+    rest: &mut R,
+    wanted: char,
+) -> Result<(), Fail> {
+    let before = offered(rt, alloc, rest)?;
+    let taken = match rest.take(alloc, 0) {
+        Ok(taken) => taken,
+        Err(_) => {
+            offers(rt, alloc, rest, before.as_str())?;
+            rest.take(alloc, 0).ok().ok_or("refused again")?
+        }
+    };
+    same(rt, &taken.and_then(letter), &Some(wanted));
     Ok(())
 }
 
@@ -78,25 +105,41 @@ fn take_all<R: Rest<Alloc = Global>>(
     letters: &str,
 ) -> Result<(), Fail> {
     for wanted in letters.chars() {
-        let before = offered(rt, alloc, rest)?;
-        let taken = match rest.take(alloc, 0) {
-            Ok(taken) => taken,
-            Err(_) => {
-                let after = offered(rt, alloc, rest)?;
-                same(rt, &after.as_str(), &before.as_str());
-                rest.take(alloc, 0).ok().ok_or("refused again")?
-            }
-        };
-        same(rt, &taken.and_then(letter), &Some(wanted));
+        take_at_last(rt, alloc, rest, wanted)?;
     }
-    same(rt, &offered(rt, alloc, rest)?.as_str(), &"");
-    assert!(rt; rest.may_end());
-    Ok(())
+    has_ended(rt, alloc, rest)
+}
+
+fn copy_at_last(alloc: Global, tree: &Scenario<Global>) -> Result<Scenario<Global>, Fail> {
+    match tree.copy_in(alloc) {
+        Ok(copy) => Ok(copy),
+        Err(_) => Ok(tree.copy_in(alloc).ok().ok_or("refused again")?),
+    }
+}
+
+fn take_copy(
+    rt: &impl Abort,
+    alloc: Global,
+    tree: &Scenario<Global>,
+    letters: &str,
+) -> Result<(), Fail> {
+    let mut copy = copy_at_last(alloc, tree)?;
+    take_all(rt, alloc, &mut copy, letters)
+}
+
+fn take_cursor(
+    rt: &impl Abort,
+    alloc: Global,
+    tree: &Scenario<Global>,
+    letters: &str,
+) -> Result<(), Fail> {
+    let mut cursor: Cursor<'_, Global, Global> = Cursor::open(tree);
+    take_all(rt, alloc, &mut cursor, letters)
 }
 
 #[test]
 fn a_scenario_is_read_and_written(rt: HostRuntime) -> Result<(), Fail> {
-    for (text, _) in TREES {
+    for (text, _) in &TREES {
         let tree = read_at_last(&rt, rt.alloc(), text)?;
         is_written(&rt, rt.alloc(), &tree, text)?;
     }
@@ -105,27 +148,20 @@ fn a_scenario_is_read_and_written(rt: HostRuntime) -> Result<(), Fail> {
 
 #[test]
 fn a_scenario_is_copied_and_taken(rt: HostRuntime) -> Result<(), Fail> {
-    let alloc = rt.alloc();
-    for (text, letters) in TREES {
-        let tree = read_at_last(&rt, alloc, text)?;
-        let mut copy = match tree.copy_in(alloc) {
-            Ok(copy) => copy,
-            Err(_) => tree.copy_in(alloc).ok().ok_or("refused again")?,
-        };
-        take_all(&rt, alloc, &mut copy, letters)?;
-        is_written(&rt, alloc, &tree, text)?;
+    for (text, letters) in &TREES {
+        let tree = read_at_last(&rt, rt.alloc(), text)?;
+        take_copy(&rt, rt.alloc(), &tree, letters)?;
+        is_written(&rt, rt.alloc(), &tree, text)?;
     }
     Ok(())
 }
 
 #[test]
 fn a_cursor_is_taken(rt: HostRuntime) -> Result<(), Fail> {
-    let alloc = rt.alloc();
-    for (text, letters) in TREES {
-        let tree = read_at_last(&rt, alloc, text)?;
-        let mut cursor: Cursor<'_, Global, Global> = Cursor::open(&tree);
-        take_all(&rt, alloc, &mut cursor, letters)?;
-        is_written(&rt, alloc, &tree, text)?;
+    for (text, letters) in &TREES {
+        let tree = read_at_last(&rt, rt.alloc(), text)?;
+        take_cursor(&rt, rt.alloc(), &tree, letters)?;
+        is_written(&rt, rt.alloc(), &tree, text)?;
     }
     Ok(())
 }

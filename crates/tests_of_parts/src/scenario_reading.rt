@@ -1,7 +1,8 @@
-use crate::asserting::same;
+use crate::asserting::same_at;
 use base::{Buffer, Faltering, Shape};
 use scenario::{SaveFault, Scenario, ScenarioFault};
 use std::alloc::Global;
+use std::process::Abort;
 use std::test::Fail;
 
 /// The numbers are of two caches and three blocks.
@@ -19,6 +20,18 @@ fn fault_of(alloc: Global, text: &[u8]) -> Result<Option<ScenarioFault>, Fail> {
         Err(ScenarioFault::NoMemory) => Err(Fail::from("NoMemory")),
         Err(fault) => Ok(Some(fault)),
     }
+}
+
+/// Compares the fault of a text.
+fn has_fault(
+    rt: &impl Abort,
+    alloc: Global,
+    text: &str,
+    fault: Option<ScenarioFault>,
+) -> Result<(), Fail> {
+    let found = fault_of(alloc, text.as_bytes())?;
+    same_at(rt, &found, &fault, &text);
+    Ok(())
 }
 
 /// What comes before so many times, then the inner text, and then what comes behind so many times.
@@ -42,100 +55,97 @@ fn nested(
 
 const LOAD: &str = r#"{"block":0,"core":0,"op":"load"}"#;
 
+const REFUSED: [(&str, ScenarioFault); 33] = [
+    ("", ScenarioFault::NotJson),
+    ("{", ScenarioFault::NotJson),
+    (r#"{"seq":[],}"#, ScenarioFault::NotJson),
+    (r#"{"seq":[]} x"#, ScenarioFault::NotJson),
+    ("[]", ScenarioFault::BadShape),
+    ("null", ScenarioFault::BadShape),
+    ("{}", ScenarioFault::BadShape),
+    (r#"{"seq":{}}"#, ScenarioFault::BadShape),
+    (r#"{"seq":[],"any":[]}"#, ScenarioFault::BadShape),
+    (r#"{"all":[]}"#, ScenarioFault::BadShape),
+    (r#"{"times":1}"#, ScenarioFault::BadShape),
+    (r#"{"of":{"seq":[]}}"#, ScenarioFault::BadShape),
+    (r#"{"times":-1,"of":{"seq":[]}}"#, ScenarioFault::BadShape),
+    (
+        r#"{"times":4294967296,"of":{"seq":[]}}"#,
+        ScenarioFault::BadShape,
+    ),
+    (
+        r#"{"times":1,"of":{"seq":[]},"seq":[]}"#,
+        ScenarioFault::BadShape,
+    ),
+    (r#"{"op":"load","core":0}"#, ScenarioFault::BadShape),
+    (
+        r#"{"op":"loads","core":0,"block":0}"#,
+        ScenarioFault::BadShape,
+    ),
+    (
+        r#"{"op":"load","core":0,"block":0,"value":1}"#,
+        ScenarioFault::BadShape,
+    ),
+    (
+        r#"{"op":"load","core":0,"block":0,"x":1}"#,
+        ScenarioFault::BadShape,
+    ),
+    (
+        r#"{"op":"replace","core":0,"block":0,"value":1}"#,
+        ScenarioFault::BadShape,
+    ),
+    (
+        r#"{"op":"store","core":0,"block":0}"#,
+        ScenarioFault::BadShape,
+    ),
+    (
+        r#"{"op":"store","core":0,"block":0,"valu":1}"#,
+        ScenarioFault::BadShape,
+    ),
+    (
+        r#"{"op":"store","core":0,"block":0,"value":1,"x":1}"#,
+        ScenarioFault::BadShape,
+    ),
+    (r#"{"any":[]}"#, ScenarioFault::EmptyAny),
+    (r#"{"seq":[{"any":[]}]}"#, ScenarioFault::EmptyAny),
+    (r#"{"times":0,"of":{"any":[]}}"#, ScenarioFault::EmptyAny),
+    (
+        r#"{"op":"load","core":2,"block":0}"#,
+        ScenarioFault::OutOfShape,
+    ),
+    (
+        r#"{"op":"load","core":0,"block":3}"#,
+        ScenarioFault::OutOfShape,
+    ),
+    (
+        r#"{"op":"store","core":2,"block":0,"value":1}"#,
+        ScenarioFault::OutOfShape,
+    ),
+    (
+        r#"{"op":"replace","core":0,"block":4294967295}"#,
+        ScenarioFault::OutOfShape,
+    ),
+    (
+        r#"{"times":4294967295,"of":{"op":"load","core":0,"block":0}}"#,
+        ScenarioFault::TooLong,
+    ),
+    (
+        r#"{"times":1000000,"of":{"times":1000000,"of":{"op":"load","core":0,"block":0}}}"#,
+        ScenarioFault::TooLong,
+    ),
+    (
+        r#"{"both":[{"times":1000000,"of":{"op":"load","core":0,"block":0}},{"op":"load","core":1,"block":2}]}"#,
+        ScenarioFault::TooLong,
+    ),
+];
+
 #[test]
 fn texts_that_are_refused(rt: HostRuntime) -> Result<(), Fail> {
-    let refused = [
-        ("", ScenarioFault::NotJson),
-        ("{", ScenarioFault::NotJson),
-        (r#"{"seq":[],}"#, ScenarioFault::NotJson),
-        (r#"{"seq":[]} x"#, ScenarioFault::NotJson),
-        ("[]", ScenarioFault::BadShape),
-        ("null", ScenarioFault::BadShape),
-        ("{}", ScenarioFault::BadShape),
-        (r#"{"seq":{}}"#, ScenarioFault::BadShape),
-        (r#"{"seq":[],"any":[]}"#, ScenarioFault::BadShape),
-        (r#"{"all":[]}"#, ScenarioFault::BadShape),
-        (r#"{"times":1}"#, ScenarioFault::BadShape),
-        (r#"{"of":{"seq":[]}}"#, ScenarioFault::BadShape),
-        (r#"{"times":-1,"of":{"seq":[]}}"#, ScenarioFault::BadShape),
-        (
-            r#"{"times":4294967296,"of":{"seq":[]}}"#,
-            ScenarioFault::BadShape,
-        ),
-        (
-            r#"{"times":1,"of":{"seq":[]},"seq":[]}"#,
-            ScenarioFault::BadShape,
-        ),
-        (r#"{"op":"load","core":0}"#, ScenarioFault::BadShape),
-        (
-            r#"{"op":"loads","core":0,"block":0}"#,
-            ScenarioFault::BadShape,
-        ),
-        (
-            r#"{"op":"load","core":0,"block":0,"value":1}"#,
-            ScenarioFault::BadShape,
-        ),
-        (
-            r#"{"op":"load","core":0,"block":0,"x":1}"#,
-            ScenarioFault::BadShape,
-        ),
-        (
-            r#"{"op":"replace","core":0,"block":0,"value":1}"#,
-            ScenarioFault::BadShape,
-        ),
-        (
-            r#"{"op":"store","core":0,"block":0}"#,
-            ScenarioFault::BadShape,
-        ),
-        (
-            r#"{"op":"store","core":0,"block":0,"valu":1}"#,
-            ScenarioFault::BadShape,
-        ),
-        (
-            r#"{"op":"store","core":0,"block":0,"value":1,"x":1}"#,
-            ScenarioFault::BadShape,
-        ),
-        (r#"{"any":[]}"#, ScenarioFault::EmptyAny),
-        (r#"{"seq":[{"any":[]}]}"#, ScenarioFault::EmptyAny),
-        (r#"{"times":0,"of":{"any":[]}}"#, ScenarioFault::EmptyAny),
-        (
-            r#"{"op":"load","core":2,"block":0}"#,
-            ScenarioFault::OutOfShape,
-        ),
-        (
-            r#"{"op":"load","core":0,"block":3}"#,
-            ScenarioFault::OutOfShape,
-        ),
-        (
-            r#"{"op":"store","core":2,"block":0,"value":1}"#,
-            ScenarioFault::OutOfShape,
-        ),
-        (
-            r#"{"op":"replace","core":0,"block":4294967295}"#,
-            ScenarioFault::OutOfShape,
-        ),
-        (
-            r#"{"times":4294967295,"of":{"op":"load","core":0,"block":0}}"#,
-            ScenarioFault::TooLong,
-        ),
-        (
-            r#"{"times":1000000,"of":{"times":1000000,"of":{"op":"load","core":0,"block":0}}}"#,
-            ScenarioFault::TooLong,
-        ),
-        (
-            r#"{"both":[{"times":1000000,"of":{"op":"load","core":0,"block":0}},{"op":"load","core":1,"block":2}]}"#,
-            ScenarioFault::TooLong,
-        ),
-    ];
-    for (text, fault) in refused {
-        let found = fault_of(rt.alloc(), text.as_bytes())?;
-        assert_eq!(rt; found, Some(fault), "at {text}");
+    for (text, fault) in &REFUSED {
+        has_fault(&rt, rt.alloc(), text, Some(*fault))?;
     }
-    same(
-        &rt,
-        &fault_of(rt.alloc(), b"{\"\xff\":[]}")?,
-        &Some(ScenarioFault::NotJson),
-    );
+    let found = fault_of(rt.alloc(), b"{\"\xff\":[]}")?;
+    same_at(&rt, &found, &Some(ScenarioFault::NotJson), &"no UTF-8");
     Ok(())
 }
 
@@ -150,33 +160,36 @@ const NO_NUMBERS: [&str; 7] = [
     "null",
 ];
 
+/// Holds that no number of a scenario is spelled in one of these ways.
+fn are_no_numbers(rt: &impl Abort, alloc: Global, before: &str, behind: &str) -> Result<(), Fail> {
+    for number in &NO_NUMBERS {
+        let text = format!(in alloc; "{before}{number}{behind}")?;
+        has_fault(rt, alloc, text.as_str(), Some(ScenarioFault::BadShape))?;
+    }
+    Ok(())
+}
+
 #[test]
 fn numbers_that_are_refused(rt: HostRuntime) -> Result<(), Fail> {
-    let alloc = rt.alloc();
-    for (before, behind) in [
+    for (before, behind) in &[
         (r#"{"op":"load","core":"#, r#","block":0}"#),
         (r#"{"op":"load","core":0,"block":"#, "}"),
         (r#"{"times":"#, r#","of":{"seq":[]}}"#),
         (r#"{"op":"store","core":0,"block":0,"value":"#, "}"),
     ] {
-        for number in NO_NUMBERS {
-            let text = format!(in alloc; "{before}{number}{behind}")?;
-            let fault = fault_of(alloc, text.as_bytes())?;
-            assert_eq!(rt; fault, Some(ScenarioFault::BadShape), "at {text}");
-        }
+        are_no_numbers(&rt, rt.alloc(), before, behind)?;
     }
     Ok(())
 }
 
 #[test]
 fn small_numbers_that_are_refused(rt: HostRuntime) -> Result<(), Fail> {
-    for text in [
+    for text in &[
         r#"{"op":"load","core":4294967296,"block":0}"#,
         r#"{"op":"load","core":0,"block":4294967296}"#,
         r#"{"times":4294967296,"of":{"seq":[]}}"#,
     ] {
-        let fault = fault_of(rt.alloc(), text.as_bytes())?;
-        assert_eq!(rt; fault, Some(ScenarioFault::BadShape), "at {text}");
+        has_fault(&rt, rt.alloc(), text, Some(ScenarioFault::BadShape))?;
     }
     Ok(())
 }
@@ -206,9 +219,8 @@ fn the_first_fault_of_a_text(rt: HostRuntime) -> Result<(), Fail> {
             ScenarioFault::EmptyAny,
         ),
     ];
-    for (text, fault) in refused {
-        let found = fault_of(rt.alloc(), text.as_bytes())?;
-        assert_eq!(rt; found, Some(fault), "at {text}");
+    for (text, fault) in &refused {
+        has_fault(&rt, rt.alloc(), text, Some(*fault))?;
     }
     Ok(())
 }
@@ -224,7 +236,7 @@ fn levels_and_lengths(rt: HostRuntime) -> Result<(), Fail> {
     let one_more = r#"{"times":1000001,"of":"#;
     let deep = Some(ScenarioFault::TooDeep);
     let long = Some(ScenarioFault::TooLong);
-    for (before, inner, behind, times, fault) in [
+    for (before, inner, behind, times, fault) in &[
         (seq, empty, "]}", 47, None),
         (seq, LOAD, "]}", 47, None),
         (seq, empty, "]}", 48, deep),
@@ -240,8 +252,8 @@ fn levels_and_lengths(rt: HostRuntime) -> Result<(), Fail> {
         (one_million, LOAD, "}", 1, None),
         (one_more, LOAD, "}", 1, long),
     ] {
-        let text = nested(alloc, before, inner, behind, times)?;
-        assert_eq!(rt; fault_of(alloc, text.as_bytes())?, fault, "at {text}");
+        let text = nested(alloc, before, inner, behind, *times)?;
+        has_fault(&rt, alloc, text.as_str(), *fault)?;
     }
     Ok(())
 }
@@ -259,65 +271,76 @@ const TEXTS: [&str; 9] = [
     r#"{"any":[{"seq":[]},{"block":0,"core":0,"op":"load"}]}"#,
 ];
 
+/// Compares what a scenario is written as.
+fn writes(
+    rt: &impl Abort,
+    alloc: Global,
+    scenario: &Scenario<Global>,
+    wanted: &str,
+) -> Result<(), Fail> {
+    let mut sink = Buffer::open(alloc);
+    scenario.write(alloc, &mut sink)?;
+    same_at(rt, &sink.bytes(), &wanted.as_bytes(), &wanted);
+    Ok(())
+}
+
 #[test]
 fn texts_read_and_written(rt: HostRuntime) -> Result<(), Fail> {
-    let alloc = rt.alloc();
-    for text in TEXTS {
-        let scenario = read(alloc, text.as_bytes())?;
-        let mut sink = Buffer::open(alloc);
-        scenario.write(alloc, &mut sink)?;
-        assert_eq!(rt; sink.bytes(), text.as_bytes(), "at {text}");
+    for text in &TEXTS {
+        let scenario = read(rt.alloc(), text.as_bytes())?;
+        writes(&rt, rt.alloc(), &scenario, text)?;
     }
     Ok(())
 }
 
 #[test]
 fn other_spellings_of_a_text(rt: HostRuntime) -> Result<(), Fail> {
-    let alloc = rt.alloc();
     let spelled = [
         r#"{"op":"store","core":1,"block":2,"value":7}"#,
         " { \"core\" : 1 , \"value\" : 7 ,\n\"op\" : \"store\" , \"block\" : 2 } ",
         r#"{"op":"load","core":9,"block":2,"value":7,"op":"store","core":1}"#,
     ];
-    for text in spelled {
-        let scenario = read(alloc, text.as_bytes())?;
-        let mut sink = Buffer::open(alloc);
-        scenario.write(alloc, &mut sink)?;
-        assert_eq!(rt;
-            sink.bytes(),
-            br#"{"block":2,"core":1,"op":"store","value":7}"#.as_slice(),
-            "at {text}"
-        );
+    let wanted = r#"{"block":2,"core":1,"op":"store","value":7}"#;
+    for text in &spelled {
+        let scenario = read(rt.alloc(), text.as_bytes())?;
+        writes(&rt, rt.alloc(), &scenario, wanted)?;
     }
+    Ok(())
+}
+
+/// Compares what comes through a sink that fails behind so many calls, of which so many are enough.
+fn comes_through(
+    rt: &impl Abort,
+    alloc: Global,
+    scenario: &Scenario<Global>,
+    most: usize,
+    calls: u64,
+    enough: u64,
+) -> Result<(), Fail> {
+    let at = (most, calls);
+    let text = TEXTS[6].as_bytes();
+    let mut sink = Faltering::over(Buffer::open(alloc), most, calls);
+    let written = scenario.write(alloc, &mut sink);
+    if written == Err(SaveFault::NoMemory) {
+        return Err(Fail::from("NoMemory"));
+    }
+    let out = sink.end().bytes();
+    let count = out.len() as u64;
+    let fault = SaveFault::Device { written: count };
+    let wanted = if calls == enough { Ok(()) } else { Err(fault) };
+    same_at(rt, &written, &wanted, &at);
+    same_at(rt, &text.starts_with(out), &true, &at);
+    let is_whole = count == text.len() as u64;
+    same_at(rt, &is_whole, &(calls == enough), &at);
     Ok(())
 }
 
 #[test]
 fn sinks_that_fail_on_the_way(rt: HostRuntime) -> Result<(), Fail> {
-    let alloc = rt.alloc();
-    let text = TEXTS[6].as_bytes();
-    let scenario = read(alloc, text)?;
-    for (most, enough) in [(1, 133), (7, 19), (200, 1)] {
-        for calls in 0..=enough {
-            let mut sink = Faltering::over(Buffer::open(alloc), most, calls);
-            let written = scenario.write(alloc, &mut sink);
-            if written == Err(SaveFault::NoMemory) {
-                return Err(Fail::from("NoMemory"));
-            }
-            let out = sink.end().bytes();
-            let count = out.len() as u64;
-            assert!(rt; text.starts_with(out), "at {most} {calls}");
-            assert_eq!(rt;
-                count == text.len() as u64,
-                calls == enough,
-                "at {most} {calls}"
-            );
-            if calls == enough {
-                assert_eq!(rt; written, Ok(()), "at {most} {calls}");
-            } else {
-                let fault = SaveFault::Device { written: count };
-                assert_eq!(rt; written, Err(fault), "at {most} {calls}");
-            }
+    let scenario = read(rt.alloc(), TEXTS[6].as_bytes())?;
+    for (most, enough) in &[(1, 133), (7, 19), (200, 1)] {
+        for calls in 0..=*enough {
+            comes_through(&rt, rt.alloc(), &scenario, *most, calls, *enough)?;
         }
     }
     Ok(())

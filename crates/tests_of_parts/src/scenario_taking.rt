@@ -30,18 +30,54 @@ pub fn read(alloc: Global, text: &str) -> Result<Scenario<Global>, Fail> {
     Ok(Scenario::read(alloc, alloc, text.as_bytes(), shape)?)
 }
 
-/// The offers as letters: their list has each at its place, and no more than are counted.
+/// The letters of a list of offers: each stands at its place, and there are no more than are counted.
+fn letters_of<R: Rest>(
+    rt: &impl Abort,
+    heap: Global,
+    rest: &R,
+    asks: &[CoreAsk],
+) -> Result<String, Fail> {
+    same(rt, &rest.offer_count(), &asks.len());
+    same(rt, &rest.offer_at(asks.len()), &None);
+    let mut letters = String::new(heap);
+    for (at, ask) in asks.iter().enumerate() {
+        same(rt, &rest.offer_at(at), &Some(*ask));
+        letters.push(letter(*ask).unwrap_or('?'))?;
+    }
+    Ok(letters)
+}
+
+/// The offers as letters.
 pub fn offered<R: Rest>(rt: &impl Abort, heap: Global, rest: &R) -> Result<String, Fail> {
     let mut asks = Vec::new(heap);
     rest.offers(&mut asks)?;
-    same(&rt, &rest.offer_count(), &asks.len());
-    let mut letters = String::new(heap);
-    for (at, ask) in asks.iter().enumerate() {
-        same(&rt, &rest.offer_at(at), &Some(*ask));
-        letters.push(letter(*ask).unwrap_or('?'))?;
-    }
-    same(&rt, &rest.offer_at(asks.len()), &None);
-    Ok(letters)
+    letters_of(rt, heap, rest, asks.as_slice())
+}
+
+/// Compares the offers.
+pub fn offers<R: Rest>(rt: &impl Abort, heap: Global, rest: &R, wanted: &str) -> Result<(), Fail> {
+    let found = offered(rt, heap, rest)?;
+    same(rt, &found.as_str(), &wanted);
+    Ok(())
+}
+
+/// Compares what is left where nothing is.
+pub fn has_ended<R: Rest>(rt: &impl Abort, heap: Global, rest: &R) -> Result<(), Fail> {
+    same(rt, &rest.may_end(), &true);
+    offers(rt, heap, rest, "")
+}
+
+/// Takes an offer, and compares its ask.
+fn takes<R: Rest>(
+    rt: &impl Abort,
+    rest: &mut R,
+    alloc: R::Alloc,
+    at: usize,
+    wanted: Option<char>,
+) -> Result<(), Fail> {
+    let ask = rest.take(alloc, at)?;
+    same(rt, &ask.and_then(letter), &wanted);
+    Ok(())
 }
 
 /// Follows the moments, and looks whether each is as it is told.
@@ -52,13 +88,26 @@ fn follow<R: Rest>(
     alloc: R::Alloc,
     moments: &[Moment<'_>],
 ) -> Result<(), Fail> {
-    for (offers, ends, at, taken) in moments {
-        same(&rt, &offered(rt, heap, rest)?.as_str(), &*offers);
-        same(&rt, &rest.may_end(), &*ends);
-        let ask = rest.take(alloc.clone()?, *at)?;
-        same(&rt, &ask.and_then(letter), &*taken);
+    for (wanted, ends, at, taken) in moments {
+        offers(rt, heap, rest, wanted)?;
+        same(rt, &rest.may_end(), ends);
+        takes(rt, rest, alloc.clone()?, *at, *taken)?;
     }
     Ok(())
+}
+
+/// Follows the moments in a copy and by a cursor.
+fn follow_in_arena(
+    rt: &impl Abort,
+    heap: Global,
+    source: &Scenario<Global>,
+    bump: &Bump,
+    moments: &[Moment<'_>],
+) -> Result<(), Fail> {
+    let mut copy = source.copy_in(bump)?;
+    follow(rt, heap, &mut copy, bump, moments)?;
+    let mut cursor: Cursor<'_, Global, &Bump> = Cursor::open(source);
+    follow(rt, heap, &mut cursor, bump, moments)
 }
 
 /// Follows the moments in a copy and by a cursor, both in an arena that is dropped before it, and then in the scenario.
@@ -68,15 +117,8 @@ fn follow_in_all(
     text: &str,
     moments: &[Moment<'_>],
 ) -> Result<(), Fail> {
-    let source = read(heap, text)?;
-    let bump = Bump::new(heap);
-    {
-        let mut copy = source.copy_in(&bump)?;
-        follow(rt, heap, &mut copy, &bump, moments)?;
-        let mut cursor: Cursor<'_, Global, &Bump> = Cursor::open(&source);
-        follow(rt, heap, &mut cursor, &bump, moments)?;
-    }
-    let mut source = source;
+    let mut source = read(heap, text)?;
+    follow_in_arena(rt, heap, &source, &Bump::new(heap), moments)?;
     follow(rt, heap, &mut source, heap, moments)
 }
 
@@ -121,40 +163,85 @@ fn what_may_end_is_passed_over(rt: HostRuntime) -> Result<(), Fail> {
     )
 }
 
+/// Takes so many loads, behind which nothing is left.
+fn takes_loads(
+    rt: &impl Abort,
+    heap: Global,
+    tree: &mut Scenario<Global>,
+    count: u32,
+) -> Result<(), Fail> {
+    for _ in 0..count {
+        let ask = tree.take(heap, 0)?;
+        same(rt, &ask.and_then(letter), &Some('L'));
+    }
+    has_ended(rt, heap, tree)
+}
+
 #[test]
 fn a_long_scenario_stays_shallow(rt: HostRuntime) -> Result<(), Fail> {
     let text = format!(in rt.alloc(); r#"{{"times":1000,"of":{{"times":100,"of":{LOAD}}}}}"#)?;
     let mut tree = read(rt.alloc(), text.as_str())?;
-    for _ in 0..100_000 {
-        let ask = tree.take(rt.alloc(), 0)?;
-        same(&rt, &ask.and_then(letter), &Some('L'));
+    takes_loads(&rt, rt.alloc(), &mut tree, 100_000)
+}
+
+/// Takes offer 0 in an arena that is full, and then in one with room where that was refused, and answers whether it was.
+fn take_in_full_arena<'b>(
+    rt: &impl Abort,
+    heap: Global,
+    tree: &mut Scenario<&'b Bump>,
+    bump: &'b Bump,
+    wanted: char,
+) -> Result<bool, Fail> {
+    let before = offered(rt, heap, tree)?;
+    if let Ok(taken) = tree.take(bump, 0) {
+        same(rt, &taken.and_then(letter), &Some(wanted));
+        return Ok(false);
     }
-    same(&rt, &offered(&rt, rt.alloc(), &tree)?.as_str(), &"");
-    assert!(rt; tree.may_end());
+    offers(rt, heap, tree, before.as_str())?;
+    bump.set_allocation_limit(None);
+    let taken = tree.take(bump, 0)?;
+    same(rt, &taken.and_then(letter), &Some(wanted));
+    Ok(true)
+}
+
+/// Takes so many offers, and answers whether one of them was refused.
+fn take_in_full_arenas<'b>(
+    rt: &impl Abort,
+    heap: Global,
+    tree: &mut Scenario<&'b Bump>,
+    bump: &'b Bump,
+    count: u32,
+) -> Result<bool, Fail> {
+    let mut refused = false;
+    for turn in 0..count {
+        bump.set_allocation_limit(Some(bump.allocated_bytes()));
+        let wanted = if turn % 2 == 0 { 'L' } else { 'S' };
+        refused |= take_in_full_arena(rt, heap, tree, bump, wanted)?;
+    }
+    Ok(refused)
+}
+
+/// A hundred turns of two asks.
+fn hundred_turns(heap: Global) -> Result<Scenario<Global>, Fail> {
+    let text = format!(in heap; r#"{{"times":100,"of":{{"seq":[{LOAD},{STORE}]}}}}"#)?;
+    read(heap, text.as_str())
+}
+
+/// Takes all of a copy in an arena that is full again and again.
+fn take_copy(
+    rt: &impl Abort,
+    heap: Global,
+    source: &Scenario<Global>,
+    bump: &Bump,
+) -> Result<(), Fail> {
+    let mut tree = source.copy_in(bump)?;
+    let refused = take_in_full_arenas(rt, heap, &mut tree, bump, 200)?;
+    same(rt, &refused, &true);
     Ok(())
 }
 
 #[test]
 fn a_refused_take_changes_nothing(rt: HostRuntime) -> Result<(), Fail> {
-    let heap = rt.alloc();
-    let text = format!(in heap; r#"{{"times":100,"of":{{"seq":[{LOAD},{STORE}]}}}}"#)?;
-    let source = read(heap, text.as_str())?;
-    let bump = Bump::new(heap);
-    let mut tree = source.copy_in(&bump)?;
-    let mut refused = false;
-    for turn in 0..200 {
-        bump.set_allocation_limit(Some(bump.allocated_bytes()));
-        let before = offered(&rt, heap, &tree)?;
-        let mut taken = tree.take(&bump, 0);
-        if taken.is_err() {
-            refused = true;
-            same(&rt, &offered(&rt, heap, &tree)?.as_str(), &before.as_str());
-            bump.set_allocation_limit(None);
-            taken = tree.take(&bump, 0);
-        }
-        let ask = if turn % 2 == 0 { 'L' } else { 'S' };
-        same(&rt, &taken.ok().flatten().and_then(letter), &Some(ask));
-    }
-    assert!(rt; refused);
-    Ok(())
+    let source = hundred_turns(rt.alloc())?;
+    take_copy(&rt, rt.alloc(), &source, &Bump::new(rt.alloc()))
 }

@@ -1,19 +1,20 @@
-use crate::asserting::same;
+use crate::asserting::{same, same_at};
 use base::text::{cut, number_of, small_number_of, spells_one_step};
 use base::{
     Ask, BlockId, Buffer, CacheId, Failed, Faltering, FromRead, Outcome, Shape, ShapeFault, Sink,
     Source, Step, ToWrite, put_all,
 };
+use std::alloc::Global;
+use std::fmt::Display;
+use std::process::Abort;
 use std::test::Fail;
 
 #[test]
 fn shapes_within_the_limits(rt: HostRuntime) -> Result<(), Fail> {
-    for (caches, blocks) in [(1, 1), (1024, 4096)] {
-        let Ok(shape) = Shape::new(caches, blocks) else {
-            return Err(Fail::from("a shape within the limits is refused"));
-        };
-        same(&rt, &shape.caches(), &caches);
-        same(&rt, &shape.blocks(), &blocks);
+    for (caches, blocks) in &[(1, 1), (1024, 4096)] {
+        let shape = Shape::new(*caches, *blocks)?;
+        same(&rt, &shape.caches(), caches);
+        same(&rt, &shape.blocks(), blocks);
     }
     Ok(())
 }
@@ -26,13 +27,22 @@ fn the_first_fault_of_a_shape(rt: HostRuntime) {
         (1025, 5000, ShapeFault::TooManyCaches),
         (1024, 4097, ShapeFault::TooManyBlocks),
     ];
-    for (caches, blocks, fault) in refused {
-        assert_eq!(rt;
-            Shape::new(caches, blocks),
-            Err(fault),
-            "at {caches} {blocks}"
-        );
+    for (caches, blocks, fault) in &refused {
+        let found = Shape::new(*caches, *blocks).err();
+        same_at(&rt, &found, &Some(*fault), &(*caches, *blocks));
     }
+}
+
+/// Compares what a value is shown as.
+fn is_shown<T: Display>(
+    rt: &impl Abort,
+    alloc: Global,
+    value: &T,
+    wanted: &str,
+) -> Result<(), Fail> {
+    let shown = format!(in alloc; "{value}")?;
+    same(rt, &shown.as_str(), &wanted);
+    Ok(())
 }
 
 #[test]
@@ -50,12 +60,9 @@ fn steps_read_and_shown(rt: HostRuntime) -> Result<(), Fail> {
         "response 0 18446744073709551615",
         "response 4294967295 10",
     ];
-    for line in lines {
-        let Some(step) = Step::read(line.as_bytes()) else {
-            return Err(Fail::from("the text of a step isn't read"));
-        };
-        let shown = format!(in rt.alloc(); "{step}")?;
-        same(&rt, &shown.as_str(), &line);
+    for line in &lines {
+        let step = Step::read(line.as_bytes()).ok_or("the text of a step isn't read")?;
+        is_shown(&rt, rt.alloc(), &step, line)?;
     }
     Ok(())
 }
@@ -93,48 +100,49 @@ fn which_number_is_which(rt: HostRuntime) {
         ("forward 2 1", Step::Forward { block, cache }),
         ("response 2 3", Step::Response { block, index: 3 }),
     ];
-    for (line, step) in steps {
-        assert_eq!(rt; Step::read(line.as_bytes()), Some(step), "at {line}");
+    for (line, step) in &steps {
+        same_at(&rt, &Step::read(line.as_bytes()), &Some(*step), line);
     }
 }
 
+const NO_STEPS: [&str; 31] = [
+    "",
+    " ",
+    "ask",
+    "asc 0 0 load",
+    "ask 0 0",
+    "ask  0 0 load",
+    " ask 0 0 load",
+    "ask 0 0 load ",
+    "ask\t0 0 load",
+    "ask 00 0 load",
+    "ask 0 01 load",
+    "ask +0 0 load",
+    "ask -1 0 load",
+    "ask 4294967296 0 load",
+    "ask 0 4294967296 load",
+    "ask 0 0 Load",
+    "ask 0 0 store",
+    "ask 0 0 store ",
+    "ask 0 0 store 18446744073709551616",
+    "ask 0 0 store 1 1",
+    "ask 0 0 load 1",
+    "ask 0 0 replace 1",
+    "request 0",
+    "request 0 0 0",
+    "request 0 18446744073709551616",
+    "forward 0 4294967296",
+    "response 4294967296 0",
+    "Request 0 0",
+    "request 0 0\r",
+    "request 0 0\n",
+    "sent",
+];
+
 #[test]
 fn lines_that_are_no_step(rt: HostRuntime) {
-    let lines = [
-        "",
-        " ",
-        "ask",
-        "asc 0 0 load",
-        "ask 0 0",
-        "ask  0 0 load",
-        " ask 0 0 load",
-        "ask 0 0 load ",
-        "ask\t0 0 load",
-        "ask 00 0 load",
-        "ask 0 01 load",
-        "ask +0 0 load",
-        "ask -1 0 load",
-        "ask 4294967296 0 load",
-        "ask 0 4294967296 load",
-        "ask 0 0 Load",
-        "ask 0 0 store",
-        "ask 0 0 store ",
-        "ask 0 0 store 18446744073709551616",
-        "ask 0 0 store 1 1",
-        "ask 0 0 load 1",
-        "ask 0 0 replace 1",
-        "request 0",
-        "request 0 0 0",
-        "request 0 18446744073709551616",
-        "forward 0 4294967296",
-        "response 4294967296 0",
-        "Request 0 0",
-        "request 0 0\r",
-        "request 0 0\n",
-        "sent",
-    ];
-    for line in lines {
-        assert_eq!(rt; Step::read(line.as_bytes()), None, "at {line}");
+    for line in &NO_STEPS {
+        same_at(&rt, &Step::read(line.as_bytes()), &None, line);
     }
     same(&rt, &Step::read(b"request 0 \xff"), &None);
 }
@@ -164,30 +172,31 @@ fn outcomes_read_and_shown(rt: HostRuntime) -> Result<(), Fail> {
         (Outcome::Blank, "blank"),
         (Outcome::Broken, "broken"),
     ];
-    for (outcome, line) in outcomes {
-        let shown = format!(in rt.alloc(); "{outcome}")?;
-        same(&rt, &shown.as_str(), &line);
-        assert_eq!(rt; Outcome::read(line.as_bytes()), Some(outcome), "at {line}");
+    for (outcome, line) in &outcomes {
+        let found = Outcome::read(line.as_bytes());
+        same_at(&rt, &found, &Some(*outcome), line);
+        is_shown(&rt, rt.alloc(), outcome, line)?;
     }
     Ok(())
 }
 
+const NO_OUTCOMES: [&str; 10] = [
+    "",
+    "Sent",
+    "sent ",
+    "sent 1",
+    "send",
+    "load",
+    "load 0",
+    "load 4294967296 0",
+    "store 0 1 2",
+    "store 0 01",
+];
+
 #[test]
 fn lines_that_are_no_outcome(rt: HostRuntime) {
-    let lines = [
-        "",
-        "Sent",
-        "sent ",
-        "sent 1",
-        "send",
-        "load",
-        "load 0",
-        "load 4294967296 0",
-        "store 0 1 2",
-        "store 0 01",
-    ];
-    for line in lines {
-        assert_eq!(rt; Outcome::read(line.as_bytes()), None, "at {line}");
+    for line in &NO_OUTCOMES {
+        same_at(&rt, &Outcome::read(line.as_bytes()), &None, line);
     }
 }
 
@@ -213,20 +222,20 @@ fn words_and_numbers(rt: HostRuntime) {
 
 #[test]
 fn blocks_of_steps(rt: HostRuntime) {
-    for (line, block) in [
+    for (line, block) in &[
         ("ask 1 2 load", 2),
         ("request 3 1", 3),
         ("forward 4 1", 4),
         ("response 5 1", 5),
     ] {
-        let step = Step::read(line.as_bytes());
-        assert_eq!(rt; step.map(|s| s.block()), Some(BlockId(block)), "at {line}");
+        let found = Step::read(line.as_bytes()).map(|step| step.block());
+        same_at(&rt, &found, &Some(BlockId(*block)), line);
     }
 }
 
 /// Pulls until nothing is left, three bytes a call at most. It answers what came, and whether the source failed.
-fn pull_all<S: Source>(rt: HostRuntime, source: &mut S) -> Result<(Vec<u8>, bool), Fail> {
-    let mut found = Vec::new(rt.alloc());
+fn pull_all<S: Source>(alloc: Global, source: &mut S) -> Result<(Vec<u8>, bool), Fail> {
+    let mut found = Vec::new(alloc);
     let mut buffer = [0u8; 3];
     for _ in 0..100 {
         match source.pull(&mut buffer) {
@@ -238,50 +247,59 @@ fn pull_all<S: Source>(rt: HostRuntime, source: &mut S) -> Result<(Vec<u8>, bool
     Err(Fail::from("a source doesn't end"))
 }
 
+const TEXT: &[u8] = b"steps and outcomes";
+
+/// Compares what is pulled from a source, and whether it failed.
+fn is_pulled<S: Source>(
+    rt: &impl Abort,
+    alloc: Global,
+    source: &mut S,
+    wanted: &[u8],
+    failed: bool,
+) -> Result<(), Fail> {
+    let (found, fails) = pull_all(alloc, source)?;
+    let at = (wanted, failed);
+    same_at(rt, &(found.as_slice(), fails), &at, &at);
+    Ok(())
+}
+
 #[test]
 fn sources_of_bytes(rt: HostRuntime) -> Result<(), Fail> {
-    let text = b"steps and outcomes".as_slice();
-    let (found, failed) = pull_all(rt, &mut { text })?;
-    same(&rt, &(found.as_slice(), failed), &(text, false));
-    let (found, failed) = pull_all(rt, &mut FromRead::new(text))?;
-    same(&rt, &(found.as_slice(), failed), &(text, false));
-    for (most, calls, whole, failed) in [
+    is_pulled(&rt, rt.alloc(), &mut { TEXT }, TEXT, false)?;
+    is_pulled(&rt, rt.alloc(), &mut FromRead::new(TEXT), TEXT, false)?;
+    for (most, calls, whole, failed) in &[
         (1, 100, 18, false),
         (2, 4, 8, true),
         (7, 4, 12, true),
         (1, 0, 0, true),
     ] {
-        let (found, fails) = pull_all(rt, &mut Faltering::over(text, most, calls))?;
-        assert_eq!(rt;
-            (found.as_slice(), fails),
-            (&text[..whole], failed),
-            "at {most} {calls}"
-        );
+        let mut source = Faltering::over(TEXT, *most, *calls);
+        is_pulled(&rt, rt.alloc(), &mut source, &TEXT[..*whole], *failed)?;
     }
     Ok(())
 }
 
+/// Compares what comes through a sink that fails behind so many calls, and what the fault says of it.
+fn is_put(rt: &impl Abort, alloc: Global, most: usize, calls: u64, written: Option<usize>) {
+    let mut sink = Faltering::over(Buffer::open(alloc), most, calls);
+    let fault = put_all(&mut sink, TEXT).err();
+    same_at(rt, &fault.map(|f| f.written), &written, &(most, calls));
+    let whole = TEXT.get(..written.unwrap_or(18));
+    same_at(rt, &Some(sink.end().bytes()), &whole, &(most, calls));
+}
+
 #[test]
-fn sinks_of_bytes(rt: HostRuntime) -> Result<(), Fail> {
-    let text = b"steps and outcomes".as_slice();
-    for (most, calls, written) in [
+fn sinks_of_bytes(rt: HostRuntime) {
+    for (most, calls, written) in &[
         (1, 18, None),
         (1, 17, Some(17)),
         (7, 2, Some(14)),
         (200, 1, None),
         (200, 0, Some(0)),
     ] {
-        let mut sink = Faltering::over(Buffer::open(rt.alloc()), most, calls);
-        let put = put_all(&mut sink, text);
-        assert_eq!(rt; put.err().map(|f| f.written), written, "at {most} {calls}");
-        assert_eq!(rt;
-            sink.end().bytes(),
-            &text[..written.unwrap_or(18)],
-            "at {most} {calls}"
-        );
+        is_put(&rt, rt.alloc(), *most, *calls, *written);
     }
     let mut out = Vec::new(rt.alloc());
-    assert!(rt; put_all(&mut ToWrite::new(&mut out), text).is_ok());
-    same(&rt, &out.as_slice(), &text);
-    Ok(())
+    assert!(rt; put_all(&mut ToWrite::new(&mut out), TEXT).is_ok());
+    same(&rt, &out.as_slice(), &TEXT);
 }

@@ -7,3 +7,8 @@ use std::process::Abort;
 pub fn same<T: PartialEq + Debug>(rt: &impl Abort, found: &T, wanted: &T) {
     assert_eq!(rt; found, wanted);
 }
+
+/// The same, and says in which row of a table it fails.
+pub fn same_at<T: PartialEq + Debug, P: Debug>(rt: &impl Abort, found: &T, wanted: &T, at: &P) {
+    assert_eq!(rt; found, wanted, "at {at:?}");
+}

@@ -1,3 +1,4 @@
+use crate::asserting::{same, same_at};
 use both_tables::Tables;
 use cache_table::{CacheEntry, CacheEvent, CacheState};
 use certify::{CELLS, Cell, Standing, certify, standing_of};
@@ -7,26 +8,34 @@ use std::process::Abort;
 #[test]
 fn the_own_tables(rt: HostRuntime) {
     let own = Tables::baseline();
-    assert_eq!(rt; certify(&own), None);
+    same(&rt, &certify(&own), &None);
     for number in 0..CELLS {
         let standing = Cell::at(number).map(|cell| standing_of(&own, cell));
-        assert_eq!(rt; standing, Some(Standing::Own), "at cell {}", number);
+        same_at(&rt, &standing, &Some(Standing::Own), &number);
     }
-    assert_eq!(rt; Cell::at(CELLS), None);
+    same(&rt, &Cell::at(CELLS), &None);
+}
+
+fn hold_at_cache(tables: &mut Tables, state: CacheState) {
+    for event in &CacheEvent::ALL {
+        tables.cache = tables.cache.with(state, *event, CacheEntry::Stall);
+    }
+}
+
+fn hold_at_directory(tables: &mut Tables, state: DirectoryState) {
+    for event in &DirectoryEvent::ALL {
+        tables.directory = tables.directory.with(state, *event, DirectoryEntry::Stall);
+    }
 }
 
 /// Tables that hold whatever comes.
 fn held() -> Tables {
     let mut tables = Tables::baseline();
-    for state in CacheState::ALL {
-        for event in CacheEvent::ALL {
-            tables.cache = tables.cache.with(state, event, CacheEntry::Stall);
-        }
+    for state in &CacheState::ALL {
+        hold_at_cache(&mut tables, *state);
     }
-    for state in DirectoryState::ALL {
-        for event in DirectoryEvent::ALL {
-            tables.directory = tables.directory.with(state, event, DirectoryEntry::Stall);
-        }
+    for state in &DirectoryState::ALL {
+        hold_at_directory(&mut tables, *state);
     }
     tables
 }
@@ -34,11 +43,11 @@ fn held() -> Tables {
 #[test]
 fn tables_of_stalls(rt: HostRuntime) {
     let tables = held();
-    assert_eq!(rt; certify(&tables), None);
+    same(&rt, &certify(&tables), &None);
     let load = Cell::Cache(CacheState::M, CacheEvent::Load);
-    assert_eq!(rt; standing_of(&tables, load), Standing::Stall);
+    same(&rt, &standing_of(&tables, load), &Standing::Stall);
     let held_anyway = Cell::Cache(CacheState::IsD, CacheEvent::Inv);
-    assert_eq!(rt; standing_of(&tables, held_anyway), Standing::Own);
+    same(&rt, &standing_of(&tables, held_anyway), &Standing::Own);
 }
 
 /// Holds that one cell, where it is left blank, is named.
@@ -55,7 +64,8 @@ fn is_named(rt: &impl Abort, cell: Cell) {
         },
     };
     let is_blank = tables.cache == own.cache && tables.directory == own.directory;
-    assert_eq!(rt; certify(&tables), if is_blank { None } else { Some(cell) });
+    let wanted = if is_blank { None } else { Some(cell) };
+    same(rt, &certify(&tables), &wanted);
 }
 
 #[test]

@@ -26,7 +26,14 @@ const STORE: CoreAsk = CoreAsk {
 /// A world of two caches and one block that opens at 0.
 fn opened(alloc: Global) -> Result<World, Fail> {
     let shape = Shape::new(2, 1)?;
-    Ok(World::open(alloc, shape, Tables::baseline(), vec![in alloc; 0; 1]?)?)
+    let opening = vec![in alloc; 0; 1]?;
+    Ok(World::open(alloc, shape, Tables::baseline(), opening)?)
+}
+
+fn occupy(cores: &mut Cores, core: CacheId) {
+    if cores.free(core) {
+        cores.issue(core, Ask::Load);
+    }
 }
 
 /// What can happen next, where these cores are busy.
@@ -38,34 +45,36 @@ fn listed(
 ) -> Result<Vec<Choice>, Fail> {
     let mut cores = Cores::open(alloc, 2)?;
     for core in busy {
-        if cores.free(CacheId(*core)) {
-            cores.issue(CacheId(*core), Ask::Load);
-        }
+        occupy(&mut cores, CacheId(*core));
     }
     Ok(choices(alloc, world, &cores, scenario)?)
 }
 
 fn play(world: &mut World, steps: &[&str]) -> Result<(), Fail> {
     for line in steps {
-        let Some(step) = Step::read(line.as_bytes()) else {
-            return Err(Fail::from("the text of a step isn't read"));
-        };
+        let step = Step::read(line.as_bytes()).ok_or("the text of a step isn't read")?;
         world.step(step)?;
     }
     Ok(())
 }
 
+const WORDS: [u32; 6] = [
+    0xa15c02b7, 0x7b47f409, 0xba1d3330, 0x83d2f293, 0xbfa4784b, 0xcbed606e,
+];
+
 #[test]
 fn the_first_words(rt: HostRuntime) {
     let mut dice = Dice::new(42, 54);
-    for word in [
-        0xa15c02b7, 0x7b47f409, 0xba1d3330, 0x83d2f293, 0xbfa4784b, 0xcbed606e,
-    ] {
-        same(&rt, &dice.pick(4294967296), &word);
+    for word in &WORDS {
+        same(&rt, &dice.pick(4294967296), word);
     }
+}
+
+#[test]
+fn the_first_choices(rt: HostRuntime) {
     let mut dice = Dice::new(42, 54);
-    for choice in [(2, 1), (2, 1), (2, 0), (2, 1), (1, 0), (1, 0)] {
-        same(&rt, &dice.pick(choice.0), &choice.1);
+    for (count, picked) in &[(2, 1), (2, 1), (2, 0), (2, 1), (1, 0), (1, 0)] {
+        same(&rt, &dice.pick(*count), picked);
     }
 }
 
@@ -109,11 +118,19 @@ fn offers_first(
     expect(rt, alloc, world, &[0, 1], scenario, &[request])
 }
 
+fn offers_first_in_new(
+    rt: &impl Abort,
+    alloc: Global,
+    scenario: &Scenario<Global>,
+) -> Result<(), Fail> {
+    let mut world = opened(alloc)?;
+    offers_first(rt, alloc, &mut world, scenario)
+}
+
 #[test]
 fn offers_before_deliveries(rt: HostRuntime) -> Result<(), Fail> {
     let scenario = load_or_store(rt.alloc())?;
-    let mut world = opened(rt.alloc())?;
-    offers_first(&rt, rt.alloc(), &mut world, &scenario)
+    offers_first_in_new(&rt, rt.alloc(), &scenario)
 }
 
 /// Compares the choices where a forward is held behind the Data.
@@ -139,7 +156,6 @@ fn offers_no_held(
 
 #[test]
 fn what_is_held_is_no_choice(rt: HostRuntime) -> Result<(), Fail> {
-    let scenario = Scenario::One(LOAD);
     let mut world = opened(rt.alloc())?;
-    offers_no_held(&rt, rt.alloc(), &mut world, &scenario)
+    offers_no_held(&rt, rt.alloc(), &mut world, &Scenario::One(LOAD))
 }

@@ -1,4 +1,4 @@
-use crate::asserting::same;
+use crate::asserting::{same, same_at};
 use crate::entries::entry_of;
 use base::{BlockId, Buffer, CacheId, Faltering, Outcome, Shape, Step};
 use both_tables::Tables;
@@ -8,22 +8,23 @@ use record::{
     Entry, MOST_ENTRIES, PushFault, ReadFault, ReadKind, Recording, ReplayFault, Replayed, replay,
 };
 use std::alloc::Global;
+use std::process::Abort;
 use std::test::Fail;
 use world::OpenFault;
 
 /// A recording of one block that opens at 0. Each line is a step and an outcome, with ` = ` between them.
 fn recorded(alloc: Global, caches: u32, tables: Tables, lines: &[&str]) -> Result<Recording, Fail> {
-    let Ok(shape) = Shape::new(caches, 1) else {
-        return Err(Fail::from("a small shape is refused"));
-    };
-    let mut recording = Recording::open(alloc, shape, tables, vec![in alloc; 0]?)?;
+    let shape = Shape::new(caches, 1)?;
+    let opening = vec![in alloc; 0]?;
+    let mut recording = Recording::open(alloc, shape, tables, opening)?;
     push_all(&mut recording, lines)?;
     Ok(recording)
 }
 
 fn push_all(recording: &mut Recording, lines: &[&str]) -> Result<(), Fail> {
     for line in lines {
-        recording.push(entry_of(line).ok_or("not an entry")?)?;
+        let entry = entry_of(line).ok_or("not an entry")?;
+        recording.push(entry)?;
     }
     Ok(())
 }
@@ -48,69 +49,91 @@ const LOAD_FROM_OWNER: [&str; 8] = [
     "response 0 0 = moved",
 ];
 
+/// Compares the text of a recording.
+fn writes(rt: &impl Abort, alloc: Global, recording: &Recording, text: &str) -> Result<(), Fail> {
+    let mut sink = Buffer::open(alloc);
+    recording.write(&mut sink)?;
+    same(rt, &sink.bytes(), &text.as_bytes());
+    Ok(())
+}
+
 #[test]
-fn texts_of_recordings(rt: HostRuntime) -> Result<(), Fail> {
-    let alloc = rt.alloc();
+fn the_text_of_one_load(rt: HostRuntime) -> Result<(), Fail> {
+    let recording = recorded(rt.alloc(), 1, Tables::baseline(), &ONE_LOAD)?;
+    writes(&rt, rt.alloc(), &recording, ONE_LOAD_TEXT)?;
+    same(&rt, &ONE_LOAD_TEXT.len(), &122);
+    Ok(())
+}
+
+#[test]
+fn the_text_of_changed_tables(rt: HostRuntime) -> Result<(), Fail> {
     let mut tables = Tables::baseline();
     tables.cache = tables
         .cache
         .with(CacheState::S, CacheEvent::Inv, CacheEntry::Stall)
         .with(CacheState::I, CacheEvent::Load, CacheEntry::Blank)
         .with(CacheState::I, CacheEvent::Inv, CacheEntry::Blank);
-    let changed =
-        "msi-recording 1\nshape 2 1\nopening 0\ncells 2\ncell cache I Load blank\ncell cache S Inv stall\nentries 0\nend\n";
-    let rows = [
-        (
-            recorded(alloc, 1, Tables::baseline(), &ONE_LOAD)?,
-            ONE_LOAD_TEXT,
-        ),
-        (recorded(alloc, 2, tables, &[])?, changed),
-    ];
-    for (recording, text) in rows {
-        let mut sink = Buffer::open(alloc);
-        recording.write(&mut sink)?;
-        same(&rt, &sink.bytes(), &text.as_bytes());
-    }
-    same(&rt, &ONE_LOAD_TEXT.len(), &122);
-    Ok(())
+    let changed = "msi-recording 1
+shape 2 1
+opening 0
+cells 2
+cell cache I Load blank
+cell cache S Inv stall
+entries 0
+end
+";
+    let recording = recorded(rt.alloc(), 2, tables, &[])?;
+    writes(&rt, rt.alloc(), &recording, changed)
+}
+
+/// Compares what comes through a sink that fails behind so many calls, and what the fault says of it.
+fn comes_through(rt: &impl Abort, alloc: Global, recording: &Recording, most: usize, calls: u64) {
+    let at = (most, calls);
+    let mut sink = Faltering::over(Buffer::open(alloc), most, calls);
+    let fault = recording.write(&mut sink).err();
+    let out = sink.end().bytes();
+    let written = out.len() as u64;
+    let expected = if written < 122 { Some(written) } else { None };
+    let is_front = ONE_LOAD_TEXT.as_bytes().starts_with(out);
+    same_at(rt, &is_front, &true, &at);
+    same_at(rt, &fault.map(|f| f.written), &expected, &at);
 }
 
 #[test]
 fn sinks_that_fail(rt: HostRuntime) -> Result<(), Fail> {
-    let alloc = rt.alloc();
-    let recording = recorded(alloc, 1, Tables::baseline(), &ONE_LOAD)?;
-    let text = ONE_LOAD_TEXT.as_bytes();
-    for most in [1, 7, 200] {
+    let recording = recorded(rt.alloc(), 1, Tables::baseline(), &ONE_LOAD)?;
+    for most in &[1, 7, 200] {
         for calls in 0..=122 {
-            let mut sink = Faltering::over(Buffer::open(alloc), most, calls);
-            let fault = recording.write(&mut sink).err();
-            let out = sink.end().bytes();
-            let written = out.len() as u64;
-            let expected = if written < 122 { Some(written) } else { None };
-            assert!(rt; text.starts_with(out), "at {most} {calls}");
-            assert_eq!(rt; fault.map(|f| f.written), expected, "at {most} {calls}");
+            comes_through(&rt, rt.alloc(), &recording, *most, calls);
         }
     }
     Ok(())
 }
 
+/// Compares what a recording of one load holds.
+fn holds(rt: &impl Abort, recording: &Recording) {
+    same(rt, &recording.shape().caches(), &1);
+    same(rt, &recording.opening(), &[0u64].as_slice());
+    same(rt, &recording.entries().len(), &3);
+    let first = recording.entries().first().map(|entry| entry.outcome);
+    same(rt, &first, &Some(Outcome::Sent));
+    let is_own = recording.tables() == Tables::baseline();
+    same(rt, &is_own, &true);
+}
+
 #[test]
 fn what_a_recording_holds(rt: HostRuntime) -> Result<(), Fail> {
-    let alloc = rt.alloc();
-    let recording = recorded(alloc, 1, Tables::baseline(), &ONE_LOAD)?;
-    same(&rt, &recording.shape().caches(), &1);
-    same(&rt, &recording.opening(), &[0u64].as_slice());
-    same(&rt, &recording.entries().len(), &3);
-    let first = recording.entries().first().map(|entry| entry.outcome);
-    same(&rt, &first, &Some(Outcome::Sent));
-    assert!(rt; recording.tables() == Tables::baseline());
-    let refused = Recording::open(
-        alloc,
-        recording.shape(),
-        Tables::baseline(),
-        Vec::new(alloc),
-    );
-    same(&rt, &refused.err(), &Some(OpenFault::OpeningLength));
+    let recording = recorded(rt.alloc(), 1, Tables::baseline(), &ONE_LOAD)?;
+    holds(&rt, &recording);
+    Ok(())
+}
+
+#[test]
+fn a_recording_of_no_values(rt: HostRuntime) -> Result<(), Fail> {
+    let shape = Shape::new(1, 1)?;
+    let none = Vec::new(rt.alloc());
+    let refused = Recording::open(rt.alloc(), shape, Tables::baseline(), none).err();
+    same(&rt, &refused, &Some(OpenFault::OpeningLength));
     Ok(())
 }
 
@@ -126,42 +149,46 @@ fn replayed(
 }
 
 #[test]
-fn replays(rt: HostRuntime) -> Result<(), Fail> {
-    let alloc = rt.alloc();
-    let recording = recorded(alloc, 2, Tables::baseline(), &LOAD_FROM_OWNER)?;
-    same(&rt, &replayed(alloc, &recording), &Ok((8, None)));
-
-    let mut lines = LOAD_FROM_OWNER;
-    lines[6] = "response 0 0 = load 1 6";
-    let recording = recorded(alloc, 2, Tables::baseline(), &lines)?;
-    let cache = CacheId(1);
-    same(
-        &rt,
-        &replayed(alloc, &recording),
-        &Err(ReplayFault::Differs {
-            entry: 6,
-            told: Outcome::Load { cache, value: 6 },
-            found: Outcome::Load { cache, value: 7 },
-        }),
-    );
-
-    let mut tables = Tables::baseline();
-    tables.cache = tables
-        .cache
-        .with(CacheState::M, CacheEvent::FwdGetS, CacheEntry::Blank);
-    lines[5] = "forward 0 0 = blank";
-    let recording = recorded(alloc, 2, tables, &lines[..6])?;
-    let found = match replayed(alloc, &recording) {
-        Ok((6, Some((5, Violation::Blank { .. })))) => true,
-        _ => false,
-    };
-    assert!(rt; found);
+fn a_replay_to_the_end(rt: HostRuntime) -> Result<(), Fail> {
+    let recording = recorded(rt.alloc(), 2, Tables::baseline(), &LOAD_FROM_OWNER)?;
+    same(&rt, &replayed(rt.alloc(), &recording), &Ok((8, None)));
     Ok(())
 }
 
 #[test]
-fn entries_up_to_the_most(rt: HostRuntime) -> Result<(), Fail> {
-    let mut recording = recorded(rt.alloc(), 1, Tables::baseline(), &[])?;
+fn a_replay_that_differs(rt: HostRuntime) -> Result<(), Fail> {
+    let mut lines = LOAD_FROM_OWNER;
+    lines[6] = "response 0 0 = load 1 6";
+    let recording = recorded(rt.alloc(), 2, Tables::baseline(), &lines)?;
+    let cache = CacheId(1);
+    let differs = ReplayFault::Differs {
+        entry: 6,
+        told: Outcome::Load { cache, value: 6 },
+        found: Outcome::Load { cache, value: 7 },
+    };
+    same(&rt, &replayed(rt.alloc(), &recording), &Err(differs));
+    Ok(())
+}
+
+#[test]
+fn a_replay_that_breaks(rt: HostRuntime) -> Result<(), Fail> {
+    let mut tables = Tables::baseline();
+    tables.cache = tables
+        .cache
+        .with(CacheState::M, CacheEvent::FwdGetS, CacheEntry::Blank);
+    let mut lines = LOAD_FROM_OWNER;
+    lines[5] = "forward 0 0 = blank";
+    let recording = recorded(rt.alloc(), 2, tables, &lines[..6])?;
+    let found = matches!(
+        replayed(rt.alloc(), &recording),
+        Ok((6, Some((5, Violation::Blank { .. }))))
+    );
+    same(&rt, &found, &true);
+    Ok(())
+}
+
+/// Pushes as many entries as a recording takes, and compares what it answers to one more.
+fn fill(rt: &impl Abort, recording: &mut Recording) -> Result<(), Fail> {
     let block = BlockId(0);
     let entry = Entry {
         step: Step::Request { block, index: 0 },
@@ -170,9 +197,15 @@ fn entries_up_to_the_most(rt: HostRuntime) -> Result<(), Fail> {
     for _ in 0..MOST_ENTRIES {
         recording.push(entry)?;
     }
-    same(&rt, &recording.push(entry), &Err(PushFault::Full));
-    same(&rt, &recording.entries().len(), &MOST_ENTRIES);
+    same(rt, &recording.push(entry), &Err(PushFault::Full));
+    same(rt, &recording.entries().len(), &MOST_ENTRIES);
     Ok(())
+}
+
+#[test]
+fn entries_up_to_the_most(rt: HostRuntime) -> Result<(), Fail> {
+    let mut recording = recorded(rt.alloc(), 1, Tables::baseline(), &[])?;
+    fill(&rt, &mut recording)
 }
 
 /// What reading these bytes is refused with, if it is.
@@ -181,21 +214,38 @@ fn fault_of(alloc: Global, bytes: &[u8]) -> Option<ReadFault> {
     Recording::read(alloc, &mut source).err()
 }
 
+/// Compares a text with what it is written as where it is read, so many bytes at a time.
+fn is_written_back(rt: &impl Abort, alloc: Global, text: &str, most: usize) -> Result<(), Fail> {
+    let mut source = Faltering::over(text.as_bytes(), most, 1000);
+    let recording = Recording::read(alloc, &mut source)?;
+    writes(rt, alloc, &recording, text)
+}
+
 #[test]
 fn texts_read_and_written_back(rt: HostRuntime) -> Result<(), Fail> {
-    let alloc = rt.alloc();
-    let changed =
-        "msi-recording 1\nshape 2 1\nopening 7\ncells 3\ncell cache I Load blank\ncell cache S Inv stall\ncell directory S^D Data act M put-ack copy-data\nentries 1\nask 9 9 store 18446744073709551615 = broken\nend\n";
-    for text in [ONE_LOAD_TEXT, changed] {
-        for most in [1, 7, 200] {
-            let mut source = Faltering::over(text.as_bytes(), most, 1000);
-            let recording = Recording::read(alloc, &mut source)?;
-            let mut sink = Buffer::open(alloc);
-            recording.write(&mut sink)?;
-            same(&rt, &sink.bytes(), &text.as_bytes());
-        }
+    let changed = "msi-recording 1
+shape 2 1
+opening 7
+cells 3
+cell cache I Load blank
+cell cache S Inv stall
+cell directory S^D Data act M put-ack copy-data
+entries 1
+ask 9 9 store 18446744073709551615 = broken
+end
+";
+    for most in &[1, 7, 200] {
+        is_written_back(&rt, rt.alloc(), ONE_LOAD_TEXT, *most)?;
+        is_written_back(&rt, rt.alloc(), changed, *most)?;
     }
     Ok(())
+}
+
+/// Compares what reading these bytes is refused with.
+fn is_refused(rt: &impl Abort, alloc: Global, bytes: &[u8], line: u64, kind: ReadKind) {
+    let fault = fault_of(alloc, bytes);
+    let wanted = Some(ReadFault { line, kind });
+    same_at(rt, &fault, &wanted, &bytes.len());
 }
 
 #[test]
@@ -203,9 +253,7 @@ fn beginnings_of_a_text(rt: HostRuntime) -> Result<(), Fail> {
     let text = ONE_LOAD_TEXT.as_bytes();
     let mut line = 1;
     for cut in 0..text.len() {
-        let fault = fault_of(rt.alloc(), &text[..cut]);
-        let kind = ReadKind::Truncated;
-        assert_eq!(rt; fault, Some(ReadFault { line, kind }), "at {cut}");
+        is_refused(&rt, rt.alloc(), &text[..cut], line, ReadKind::Truncated);
         if text[cut] == b'\n' {
             line = line.saturating_add(1);
         }
@@ -220,59 +268,79 @@ fn one_load_with(alloc: Global, old: &str, new: &str) -> Result<String, Fail> {
     Ok(format!(in alloc; "{front}{new}{rest}")?)
 }
 
-#[test]
-fn texts_that_are_refused(rt: HostRuntime) -> Result<(), Fail> {
-    use ReadKind::{BadHeader, BadLine, BadOutcome, CountDiffers, OverLimit};
-    let alloc = rt.alloc();
-    let rows = [
-        ("msi-recording 1", "msi-recording 9", BadHeader, 1),
-        ("shape 1 1", "shape 0 1", OverLimit, 2),
-        ("shape 1 1", "shape 4294967296 1", OverLimit, 2),
-        ("shape 1 1", "shape 01 1", BadLine, 2),
-        ("opening 0", "opening 0 0", BadLine, 3),
-        ("cells 0", "cells 161", OverLimit, 4),
-        ("entries 3", "entries 1000001", OverLimit, 5),
-        ("entries 3", "entries 4", CountDiffers, 9),
-        ("entries 3", "entries 2", CountDiffers, 8),
-        ("= load 0 0", "= lode 0 0", BadOutcome, 8),
-        ("= load 0 0", "=", BadLine, 8),
-        ("= load 0 0", "= ", BadOutcome, 8),
-        ("end\n", "end\nx", BadLine, 10),
-        (
-            "cells 0",
-            "cells 1\ncell cache I Load act IS^D gets",
-            BadLine,
-            5,
-        ),
-        (
-            "cells 0",
-            "cells 2\ncell cache S Inv stall\ncell cache I Load blank",
-            BadLine,
-            6,
-        ),
-    ];
-    for (old, new, kind, line) in rows {
-        let text = one_load_with(alloc, old, new)?;
-        let fault = fault_of(alloc, text.as_bytes());
-        assert_eq!(rt; fault, Some(ReadFault { line, kind }), "at {new}");
-    }
+const REFUSED: [(&str, &str, ReadKind, u64); 15] = [
+    ("msi-recording 1", "msi-recording 9", ReadKind::BadHeader, 1),
+    ("shape 1 1", "shape 0 1", ReadKind::OverLimit, 2),
+    ("shape 1 1", "shape 4294967296 1", ReadKind::OverLimit, 2),
+    ("shape 1 1", "shape 01 1", ReadKind::BadLine, 2),
+    ("opening 0", "opening 0 0", ReadKind::BadLine, 3),
+    ("cells 0", "cells 161", ReadKind::OverLimit, 4),
+    ("entries 3", "entries 1000001", ReadKind::OverLimit, 5),
+    ("entries 3", "entries 4", ReadKind::CountDiffers, 9),
+    ("entries 3", "entries 2", ReadKind::CountDiffers, 8),
+    ("= load 0 0", "= lode 0 0", ReadKind::BadOutcome, 8),
+    ("= load 0 0", "=", ReadKind::BadLine, 8),
+    ("= load 0 0", "= ", ReadKind::BadOutcome, 8),
+    ("end\n", "end\nx", ReadKind::BadLine, 10),
+    (
+        "cells 0",
+        "cells 1\ncell cache I Load act IS^D gets",
+        ReadKind::BadLine,
+        5,
+    ),
+    (
+        "cells 0",
+        "cells 2\ncell cache S Inv stall\ncell cache I Load blank",
+        ReadKind::BadLine,
+        6,
+    ),
+];
+
+/// Compares what the text of one load is refused with, where another part stands in place of this one.
+fn is_refused_with(
+    rt: &impl Abort,
+    alloc: Global,
+    old: &str,
+    new: &str,
+    kind: ReadKind,
+    line: u64,
+) -> Result<(), Fail> {
+    let text = one_load_with(alloc, old, new)?;
+    let fault = fault_of(alloc, text.as_bytes());
+    same_at(rt, &fault, &Some(ReadFault { line, kind }), &new);
     Ok(())
 }
 
 #[test]
-fn a_line_that_is_too_long(rt: HostRuntime) -> Result<(), Fail> {
-    let alloc = rt.alloc();
+fn texts_that_are_refused(rt: HostRuntime) -> Result<(), Fail> {
+    for (old, new, kind, line) in &REFUSED {
+        is_refused_with(&rt, rt.alloc(), old, new, *kind, *line)?;
+    }
+    Ok(())
+}
+
+/// Two lines and the beginning of a third one.
+fn long_line(alloc: Global) -> Result<Vec<u8>, Fail> {
     let mut long = Vec::from_slice(alloc, b"msi-recording 1\nshape 1 1\n")?;
     for _ in 0..90_001 {
         long.push(b'x')?;
     }
-    let kind = ReadKind::OverLimit;
-    same(
-        &rt,
-        &fault_of(alloc, long.as_slice()),
-        &Some(ReadFault { line: 3, kind }),
-    );
+    Ok(long)
+}
+
+#[test]
+fn a_line_that_is_too_long(rt: HostRuntime) -> Result<(), Fail> {
+    let long = long_line(rt.alloc())?;
+    is_refused(&rt, rt.alloc(), long.as_slice(), 3, ReadKind::OverLimit);
     Ok(())
+}
+
+/// Compares what reading is refused with where the source fails behind so many bytes.
+fn fails_behind(rt: &impl Abort, alloc: Global, calls: u64, line: u64) {
+    let mut source = Faltering::over(ONE_LOAD_TEXT.as_bytes(), 1, calls);
+    let fault = Recording::read(alloc, &mut source).err();
+    let kind = ReadKind::Device;
+    same_at(rt, &fault, &Some(ReadFault { line, kind }), &calls);
 }
 
 /// The line that isn't whole yet is named, and the line behind the last one where all lines are whole.
@@ -281,10 +349,7 @@ fn sources_that_fail(rt: HostRuntime) -> Result<(), Fail> {
     let text = ONE_LOAD_TEXT.as_bytes();
     let mut line = 1;
     for calls in 0..=122 {
-        let mut source = Faltering::over(text, 1, calls);
-        let fault = Recording::read(rt.alloc(), &mut source).err();
-        let kind = ReadKind::Device;
-        assert_eq!(rt; fault, Some(ReadFault { line, kind }), "at {calls}");
+        fails_behind(&rt, rt.alloc(), calls, line);
         if text.get(calls as usize) == Some(&b'\n') {
             line = line.saturating_add(1);
         }

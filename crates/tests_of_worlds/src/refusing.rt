@@ -52,7 +52,8 @@ const ANOTHER_VALUE: &str =
 
 fn setup(alloc: Global, caches: u32, limit: u32) -> Result<Setup, Fail> {
     let shape = Shape::new(caches, 1)?;
-    Ok(Setup::new(shape, Tables::baseline(), vec![in alloc; 0; 1]?, 42, limit)?)
+    let opening = vec![in alloc; 0; 1]?;
+    Ok(Setup::new(shape, Tables::baseline(), opening, 42, limit)?)
 }
 
 fn scenario(alloc: Global, text: &str, caches: u32) -> Result<Scenario<Global>, Fail> {
@@ -62,7 +63,24 @@ fn scenario(alloc: Global, text: &str, caches: u32) -> Result<Scenario<Global>, 
 
 fn opened(alloc: Global) -> Result<World, Fail> {
     let shape = Shape::new(3, 1)?;
-    Ok(World::open(alloc, shape, Tables::baseline(), vec![in alloc; 0; 1]?)?)
+    let opening = vec![in alloc; 0; 1]?;
+    Ok(World::open(alloc, shape, Tables::baseline(), opening)?)
+}
+
+/// Compares the lines of a cache, and whether the home has it among the sharers.
+fn same_lines(rt: &impl Abort, found: &World, wanted: &World, cache: CacheId) {
+    let block = BlockId(0);
+    let found = (found.line(cache, block), found.shares(cache, block));
+    let wanted = (wanted.line(cache, block), wanted.shares(cache, block));
+    same(rt, &found, &wanted);
+}
+
+/// Compares what is enabled in two worlds.
+fn same_choices(rt: &impl Abort, found: &World, wanted: &World) {
+    same(rt, &found.enabled_count(), &wanted.enabled_count());
+    for k in 0..wanted.enabled_count() {
+        same(rt, &found.enabled_at(k), &wanted.enabled_at(k));
+    }
 }
 
 /// Compares all that can be seen of two worlds of three caches and a block.
@@ -76,31 +94,31 @@ fn same_worlds(rt: &impl Abort, found: &World, wanted: &World) {
     same(rt, &found.broken(), &wanted.broken());
     same(rt, &found.empty(), &wanted.empty());
     for cache in 0..3 {
-        let cache = CacheId(cache);
-        same(rt, &found.line(cache, block), &wanted.line(cache, block));
-        same(
-            rt,
-            &found.shares(cache, block),
-            &wanted.shares(cache, block),
-        );
+        same_lines(rt, found, wanted, CacheId(cache));
     }
-    same(rt, &found.enabled_count(), &wanted.enabled_count());
-    for k in 0..wanted.enabled_count() {
-        same(rt, &found.enabled_at(k), &wanted.enabled_at(k));
+    same_choices(rt, found, wanted);
+}
+
+fn made_or_kept(
+    rt: &impl Abort,
+    world: &mut World,
+    before: &World,
+    step: Step,
+) -> Result<Outcome, Fail> {
+    if let Ok(outcome) = world.step(step) {
+        return Ok(outcome);
     }
+    same_worlds(rt, world, before);
+    Ok(world.step(step).ok().ok_or("refused again")?)
 }
 
 fn made(rt: &impl Abort, alloc: Global, world: &mut World, step: Step) -> Result<Outcome, Fail> {
     let before = world.try_clone(alloc)?;
-    if let Ok(outcome) = world.step(step) {
-        return Ok(outcome);
-    }
-    same_worlds(rt, world, &before);
-    Ok(world.step(step).ok().ok_or("refused again")?)
+    made_or_kept(rt, world, &before, step)
 }
 
 fn make_each(rt: &impl Abort, alloc: Global, world: &mut World) -> Result<(), Fail> {
-    for line in LATE_PUTS {
+    for line in &LATE_PUTS {
         let entry = entry_of(line).ok_or("not an entry")?;
         let outcome = made(rt, alloc, world, entry.step)?;
         same(rt, &outcome, &entry.outcome);
@@ -117,15 +135,16 @@ fn a_step(rt: HostRuntime) -> Result<(), Fail> {
 /// Compares the outcomes of the first steps of a run.
 fn compare(rt: &impl Abort, outcomes: &[Outcome], count: usize) {
     same(rt, &outcomes.len(), &count);
-    for (outcome, line) in outcomes.iter().zip(LATE_PUTS) {
+    for (outcome, line) in outcomes.iter().zip(&LATE_PUTS) {
         same(rt, &Some(*outcome), &entry_of(line).map(|it| it.outcome));
     }
 }
 
 fn late_steps(alloc: Global) -> Result<Vec<Step>, Fail> {
     let mut steps = Vec::new(alloc);
-    for line in LATE_PUTS {
-        steps.push(entry_of(line).ok_or("not an entry")?.step)?;
+    for line in &LATE_PUTS {
+        let entry = entry_of(line).ok_or("not an entry")?;
+        steps.push(entry.step)?;
     }
     Ok(steps)
 }
@@ -137,12 +156,21 @@ fn step_all(world: &mut World, steps: &[Step]) -> Result<(), Fail> {
     Ok(())
 }
 
+fn is_as_after(
+    rt: &impl Abort,
+    world: &World,
+    other: &mut World,
+    steps: &[Step],
+) -> Result<(), Fail> {
+    step_all(other, steps)?;
+    same_worlds(rt, world, other);
+    Ok(())
+}
+
 /// Compares a world with one that has made just these steps.
 fn has_made(rt: &impl Abort, alloc: Global, world: &World, steps: &[Step]) -> Result<(), Fail> {
     let mut other = opened(alloc)?;
-    step_all(&mut other, steps)?;
-    same_worlds(rt, world, &other);
-    Ok(())
+    is_as_after(rt, world, &mut other, steps)
 }
 
 fn run_at_last(
@@ -158,15 +186,14 @@ fn run_at_last(
         has_made(rt, alloc, world, front)?;
         world.run(rest, outcomes).ok().ok_or("refused again")?;
     }
+    compare(rt, outcomes.as_slice(), LATE_PUTS.len());
     Ok(())
 }
 
 fn run_late(rt: &impl Abort, alloc: Global, steps: &[Step]) -> Result<(), Fail> {
-    let mut world = opened(alloc)?;
     let mut outcomes = Vec::new(alloc);
-    run_at_last(rt, alloc, &mut world, steps, &mut outcomes)?;
-    compare(rt, outcomes.as_slice(), LATE_PUTS.len());
-    Ok(())
+    let mut world = opened(alloc)?;
+    run_at_last(rt, alloc, &mut world, steps, &mut outcomes)
 }
 
 #[test]
@@ -197,19 +224,25 @@ fn racing_trial(alloc: Global) -> Result<Trial, Fail> {
     made_at_last(alloc, &pair, &setup, 54)
 }
 
-fn compare_trial(rt: &impl Abort, made: &Trial) {
-    let lines = [
-        "ask 1 0 store 9 = sent",
-        "request 0 0 = moved",
-        "ask 0 0 load = sent",
-        "response 0 0 = store 1 9",
-        "request 0 0 = moved",
-        "forward 0 1 = moved",
-    ];
-    same(rt, &made.recording.entries().len(), &lines.len());
-    for (entry, line) in made.recording.entries().iter().zip(lines) {
+const RACED: [&str; 6] = [
+    "ask 1 0 store 9 = sent",
+    "request 0 0 = moved",
+    "ask 0 0 load = sent",
+    "response 0 0 = store 1 9",
+    "request 0 0 = moved",
+    "forward 0 1 = moved",
+];
+
+/// Compares the entries of a recording.
+fn are_entries(rt: &impl Abort, found: &[Entry], lines: &[&str]) {
+    same(rt, &found.len(), &lines.len());
+    for (entry, line) in found.iter().zip(lines) {
         same(rt, &Some(*entry), &entry_of(line));
     }
+}
+
+fn compare_trial(rt: &impl Abort, made: &Trial) {
+    are_entries(rt, made.recording.entries(), &RACED);
     same(rt, &made.result.verdict, &Verdict::Cut);
     same(rt, &made.result.steps, &6);
 }
@@ -221,18 +254,16 @@ fn a_trial(rt: HostRuntime) -> Result<(), Fail> {
     Ok(())
 }
 
-/// The result of a trial that made three steps and came to its end.
-fn quiet(number: u32) -> TrialResult {
-    TrialResult {
-        number,
-        verdict: Verdict::Quiet,
-        steps: 3,
-    }
-}
-
 fn compare_batch(rt: &impl Abort, results: &[TrialResult]) {
-    let wanted = [quiet(0), quiet(1), quiet(2)];
-    same(rt, &results, &wanted.as_slice());
+    same(rt, &results.len(), &3);
+    for (number, result) in (0..u32::MAX).zip(results) {
+        let wanted = TrialResult {
+            number,
+            verdict: Verdict::Quiet,
+            steps: 3,
+        };
+        same(rt, result, &wanted);
+    }
 }
 
 fn batch_at_last(
@@ -259,49 +290,48 @@ fn a_batch(rt: HostRuntime) -> Result<(), Fail> {
     batch_at_last(&rt, rt.alloc(), &load, &setup)
 }
 
+/// Compares a fault with one that a refused growth makes.
+fn is_no_memory(rt: &impl Abort, fault: ReadFault) {
+    let ReadFault { line, kind } = fault;
+    same(rt, &kind, &ReadKind::NoMemory);
+    same(rt, &(line >= 1 && line <= 14), &true);
+}
+
 /// Reads a text, at the second call where the first one is refused memory.
 fn read_at_last(rt: &impl Abort, alloc: Global, text: &str) -> Result<Recording, Fail> {
     let mut source = text.as_bytes();
     match Recording::read(alloc, &mut source) {
-        Ok(recording) => Ok(recording),
-        Err(ReadFault { line, kind }) => {
-            same(rt, &kind, &ReadKind::NoMemory);
-            assert!(rt; line >= 1 && line <= 14);
-            let mut source = text.as_bytes();
-            Ok(
-                Recording::read(alloc, &mut source)
-                    .ok()
-                    .ok_or("refused again")?,
-            )
-        }
+        Ok(recording) => return Ok(recording),
+        Err(fault) => is_no_memory(rt, fault),
     }
+    let mut source = text.as_bytes();
+    let read = Recording::read(alloc, &mut source);
+    Ok(read.ok().ok_or("refused again")?)
 }
 
-fn replayed_at_last(rt: &impl Abort, alloc: Global, recording: &Recording) -> Option<ReplayFault> {
+fn replayed_at_last(alloc: Global, recording: &Recording) -> Option<ReplayFault> {
     match replay(alloc, recording).err() {
         Some(ReplayFault::NoMemory) => replay(alloc, recording).err(),
         fault => fault,
     }
 }
 
-#[test]
-fn a_recording_is_read_and_replayed(rt: HostRuntime) -> Result<(), Fail> {
-    let alloc = rt.alloc();
-    let recording = read_at_last(&rt, alloc, ANOTHER_VALUE)?;
-    same(&rt, &recording.entries().len(), &8);
-    let differs = replayed_at_last(&rt, alloc, &recording);
+/// Compares why a replay of a recording that tells another value fails.
+fn differs(rt: &impl Abort, alloc: Global, recording: &Recording) {
+    let cache = CacheId(1);
     let wanted = ReplayFault::Differs {
         entry: 6,
-        told: Outcome::Load {
-            cache: CacheId(1),
-            value: 6,
-        },
-        found: Outcome::Load {
-            cache: CacheId(1),
-            value: 7,
-        },
+        told: Outcome::Load { cache, value: 6 },
+        found: Outcome::Load { cache, value: 7 },
     };
-    same(&rt, &differs, &Some(wanted));
+    same(rt, &replayed_at_last(alloc, recording), &Some(wanted));
+}
+
+#[test]
+fn a_recording_is_read_and_replayed(rt: HostRuntime) -> Result<(), Fail> {
+    let recording = read_at_last(&rt, rt.alloc(), ANOTHER_VALUE)?;
+    same(&rt, &recording.entries().len(), &8);
+    differs(&rt, rt.alloc(), &recording);
     Ok(())
 }
 
@@ -317,16 +347,22 @@ fn pushed(rt: &impl Abort, recording: &mut Recording, entry: Entry) -> Result<()
     }
 }
 
+fn push_each(rt: &impl Abort, recording: &mut Recording) -> Result<(), Fail> {
+    for line in &LATE_PUTS {
+        let entry = entry_of(line).ok_or("not an entry")?;
+        pushed(rt, recording, entry)?;
+    }
+    are_entries(rt, recording.entries(), &LATE_PUTS);
+    Ok(())
+}
+
+fn push_into_new(rt: &impl Abort, alloc: Global, setup: &Setup) -> Result<(), Fail> {
+    let mut recording = setup.open_recording(alloc)?;
+    push_each(rt, &mut recording)
+}
+
 #[test]
 fn entries_are_pushed(rt: HostRuntime) -> Result<(), Fail> {
     let setup = setup(rt.alloc(), 3, 0)?;
-    let mut recording = setup.open_recording(rt.alloc())?;
-    for line in LATE_PUTS {
-        pushed(&rt, &mut recording, entry_of(line).ok_or("not an entry")?)?;
-    }
-    for (entry, line) in recording.entries().iter().zip(LATE_PUTS) {
-        same(&rt, &Some(*entry), &entry_of(line));
-    }
-    same(&rt, &recording.entries().len(), &LATE_PUTS.len());
-    Ok(())
+    push_into_new(&rt, rt.alloc(), &setup)
 }

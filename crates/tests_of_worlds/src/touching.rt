@@ -8,9 +8,7 @@ use std::test::Fail;
 use world::World;
 
 fn opened(alloc: Global, caches: u32, blocks: u32) -> Result<World, Fail> {
-    let Ok(shape) = Shape::new(caches, blocks) else {
-        return Err(Fail::from("the shape is refused"));
-    };
+    let shape = Shape::new(caches, blocks)?;
     let opening = vec![in alloc; 0u64; blocks as usize]?;
     Ok(World::open(alloc, shape, Tables::baseline(), opening)?)
 }
@@ -30,31 +28,56 @@ fn request(block: u32) -> Step {
     }
 }
 
+/// Compares what is enabled, and how many messages were tested.
+fn enables(
+    rt: &impl Abort,
+    alloc: Global,
+    world: &World,
+    wanted: &[Step],
+    tested: u64,
+) -> Result<(), Fail> {
+    let found = world.enabled(alloc)?;
+    same(rt, &found.as_slice(), &wanted);
+    same(rt, &world.tested(), &tested);
+    Ok(())
+}
+
+/// Asks for the last block and for another one.
+fn touch_two(rt: &impl Abort, alloc: Global, world: &mut World) -> Result<(), Fail> {
+    same(rt, &world.tested(), &0);
+    same(rt, &world.step(load(1023, 4095))?, &Outcome::Sent);
+    enables(rt, alloc, world, &[request(4095)], 1)?;
+    same(rt, &world.step(load(0, 7))?, &Outcome::Sent);
+    enables(rt, alloc, world, &[request(7), request(4095)], 2)
+}
+
+/// Compares a copy of a world in which two blocks were touched.
+fn is_copy(rt: &impl Abort, alloc: Global, copy: &World, world: &World) -> Result<(), Fail> {
+    let untouched = world.line(CacheId(1023), BlockId(0));
+    same(rt, &copy.line(CacheId(3), BlockId(9)), &untouched);
+    enables(rt, alloc, copy, &[request(7), request(4095)], 2)
+}
+
+/// Touches two blocks, and copies the world.
+fn touch_and_copy(rt: &impl Abort, alloc: Global, world: &mut World) -> Result<(), Fail> {
+    touch_two(rt, alloc, world)?;
+    let copy = world.try_clone(alloc)?;
+    is_copy(rt, alloc, &copy, world)
+}
+
 #[test]
 fn two_blocks_of_the_largest_shape(rt: HostRuntime) -> Result<(), Fail> {
-    let alloc = rt.alloc();
-    let mut world = opened(alloc, 1024, 4096)?;
-    same(&rt, &world.tested(), &0);
-    same(&rt, &world.step(load(1023, 4095))?, &Outcome::Sent);
-    same(
-        &rt,
-        &world.enabled(alloc)?.as_slice(),
-        &[request(4095)].as_slice(),
-    );
-    same(&rt, &world.tested(), &1);
-    same(&rt, &world.step(load(0, 7))?, &Outcome::Sent);
-    let both = [request(7), request(4095)];
-    same(&rt, &world.enabled(alloc)?.as_slice(), &both.as_slice());
-    same(&rt, &world.tested(), &2);
-    let copy = world.try_clone(alloc)?;
-    same(&rt, &copy.enabled(alloc)?.as_slice(), &both.as_slice());
-    same(&rt, &copy.tested(), &2);
-    same(
-        &rt,
-        &copy.line(CacheId(3), BlockId(9)),
-        &world.line(CacheId(1023), BlockId(0)),
-    );
-    Ok(())
+    let mut world = opened(rt.alloc(), 1024, 4096)?;
+    touch_and_copy(&rt, rt.alloc(), &mut world)
+}
+
+/// Compares a world whose first step was refused with what it was.
+fn is_untouched(rt: &impl Abort, world: &World, before: u64) {
+    same(rt, &world.tested(), &before);
+    same(rt, &world.enabled_count(), &0);
+    let line = world.line(CacheId(0), BlockId(0));
+    same(rt, &world.line(CacheId(2), BlockId(1)), &line);
+    same(rt, &world.home(BlockId(1)), &world.home(BlockId(0)));
 }
 
 /// Makes a step. Where memory is refused to it, its block has to be as it opens, and nothing to be tested.
@@ -63,14 +86,7 @@ fn made(rt: &impl Abort, world: &mut World, step: Step) -> Result<Outcome, Fail>
     match world.step(step) {
         Ok(outcome) => Ok(outcome),
         Err(refused) => {
-            same(rt, &world.tested(), &before);
-            same(rt, &world.enabled_count(), &0);
-            same(
-                rt,
-                &world.line(CacheId(2), BlockId(1)),
-                &world.line(CacheId(0), BlockId(0)),
-            );
-            same(rt, &world.home(BlockId(1)), &world.home(BlockId(0)));
+            is_untouched(rt, world, before);
             Err(Fail::from(refused))
         }
     }
@@ -137,22 +153,32 @@ fn go_on(world: &mut World, dice: &mut Dice, list: &mut Vec<Step>) -> Result<(),
 }
 
 /// Makes so many random steps.
-fn wander(rt: &HostRuntime, caches: u32, blocks: u32, steps: u32) -> Result<(), Fail> {
-    let mut world = opened(rt.alloc(), caches, blocks)?;
-    let mut dice = Dice::new(7, caches as u64);
-    let mut list = Vec::new(rt.alloc());
+fn go_far(
+    world: &mut World,
+    dice: &mut Dice,
+    list: &mut Vec<Step>,
+    steps: u32,
+) -> Result<(), Fail> {
     for _ in 0..steps {
-        go_on(&mut world, &mut dice, &mut list)?;
+        go_on(world, dice, list)?;
     }
     Ok(())
 }
 
+/// Makes so many random steps from the start.
+fn wander(alloc: Global, caches: u32, blocks: u32, steps: u32) -> Result<(), Fail> {
+    let mut world = opened(alloc, caches, blocks)?;
+    let mut dice = Dice::new(7, caches as u64);
+    let mut list = Vec::new(alloc);
+    go_far(&mut world, &mut dice, &mut list, steps)
+}
+
 #[test]
 fn random_steps_over_a_small_shape(rt: HostRuntime) -> Result<(), Fail> {
-    wander(&rt, 3, 2, 50_000)
+    wander(rt.alloc(), 3, 2, 50_000)
 }
 
 #[test]
 fn random_steps_over_the_largest_shape(rt: HostRuntime) -> Result<(), Fail> {
-    wander(&rt, 1024, 4096, 50_000)
+    wander(rt.alloc(), 1024, 4096, 50_000)
 }

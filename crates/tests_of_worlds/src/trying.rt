@@ -1,12 +1,13 @@
 use crate::asserting::same;
 use crate::entries::entry_of;
-use base::{BlockId, Buffer, CacheId, NoMemory, Outcome, Place, Shape, Step};
+use base::{BlockId, Buffer, CacheId, Place, Shape};
 use both_tables::Tables;
 use cache_table::{CacheEntry, CacheEvent, CacheState};
 use directory_table::{DirectoryEntry, DirectoryEvent, DirectoryState};
 use monitor::Violation;
 use scenario::Scenario;
 use std::alloc::Global;
+use std::process::Abort;
 use std::test::Fail;
 use trials::{BatchFault, Setup, SetupFault, Trial, TrialResult, Verdict, batch, trial};
 
@@ -18,7 +19,8 @@ const ONE_LOAD: &str = r#"{"op":"load","core":0,"block":0}"#;
 /// So many caches and one block that opens at 0.
 fn setup(alloc: Global, caches: u32, tables: Tables, seed: u64, limit: u32) -> Result<Setup, Fail> {
     let shape = Shape::new(caches, 1)?;
-    Ok(Setup::new(shape, tables, vec![in alloc; 0; 1]?, seed, limit)?)
+    let opening = vec![in alloc; 0; 1]?;
+    Ok(Setup::new(shape, tables, opening, seed, limit)?)
 }
 
 fn scenario(alloc: Global, text: &str, caches: u32) -> Result<Scenario<Global>, Fail> {
@@ -32,60 +34,118 @@ fn made_at_last(
     scenario: &Scenario<Global>,
     setup: &Setup,
     number: u32,
-) -> Result<Trial, NoMemory> {
+) -> Result<Trial, Fail> {
     match trial(alloc, scenario, setup, number) {
         Ok(made) => Ok(made),
-        Err(_) => trial(alloc, scenario, setup, number),
+        Err(_) => Ok(trial(alloc, scenario, setup, number)?),
     }
 }
 
-#[test]
-fn a_racing_pair(rt: HostRuntime) -> Result<(), Fail> {
-    let alloc = rt.alloc();
-    let pair = scenario(alloc, RACING_PAIR, 2)?;
-    let six = setup(alloc, 2, Tables::baseline(), 42, 6)?;
-    let cut = made_at_last(alloc, &pair, &six, 54)?;
-    let lines = [
-        "ask 1 0 store 9 = sent",
-        "request 0 0 = moved",
-        "ask 0 0 load = sent",
-        "response 0 0 = store 1 9",
-        "request 0 0 = moved",
-        "forward 0 1 = moved",
-    ];
-    same(&rt, &cut.recording.entries().len(), &lines.len());
-    for (entry, line) in cut.recording.entries().iter().zip(lines) {
-        same(&rt, &Some(*entry), &entry_of(line));
+const RACED: [&str; 6] = [
+    "ask 1 0 store 9 = sent",
+    "request 0 0 = moved",
+    "ask 0 0 load = sent",
+    "response 0 0 = store 1 9",
+    "request 0 0 = moved",
+    "forward 0 1 = moved",
+];
+
+/// Compares a trial that is cut at six steps.
+fn is_cut(rt: &impl Abort, cut: &Trial) {
+    same(rt, &cut.recording.entries().len(), &RACED.len());
+    for (entry, line) in cut.recording.entries().iter().zip(&RACED) {
+        same(rt, &Some(*entry), &entry_of(line));
     }
     let cut_at_six = TrialResult {
         number: 54,
         verdict: Verdict::Cut,
         steps: 6,
     };
-    same(&rt, &cut.result, &cut_at_six);
+    same(rt, &cut.result, &cut_at_six);
+}
+
+/// Trial 54 of two cores that race for one block, in so many steps at most.
+fn racing_pair(alloc: Global, limit: u32) -> Result<Trial, Fail> {
+    let pair = scenario(alloc, RACING_PAIR, 2)?;
+    let setup = setup(alloc, 2, Tables::baseline(), 42, limit)?;
+    made_at_last(alloc, &pair, &setup, 54)
+}
+
+#[test]
+fn a_racing_pair(rt: HostRuntime) -> Result<(), Fail> {
+    let cut = racing_pair(rt.alloc(), 6)?;
+    is_cut(&rt, &cut);
     Ok(())
 }
 
 #[test]
 fn a_racing_pair_to_its_end(rt: HostRuntime) -> Result<(), Fail> {
-    let alloc = rt.alloc();
-    let pair = scenario(alloc, RACING_PAIR, 2)?;
-    let hundred = setup(alloc, 2, Tables::baseline(), 42, 100)?;
-    let quiet = trial(alloc, &pair, &hundred, 54)?.result;
+    let quiet = racing_pair(rt.alloc(), 100)?.result;
     same(&rt, &(quiet.verdict, quiet.steps), &(Verdict::Quiet, 8));
     Ok(())
 }
 
+/// Compares what comes of one load.
+fn comes(
+    rt: &impl Abort,
+    alloc: Global,
+    load: &Scenario<Global>,
+    setup: &Setup,
+    verdict: Verdict,
+    steps: u32,
+) -> Result<(), Fail> {
+    let made = trial(alloc, load, setup, 3)?;
+    let result = TrialResult {
+        number: 3,
+        verdict,
+        steps,
+    };
+    same(rt, &made.result, &result);
+    same(rt, &made.recording.entries().len(), &(steps as usize));
+    Ok(())
+}
+
+/// Compares what comes of one load over these tables in so many steps at most.
+fn one_load_comes(
+    rt: &impl Abort,
+    alloc: Global,
+    tables: Tables,
+    limit: u32,
+    verdict: Verdict,
+    steps: u32,
+) -> Result<(), Fail> {
+    let load = scenario(alloc, ONE_LOAD, 1)?;
+    let setup = setup(alloc, 1, tables, 7, limit)?;
+    comes(rt, alloc, &load, &setup, verdict, steps)
+}
+
 #[test]
 fn one_load(rt: HostRuntime) -> Result<(), Fail> {
-    let alloc = rt.alloc();
-    let load = scenario(alloc, ONE_LOAD, 1)?;
+    for (limit, verdict, steps) in &[
+        (9, Verdict::Quiet, 3),
+        (3, Verdict::Quiet, 3),
+        (2, Verdict::Cut, 2),
+        (0, Verdict::Cut, 0),
+    ] {
+        let own = Tables::baseline();
+        one_load_comes(&rt, rt.alloc(), own, *limit, *verdict, *steps)?;
+    }
+    Ok(())
+}
+
+#[test]
+fn one_load_that_is_stalled(rt: HostRuntime) -> Result<(), Fail> {
     let mut stalled = Tables::baseline();
     stalled.directory = stalled.directory.with(
         DirectoryState::I,
         DirectoryEvent::GetS,
         DirectoryEntry::Stall,
     );
+    one_load_comes(&rt, rt.alloc(), stalled, 9, Verdict::Stuck, 1)
+}
+
+#[test]
+fn one_load_that_meets_a_blank(rt: HostRuntime) -> Result<(), Fail> {
     let mut blank = Tables::baseline();
     blank.cache = blank
         .cache
@@ -94,100 +154,152 @@ fn one_load(rt: HostRuntime) -> Result<(), Fail> {
         at: Place::Cache(CacheId(0)),
         block: BlockId(0),
     };
-    for (tables, limit, verdict, steps) in [
-        (Tables::baseline(), 9, Verdict::Quiet, 3),
-        (Tables::baseline(), 3, Verdict::Quiet, 3),
-        (Tables::baseline(), 2, Verdict::Cut, 2),
-        (Tables::baseline(), 0, Verdict::Cut, 0),
-        (stalled, 9, Verdict::Stuck, 1),
-        (blank, 9, Verdict::Broke(violation), 1),
-    ] {
-        let made = trial(alloc, &load, &setup(alloc, 1, tables, 7, limit)?, 3)?;
-        let result = TrialResult {
-            number: 3,
-            verdict,
-            steps,
-        };
-        same(&rt, &made.result, &result);
-        same(&rt, &made.recording.entries().len(), &(steps as usize));
-    }
+    one_load_comes(&rt, rt.alloc(), blank, 9, Verdict::Broke(violation), 1)
+}
+
+/// Compares the text of the recording of a trial of one load.
+fn writes(
+    rt: &impl Abort,
+    alloc: Global,
+    load: &Scenario<Global>,
+    setup: &Setup,
+) -> Result<(), Fail> {
+    let made = trial(alloc, load, setup, 8)?;
+    is_written(rt, alloc, &made)
+}
+
+fn is_written(rt: &impl Abort, alloc: Global, made: &Trial) -> Result<(), Fail> {
+    let mut sink = Buffer::open(alloc);
+    made.recording.write(&mut sink)?;
+    let text =
+        "msi-recording 1\nshape 1 1\nopening 0\ncells 0\nentries 3\nask 0 0 load = sent\nrequest 0 0 = moved\nresponse 0 0 = load 0 0\nend\n";
+    same(rt, &sink.bytes(), &text.as_bytes());
+    same(rt, &text.len(), &122);
     Ok(())
 }
 
 #[test]
 fn the_text_of_a_trial(rt: HostRuntime) -> Result<(), Fail> {
-    let alloc = rt.alloc();
-    let load = scenario(alloc, ONE_LOAD, 1)?;
-    let made = trial(alloc, &load, &setup(alloc, 1, Tables::baseline(), 5, 9)?, 8)?;
-    let mut sink = Buffer::open(alloc);
-    made.recording.write(&mut sink)?;
-    let text =
-        "msi-recording 1\nshape 1 1\nopening 0\ncells 0\nentries 3\nask 0 0 load = sent\nrequest 0 0 = moved\nresponse 0 0 = load 0 0\nend\n";
-    same(&rt, &sink.bytes(), &text.as_bytes());
-    same(&rt, &text.len(), &122);
+    let load = scenario(rt.alloc(), ONE_LOAD, 1)?;
+    let setup = setup(rt.alloc(), 1, Tables::baseline(), 5, 9)?;
+    writes(&rt, rt.alloc(), &load, &setup)
+}
+
+const NONE: &str = r#"{"times":0,"of":{"op":"load","core":0,"block":0}}"#;
+
+const ENDLESS: &str = r#"{"times":4294967295,"of":{"seq":[]}}"#;
+
+/// Compares the results of a batch, which are alike but for their numbers.
+fn are_results(rt: &impl Abort, results: &[TrialResult], count: u32, verdict: Verdict, steps: u32) {
+    same(rt, &results.len(), &(count as usize));
+    for (number, result) in (0..u32::MAX).zip(results) {
+        let wanted = TrialResult {
+            number,
+            verdict,
+            steps,
+        };
+        same(rt, result, &wanted);
+    }
+}
+
+/// The batch, which a second call makes where a growth was refused.
+fn batch_at_last(
+    alloc: Global,
+    tree: &Scenario<Global>,
+    setup: &Setup,
+    count: u32,
+) -> Result<Vec<TrialResult>, BatchFault> {
+    match batch(alloc, tree, setup, count) {
+        Ok(results) => Ok(results),
+        Err(_) => batch(alloc, tree, setup, count),
+    }
+}
+
+fn results_come(
+    rt: &impl Abort,
+    alloc: Global,
+    tree: &Scenario<Global>,
+    setup: &Setup,
+    count: u32,
+    verdict: Verdict,
+    steps: u32,
+) -> Result<(), Fail> {
+    let results = batch_at_last(alloc, tree, setup, count)?;
+    are_results(rt, results.as_slice(), count, verdict, steps);
     Ok(())
+}
+
+/// Compares the batch of a scenario for one cache, in so many steps at most.
+fn batch_comes(
+    rt: &impl Abort,
+    alloc: Global,
+    text: &str,
+    limit: u32,
+    count: u32,
+    verdict: Verdict,
+    steps: u32,
+) -> Result<(), Fail> {
+    let tree = scenario(alloc, text, 1)?;
+    let setup = setup(alloc, 1, Tables::baseline(), 1, limit)?;
+    results_come(rt, alloc, &tree, &setup, count, verdict, steps)
 }
 
 #[test]
 fn batches_of_trials(rt: HostRuntime) -> Result<(), Fail> {
-    let alloc = rt.alloc();
-    let none = r#"{"times":0,"of":{"op":"load","core":0,"block":0}}"#;
-    let endless = r#"{"times":4294967295,"of":{"seq":[]}}"#;
-    for (text, limit, n, verdict, steps) in [
+    for (text, limit, n, verdict, steps) in &[
         (ONE_LOAD, 9, 3, Verdict::Quiet, 3),
         (ONE_LOAD, 2, 3, Verdict::Cut, 2),
-        (none, 9, 2, Verdict::Quiet, 0),
-        (endless, 9, 1, Verdict::Quiet, 0),
-        (none, 9, 0, Verdict::Quiet, 0),
+        (NONE, 9, 2, Verdict::Quiet, 0),
+        (ENDLESS, 9, 1, Verdict::Quiet, 0),
+        (NONE, 9, 0, Verdict::Quiet, 0),
     ] {
-        let tree = scenario(alloc, text, 1)?;
-        let setup = setup(alloc, 1, Tables::baseline(), 1, limit)?;
-        let results = match batch(alloc, &tree, &setup, n) {
-            Ok(results) => results,
-            Err(_) => batch(alloc, &tree, &setup, n)?,
-        };
-        same(&rt, &results.len(), &(n as usize));
-        for (number, result) in results.iter().enumerate() {
-            let wanted = TrialResult {
-                number: number as u32,
-                verdict,
-                steps,
-            };
-            same(&rt, &*result, &wanted);
-        }
+        batch_comes(&rt, rt.alloc(), text, *limit, *n, *verdict, *steps)?;
     }
     Ok(())
 }
 
-#[test]
-fn what_is_refused(rt: HostRuntime) -> Result<(), Fail> {
-    let alloc = rt.alloc();
+/// Why a setup of one cache and two blocks that open at so many values isn't made.
+fn refusal(alloc: Global, values: usize, limit: u32) -> Result<Option<SetupFault>, Fail> {
     let shape = Shape::new(1, 2)?;
-    let own = Tables::baseline();
-    for (values, limit, fault) in [
+    let opening = vec![in alloc; 0; values]?;
+    Ok(Setup::new(shape, Tables::baseline(), opening, 0, limit).err())
+}
+
+#[test]
+fn setups_that_are_refused(rt: HostRuntime) -> Result<(), Fail> {
+    for (values, limit, fault) in &[
         (1, 1, SetupFault::OpeningLength),
         (3, 1_000_001, SetupFault::OpeningLength),
         (2, 1_000_001, SetupFault::OverLimit),
     ] {
-        let opening = vec![in alloc; 0; values]?;
-        same(
-            &rt,
-            &Setup::new(shape, own, opening, 0, limit).err(),
-            &Some(fault),
-        );
+        let refused = refusal(rt.alloc(), *values, *limit)?;
+        same(&rt, &refused, &Some(*fault));
     }
-    let widest = Setup::new(shape, own, vec![in alloc; 0; 2]?, 0, 1_000_000)?;
-    same(&rt, &(widest.seed(), widest.limit()), &(0, 1_000_000));
-    same(
-        &rt,
-        &(widest.shape(), widest.tables(), widest.opening()),
-        &(shape, own, [0, 0].as_slice()),
-    );
-    let load = scenario(alloc, ONE_LOAD, 1)?;
-    same(
-        &rt,
-        &batch(alloc, &load, &widest, 1_000_001).err(),
-        &Some(BatchFault::TooMany),
-    );
     Ok(())
+}
+
+/// The setup of one cache and two blocks with the highest limit.
+fn widest(alloc: Global) -> Result<Setup, Fail> {
+    let shape = Shape::new(1, 2)?;
+    let opening = vec![in alloc; 0; 2]?;
+    Ok(Setup::new(shape, Tables::baseline(), opening, 0, 1_000_000)?)
+}
+
+/// Compares what the widest setup holds, and how it refuses a batch.
+fn refuses(rt: &impl Abort, alloc: Global, widest: &Setup) -> Result<(), Fail> {
+    same(rt, &(widest.seed(), widest.limit()), &(0, 1_000_000));
+    same(rt, &Ok(widest.shape()), &Shape::new(1, 2));
+    let is_own = widest.tables() == Tables::baseline();
+    same(rt, &is_own, &true);
+    same(rt, &widest.opening(), &[0, 0].as_slice());
+    let load = scenario(alloc, ONE_LOAD, 1)?;
+    let refused = batch(alloc, &load, widest, 1_000_001).err();
+    same(rt, &refused, &Some(BatchFault::TooMany));
+    Ok(())
+}
+
+#[test]
+fn a_batch_that_is_refused(rt: HostRuntime) -> Result<(), Fail> {
+    let widest = widest(rt.alloc())?;
+    refuses(&rt, rt.alloc(), &widest)
 }

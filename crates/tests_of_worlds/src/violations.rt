@@ -4,6 +4,7 @@ use both_tables::Tables;
 use cache_table::{CacheAction, CacheActions, CacheEntry, CacheEvent, CacheState, CacheTable};
 use monitor::{Violation, Watch};
 use std::alloc::Global;
+use std::process::Abort;
 use std::test::Fail;
 use world::World;
 
@@ -18,6 +19,49 @@ fn acting(
     Ok(CacheTable::baseline().with(state, event, CacheEntry::Act { next, actions }))
 }
 
+/// Makes a step that has this outcome, and answers what is wrong then.
+fn see(
+    world: &mut World,
+    watch: &mut Watch,
+    made: &str,
+    came: &str,
+) -> Result<Option<Violation>, Fail> {
+    let step = Step::read(made.as_bytes()).ok_or("not a step")?;
+    let outcome = world.step(step)?;
+    if Outcome::read(came.as_bytes()) != Some(outcome) {
+        return Err(Fail::from("another outcome"));
+    }
+    Ok(watch.see(world, step, outcome))
+}
+
+/// Makes these steps, and answers what is wrong after the last one. Nothing may be wrong before it.
+fn see_all(
+    world: &mut World,
+    watch: &mut Watch,
+    made: &str,
+    came: &str,
+) -> Result<Option<Violation>, Fail> {
+    let mut last = None;
+    let mut outcomes = came.split(',');
+    for line in made.split(',') {
+        if last.is_some() {
+            return Err(Fail::from("something is wrong before the last step"));
+        }
+        let wanted = outcomes.next().ok_or("no outcome")?;
+        last = see(world, watch, line, wanted)?;
+    }
+    Ok(last)
+}
+
+/// A world of two caches and one block at 0.
+fn opened(alloc: Global, cache: CacheTable) -> Result<World, Fail> {
+    let shape = Shape::new(2, 1)?;
+    let mut tables = Tables::baseline();
+    tables.cache = cache;
+    let opening = vec![in alloc; 0]?;
+    Ok(World::open(alloc, shape, tables, opening)?)
+}
+
 /// Makes these steps in a world of two caches and one block at 0, and answers what is wrong after the last one.
 ///
 /// Nothing may be wrong before it.
@@ -27,90 +71,102 @@ fn last_violation(
     made: &str,
     came: &str,
 ) -> Result<Option<Violation>, Fail> {
-    let Ok(shape) = Shape::new(2, 1) else {
-        return Err(Fail::from("a small shape is refused"));
-    };
-    let mut tables = Tables::baseline();
-    tables.cache = cache;
-    let mut world = World::open(alloc, shape, tables, vec![in alloc; 0]?)?;
     let mut watch = Watch::open(alloc, &[0])?;
-    let mut last = None;
-    let mut outcomes = came.split(',');
-    for line in made.split(',') {
-        if last.is_some() {
-            return Err(Fail::from("something is wrong before the last step"));
-        }
-        let step = Step::read(line.as_bytes()).ok_or("not a step")?;
-        let wanted = outcomes.next().ok_or("no outcome")?;
-        let outcome = world.step(step)?;
-        if Outcome::read(wanted.as_bytes()) != Some(outcome) {
-            return Err(Fail::from("another outcome"));
-        }
-        last = watch.see(&world, step, outcome);
-    }
-    Ok(last)
+    let mut world = opened(alloc, cache)?;
+    see_all(&mut world, &mut watch, made, came)
+}
+
+/// Compares what a violation is shown as.
+fn is_shown(
+    rt: &impl Abort,
+    alloc: Global,
+    violation: Violation,
+    wanted: &str,
+) -> Result<(), Fail> {
+    let shown = format!(in alloc; "{violation}")?;
+    same(rt, &shown.as_str(), &wanted);
+    Ok(())
+}
+
+/// Holds that these steps end in what is wrong here.
+fn is_wrong(
+    rt: &impl Abort,
+    alloc: Global,
+    cache: CacheTable,
+    made: &str,
+    came: &str,
+    wrong: &str,
+) -> Result<(), Fail> {
+    let found = last_violation(alloc, cache, made, came)?;
+    let violation = found.ok_or("nothing is wrong")?;
+    is_shown(rt, alloc, violation, wrong)
 }
 
 #[test]
-fn violations_of_the_last_step(rt: HostRuntime) -> Result<(), Fail> {
-    use CacheState::{ImAd, IsD, M};
-    let alloc = rt.alloc();
-    let baseline = CacheTable::baseline();
-    let acks_at_once = acting(IsD, CacheEvent::Inv, IsD, &[CacheAction::InvAck])?;
-    let no_answer = baseline.with(M, CacheEvent::FwdGetS, CacheEntry::Blank);
-    let waits_for_no_ack = acting(ImAd, CacheEvent::DataDirMore, M, &[])?;
-    let stays_a_writer = acting(M, CacheEvent::FwdGetM, M, &[CacheAction::DataReq])?;
-    let rows = [
-        (
-            baseline,
-            "ask 0 0 store 7,request 0 0,response 0 0,ask 1 0 load,request 0 0,forward 0 0,response 0 0,response 0 0",
-            "sent,moved,store 0 7,sent,moved,moved,load 1 7,moved",
-            None,
-        ),
-        (
-            acks_at_once,
-            "ask 0 0 load,request 0 0,ask 1 0 store 5,request 0 0,forward 0 0,response 0 2,response 0 1,ask 1 0 replace,response 0 0",
-            "sent,moved,sent,moved,moved,moved,store 1 5,sent,load 0 0",
-            Some("stale load got 0 due 5 block 0"),
-        ),
-        (
-            acks_at_once,
-            "ask 0 0 load,request 0 0,ask 1 0 store 5,request 0 0,forward 0 0,response 0 2,response 0 1,response 0 0",
-            "sent,moved,sent,moved,moved,moved,store 1 5,load 0 0",
-            Some("writer 1 beside reader 0 block 0"),
-        ),
-        (
-            no_answer,
-            "ask 0 0 store 7,request 0 0,response 0 0,ask 1 0 load,request 0 0,forward 0 0",
-            "sent,moved,store 0 7,sent,moved,blank",
-            Some("blank cache 0 block 0"),
-        ),
-        (
-            waits_for_no_ack,
-            "ask 0 0 load,request 0 0,response 0 0,ask 1 0 store 5,request 0 0,response 0 0",
-            "sent,moved,load 0 0,sent,moved,store 1 5",
-            Some("writer 1 beside reader 0 block 0"),
-        ),
-        (
-            stays_a_writer,
-            "ask 0 0 store 7,request 0 0,response 0 0,ask 1 0 store 8,request 0 0,forward 0 0,response 0 0",
-            "sent,moved,store 0 7,sent,moved,moved,store 1 8",
-            Some("second writer 0 1 block 0"),
-        ),
-    ];
-    for (cache, made, came, wrong) in rows {
-        match (last_violation(alloc, cache, made, came)?, wrong) {
-            (Some(found), Some(text)) => {
-                assert_eq!(rt;
-                    format!(in alloc; "{found}")?.as_str(),
-                    text,
-                    "after {made}"
-                )
-            }
-            (found, wrong) => assert!(rt; found.is_none() && wrong.is_none(), "after {made}"),
-        }
-    }
+fn nothing_is_wrong(rt: HostRuntime) -> Result<(), Fail> {
+    let made =
+        "ask 0 0 store 7,request 0 0,response 0 0,ask 1 0 load,request 0 0,forward 0 0,response 0 0,response 0 0";
+    let came = "sent,moved,store 0 7,sent,moved,moved,load 1 7,moved";
+    let found = last_violation(rt.alloc(), CacheTable::baseline(), made, came)?;
+    same(&rt, &found, &None);
     Ok(())
+}
+
+#[test]
+fn an_inv_that_is_answered_at_once(rt: HostRuntime) -> Result<(), Fail> {
+    let table = acting(
+        CacheState::IsD,
+        CacheEvent::Inv,
+        CacheState::IsD,
+        &[CacheAction::InvAck],
+    )?;
+    let made =
+        "ask 0 0 load,request 0 0,ask 1 0 store 5,request 0 0,forward 0 0,response 0 2,response 0 1,ask 1 0 replace,response 0 0";
+    let came = "sent,moved,sent,moved,moved,moved,store 1 5,sent,load 0 0";
+    let wrong = "stale load got 0 due 5 block 0";
+    is_wrong(&rt, rt.alloc(), table, made, came, wrong)?;
+    let made =
+        "ask 0 0 load,request 0 0,ask 1 0 store 5,request 0 0,forward 0 0,response 0 2,response 0 1,response 0 0";
+    let came = "sent,moved,sent,moved,moved,moved,store 1 5,load 0 0";
+    let wrong = "writer 1 beside reader 0 block 0";
+    is_wrong(&rt, rt.alloc(), table, made, came, wrong)
+}
+
+#[test]
+fn a_forward_that_has_no_answer(rt: HostRuntime) -> Result<(), Fail> {
+    let table = CacheTable::baseline().with(CacheState::M, CacheEvent::FwdGetS, CacheEntry::Blank);
+    let made = "ask 0 0 store 7,request 0 0,response 0 0,ask 1 0 load,request 0 0,forward 0 0";
+    let came = "sent,moved,store 0 7,sent,moved,blank";
+    is_wrong(&rt, rt.alloc(), table, made, came, "blank cache 0 block 0")
+}
+
+#[test]
+fn a_store_that_waits_for_no_ack(rt: HostRuntime) -> Result<(), Fail> {
+    let table = acting(
+        CacheState::ImAd,
+        CacheEvent::DataDirMore,
+        CacheState::M,
+        &[],
+    )?;
+    let made = "ask 0 0 load,request 0 0,response 0 0,ask 1 0 store 5,request 0 0,response 0 0";
+    let came = "sent,moved,load 0 0,sent,moved,store 1 5";
+    let wrong = "writer 1 beside reader 0 block 0";
+    is_wrong(&rt, rt.alloc(), table, made, came, wrong)
+}
+
+#[test]
+fn an_owner_that_stays_a_writer(rt: HostRuntime) -> Result<(), Fail> {
+    let table = acting(
+        CacheState::M,
+        CacheEvent::FwdGetM,
+        CacheState::M,
+        &[CacheAction::DataReq],
+    )?;
+    let made =
+        "ask 0 0 store 7,request 0 0,response 0 0,ask 1 0 store 8,request 0 0,forward 0 0,response 0 0";
+    let came = "sent,moved,store 0 7,sent,moved,moved,store 1 8";
+    let wrong = "second writer 0 1 block 0";
+    is_wrong(&rt, rt.alloc(), table, made, came, wrong)
 }
 
 #[test]
@@ -156,8 +212,8 @@ fn spellings(rt: HostRuntime) -> Result<(), Fail> {
             "stale load got 0 due 18446744073709551615 block 4095",
         ),
     ];
-    for (violation, text) in rows {
-        same(&rt, &format!(in rt.alloc(); "{violation}")?.as_str(), &text);
+    for (violation, text) in &rows {
+        is_shown(&rt, rt.alloc(), *violation, text)?;
     }
     Ok(())
 }

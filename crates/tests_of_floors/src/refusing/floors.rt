@@ -7,7 +7,7 @@ use crate::entries::entry_of;
 use crate::setups::setup;
 use crate::turns::compare;
 use base::Step;
-use floor::{CrewFault, Floor, FloorFault, Ground, Naming, Receipt, Seat, TurnFault, crew};
+use floor::{Closed, CrewFault, Floor, FloorFault, Ground, Naming, Receipt, Seat, TurnFault, crew};
 use record::replay;
 use std::alloc::Global;
 use std::marker::Brand;
@@ -85,6 +85,20 @@ fn make<F: Naming, R: Wait + Abort>(
     Ok(())
 }
 
+/// Makes a load by a floor's only seat, and compares what is closed.
+fn loads<F: Naming, R: Wait + Abort>(
+    rt: &R,
+    alloc: Global,
+    floor: Floor<F>,
+    mut seats: Vec<Seat<F>>,
+) -> Result<(), Fail> {
+    for seat in seats.iter_mut() {
+        make(rt, &floor, seat)?;
+    }
+    let closed = floor.close(seats).ok().ok_or("not closed")?;
+    compare(rt, alloc, &closed, &LOAD)
+}
+
 /// Whether a floor was opened, at which a load is made then.
 fn tries<F: Naming, R: Wait + Abort>(
     rt: &R,
@@ -95,12 +109,8 @@ fn tries<F: Naming, R: Wait + Abort>(
     requires { F.floor ≡ names ground setup.now 1 9 }
 {
     match Floor::<F>::open(ground, alloc, setup, 1, 9) {
-        Ok((floor, mut seats)) => {
-            let mut seat = seats.pop().ok_or("no seat")?;
-            make(rt, &floor, &mut seat)?;
-            seats.push(seat)?;
-            let closed = floor.close(seats).ok().ok_or("not closed")?;
-            compare(rt, alloc, &closed, &LOAD)?;
+        Ok((floor, seats)) => {
+            loads(rt, alloc, floor, seats)?;
             Ok(true)
         }
         Err(fault) => {
@@ -122,6 +132,56 @@ fn a_floor_and_its_turns(rt: HostRuntime) -> Result<(), Fail> {
     Ok(())
 }
 
+/// Has the seats play their scripts, at the second call where the first one is refused memory.
+fn played<F: Naming + Send + Sync, R: Threads + Wait + Abort + Sync>(
+    rt: &R,
+    alloc: Global,
+    floor: &Floor<F>,
+    seats: Vec<Seat<F>>,
+) -> Result<Vec<(Seat<F>, Option<TurnFault>)>, Fail> {
+    let mistaken = AtomicBool::new(false);
+    let gate = Meeting::of(0);
+    let members = cast(alloc, seats, &mistaken)?;
+    let (fault, members) = match crew(rt, alloc, floor, &gate, members) {
+        Ok(back) => return Ok(back),
+        Err(refused) => refused,
+    };
+    same(rt, &fault, &CrewFault::NoMemory);
+    same(rt, &members.len(), &3);
+    let back = crew(rt, alloc, floor, &gate, members);
+    Ok(back.ok().ok_or("refused again")?)
+}
+
+/// The seats that came back with no fault or without memory, and how much they made.
+fn come_back<F: Naming, R: Abort>(
+    rt: &R,
+    alloc: Global,
+    back: Vec<(Seat<F>, Option<TurnFault>)>,
+) -> Result<(Vec<Seat<F>>, usize), Fail> {
+    let mut made = 0usize;
+    let mut seats = Vec::new(alloc);
+    for (seat, ended) in back {
+        let is_right = ended.is_none() || ended == Some(TurnFault::NoMemory);
+        same(rt, &is_right, &true);
+        made = made.saturating_add(seat.made());
+        seats.push(seat)?;
+    }
+    Ok((seats, made))
+}
+
+/// Compares how much is closed, and how much of it is legal.
+fn is_legal<F: Naming, R: Abort>(
+    rt: &R,
+    alloc: Global,
+    closed: &Closed<F>,
+    made: usize,
+) -> Result<(), Fail> {
+    same(rt, &closed.recording.entries().len(), &made);
+    let replayed = replay(alloc, &closed.recording)?;
+    same(rt, &replayed.entries.len(), &made);
+    Ok(())
+}
+
 /// Three seats race. Each comes back with no fault or without memory, and what they made is legal.
 fn race<F: Naming + Send + Sync, R: Threads + Wait + Abort + Sync>(
     rt: &R,
@@ -132,31 +192,10 @@ fn race<F: Naming + Send + Sync, R: Threads + Wait + Abort + Sync>(
     requires { F.floor ≡ names ground setup.now 3 600 }
 {
     let (floor, seats) = Floor::<F>::open(ground, alloc, setup, 3, 600)?;
-    let mistaken = AtomicBool::new(false);
-    let gate = Meeting::of(0);
-    let members = cast(alloc, seats, &mistaken)?;
-    let back = match crew(rt, alloc, &floor, &gate, members) {
-        Ok(back) => back,
-        Err((fault, members)) => {
-            same(rt, &fault, &CrewFault::NoMemory);
-            same(rt, &members.len(), &3);
-            crew(rt, alloc, &floor, &gate, members)
-                .ok()
-                .ok_or("refused again")?
-        }
-    };
-    let mut made = 0usize;
-    let mut seats = Vec::new(alloc);
-    for (seat, ended) in back {
-        assert!(rt; ended.is_none() || ended == Some(TurnFault::NoMemory));
-        made = made.saturating_add(seat.made());
-        seats.push(seat)?;
-    }
+    let back = played(rt, alloc, &floor, seats)?;
+    let (seats, made) = come_back(rt, alloc, back)?;
     let closed = floor.close(seats).ok().ok_or("not closed")?;
-    same(rt, &closed.recording.entries().len(), &made);
-    let replayed = replay(alloc, &closed.recording)?;
-    same(rt, &replayed.entries.len(), &made);
-    Ok(())
+    is_legal(rt, alloc, &closed, made)
 }
 
 #[test]
