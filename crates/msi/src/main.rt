@@ -1,32 +1,12 @@
 //! `msi`: plays, tries out and replays a directory MSI protocol.
 #![tactic(auto)]
 
-mod asks;
-mod certificates;
-mod commands;
-mod fault;
-mod files;
-mod finding;
-mod lines;
-mod picturing;
-mod play;
-mod players;
-mod racing;
-mod replay;
-mod reporting;
-mod serve;
-mod sharing;
-mod tables;
-mod tasks;
-mod trying;
+mod disk;
 
-use files::Disk;
-use serve::serve;
+use commands::serve;
+use disk::Disk;
 use std::process::ExitCode;
 use std::{env, io};
-
-#[cfg(test)]
-mod tests;
 
 /// The words of the command line, the program's name first.
 fn words(rt: &HostRuntime) -> io::Result<Vec<String>> {

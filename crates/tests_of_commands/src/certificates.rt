@@ -1,4 +1,5 @@
-use super::{BROKEN, expect, run_over};
+use crate::broken::BROKEN;
+use crate::serving::{expect, run_over};
 use std::alloc::Global;
 use std::sync::Wait;
 use std::test::Fail;

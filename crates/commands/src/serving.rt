@@ -1,5 +1,4 @@
 use crate::certificates::print_certificate;
-use crate::commands;
 use crate::fault::Fault;
 use crate::files::Files;
 use crate::finding::Finding;
@@ -10,6 +9,7 @@ use crate::replay::replay;
 use crate::tables::print_tables;
 use crate::tasks::Task;
 use crate::trying::{batch, one_trial};
+use crate::usage;
 use clap::error::ErrorKind;
 use clap::{ArgMatches, Error};
 use std::alloc::Global;
@@ -37,7 +37,7 @@ pub fn serve<R: Threads + Wait + Sync, F: Files, I: Read + Drop, O: Write + Drop
         Ok(words) => words.as_slice(),
         Err(error) => return refuse(&Fault::of_words(error), &mut errors),
     };
-    let read = match commands::msi(alloc) {
+    let read = match usage::msi(alloc) {
         Ok(msi) => msi.try_get_matches_from(words),
         Err(_) => return refuse(&Fault::NoMemory, &mut errors),
     };

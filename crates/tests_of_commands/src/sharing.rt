@@ -1,8 +1,8 @@
 //! Batches that workers share out, and what is told of their progress.
 
-use super::ends::Short;
-use super::trying::{ONE_LOAD, RACING_PAIR};
-use super::{expect, run, run_over, serve_line};
+use crate::ends::Short;
+use crate::serving::{expect, run, run_over, serve_line};
+use crate::trying::{ONE_LOAD, RACING_PAIR};
 use std::test::Fail;
 
 #[test]

@@ -1,4 +1,4 @@
-use super::{expect, run, run_over};
+use crate::serving::{expect, run, run_over};
 use std::test::Fail;
 
 pub const RACING_PAIR: &str =

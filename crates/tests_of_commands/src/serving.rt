@@ -1,6 +1,7 @@
-use crate::commands::VERSION;
-use crate::files::{Files, LoadFault};
-use crate::serve::serve;
+use crate::broken::BROKEN;
+use crate::cells::CELLS;
+use crate::worked::ROWS;
+use commands::{Files, LoadFault, VERSION, serve};
 use std::alloc::{AllocError, Global};
 use std::io::{Read, Write};
 use std::process::Abort;
@@ -8,27 +9,11 @@ use std::sync::Wait;
 use std::test::Fail;
 use std::thread::Threads;
 
-mod broken;
-mod cells;
-mod certificates;
-mod charted;
-mod ends;
-mod pictures;
-mod racing;
-mod replaying;
-mod sharing;
-mod trying;
-mod worked;
-
-use broken::BROKEN;
-use cells::CELLS;
-use worked::ROWS;
-
 /// The file `table.json`, with its text, and the file `huge.json`, for which there is no memory.
 #[derive(Drop)]
-struct OneFile {
-    alloc: Global,
-    text: &'static str,
+pub struct OneFile {
+    pub alloc: Global,
+    pub text: &'static str,
 }
 
 impl Files for OneFile {
@@ -48,10 +33,10 @@ impl Files for OneFile {
 
 /// What a command line came to.
 #[derive(Drop)]
-struct Served {
-    status: u8,
-    output: Vec<u8>,
-    errors: Vec<u8>,
+pub struct Served {
+    pub status: u8,
+    pub output: Vec<u8>,
+    pub errors: Vec<u8>,
 }
 
 fn words(alloc: Global, line: &str) -> Result<Vec<String>, AllocError> {
@@ -62,7 +47,7 @@ fn words(alloc: Global, line: &str) -> Result<Vec<String>, AllocError> {
     Ok(words)
 }
 
-fn run<R: Threads + Wait + Sync>(
+pub fn run<R: Threads + Wait + Sync>(
     rt: &R,
     alloc: Global,
     line: &str,
@@ -72,7 +57,7 @@ fn run<R: Threads + Wait + Sync>(
 }
 
 /// What a command line comes to where the file `table.json` has this text.
-fn run_over<R: Threads + Wait + Sync>(
+pub fn run_over<R: Threads + Wait + Sync>(
     rt: &R,
     alloc: Global,
     line: &str,
@@ -89,7 +74,7 @@ fn run_over<R: Threads + Wait + Sync>(
 }
 
 /// The exit status of a command line over this file, input and output, and what it says on the errors.
-fn serve_line<R: Threads + Wait + Sync, I: Read + Drop, O: Write + Drop>(
+pub fn serve_line<R: Threads + Wait + Sync, I: Read + Drop, O: Write + Drop>(
     rt: &R,
     alloc: Global,
     line: &str,
@@ -112,7 +97,7 @@ fn serve_line<R: Threads + Wait + Sync, I: Read + Drop, O: Write + Drop>(
     Ok((status, errors))
 }
 
-fn expect(rt: &impl Abort, served: &Served, status: u8, output: &str, errors: &str) {
+pub fn expect(rt: &impl Abort, served: &Served, status: u8, output: &str, errors: &str) {
     assert_eq!(rt; served.output.as_slice(), output.as_bytes());
     assert_eq!(rt; served.errors.as_slice(), errors.as_bytes());
     assert_eq!(rt; served.status, status);
@@ -319,14 +304,14 @@ fn bad_words_and_help(rt: HostRuntime) -> Result<(), Fail> {
 }
 
 /// A recording of a load from the owner. The entry 6 is told as given.
-fn recording(alloc: Global, told: &str) -> Result<String, AllocError> {
+pub fn recording(alloc: Global, told: &str) -> Result<String, AllocError> {
     format!(in alloc;
         "msi-recording 1\nshape 2 1\nopening 0\ncells 0\nentries 8\nask 0 0 store 7 = sent\nrequest 0 0 = moved\nresponse 0 0 = store 0 7\nask 1 0 load = sent\nrequest 0 0 = moved\nforward 0 0 = moved\nresponse 0 0 = {told}\nresponse 0 0 = moved\nend\n"
     )
 }
 
 #[test]
-fn recordings_are_replayed(rt: HostRuntime) -> Result<(), Fail> {
+pub fn recordings_are_replayed(rt: HostRuntime) -> Result<(), Fail> {
     let alloc = rt.alloc();
     let same = recording(alloc, "load 1 7")?;
     expect(

@@ -1,6 +1,6 @@
 //! Races at a floor.
 
-use super::{expect, run, run_over};
+use crate::serving::{expect, run, run_over};
 use std::test::Fail;
 
 const ASKS: &str =

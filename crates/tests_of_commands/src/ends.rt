@@ -1,8 +1,8 @@
 //! Ends that fail, words and memory that can't be had, and what is refused before the input is read.
 
-use super::trying::ONE_LOAD;
-use super::{OneFile, Served, expect, recording, serve_line};
-use crate::serve::serve;
+use crate::serving::{OneFile, Served, expect, recording, serve_line};
+use crate::trying::ONE_LOAD;
+use commands::serve;
 use std::alloc::{AllocError, Global};
 use std::io;
 use std::io::{Read, Write};

@@ -1,20 +1,5 @@
+use commands::{Files, LoadFault};
 use std::{fs, io, rt};
-use thiserror::Error;
-
-/// Why a file's bytes couldn't be had.
-#[derive(Clone, Copy, Debug, PartialEq, Eq, Error)]
-pub enum LoadFault {
-    #[error("device")]
-    Device,
-    #[error("no memory")]
-    NoMemory,
-}
-
-/// The files that a command line names.
-pub trait Files {
-    /// The bytes of a file, or why they couldn't be had.
-    fn load(&mut self, name: &str) -> Result<Vec<u8>, LoadFault>;
-}
 
 /// The files of the machine.
 #[derive(Drop)]

@@ -1,5 +1,5 @@
-use super::charted::FROM_OWNER_CHART;
-use super::{expect, run};
+use crate::charted::FROM_OWNER_CHART;
+use crate::serving::{expect, run};
 use std::alloc::{AllocError, Global};
 use std::test::Fail;
 

@@ -1,5 +1,6 @@
-use super::broken::Broken;
-use super::{BROKEN, CELLS, run, run_over};
+use crate::broken::{BROKEN, Broken};
+use crate::cells::CELLS;
+use crate::serving::{run, run_over};
 use std::alloc::Global;
 use std::process::Abort;
 use std::sync::Wait;
