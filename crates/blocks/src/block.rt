@@ -10,7 +10,7 @@ use base::{CacheId, NoMemory};
 use control::{Home, Line};
 pub use deciding::{decide_opened, opened_line};
 use directory_table::DirectoryState;
-pub use looking::{foreseen, is_stall};
+pub use looking::{foreseen, is_held_opened, is_stall};
 use network::Wires;
 use rows::{Sparse, TryClone};
 use std::alloc::Global;
