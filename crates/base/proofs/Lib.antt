@@ -4,3 +4,4 @@ pub mod Lines
 pub mod Spellings
 pub mod Spelled
 pub mod Same
+pub mod Numbers

@@ -12,3 +12,4 @@ pub mod Writers
 pub mod Sends
 pub mod Writes
 pub mod TestedMarks
+pub mod Holding

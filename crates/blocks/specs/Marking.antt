@@ -18,8 +18,10 @@ use Rattle.control.specs.declared.home.Home.{Home}
 use Rattle.control.specs.declared.home.HomeInput.{HomeInput}
 use Rattle.control.specs.declared.home.HomeInput.TheVariants as home_input
 use Rattle.control.specs.Events.{event_at_line, event_at_home}
+use Rattle.base.specs.declared.step.Ask.{Ask}
 use Rattle.both_tables.specs.Tables.{Tables}
 use Rattle.machine.specs.Block.{BlockState}
+use Rattle.machine.specs.Transition.{is_idle}
 
 -- whether a cell is a stall
 abbrev pub is_stall : {S A : Type 0} → Entry S A → Bool
@@ -34,6 +36,11 @@ home_stalls cells home input = is_stall (directory_table.cell cells home.state (
 abbrev pub line_stalls : cache_table.Cells → Option Line → LineInput → Bool
 line_stalls cells None input = false
 line_stalls cells (Some line) input = is_stall (cache_table.cell cells line.state (event_at_line line.acks input))
+
+-- whether an ask is held at a line: its cell is a stall, and the ask isn't idle
+abbrev pub ask_stalls : cache_table.Cells → Ask → Option Line → Bool
+ask_stalls cells a None = false
+ask_stalls cells a (Some line) = if is_idle a line.state then false else line_stalls cells (Some line) (line_input.Ask a)
 
 -- whether the cell of a response's receiver is a stall
 abbrev pub response_stalls : Tables → BlockState → Response → Bool

@@ -10,7 +10,7 @@ use base::{CacheId, NoMemory};
 use control::{Home, Line};
 pub use deciding::{decide_opened, opened_line};
 use directory_table::DirectoryState;
-pub use looking::{foreseen, is_stall};
+pub use looking::{foreseen, is_held_opened, is_stall};
 use network::Wires;
 use rows::{Sparse, TryClone};
 use std::alloc::Global;
@@ -50,7 +50,7 @@ impl Model for Block {
 }
 
 impl Block {
-    ghost use Rattle.std.specs.Prelude.{◌≡◌, IfOk, slice_get};
+    ghost use Rattle.std.specs.Prelude.{◌≡◌, IfOk, length, slice_get};
     ghost use Rattle.network.specs.Marks.{no_marks};
     ghost use Rattle.control.specs.Sharing.{shares};
     ghost use Rattle.machine.specs.Block.{opened_block};
@@ -70,6 +70,19 @@ impl Block {
             latest: value,
             access,
         })
+    }
+
+    /// Whatever happened to the block, it is one that nothing has happened to from now on, with this opening value.
+    /// The memory of its lines and of most of its wires is kept.
+    pub fn reset(&mut self, value: u64)
+        ensures state { self.new.state ≡ opened_block (length self.old.state.lines) value }
+        ensures marks { self.new.marks ≡ no_marks (length self.old.state.lines) }
+    {
+        self.lines.clear();
+        self.home.reset(value);
+        self.wires.clear();
+        self.latest = value;
+        self.access.clear();
     }
 
     /// The line of a cache, if the cache is there.

@@ -3,4 +3,6 @@
 
 mod block;
 
-pub use block::{Block, Made, Tested, decide_opened, foreseen, is_stall, opened_line};
+pub use block::{
+    Block, Made, Tested, decide_opened, foreseen, is_held_opened, is_stall, opened_line,
+};

@@ -19,12 +19,22 @@ pub fn play<I: Read + Drop, O: Write + Drop>(
     input: I,
     output: O,
 ) -> Result<Finding, Fault> {
-    let (mut world, mut watch) = open(alloc, shape, tables)?;
     let mut lines = Lines::new(alloc, input)?;
     let mut output = BufWriter::new(alloc, output)?;
-    let played = play_all(&mut world, &mut watch, &mut lines, &mut output);
+    let played = play_lines(alloc, shape, tables, &mut lines, &mut output);
     output.flush()?;
     played
+}
+
+fn play_lines<I: Read + Drop, O: Write>(
+    alloc: Global,
+    shape: Shape,
+    tables: Tables,
+    lines: &mut Lines<I>,
+    output: &mut O,
+) -> Result<Finding, Fault> {
+    let (mut world, mut watch) = open(alloc, shape, tables)?;
+    play_all(&mut world, &mut watch, lines, output)
 }
 
 fn open(alloc: Global, shape: Shape, tables: Tables) -> Result<(World, Watch), Fault> {

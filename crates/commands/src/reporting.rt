@@ -9,12 +9,18 @@ use trials::{TrialResult, Verdict};
 /// In how many parts progress is told.
 const PARTS: u64 = 100;
 
+/// After how many steps the lines of the trials that made them are put out, if they weren't before: as many as take a tenth of
+/// a second or less, so that whoever watches sees them come, and short trials don't cost a write each.
+const STEPS_A_WRITE: u64 = 100_000;
+
 /// What a batch prints: a line for each trial in order of their numbers, and at the end how many there were of each kind,
 /// in the order in which the kinds came first. Where progress is asked for, it is told on the errors.
 #[derive(Drop)]
 pub struct Report<O: Write + Drop, E: Write + Drop> {
     output: BufWriter<O>,
     errors: E,
+    // How many steps the trials made whose lines may not be put out yet.
+    waiting: u64,
     tally: IndexMap<&'static str, u32>,
     plan: BatchPlan,
     done: u32,
@@ -28,6 +34,7 @@ impl<O: Write + Drop, E: Write + Drop> Report<O, E> {
         Report {
             output,
             errors,
+            waiting: 0,
             tally: IndexMap::new(alloc),
             plan,
             done: 0,
@@ -54,7 +61,10 @@ impl<O: Write + Drop, E: Write + Drop> Report<O, E> {
     /// Prints the line of the next trial.
     pub fn print(&mut self, made: TrialResult) -> Result<(), Fault> {
         writeln!(self.output, "{} {made}", self.done)?;
-        self.output.flush()?;
+        self.waiting = self.waiting.saturating_add(u64::from(made.steps));
+        if self.waiting >= STEPS_A_WRITE {
+            self.put_out()?;
+        }
         let kind = made.verdict.name();
         let before = self.tally.get(&kind).copied().unwrap_or(0);
         self.tally.insert(kind, before.saturating_add(1))?;
@@ -66,6 +76,13 @@ impl<O: Write + Drop, E: Write + Drop> Report<O, E> {
         if self.plan.progress && self.has_another_part() {
             self.tell()?;
         }
+        Ok(())
+    }
+
+    /// Puts out what was printed so far.
+    pub fn put_out(&mut self) -> Result<(), Fault> {
+        self.waiting = 0;
+        self.output.flush()?;
         Ok(())
     }
 

@@ -2,16 +2,18 @@
 
 ghost use Rattle.std.specs.Prelude.{◌≡◌, All, IfOk};
 ghost use Rattle.desk.specs.Plans.{plan_of};
+ghost use Rattle.trials.specs.Making.{CanGoOn, planned};
 
 use crate::fault::Fault;
 use crate::reporting::Report;
 use base::NoMemory;
+use bumpalo::Bump;
 use desk::{Desk, DeskSeat, Job, Naming, work};
 use std::alloc::Global;
 use std::io::Write;
 use std::thread;
 use std::thread::Threads;
-use trials::trial;
+use trials::Series;
 
 /// Has so many workers make the trials of a job, each in a thread of its own. This thread is one of them: after each
 /// trial of its own it prints what is there of all the next ones, and when nothing is left to begin, the rest.
@@ -161,12 +163,29 @@ fn print_as_made<D: Naming, O: Write + Drop, E: Write + Drop>(
     requires plan { D.plan ≡ plan_of job.now }
     ensures { seat.new.desk ≡ desk.now.id }
 {
+    let arena = Bump::new(alloc);
+    let mut series = Series::new(alloc, &arena, &job.scenario, &job.setup);
+    print_claimed(desk, seat, &mut series, report)
+}
+
+/// Makes the trials of the numbers that a seat claims, and prints after each the results of the next ones.
+fn print_claimed<D: Naming, O: Write + Drop, E: Write + Drop>(
+    desk: &Desk<'_, D>,
+    seat: &mut DeskSeat<D>,
+    series: &mut Series<'_, '_, Global>,
+    report: &mut Report<O, E>,
+) -> Result<(), Fault>
+    requires seat { seat.old.desk ≡ desk.now.id }
+    requires plan { planned series.old ≡ D.plan }
+    requires can_go_on { CanGoOn series.old }
+    ensures { seat.new.desk ≡ desk.now.id }
+{
     for _ in 0..report.trials() {
         let Some(number) = desk.claim(seat) else {
             break;
         };
-        let made = trial(alloc, &job.scenario, &job.setup, number)?;
-        if desk.post(seat, number, made.result).is_err() {
+        let made = series.result(number)?;
+        if desk.post(seat, number, made).is_err() {
             return Err(Fault::NoMemory);
         }
         print_ready(desk, seat, report)?;

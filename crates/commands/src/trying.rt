@@ -1,9 +1,12 @@
+ghost use Rattle.trials.specs.Making.{CanGoOn};
+
 use crate::fault::Fault;
 use crate::finding::Finding;
 use crate::reporting::Report;
 use crate::sharing::share;
 use crate::tasks::BatchPlan;
 use base::{Shape, ToWrite};
+use bumpalo::Bump;
 use desk::Job;
 use record::Recording;
 use scenario::Scenario;
@@ -11,7 +14,7 @@ use std::alloc::Global;
 use std::io::{BufWriter, Read, Write};
 use std::marker::Brand;
 use std::thread::Threads;
-use trials::{Setup, TrialResult, Verdict, trial};
+use trials::{Series, Setup, TrialResult, Verdict, trial};
 
 /// Makes one trial of the scenario that the input is, and writes its recording on the output and its verdict on the
 /// errors.
@@ -87,7 +90,11 @@ fn make_all<R: Threads + Sync, O: Write + Drop, E: Write + Drop>(
     };
     let found = match made {
         Ok(()) => report.finish(),
-        Err(fault) => Err(fault),
+        Err(fault) => {
+            // What was printed before a fault stands, as far as the device takes it.
+            let _ = report.put_out();
+            Err(fault)
+        }
     };
     (report, found)
 }
@@ -106,9 +113,20 @@ fn print_each<O: Write + Drop, E: Write + Drop>(
     job: &Job,
     report: &mut Report<O, E>,
 ) -> Result<(), Fault> {
+    let arena = Bump::new(alloc);
+    let mut series = Series::new(alloc, &arena, &job.scenario, &job.setup);
+    print_trials(&mut series, report)
+}
+
+fn print_trials<O: Write + Drop, E: Write + Drop>(
+    series: &mut Series<'_, '_, Global>,
+    report: &mut Report<O, E>,
+) -> Result<(), Fault>
+    requires { CanGoOn series.old }
+{
     for number in 0..report.trials() {
-        let made = trial(alloc, &job.scenario, &job.setup, number)?;
-        report.print(made.result)?;
+        let made = series.result(number)?;
+        report.print(made)?;
     }
     Ok(())
 }

@@ -1,4 +1,4 @@
-ghost use Rattle.std.specs.Prelude.{◌≡◌, IfOk};
+ghost use Rattle.std.specs.Prelude.{◌≡◌, IfOk, length};
 ghost use Rattle.control.specs.HomeEffect.{opened_home, IsAmong};
 
 use crate::sharers::Sharers;
@@ -37,6 +37,16 @@ impl Home {
             sharers,
             memory,
         })
+    }
+
+    /// Whatever happened to the home, it is one that nothing has happened to from now on, with this value in memory.
+    pub fn reset(&mut self, memory: u64)
+        ensures { self.new ≡ opened_home (length self.old.sharers) memory }
+    {
+        self.state = DirectoryState::I;
+        self.owner = None;
+        self.sharers.clear();
+        self.memory = memory;
     }
 
     /// The same home again.

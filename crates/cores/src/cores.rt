@@ -28,7 +28,18 @@ impl Model for Core {
 
 impl Core {
     ghost use Rattle.std.specs.Prelude.{◌≡◌};
-    ghost use Rattle.cores.specs.Cores.{finishing, issuing};
+    ghost use Rattle.cores.specs.Cores.{finishing, idle, issuing};
+
+    /// A core that has asked nothing.
+    fn idle() -> Core
+        ensures { result ≡ idle }
+    {
+        Core {
+            outstanding: None,
+            issued: 0,
+            finished: 0,
+        }
+    }
 
     fn issue(&mut self, ask: Ask)
         ensures { self.new ≡ issuing ask self.old }
@@ -64,23 +75,30 @@ impl Model for Cores {
 }
 
 impl Cores {
-    ghost use Rattle.std.specs.Prelude.{◌≡◌, ◌≤◌, ◌+◌, ◌↔◌, ℕ, true, false, IfOk, get_or, replicate};
+    ghost use Rattle.std.specs.Prelude.{◌≡◌, ◌≤◌, ◌+◌, ◌↔◌, ℕ, true, false, IfOk, OnOk, get_or, replicate};
     ghost use Rattle.cores.specs.Cores.{AreCounted, Completes, finishing, idle, is_free, issuing, with_core};
 
     /// So many cores, none of which has asked anything.
     pub fn open(alloc: Global, n: u32) -> Result<Cores, NoMemory>
         ensures { IfOk result (λ cores. cores ≡ replicate n idle) }
     {
-        let core = Core {
-            outstanding: None,
-            issued: 0,
-            finished: 0,
-        };
         let mut cores = Vec::with_capacity(alloc, n as usize)?;
         for _ in 0..n {
-            cores.push_reserved(core);
+            cores.push_reserved(Core::idle());
         }
         Ok(Cores { cores })
+    }
+
+    /// Whatever they have asked, there are so many cores from now on, none of which has asked anything. It takes memory only
+    /// where there are more of them than there were.
+    ///
+    /// Where memory is refused, they are of no more use.
+    pub fn reset(&mut self, n: u32) -> Result<(), NoMemory>
+        ensures { OnOk result (self.new ≡ replicate n idle) }
+    {
+        self.cores.clear();
+        self.cores.resize(n as usize, Core::idle())?;
+        Ok(())
     }
 
     /// Whether nothing of the core is outstanding. A core that isn't there is free.

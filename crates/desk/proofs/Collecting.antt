@@ -1,7 +1,8 @@
 -- What the close puts together.
 use Rattle.std.proofs.Common.{◌≡◌, ◌≢◌, inl, inr, ℕ, ◌+◌, ◌<◌, ◌≤◌, List, [], ◌∷◌, ◌++◌, length, get_or, slice_get, Bool, true, false, ◌||◌, Option, Some, None, refl, sym, ap, ◌∙◌, subst, arith}
 use Rattle.std.proofs.lemmas.Option.{slice_get_within}
-use Rattle.desk.specs.Plans.{Plan, IsResultOf}
+use Rattle.trials.specs.Terms.{Plan}
+use Rattle.desk.specs.Plans.{IsResultOf}
 use Rattle.trials.specs.declared.verdict.TrialResult.{TrialResult}
 use Rattle.desk.specs.Counting.{times}
 use Rattle.desk.specs.Seats.{SeatView, HasPosted, Knows}

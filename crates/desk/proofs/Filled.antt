@@ -5,7 +5,7 @@ use Rattle.std.proofs.lemmas.List.{length-map}
 use Rattle.std.proofs.lemmas.Option.{slice_get-get_or, slice_get_within, get_or_from_slice_get}
 use Rattle.trials.specs.Trial.{AreResults}
 use Rattle.trials.specs.declared.verdict.TrialResult.{TrialResult}
-use Rattle.desk.specs.Plans.{Plan}
+use Rattle.trials.specs.Terms.{Plan}
 use Rattle.desk.specs.Counting.{times, once_below}
 use Rattle.desk.specs.Seats.{SeatView}
 use Rattle.desk.specs.Closing.{IsPlace, ArePlaces, AreClaimed, AreFilled, HasPostedAll, claims_of, any_told}

@@ -1,7 +1,8 @@
 -- What is known of all seats, and what stands at the places.
 use Rattle.std.specs.Prelude.{◌≡◌, ℕ, ◌+◌, ◌≤◌, ◌||◌, List, [], ◌∷◌, length, map, slice_get, Bool, true, false, Option, Some, None}
 use Rattle.trials.specs.declared.verdict.TrialResult.{TrialResult}
-use Rattle.desk.specs.Plans.{Plan, IsResultOf}
+use Rattle.trials.specs.Terms.{Plan}
+use Rattle.desk.specs.Plans.{IsResultOf}
 use Rattle.desk.specs.Counting.{times, once_below}
 use Rattle.desk.specs.Seats.{SeatView, HasClaimed, HasPosted, Knows}
 

@@ -1,16 +1,11 @@
 -- What the trials of a desk are.
 use Rattle.std.specs.Prelude.{ℕ, []}
 use Rattle.both_tables.specs.Tables.{baseline}
-use Rattle.scenario.specs.Tree.{Tree, Seq, Nil, plain}
-use Rattle.trials.specs.Terms.{Terms}
+use Rattle.scenario.specs.Tree.{Seq, Nil, plain}
+use Rattle.trials.specs.Terms.{Plan}
 use Rattle.trials.specs.Trial.{IsResult}
 use Rattle.trials.specs.declared.verdict.TrialResult.{TrialResult}
 use Rattle.desk.specs.declared.jobs.Job.{Job}
-
--- a scenario, and what its trials are made under
-pub record Plan : Type 0 where
-  pub terms : Terms
-  pub tree : Tree
 
 -- the plan of a job
 abbrev pub plan_of : Job → Plan

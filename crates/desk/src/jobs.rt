@@ -14,7 +14,7 @@ pub struct Job {
 
 /// What a desk's trials are. `Desk` and `DeskSeat` name it by a type with this trait, mostly `Brand`.
 pub trait Naming {
-    ghost use Rattle.desk.specs.Plans.{Plan};
+    ghost use Rattle.trials.specs.Terms.{Plan};
 
     ghost plan: { Plan };
 }

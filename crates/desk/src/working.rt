@@ -2,12 +2,15 @@
 
 ghost use Rattle.std.specs.Prelude.{◌≡◌, ℕ, List, length, true, IfOk, OnOk, OnErr};
 ghost use Rattle.desk.specs.Working.{Stops, Works};
+ghost use Rattle.trials.specs.Making.{CanGoOn, planned};
 
 use crate::desks::Desk;
 use crate::jobs::Naming;
 use crate::seats::DeskSeat;
 use base::NoMemory;
-use trials::trial;
+use bumpalo::Bump;
+use std::alloc::Global;
+use trials::Series;
 
 /// Claims numbers until there are no more, makes the trial of each, and posts its result. It answers how many it
 /// posted, which are all that it claimed. It waits for nobody.
@@ -20,10 +23,36 @@ pub fn work<D: Naming>(desk: &Desk<'_, D>, seat: &mut DeskSeat<D>) -> Result<u32
     ensures err { OnErr result (Stops seat.old seat.new) }
     ensures same { seat.new.desk ≡ seat.old.desk }
 {
+    let arena = Bump::new(desk.alloc);
+    let mut series = Series::new(
+        desk.alloc,
+        &arena,
+        &desk.job.scenario,
+        &desk.job.setup,
+    );
+    work_off(desk, seat, &mut series)
+}
+
+/// Works with the trials of the desk's job.
+fn work_off<D: Naming>(
+    desk: &Desk<'_, D>,
+    seat: &mut DeskSeat<D>,
+    series: &mut Series<'_, '_, Global>,
+) -> Result<u32, NoMemory>
+    requires seat { seat.old.desk ≡ desk.now.id }
+    requires plan { planned series.old ≡ D.plan }
+    requires can_go_on { CanGoOn series.old }
+    ensures ok { IfOk result (λ count. (numbers : List ℕ) × (length numbers ≡ count) × Works seat.old seat.new numbers) }
+    ensures told { OnOk result (seat.new.told ≡ true) }
+    ensures err { OnErr result (Stops seat.old seat.new) }
+    ensures same { seat.new.desk ≡ seat.old.desk }
+{
+    // A look at a field brings in what holds of every desk.
+    let _ = &desk.cells;
     let mut count = 0u32;
     while let Some(number) = desk.claim(seat) {
-        let made = trial(desk.alloc, &desk.job.scenario, &desk.job.setup, number)?;
-        if desk.post(seat, number, made.result).is_err() {
+        let made = series.result(number)?;
+        if desk.post(seat, number, made).is_err() {
             return Err(NoMemory);
         }
         count += 1;

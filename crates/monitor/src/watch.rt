@@ -20,7 +20,7 @@ impl Model for Watch {
 }
 
 impl Watch {
-    ghost use Rattle.std.specs.Prelude.{◌≡◌, [], IfOk, slice_get};
+    ghost use Rattle.std.specs.Prelude.{◌≡◌, [], IfOk, OnOk, slice_get};
     ghost use Rattle.base.specs.Steps.{block_of};
     ghost use Rattle.world.specs.View.{View};
     ghost use Rattle.monitor.specs.Scenes.{Answers, scene_in};
@@ -35,6 +35,19 @@ impl Watch {
         Ok(Watch {
             values: Vec::from_slice(alloc, opening)?,
         })
+    }
+
+    /// Whatever it has seen, it is a watch to whose blocks nothing has happened from now on, and which have these opening
+    /// values. It takes memory only where there are more of them than there were.
+    ///
+    /// Where memory is refused it is of no more use.
+    pub fn reset(&mut self, opening: &[u64]) -> Result<(), NoMemory>
+        ensures values { OnOk result (self.new ≡ opening.now) }
+        ensures seen { OnOk result ((world : View) → HasSeen world opening.now [] self.new) }
+    {
+        self.values.clear();
+        self.values.extend_from_slice(opening)?;
+        Ok(())
     }
 
     /// Notes a step, and answers what is wrong after it.

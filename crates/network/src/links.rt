@@ -63,6 +63,15 @@ impl Links {
         })
     }
 
+    /// Takes all messages off all links.
+    pub fn clear(&mut self)
+        ensures messages { self.new.messages ≡ replicate (length self.old.messages) [] }
+        ensures marks { self.new.marks ≡ replicate (length self.old.messages) [] }
+    {
+        self.links.clear();
+        self.waiting.clear();
+    }
+
     /// Whether no link has a message.
     pub fn is_quiet(&self) -> bool
         ensures { result ≡ all_nil self.now.messages }

@@ -63,6 +63,14 @@ impl<M: Copy> Wire<M> {
         Ok(Wire { marked })
     }
 
+    /// Takes off all messages, and keeps the memory for as many.
+    pub fn clear(&mut self)
+        ensures messages { self.new.messages ≡ [] }
+        ensures marks { self.new.marks ≡ [] }
+    {
+        self.marked.clear();
+    }
+
     /// How many messages there are.
     pub fn len(&self) -> u32
         ensures count { result ≡ length self.now.messages }

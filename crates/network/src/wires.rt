@@ -84,6 +84,16 @@ impl Wires {
         })
     }
 
+    /// Takes all messages off.
+    pub fn clear(&mut self)
+        ensures traffic { self.new.traffic ≡ quiet (length self.old.traffic.links) }
+        ensures marks { self.new.marks ≡ no_marks (length self.old.traffic.links) }
+    {
+        self.requests.clear();
+        self.links.clear();
+        self.responses.clear();
+    }
+
     /// Whether nothing is on its way.
     pub fn is_quiet(&self) -> bool
         ensures { result ≡ is_quiet self.now.traffic }

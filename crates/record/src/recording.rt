@@ -115,6 +115,13 @@ impl Recording {
         }
     }
 
+    /// Takes out all entries, and keeps the memory for as many.
+    pub fn clear(&mut self)
+        ensures { self.new ≡ opened_recording self.old.shape self.old.tables self.old.opening }
+    {
+        self.entries.clear();
+    }
+
     /// How many caches and blocks the world has.
     pub fn shape(&self) -> Shape
         ensures value { result ≡ self.now.shape }

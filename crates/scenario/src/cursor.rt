@@ -31,6 +31,19 @@ impl<'t, A: Allocator, B: Allocator> Cursor<'t, A, B> {
     }
 }
 
+impl<'t, A: Allocator, B: Allocator> Cursor<'t, A, B> {
+    ghost use Rattle.std.specs.Prelude.{◌≡◌};
+    ghost use Rattle.scenario.specs.Cursors.{remaining};
+    ghost use Rattle.scenario.specs.Tree.{plain};
+
+    /// All of this tree is left from now on, whatever was. The parts that the cursor has are used again.
+    pub fn restart(&mut self, tree: &'t Scenario<A>)
+        ensures { remaining self.new ≡ plain tree.entry.now }
+    {
+        self.root.move_to(Place::Whole(tree));
+    }
+}
+
 impl<'t, A: Allocator, B: Allocator + Clone> Cursor<'t, A, B> {
     ghost use Rattle.std.specs.Prelude.{◌≡◌, ◌≤◌, IfOk, OnErr};
     ghost use Rattle.scenario.specs.Alike.{Takes};

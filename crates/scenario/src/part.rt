@@ -82,7 +82,7 @@ impl<'t, A: Allocator, B: Allocator> Part<'t, A, B> {
 
     /// It is at this place from now on. Its parts stay.
     #[tactic(auto, using(crate::proofs::Cursors::parts))]
-    fn move_to(&mut self, to: Place<'t, A>)
+    pub(crate) fn move_to(&mut self, to: Place<'t, A>)
         ensures place { progress self.new ≡ progress_at to.entry (parts_of self.old) }
         ensures parts { parts_of self.new ≡ parts_of self.old }
     {

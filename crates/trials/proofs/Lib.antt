@@ -21,3 +21,4 @@ pub mod CourseSteps
 pub mod Runs
 pub mod Results
 pub mod Gathering
+pub mod Likes

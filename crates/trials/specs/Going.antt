@@ -90,6 +90,19 @@ pub record Starts (terms : Terms) (tree : Tree) (number : ℕ) (c : Course) : Ty
   pub recording : c.recording ≡ opened_recording terms.shape terms.tables terms.opening
   pub counted : IsCounted c
 
+-- it is a trial under these terms, whatever has come of it: its world and its recording are of their shape, under their tables,
+-- and the recording has their opening values
+pub record IsUnder (terms : Terms) (c : Course) : Type 0 where
+  pub shape : (c.world.shape ≡ terms.shape) × (c.recording.shape ≡ terms.shape)
+  pub tables : (c.world.tables ≡ terms.tables) × (c.recording.tables ≡ terms.tables)
+  pub opening : c.recording.opening ≡ terms.opening
+
+-- under whatever terms one is, the other is too
+pub record IsLike (old new : Course) : Type 0 where
+  pub shape : (new.world.shape ≡ old.world.shape) × (new.recording.shape ≡ old.recording.shape)
+  pub tables : (new.world.tables ≡ old.world.tables) × (new.recording.tables ≡ old.recording.tables)
+  pub opening : new.recording.opening ≡ old.recording.opening
+
 -- some trial starts so, of at most so many steps
 abbrev pub IsStart : ℕ → Course → Type 0
 IsStart limit c = (terms : Terms) × (tree : Tree) × (number : ℕ) × (terms.limit ≡ limit) × AreLawful terms × Starts terms tree number c

@@ -4,3 +4,4 @@ pub mod Trial
 pub mod Answering
 pub mod Names
 pub mod Going
+pub mod Making

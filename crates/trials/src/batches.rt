@@ -5,9 +5,10 @@ ghost use Rattle.scenario.specs.Tree.{plain};
 ghost use Rattle.trials.specs.Trial.{AreResults, AreSound, AreUnbroken};
 
 use crate::laws::trials_under_restrained_tables;
-use crate::making::trial;
+use crate::series::Series;
 use crate::setup::Setup;
 use crate::verdict::TrialResult;
+use bumpalo::Bump;
 use scenario::Scenario;
 use std::alloc::{Allocator, Global};
 use thiserror::Error;
@@ -50,9 +51,11 @@ pub fn batch<A: Allocator>(
     let Ok(mut results) = Vec::with_capacity(alloc, n as usize) else {
         return Err(BatchFault::NoMemory);
     };
+    let arena = Bump::new(alloc);
+    let mut series = Series::new(alloc, &arena, scenario, setup);
     for number in 0..n {
-        match trial(alloc, scenario, setup, number) {
-            Ok(made) => results.push_reserved(made.result),
+        match series.result(number) {
+            Ok(made) => results.push_reserved(made),
             Err(_) => return Err(BatchFault::NoMemory),
         }
     }

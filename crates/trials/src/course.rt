@@ -28,7 +28,7 @@ pub(crate) struct Course<'s, 'b, A: Allocator> {
 impl<'s, 'b, A: Allocator> Course<'s, 'b, A> {
     ghost use Rattle.std.specs.Prelude.{◌≡◌, ◌<◌, IfOk, OnOk, length};
     ghost use Rattle.scenario.specs.Tree.{plain};
-    ghost use Rattle.trials.specs.Going.{CanBeMade, Chooses, Ends, IsCounted, IsStart, IsVerdictAtRest, Makes, Starts, parts_of};
+    ghost use Rattle.trials.specs.Going.{CanBeMade, Chooses, Ends, IsCounted, IsLike, IsStart, IsUnder, IsVerdictAtRest, Makes, Starts, parts_of};
 
     /// The start of the trial of this number.
     pub(crate) fn open(
@@ -55,10 +55,33 @@ impl<'s, 'b, A: Allocator> Course<'s, 'b, A> {
         })
     }
 
+    /// The start of the trial of this number, whatever trial under this setup it was before. Its memory is used again.
+    pub(crate) fn restart(
+        &mut self,
+        alloc: Global,
+        scenario: &'s Scenario<A>,
+        setup: &Setup,
+        number: u32,
+    ) -> Result<(), NoMemory>
+        requires { IsUnder setup.now (parts_of self.old) }
+        ensures under { IsUnder setup.now (parts_of self.new) }
+        ensures ok { OnOk result (Starts setup.now (plain scenario.entry.now) number (parts_of self.new)) }
+    {
+        let caches = setup.shape().caches();
+        self.world.reset(setup.opening());
+        self.recording.clear();
+        self.dice = Dice::new(setup.seed(), u64::from(number));
+        self.watch.reset(setup.opening())?;
+        self.cores.reset(caches)?;
+        self.lanes
+            .restart(alloc, scenario, caches, &self.world, &self.cores)
+    }
+
     /// Makes steps until the trial ends, at most so many.
     pub(crate) fn run(&mut self, arena: &'b Bump, limit: u32) -> Result<Verdict, NoMemory>
         requires { IsStart limit (parts_of self.old) }
-        ensures { IfOk result (λ verdict. Ends (parts_of self.old) limit (parts_of self.new) verdict) }
+        ensures ends { IfOk result (λ verdict. Ends (parts_of self.old) limit (parts_of self.new) verdict) }
+        ensures alike { IsLike (parts_of self.old) (parts_of self.new) }
     {
         trials_go_on();
         for made in 0..limit {
@@ -101,6 +124,7 @@ impl<'s, 'b, A: Allocator> Course<'s, 'b, A> {
         requires room { length self.old.recording.entries < 1000000 }
         ensures makes { IfOk result (λ violation. Makes (parts_of self.old) choice (parts_of self.new) violation) }
         ensures counted { OnOk result (IsCounted (parts_of self.new)) }
+        ensures alike { IsLike (parts_of self.old) (parts_of self.new) }
     {
         let step = choice.step();
         let at = self.world.at(step);
@@ -124,6 +148,13 @@ impl<'s, 'b, A: Allocator> Course<'s, 'b, A> {
         } else {
             Verdict::Stuck
         }
+    }
+
+    /// How many steps the trial has made.
+    pub(crate) fn steps(&self) -> u32
+        ensures { result ≡ length self.now.recording.entries }
+    {
+        self.recording.entries().len() as u32
     }
 
     /// What the trial has done.

@@ -7,6 +7,7 @@ mod going;
 mod laws;
 mod making;
 mod noting;
+mod series;
 mod setup;
 mod spreading;
 mod verdict;
@@ -17,6 +18,7 @@ pub use laws::{
     trials_under_restrained_tables, trials_under_the_own_tables,
 };
 pub use making::trial;
+pub use series::Series;
 pub use setup::{MOST_STEPS, Setup, SetupFault};
 pub use spreading::spread;
 pub use verdict::{Trial, TrialResult, Verdict};

@@ -123,7 +123,7 @@ shaped-opened shape values broken within e = record {
   lines = AllLined-opened shape.caches values;
 }
 
-slice_get-some : {X : Type 0} (xs : List X) (i : ℕ) → i < length xs → IsSome (slice_get xs i)
+pub slice_get-some : {X : Type 0} (xs : List X) (i : ℕ) → i < length xs → IsSome (slice_get xs i)
 slice_get-some [] i h = absurd (omega arith)
 slice_get-some (x ∷ xs) zero h = refl
 slice_get-some (x ∷ xs) (suc i) h = slice_get-some xs i (omega arith)
@@ -154,7 +154,7 @@ line-there-iff shape state c k h = (
 )
 
 -- the other blocks are kept as they were
-kept-other : (old new : List (Option Kept)) (i k : ℕ) → OthersStay i old new → k ≢ i → kept_at new k ≡ kept_at old k
+pub kept-other : (old new : List (Option Kept)) (i k : ℕ) → OthersStay i old new → k ≢ i → kept_at new k ≡ kept_at old k
 kept-other old new i k h other = ap (λ ks. kept_at ks k) h.items ∙ get_or-set_other old i k (kept_at new i) None other
 
 -- a world still holds together where at most one block is kept otherwise, in a state of the shape, with true marks and counts

@@ -11,3 +11,4 @@ pub mod QuietMarks
 pub mod Spotted
 pub mod Delivering
 pub mod Quieting
+pub mod Openings

@@ -60,6 +60,17 @@ impl Counts {
         })
     }
 
+    /// No block has anything to deliver from now on.
+    pub fn clear(&mut self)
+        ensures requests { self.new.requests ≡ replicate (length self.old.requests) 0 }
+        ensures heads { self.new.heads ≡ replicate (length self.old.requests) 0 }
+        ensures responses { self.new.responses ≡ replicate (length self.old.requests) 0 }
+    {
+        self.requests.clear();
+        self.heads.clear();
+        self.responses.clear();
+    }
+
     /// The same counts again.
     pub fn try_clone(&self, alloc: Global) -> Result<Counts, NoMemory>
         ensures { IfOk result (λ counts. counts ≡ self.now) }
@@ -82,9 +93,9 @@ impl Counts {
         ensures responses { self.new.responses ≡ slice_set self.old.responses number responses }
     {
         let at = number as usize;
-        self.requests.set(at, requests);
-        self.heads.set(at, heads);
-        self.responses.set(at, responses);
+        change(&mut self.requests, at, requests);
+        change(&mut self.heads, at, heads);
+        change(&mut self.responses, at, responses);
     }
 
     /// How many there are of all kinds in all blocks.
@@ -128,5 +139,15 @@ fn spot_of(kind: Kind, found: Found) -> Spot
         kind,
         block: found.place as u32,
         rest: found.rest,
+    }
+}
+
+/// Makes the number at a place another, where it isn't the same: most steps leave most counts.
+fn change(row: &mut Sums, at: usize, value: u32)
+    requires { at < length row.old }
+    ensures { row.new ≡ slice_set row.old at value }
+{
+    if row.get(at) != value {
+        row.set(at, value);
     }
 }

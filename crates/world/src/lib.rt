@@ -5,6 +5,7 @@ mod at_block;
 mod counts;
 mod enabling;
 mod looks;
+mod resetting;
 mod runs;
 mod worlds;
 

@@ -6,7 +6,7 @@ ghost use Rattle.world.specs.inner.Held.{kept_at};
 
 use crate::worlds::{World, opening_value};
 use base::{BlockId, CacheId, Outcome, Place, Shape, Step};
-use blocks::{Block, decide_opened, foreseen, is_stall, opened_line};
+use blocks::{Block, is_held_opened, opened_line};
 use control::Line;
 use directory_table::DirectoryState;
 use network::{Forward, Message};
@@ -22,7 +22,7 @@ enum Found<'a> {
 impl World {
     ghost use Rattle.std.specs.Prelude.{◌≡◌, ◌<◌, ◌↔◌, IsSome, IsTrue, List, ℕ, slice_get};
     ghost use Rattle.std.specs.Option.{option_map};
-    ghost use Rattle.world.specs.inner.Found.{state_found};
+    ghost use Rattle.world.specs.inner.Found.{is_held_found, state_found};
     ghost use Rattle.base.specs.Steps.{block_of};
     ghost use Rattle.base.specs.declared.step.Step.{Step};
     ghost use Rattle.machine.specs.Transition.{transition};
@@ -167,22 +167,17 @@ impl World {
         if self.broken() {
             return false;
         }
-        match self.foresee(step) {
-            Some(outcome) => is_stall(outcome),
-            None => false,
-        }
+        self.holds(step)
     }
 
-    /// The outcome that a step would have in a world that isn't broken, if its block is there.
-    fn foresee(&self, step: Step) -> Option<Outcome>
-        ensures { result ≡ option_map (λ b. (transition self.now.tables step b).outcome) (slice_get self.now.state.blocks (block_of step)) }
+    /// Whether a step would be held in a world that isn't broken. Where its block isn't there it wouldn't.
+    fn holds(&self, step: Step) -> bool
+        ensures { result ≡ is_held_found self.now.tables step (slice_get self.now.state.blocks (block_of step)) }
     {
-        match self.find(step.block().0)? {
-            Found::Kept(block) => Some(block.foresee(&self.tables, step)),
-            Found::Opened(_) => {
-                let decision = decide_opened(&self.tables, self.shape.caches(), step);
-                Some(foreseen(&decision))
-            }
+        match self.find(step.block().0) {
+            Some(Found::Kept(block)) => block.is_held(&self.tables, step),
+            Some(Found::Opened(_)) => is_held_opened(&self.tables, self.shape.caches(), step),
+            None => false,
         }
     }
 

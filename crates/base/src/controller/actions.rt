@@ -12,7 +12,7 @@ pub const MOST_ACTIONS: usize = 8;
 #[derive(Copy, PartialEq, Eq, Debug)]
 pub struct Actions<A: Listed> {
     items: [A; 8],
-    count: usize,
+    count: u8,
 }
 
 impl<A: Listed> Clone for Actions<A> {
@@ -70,7 +70,7 @@ impl<A: Listed> Actions<A> {
         ensures actions { result.now ≡ self.now }
         ensures few { length self.now ≤ 8 }
     {
-        &self.items[..self.count]
+        &self.items[..self.count as usize]
     }
 
     /// How many actions there are.
@@ -94,7 +94,7 @@ impl<A: Listed> Actions<A> {
         ensures { result ≡ self ++ action ∷ [] }
     {
         let mut items = self.items;
-        items[self.count] = action;
+        items[self.count as usize] = action;
         Actions {
             items,
             count: self.count + 1,

@@ -1,9 +1,8 @@
-ghost use Rattle.std.specs.Prelude.{◌≡◌, ◌≢◌, ◌≤◌, ◌<◌, ◌^◌, ℕ, List, length, eqb, [], ◌∷◌, IfSome, IfNone, MatchOption};
+ghost use Rattle.std.specs.Prelude.{◌≡◌, ◌≢◌, ◌≤◌, ◌<◌, ◌^◌, ℕ, List, length, eqb, false, true, get_or, [], ◌∷◌, IfSome, IfNone, MatchOption};
 ghost use Rattle.std.specs.List.{position_or_len};
 ghost use Rattle.std.specs.Fmt.{decimal};
+ghost use Rattle.std.specs.Char.{digit_value};
 ghost use Rattle.base.specs.Spelling.{words, IsSpelled, IsNoPair};
-
-use itoa::Buffer;
 
 /// The first word of a line, and what follows the blank behind it.
 ///
@@ -41,14 +40,40 @@ pub fn number_of(text: &[u8]) -> Option<u64>
     ensures some { IfSome result (λ n. text.now ≡ decimal n) }
     ensures none { IfNone result ((n : ℕ) → n < 2 ^ 64 → text.now ≢ decimal n) }
 {
-    let Ok(text) = str::from_utf8(text) else {
+    if !has_first_digit(text) {
         return None;
-    };
-    let Ok(n) = text.parse::<u64>() else {
-        return None;
-    };
-    if Buffer::new().format(n) == text {
-        Some(n)
+    }
+    let mut n: u64 = 0;
+    for i in 0..text.len() {
+        let digit = digit_of(text[i])?;
+        n = n.checked_mul(10)?.checked_add(digit)?;
+    }
+    Some(n)
+}
+
+/// Whether a text has a first byte, and one that a number may begin with: a zero only where it is all.
+fn has_first_digit(text: &[u8]) -> bool
+    ensures some { result ≡ true → 0 < length text.now }
+    ensures first { result ≡ true → get_or text.now 0 0 ≡ 48 → length text.now ≡ 1 }
+    ensures none { result ≡ false → (n : ℕ) → n < 2 ^ 64 → text.now ≢ decimal n }
+{
+    if text.is_empty() {
+        return false;
+    }
+    if text[0] != b'0' {
+        return true;
+    }
+    text.len() == 1
+}
+
+/// The value of a decimal digit.
+fn digit_of(byte: u8) -> Option<u64>
+    ensures some { IfSome result (λ digit. (digit ≡ digit_value byte) × (digit < 10)) }
+    ensures none { IfNone result (10 ≤ digit_value byte) }
+{
+    let digit = byte.wrapping_sub(b'0');
+    if digit < 10 {
+        Some(u64::from(digit))
     } else {
         None
     }

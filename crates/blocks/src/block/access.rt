@@ -1,4 +1,4 @@
-ghost use Rattle.std.specs.Prelude.{◌≡◌, false, IfOk, replicate};
+ghost use Rattle.std.specs.Prelude.{◌≡◌, false, IfOk, length, replicate};
 
 use base::NoMemory;
 use rows::{Bits, TryClone};
@@ -20,6 +20,15 @@ impl Access {
         let readers = Bits::open(alloc, caches)?;
         let writers = Bits::open(alloc, caches)?;
         Ok(Access { readers, writers })
+    }
+
+    /// No cache may do either from now on.
+    pub fn clear(&mut self)
+        ensures readers { self.new.readers ≡ replicate (length self.old.readers) false }
+        ensures writers { self.new.writers ≡ replicate (length self.old.writers) false }
+    {
+        self.readers.clear();
+        self.writers.clear();
     }
 
     /// The same again.

@@ -189,7 +189,7 @@ impl Block {
     }
 }
 
-fn is_idle_ask(ask: Ask, state: CacheState) -> bool
+pub(crate) fn is_idle_ask(ask: Ask, state: CacheState) -> bool
     ensures { result ≡ is_idle ask state }
 {
     match ask {

@@ -1,12 +1,16 @@
-ghost use Rattle.std.specs.Prelude.{◌≡◌};
+ghost use Rattle.std.specs.Prelude.{◌≡◌, ℕ};
 ghost use Rattle.machine.specs.Transition.{decided_outcome};
-ghost use Rattle.blocks.specs.Looks.{is_held};
+ghost use Rattle.blocks.specs.Looks.{is_held, held_in};
+ghost use Rattle.machine.specs.Block.{opened_block};
+ghost use Rattle.blocks.specs.Marking.{ask_stalls};
 
 use crate::block::Block;
 use crate::block::acting::completion_outcome;
-use base::{CacheId, Outcome, Place, Step};
+use crate::block::deciding::{is_idle_ask, opened_line};
+use crate::block::testing::stalls_line;
+use base::{Ask, CacheId, Outcome, Place, Step};
 use both_tables::Tables;
-use control::line_completion;
+use control::{Line, LineInput, line_completion};
 use machine::Decision;
 use network::{Forward, Message, Response};
 
@@ -137,7 +141,16 @@ impl Block {
     pub fn is_held(&self, tables: &Tables, step: Step) -> bool
         ensures { result ≡ held_in tables.now step self.now.state }
     {
-        is_stall(self.foresee(tables, step))
+        match step {
+            Step::Ask {
+                cache,
+                block: _,
+                ask,
+            } => stalls_ask(tables, ask, self.line(cache)),
+            Step::Request { .. } | Step::Forward { .. } | Step::Response { .. } => {
+                is_stall(self.foresee(tables, step))
+            }
+        }
     }
 }
 
@@ -172,4 +185,28 @@ pub fn is_stall(outcome: Outcome) -> bool
         Outcome::Held => true,
         _ => false,
     }
+}
+
+/// Whether a step would be held at a block that nothing has happened to.
+pub fn is_held_opened(tables: &Tables, caches: u32, step: Step) -> bool
+    ensures { (value : ℕ) → result ≡ held_in tables.now step (opened_block caches value) }
+{
+    match step {
+        Step::Ask {
+            cache,
+            block: _,
+            ask,
+        } => stalls_ask(tables, ask, opened_line(cache, caches)),
+        Step::Request { .. } | Step::Forward { .. } | Step::Response { .. } => false,
+    }
+}
+
+/// Whether an ask would be held at a line. Where there is no line it wouldn't.
+fn stalls_ask(tables: &Tables, ask: Ask, line: Option<Line>) -> bool
+    ensures { result ≡ ask_stalls tables.now.cache ask line }
+{
+    let Some(found) = line else {
+        return false;
+    };
+    !is_idle_ask(ask, found.state) && stalls_line(tables, line, LineInput::Ask(ask))
 }

@@ -91,7 +91,7 @@ fn stalls_home(tables: &Tables, home: &Home, input: HomeInput) -> bool
 }
 
 /// Whether a line's cell for an input is a stall. Where there is no line it isn't.
-fn stalls_line(tables: &Tables, line: Option<Line>, input: LineInput) -> bool
+pub(crate) fn stalls_line(tables: &Tables, line: Option<Line>, input: LineInput) -> bool
     ensures { result ≡ line_stalls tables.now.cache line input }
 {
     let Some(line) = line else {

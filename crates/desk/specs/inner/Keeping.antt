@@ -8,7 +8,8 @@ use Rattle.desk.specs.declared.word.TokenView.{TokenView}
 use Rattle.desk.specs.declared.word.Size.{Size}
 use Rattle.desk.specs.declared.seats.Stage.{Stage}
 use Rattle.desk.specs.declared.seats.Stage.TheVariants.{Free, Claimed, Posted}
-use Rattle.desk.specs.Plans.{Plan, IsResultOf}
+use Rattle.trials.specs.Terms.{Plan}
+use Rattle.desk.specs.Plans.{IsResultOf}
 use Rattle.desk.specs.Counting.{times}
 use Rattle.desk.specs.Seats.{SeatView, HasPosted, Knows}
 use Rattle.desk.specs.Closing.{IsPlace}

@@ -1,6 +1,6 @@
 //! Opening the lanes of a scenario.
 
-ghost use Rattle.std.specs.Prelude.{◌≡◌, ◌+◌, ◌≤◌, ◌^◌, ◌++◌, [], IfOk, OnOk, length, map, replicate};
+ghost use Rattle.std.specs.Prelude.{◌≡◌, ◌+◌, ◌≤◌, ◌^◌, ◌++◌, [], IfOk, OnOk, true, length, map, replicate};
 ghost use Rattle.scenario.specs.Alike.{Alike};
 ghost use Rattle.scenario.specs.Cursors.{remaining};
 ghost use Rattle.scenario.specs.Tree.{Both, plain, trees_of};
@@ -33,7 +33,7 @@ impl<'s, A: Allocator, B: Allocator> Lane<'s, A, B> {
 }
 
 impl<'s, A: Allocator, B: Allocator + Clone> Lanes<'s, A, B> {
-    ghost use Rattle.std.specs.Prelude.{IfOk};
+    ghost use Rattle.std.specs.Prelude.{◌≡◌, true, IfOk, OnOk};
     ghost use Rattle.scenario.specs.Alike.{Alike};
     ghost use Rattle.scenario.specs.Tree.{plain};
     ghost use Rattle.schedule.specs.Lanes.{AreReady, IsKept, IsLevel, laned, whole};
@@ -51,11 +51,58 @@ impl<'s, A: Allocator, B: Allocator + Clone> Lanes<'s, A, B> {
         ensures ready { IfOk result (λ lanes. AreReady world.now.tables world.now.state cores.now (laned lanes)) }
     {
         let mut lanes = Lanes::unlisted(alloc, scenario, count)?;
-        for lane in 0..lanes.lanes.len() {
-            lanes.list(lane)?;
-            lanes.count_lane(lane, world, cores);
-        }
+        lanes.list_all(world, cores)?;
         Ok(lanes)
+    }
+
+    /// All of a scenario is left from now on, whatever was, in a world with so many cores. Where it has as many lanes as there
+    /// were, their memory is used again.
+    ///
+    /// Where memory is refused, the lanes are of no more use.
+    pub fn restart(
+        &mut self,
+        alloc: Global,
+        scenario: &'s Scenario<A>,
+        count: u32,
+        world: &World,
+        cores: &Cores,
+    ) -> Result<(), NoMemory>
+        ensures rest { OnOk result (Alike (whole (laned self.new)) (plain scenario.entry.now)) }
+        ensures kept { OnOk result (IsKept (laned self.new)) }
+        ensures ready { OnOk result (AreReady world.now.tables world.now.state cores.now (laned self.new)) }
+    {
+        if self.is_level() && restart_each(&mut self.lanes, scenario) {
+            self.list_all(world, cores)?;
+            return Ok(());
+        }
+        *self = Lanes::unlisted(alloc, scenario, count)?;
+        self.list_all(world, cores)?;
+        Ok(())
+    }
+
+    /// Whether as much is kept of each lane.
+    fn is_level(&self) -> bool
+        ensures { result ≡ true → IsLevel (laned self.now) }
+    {
+        let count = self.lanes.len();
+        count <= MOST_LANES
+            && self.lengths.len() == count
+            && self.ready.len() == count
+            && !self.reached.is_empty()
+    }
+
+    /// Lists what each lane offers, and counts what can be put of it.
+    fn list_all(&mut self, world: &World, cores: &Cores) -> Result<(), NoMemory>
+        requires { IsLevel (laned self.old) }
+        ensures trees { OnOk result ((laned self.new).trees ≡ (laned self.old).trees) }
+        ensures kept { OnOk result (IsKept (laned self.new)) }
+        ensures ready { OnOk result (AreReady world.now.tables world.now.state cores.now (laned self.new)) }
+    {
+        for lane in 0..self.lanes.len() {
+            self.list(lane)?;
+            self.count_lane(lane, world, cores);
+        }
+        Ok(())
     }
 
     /// The lanes of a scenario, of which nothing is listed yet.
@@ -97,6 +144,46 @@ fn lanes_of<'s, A: Allocator, B: Allocator>(
             lanes.push(Lane::unlisted(alloc, tree))?;
             Ok(lanes)
         }
+    }
+}
+
+/// Has the lanes go on from all of a scenario, if it has as many; else they stay.
+fn restart_each<'s, A: Allocator, B: Allocator>(
+    lanes: &mut Vec<Lane<'s, A, B>>,
+    scenario: &'s Scenario<A>,
+) -> bool
+    ensures count { length lanes.new.items ≡ length lanes.old.items }
+    ensures rest { result ≡ true → Alike (Both (trees_of (map (λ lane. remaining lane.rest) lanes.new.items))) (plain scenario.entry.now) }
+{
+    match scenario {
+        Scenario::Both(children) => {
+            if children.len() != lanes.len() {
+                return false;
+            }
+            restart_all(lanes, children.as_slice());
+            true
+        }
+        tree => {
+            if lanes.len() != 1 {
+                return false;
+            }
+            lanes[0].rest.restart(tree);
+            true
+        }
+    }
+}
+
+/// Has each of these lanes go on from all of the tree of its number.
+fn restart_all<'s, A: Allocator, B: Allocator>(
+    lanes: &mut Vec<Lane<'s, A, B>>,
+    trees: &'s [Scenario<A>],
+)
+    requires { length lanes.old.items ≡ length trees.now }
+    ensures count { length lanes.new.items ≡ length lanes.old.items }
+    ensures rest { map (λ lane. remaining lane.rest) lanes.new.items ≡ map plain trees.entry.now }
+{
+    for (number, tree) in trees.iter().enumerate() {
+        lanes[number].rest.restart(tree);
     }
 }
 

@@ -1,5 +1,8 @@
 -- A block as a look finds it.
-use Rattle.std.specs.Prelude.{ℕ, Option, Some, None, Bool, true}
+use Rattle.std.specs.Prelude.{ℕ, Option, Some, None, Bool, true, false}
+use Rattle.base.specs.declared.step.Step.{Step}
+use Rattle.both_tables.specs.Tables.{Tables}
+use Rattle.blocks.specs.Looks.{held_in}
 use Rattle.network.specs.Traffic.{is_quiet}
 use Rattle.machine.specs.Block.{BlockState, opened_block}
 use Rattle.blocks.specs.Kept as kept
@@ -15,3 +18,8 @@ state_found caches (Opened value) = opened_block caches value
 abbrev pub is_quiet_kept : Option kept.Kept → Bool
 is_quiet_kept None = true
 is_quiet_kept (Some k) = is_quiet k.state.traffic
+
+-- whether a step would be held in its block, if that is there
+abbrev pub is_held_found : Tables → Step → Option BlockState → Bool
+is_held_found tables step None = false
+is_held_found tables step (Some b) = held_in tables step b

@@ -1,14 +1,15 @@
 -- A world as the program holds it.
-use Rattle.std.specs.Prelude.{◌≡◌, ℕ, List, [], Option, None, false, length, slice_index_or, slice_set}
+use Rattle.std.specs.Prelude.{◌≡◌, ℕ, List, [], Option, None, Some, false, length, slice_index_or, slice_set}
 use Rattle.base.specs.Extent.{Extent}
 use Rattle.base.specs.declared.step.Step.{Step}
-use Rattle.machine.specs.Block.{BlockState}
+use Rattle.network.specs.Marks.{no_marks}
+use Rattle.machine.specs.Block.{BlockState, opened_block}
 use Rattle.machine.specs.Machine.{State}
 use Rattle.both_tables.specs.Tables.{Tables}
 use Rattle.machine.specs.Transition.{decision_of, messages_of}
 use Rattle.blocks.specs.Kept.{Kept, wakes_line}
 use Rattle.world.specs.inner.Counts.{AreCounted}
-use Rattle.world.specs.View.{IsShaped}
+use Rattle.world.specs.View.{IsShaped, state_or}
 use Rattle.world.specs.inner.Counts.{Rows}
 use Rattle.world.specs.inner.Tests.{IsMarked}
 
@@ -19,6 +20,20 @@ kept_at ks number = slice_index_or ks number None
 -- at most one of the blocks that are kept has changed
 pub record OthersStay (number : ℕ) (old new : List (Option Kept)) : Type 0 where
   pub items : new ≡ slice_set old number (kept_at new number)
+
+-- a block that is kept has no marks
+abbrev pub HasNoMarks : ℕ → Option Kept → Type 0
+HasNoMarks caches None = Unit {0}
+HasNoMarks caches (Some k) = k.marks ≡ no_marks caches
+
+-- a block is as it opens, whether it is kept or not
+pub record IsOpened (caches value : ℕ) (k : Option Kept) : Type 0 where
+  pub state : state_or caches value k ≡ opened_block caches value
+  pub marks : HasNoMarks caches k
+
+-- each block that is kept has so many lines
+abbrev pub AreLined : ℕ → List (Option Kept) → Type 0
+AreLined caches ks = (i : ℕ) (k : Kept) → kept_at ks i ≡ Some k → length k.state.lines ≡ caches
 
 -- a step wants nothing at a block: it sends nothing, and isn't an ask that acts at a line in I
 pub record IsLight (tables : Tables) (step : Step) (b : BlockState) : Type 0 where

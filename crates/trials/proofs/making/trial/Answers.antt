@@ -7,7 +7,7 @@ use Rattle.trials.proofs.making.trial.Goals as goal
 pub returns-clause-trial : goal.returns-clause-trial
 returns-clause-trial g c =
     subst (λ (r : Kept). IsTrial c.args.setup.now (plain c.args.scenario.now) c.args.number r c.in_ok-verdict.verdict) (sym c.into_recording-recording.ensures)
-    (c.in_ok-verdict.ensures c.args.setup.now (plain c.args.scenario.now) c.args.number (sym c.limit.ensures.value) c.in_ok-course.ensures)
+    (c.in_ok-verdict.ensures.ends c.args.setup.now (plain c.args.scenario.now) c.args.number (sym c.limit.ensures.value) c.in_ok-course.ensures)
 
 pub returns-clause-legal : goal.returns-clause-legal
 returns-clause-legal g c =

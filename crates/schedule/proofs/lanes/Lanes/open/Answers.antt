@@ -1,39 +1,8 @@
-use Rattle.std.proofs.Common.{◌≡◌, ◌∙◌, ap, sym, subst, arith, length}
-use Rattle.std.proofs.lemmas.List.{length-map}
-use Rattle.scenario.specs.Tree.{Both, plain, trees_of}
+use Rattle.std.proofs.Common.{subst, sym}
 use Rattle.scenario.specs.Alike.{Alike}
-use Rattle.scenario.specs.Cursors.{remaining}
-use Rattle.schedule.specs.declared.lanes.Lane.{Lane}
-use Rattle.schedule.specs.Lanes.{Laned, laned}
-use Rattle.schedule.proofs.Counting.{level-counted, one-listed, one-ready}
+use Rattle.scenario.specs.Tree.{Both, plain, trees_of}
 use Rattle.schedule.proofs.lanes.Lanes.open.Goals as goal
 
-pub loop-lane-preserved : goal.loop-lane-preserved
-loop-lane-preserved g c =
-    let before = c.loop-lane.invariant in
-    let made = c.in_ok-list.ensures in
-    let trees : (laned c.count_lane.new.self).trees ≡ (laned c.loop-lane.lanes).trees = ap (λ (l : Laned). l.trees) c.count_lane.ensures ∙ made.trees in
-    let many = length-map c.count_lane.new.self.lanes.items (λ (l : Lane g.row.A.Denot g.row.B.Denot). remaining l.rest) in
-    let were = length-map c.loop-lane.lanes.lanes.items (λ (l : Lane g.row.A.Denot g.row.B.Denot). remaining l.rest) in
-    let same = ap length trees in
-    let all = before.2 in
-    let low = c.loop-lane-test.true in
-    let mid = ap length made.trees in
-    let rows = made.level.ready in (
-      level-counted c.args.world.now.tables c.args.world.now.state c.args.cores.now c.loop-lane.lane (laned c.list.new.self) (laned c.count_lane.new.self)
-          c.count_lane.ensures made.level,
-      subst (λ ts. Alike (Both (trees_of ts)) (plain c.args.scenario.now)) (sym trees) before.1,
-      omega (arith, many, were, same, all),
-      one-listed c.args.world.now.tables c.args.world.now.state c.args.cores.now c.loop-lane.lane (laned c.loop-lane.lanes) (laned c.list.new.self)
-          (laned c.count_lane.new.self) c.count_lane.ensures made.listed made.others before.3,
-      one-ready c.args.world.now.tables c.args.world.now.state c.args.cores.now c.loop-lane.lane (laned c.loop-lane.lanes) (laned c.list.new.self)
-          (laned c.count_lane.new.self) c.count_lane.ensures (omega (arith, low, all, were, mid, rows)) made.others before.4,
-    )
-
-pub returns-clause-kept : goal.returns-clause-kept
-returns-clause-kept g c =
-    let before = c.loop-lane.invariant in
-    let many = length-map c.loop-lane.lanes.lanes.items (λ (l : Lane g.row.A.Denot g.row.B.Denot). remaining l.rest) in
-    let all = before.2 in
-    let end = c.loop-lane-test.false in
-    record { level = before.0; listed = λ lane low. before.3 lane (omega (arith, low, many, all, end)) }
+pub returns-clause-rest : goal.returns-clause-rest
+returns-clause-rest g c =
+    subst (λ ts. Alike (Both (trees_of ts)) (plain c.args.scenario.now)) (sym c.in_ok-list_all.ensures.trees) c.in_ok-lanes.ensures.rest

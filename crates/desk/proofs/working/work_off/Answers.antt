@@ -3,9 +3,9 @@ use Rattle.once_cell.specs.Once.{cell_name}
 use Rattle.desk.specs.Seats.{Knows, with_post}
 use Rattle.desk.proofs.Lists.{on_ok, long_as}
 use Rattle.desk.proofs.Worked.{works_more, works_told, few}
-use Rattle.desk.proofs.working.work.Given.{Over}
-use Rattle.desk.proofs.working.work.Goals as goal
-use Rattle.desk.proofs.working.work.Goals.{In-Some}
+use Rattle.desk.proofs.working.work_off.Given.{Over}
+use Rattle.desk.proofs.working.work_off.Goals as goal
+use Rattle.desk.proofs.working.work_off.Goals.{In-Some}
 
 -- what was claimed is no more than there is
 room : (g : Over) (c : In-Some g) → length c.loop-number.seat.claimed + 1 ≤ length c.args.desk.now.id.cells
@@ -24,7 +24,7 @@ pub loop-number-smaller : goal.loop-number-smaller
 loop-number-smaller g c =
     let at = (goal.at.loop-number-smaller g c).In-Some in
     let p = on_ok _ c.post.result (sym c.is_err.ensures.value ∙ c.if-is_err.false) c.post.ensures.ok in
-    let l = ap (λ s. length s.claimed) (p ∙ ap (λ s. with_post s c.in-Some.number c.in_ok-made.made.result) c.in-Some.ensures.some) in
+    let l = ap (λ s. length s.claimed) (p ∙ ap (λ s. with_post s c.in-Some.number c.in_ok-made.made) c.in-Some.ensures.some) in
     omega (arith, room g at, l, length-append c.loop-number.seat.claimed (c.in-Some.number ∷ []))
 
 pub loop-number-preserved : goal.loop-number-preserved
@@ -33,15 +33,17 @@ loop-number-preserved g c =
     let w = i.works in
     let ok = sym c.is_err.ensures.value ∙ c.if-is_err.false in
     let claimed = c.in-Some.ensures.some in
-    let p = on_ok _ c.post.result ok c.post.ensures.ok ∙ ap (λ s. with_post s c.in-Some.number c.in_ok-made.made.result) claimed in
+    let p = on_ok _ c.post.result ok c.post.ensures.ok ∙ ap (λ s. with_post s c.in-Some.number c.in_ok-made.made) claimed in
     let here = on_ok _ c.post.result ok c.post.ensures.posted in
     let first = on_ok _ c.post.result ok c.post.ensures.first in
     record {
       desk = ap (λ s. s.desk) p ∙ i.desk;
+      plan = c.result.ensures.plan ∙ i.plan;
+      can_go_on = c.result.ensures.can_go_on;
       works = (
         w.0 ++ c.in-Some.number ∷ [],
         omega (arith, w.1, length-append w.0 (c.in-Some.number ∷ [])),
-        works_more c.args.seat.now c.loop-number.seat c.post.new.seat w.0 c.in-Some.number c.in_ok-made.made.result w.2 p here
+        works_more c.args.seat.now c.loop-number.seat c.post.new.seat w.0 c.in-Some.number c.in_ok-made.made w.2 p here
             (λ q k. first q (subst (λ v. Knows v c.in-Some.number q) (sym claimed) k)),
       );
     }

@@ -1,0 +1,14 @@
+-- Trials one after another.
+use Rattle.std.specs.Prelude.{IfSome}
+use Rattle.scenario.specs.Tree.{plain}
+use Rattle.trials.specs.declared.series.Series.{Series}
+use Rattle.trials.specs.Terms.{Plan}
+use Rattle.trials.specs.Going.{IsUnder, parts_of}
+
+-- what the trials of a series are: those of its scenario under its setup
+abbrev pub planned : {A : Type 0} → Series A → Plan
+planned s = record { terms = s.setup.now; tree = plain s.scenario.now }
+
+-- whatever has come of the last trial of a series, it was one under the series' setup
+abbrev pub CanGoOn : {A : Type 0} → Series A → Type 0
+CanGoOn s = IfSome s.course (λ course. IsUnder s.setup.now (parts_of course))

@@ -1,0 +1,94 @@
+//! Trials one after another, in the same memory.
+
+ghost use Rattle.std.specs.Prelude.{◌≡◌, IfOk};
+ghost use Rattle.both_tables.specs.Tables.{baseline};
+ghost use Rattle.scenario.specs.Tree.{Tree, plain};
+ghost use Rattle.trials.specs.Going.{IsLike, Starts, parts_of};
+ghost use Rattle.trials.specs.Trial.{IsResult, IsSound};
+
+use crate::course::Course;
+use crate::laws::trials_under_the_own_tables;
+use crate::setup::Setup;
+use crate::verdict::TrialResult;
+use base::NoMemory;
+use bumpalo::Bump;
+use scenario::Scenario;
+use std::alloc::{Allocator, Global};
+
+/// Trials of one scenario under one setup, each of which is made in the memory that the one before it has left.
+#[derive(Drop)]
+pub struct Series<'s, 'b, A: Allocator> {
+    alloc: Global,
+    arena: &'b Bump,
+    scenario: &'s Scenario<A>,
+    setup: &'s Setup,
+    // The last trial, if there was one.
+    course: Option<Course<'s, 'b, A>>,
+}
+
+impl<'s, 'b, A: Allocator> Series<'s, 'b, A> {
+    ghost use Rattle.std.specs.Prelude.{◌≡◌, IfOk};
+    ghost use Rattle.both_tables.specs.Tables.{baseline};
+    ghost use Rattle.scenario.specs.Tree.{plain};
+    ghost use Rattle.trials.specs.Making.{CanGoOn, planned};
+    ghost use Rattle.trials.specs.Trial.{IsResult, IsSound};
+
+    /// The trials of a scenario under a setup. How far a trial is in the scenario is kept in memory of the arena.
+    pub fn new(
+        alloc: Global,
+        arena: &'b Bump,
+        scenario: &'s Scenario<A>,
+        setup: &'s Setup,
+    ) -> Series<'s, 'b, A>
+        ensures plan { planned result ≡ record { terms = setup.entry.now; tree = plain scenario.entry.now } }
+        ensures can_go_on { CanGoOn result }
+    {
+        Series {
+            alloc,
+            arena,
+            scenario,
+            setup,
+            course: None,
+        }
+    }
+
+    /// The result of the trial of this number, which is that of [`trial`](crate::trial). Its recording isn't kept.
+    pub fn result(&mut self, number: u32) -> Result<TrialResult, NoMemory>
+        requires { CanGoOn self.old }
+        ensures result { IfOk result (λ made. IsResult (planned self.old).terms (planned self.old).tree number made) }
+        ensures sound { (planned self.old).terms.tables ≡ baseline → IfOk result (λ made. IsSound made.verdict) }
+        ensures plan { planned self.new ≡ planned self.old }
+        ensures can_go_on { CanGoOn self.new }
+    {
+        if let Some(course) = &mut self.course {
+            course.restart(self.alloc, self.scenario, self.setup, number)?;
+            return finish(course, self.arena, self.scenario, self.setup, number);
+        }
+        let mut course = Course::open(self.alloc, self.scenario, self.setup, number)?;
+        let made = finish(&mut course, self.arena, self.scenario, self.setup, number)?;
+        self.course = Some(course);
+        Ok(made)
+    }
+}
+
+/// Makes the trial of this number, from its start.
+fn finish<'s, 'b, A: Allocator>(
+    course: &mut Course<'s, 'b, A>,
+    arena: &'b Bump,
+    scenario: &Scenario<A>,
+    setup: &Setup,
+    number: u32,
+) -> Result<TrialResult, NoMemory>
+    requires { Starts setup.now (plain scenario.now) number (parts_of course.old) }
+    ensures result { IfOk result (λ made. IsResult setup.now (plain scenario.now) number made) }
+    ensures sound { setup.now.tables ≡ baseline → IfOk result (λ made. IsSound made.verdict) }
+    ensures alike { IsLike (parts_of course.old) (parts_of course.new) }
+{
+    trials_under_the_own_tables();
+    let verdict = course.run(arena, setup.limit())?;
+    Ok(TrialResult {
+        number,
+        verdict,
+        steps: course.steps(),
+    })
+}

@@ -1,0 +1,162 @@
+-- Blocks that are made as they open, one after another.
+use Rattle.std.proofs.Common.{◌≡◌, ◌≢◌, ◌<◌, ◌≤◌, ◌+◌, ℕ, List, [], ◌∷◌, Option, Some, None, IsSome, length, map, replicate, slice_get, get_or}
+use Rattle.std.proofs.Common.{refl, ap, sym, subst, ◌∙◌, zero, suc, arith, inl, inr, false}
+use Rattle.std.specs.Option.{is_some}
+use Rattle.std.proofs.lemmas.Bool.{cases_eq}
+use Rattle.std.proofs.lemmas.List.{get_or_past, length-map, length-replicate, length-set}
+use Rattle.base.specs.Extent.{Extent, IsWithinLimits}
+use Rattle.control.specs.LineEffect.{opened_line}
+use Rattle.network.specs.Marks.{no_marks}
+use Rattle.both_tables.specs.Tables.{Tables}
+use Rattle.machine.specs.Block.{BlockState, opened_block}
+use Rattle.blocks.specs.Kept.{Kept}
+use Rattle.blocks.specs.Marking.{marks_of}
+use Rattle.world.specs.View.{AllLined, IsShaped, state_or, states}
+use Rattle.world.specs.inner.Counts.{AreCounted, Rows}
+use Rattle.world.specs.inner.Held.{kept_at, AreLined, HasNoMarks, IsOpened, IsWorld, OthersStay}
+use Rattle.world.specs.inner.Tests.{IsMarked}
+use Rattle.world.proofs.Keeping.{kept-other, shaped-opened}
+use Rattle.world.proofs.QuietMarks.{counted-opened, marks-quiet}
+
+-- the blocks at the first keys are as they open, and no other is kept than before
+pub record AreReset (opening keys : List ℕ) (n : ℕ) (old new : List (Option Kept)) : Type 0 where
+  pub count : length new ≡ length old
+  pub lined : (caches : ℕ) → AreLined caches old → AreLined caches new
+  pub none : (at : ℕ) → kept_at old at ≡ None → kept_at new at ≡ None
+  pub done : (caches : ℕ) → AreLined caches old → (j at v : ℕ) → j < n → slice_get keys j ≡ Some at → slice_get opening at ≡ Some v →
+      IsOpened caches v (kept_at new at)
+
+pub reset-none : (opening keys : List ℕ) (ks : List (Option Kept)) → AreReset opening keys 0 ks ks
+reset-none opening keys ks = record {
+  count = refl;
+  lined = λ caches h. h;
+  none = λ at e. e;
+  done = λ caches h j at v low. absurd (omega arith);
+}
+
+opened-lined : (caches v : ℕ) (o : Option Kept) (k : Kept) → IsOpened caches v o → o ≡ Some k → length k.state.lines ≡ caches
+opened-lined caches v None k h e = absurd (cc e)
+opened-lined caches v (Some x) k h e =
+    let same : x ≡ k = cc e in
+    ap (λ (y : Kept). length y.state.lines) (sym same) ∙ ap (λ (b : BlockState). length b.lines) h.state ∙ length-replicate caches opened_line
+
+-- one more was made as it opens
+pub reset-more : (opening keys : List ℕ) (n number value : ℕ) (old mid new : List (Option Kept)) → AreReset opening keys n old mid →
+    slice_get keys n ≡ Some number → slice_get opening number ≡ Some value → OthersStay number mid new →
+    (kept_at mid number ≡ None → kept_at new number ≡ None) →
+    ((caches : ℕ) → AreLined caches mid → IsOpened caches value (kept_at new number)) → AreReset opening keys (n + 1) old new
+reset-more opening keys n number value old mid new h key is others none here = record {
+  count = ap length others.items ∙ length-set mid number (kept_at new number) ∙ h.count;
+  lined = λ caches l i k e. elim (cases_eq i number) [
+    | inl same ↦ opened-lined caches value (kept_at new number) k (here caches (h.lined caches l)) (ap (kept_at new) (sym same) ∙ e)
+    | inr other ↦ h.lined caches l i k (sym (kept-other mid new number i others other) ∙ e)
+  ];
+  none = λ at e. elim (cases_eq at number) [
+    | inl same ↦ ap (kept_at new) same ∙ none (ap (kept_at mid) (sym same) ∙ h.none at e)
+    | inr other ↦ kept-other mid new number at others other ∙ h.none at e
+  ];
+  done = λ caches l j at v low e o. elim (cases_eq at number) [
+    | inl same ↦
+        let found : Some v ≡ Some value = sym o ∙ ap (slice_get opening) same ∙ is in
+        let one : v ≡ value = cc found in
+        subst (λ i. IsOpened caches v (kept_at new i)) (sym same)
+        (subst (λ w. IsOpened caches w (kept_at new number)) (sym one) (here caches (h.lined caches l)))
+    | inr other ↦
+        let earlier : j < n = elim (cases_eq j n) [
+          | inl last ↦
+              let found : Some at ≡ Some number = sym e ∙ ap (slice_get keys) last ∙ key in
+              absurd (other (cc found))
+          | inr before ↦ omega (arith, low, before)
+        ] in
+        subst (IsOpened caches v) (sym (kept-other mid new number at others other)) (h.done caches l j at v earlier e o)
+  ];
+}
+
+-- a key without an opening value is passed over
+pub reset-past : (opening keys : List ℕ) (n number : ℕ) (old new : List (Option Kept)) → AreReset opening keys n old new →
+    slice_get keys n ≡ Some number → slice_get opening number ≡ None → AreReset opening keys (n + 1) old new
+reset-past opening keys n number old new h key past = record {
+  count = h.count;
+  lined = h.lined;
+  none = h.none;
+  done = λ caches l j at v low e o. elim (cases_eq j n) [
+    | inl last ↦
+        let found : Some at ≡ Some number = sym e ∙ ap (slice_get keys) last ∙ key in
+        let same : at ≡ number = cc found in
+        let wrong : Some v ≡ None = sym o ∙ ap (slice_get opening) same ∙ past in
+        absurd (cc wrong)
+    | inr before ↦ h.done caches l j at v (omega (arith, low, before)) e o
+  ];
+}
+
+get-below : (keys : List ℕ) (j at : ℕ) → slice_get keys j ≡ Some at → j < length keys
+get-below [] j at e = absurd (cc e)
+get-below (k ∷ keys) zero at e = omega arith
+get-below (k ∷ keys) (suc j) at e = omega (arith, get-below keys j at e)
+
+at-none : (caches v : ℕ) (ks : List (Option Kept)) (i : ℕ) → kept_at ks i ≡ None → IsOpened caches v (kept_at ks i)
+at-none caches v ks i e = subst (IsOpened caches v) (sym e) (record { state = refl; marks = tt })
+
+-- all that are kept were made as they open
+pub reset-all : (opening keys : List ℕ) (n caches : ℕ) (old new : List (Option Kept)) → AreReset opening keys n old new → length keys ≤ n →
+    ((at : ℕ) → IsSome (kept_at old at) → (j : ℕ) × (slice_get keys j ≡ Some at)) → AreLined caches old →
+    (i v : ℕ) → slice_get opening i ≡ Some v → IsOpened caches v (kept_at new i)
+reset-all opening keys n caches old new h end all l i v e = by (kept_at old i) refl
+  where
+    by : (o : Option Kept) → kept_at old i ≡ o → IsOpened caches v (kept_at new i)
+    by None is = at-none caches v new i (h.none i is)
+    by (Some k) is =
+        let found = all i (ap is_some is) in
+        h.done caches l found.0 i v (omega (arith, end, get-below keys found.0 i found.1)) found.1 e
+
+-- the states of blocks that are as they open
+pub states-reset : (caches : ℕ) (values : List ℕ) (ks : List (Option Kept)) →
+    ((i v : ℕ) → slice_get values i ≡ Some v → IsOpened caches v (kept_at ks i)) → states caches values ks ≡ map (opened_block caches) values
+states-reset caches [] ks h = refl
+states-reset caches (v ∷ values) [] h =
+    ap (λ bs. opened_block caches v ∷ bs) (states-reset caches values [] (λ i w e. h (suc i) w e))
+states-reset caches (v ∷ values) (k ∷ ks) h =
+    ap (λ b. b ∷ states caches values ks) (h zero v refl).state
+    ∙ ap (λ bs. opened_block caches v ∷ bs) (states-reset caches values ks (λ i w e. h (suc i) w e))
+
+marked-opened : (tables : Tables) (caches v : ℕ) (o : Option Kept) → IsOpened caches v o → IsMarked tables o
+marked-opened tables caches v None h = tt
+marked-opened tables caches v (Some k) h =
+    h.marks ∙ sym (marks-quiet tables k.state caches (ap (λ (b : BlockState). b.traffic) h.state))
+
+marked-reset : (tables : Tables) (caches : ℕ) (values : List ℕ) (ks : List (Option Kept)) → length ks ≡ length values →
+    ((i v : ℕ) → slice_get values i ≡ Some v → IsOpened caches v (kept_at ks i)) → (i : ℕ) → IsMarked tables (kept_at ks i)
+marked-reset tables caches [] [] e h i = tt
+marked-reset tables caches (v ∷ values) (k ∷ ks) e h zero = marked-opened tables caches v k (h zero v refl)
+marked-reset tables caches (v ∷ values) (k ∷ ks) e h (suc i) = marked-reset tables caches values ks (omega (arith, e)) (λ j w f. h (suc j) w f) i
+marked-reset tables caches [] (k ∷ ks) e h i = absurd (omega (arith, e))
+marked-reset tables caches (v ∷ values) [] e h i = absurd (omega (arith, e))
+
+-- a world whose blocks are as they open holds together
+pub world-reset : (shape : Extent) (tables : Tables) (values : List ℕ) (ks : List (Option Kept)) (rows : Rows) → IsWithinLimits shape →
+    length values ≡ shape.blocks → length ks ≡ shape.blocks →
+    ((i v : ℕ) → slice_get values i ≡ Some v → IsOpened shape.caches v (kept_at ks i)) → rows.requests ≡ replicate shape.blocks 0 →
+    rows.heads ≡ replicate shape.blocks 0 → rows.responses ≡ replicate shape.blocks 0 →
+    IsWorld shape tables values ks rows (record { blocks = states shape.caches values ks; broken = false })
+world-reset shape tables values ks rows within e places h requests heads responses =
+    let opened = states-reset shape.caches values ks h in
+    record {
+      shaped = subst (λ (bs : List BlockState). IsShaped shape (record { blocks = bs; broken = false })) (sym opened)
+          (shaped-opened shape values false within e);
+      opening = e;
+      places = places;
+      marked = marked-reset tables shape.caches values ks (places ∙ sym e) h;
+      counted =
+          rw (requests, heads, responses)
+          (subst (λ (bs : List BlockState). AreCounted tables bs (replicate shape.blocks 0) (replicate shape.blocks 0) (replicate shape.blocks 0)) (sym opened)
+          (counted-opened tables shape.caches shape.blocks values e));
+    }
+
+-- each block that is kept has the lines of the shape
+pub lined : (caches : ℕ) (values : List ℕ) (ks : List (Option Kept)) → length ks ≡ length values → AllLined caches (states caches values ks) →
+    AreLined caches ks
+lined caches [] [] e h i k is = absurd (cc is)
+lined caches (v ∷ values) (o ∷ ks) e h zero k is = ap (λ (x : Option Kept). length (state_or caches v x).lines) (sym is) ∙ h.0
+lined caches (v ∷ values) (o ∷ ks) e h (suc i) k is = lined caches values ks (omega (arith, e)) h.1 i k is
+lined caches [] (o ∷ ks) e h i k is = absurd (omega (arith, e))
+lined caches (v ∷ values) [] e h i k is = absurd (omega (arith, e))

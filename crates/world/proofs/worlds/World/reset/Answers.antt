@@ -1,0 +1,53 @@
+use Rattle.std.proofs.Common.{◌≡◌, ◌∙◌, ℕ, List, Some, ap, false, length, refl, replicate, slice_get, sym}
+use Rattle.std.proofs.lemmas.List.{length-map}
+use Rattle.machine.specs.Block.{BlockState}
+use Rattle.machine.specs.Machine.{State, opened}
+use Rattle.world.specs.View.{View, states}
+use Rattle.world.specs.inner.Held.{AreLined, IsOpened, kept_at}
+use Rattle.world.proofs.Coherence.{been-safe, not-stuck}
+use Rattle.world.proofs.Openings.{lined, states-reset, world-reset}
+use Rattle.world.proofs.worlds.World.reset.Goals as goal
+use Rattle.world.proofs.worlds.World.reset.Goals.{After-self-2-1}
+
+one_each : (c : After-self-2-1) → length c.args.opening.now ≡ c.self.inside.shape.blocks
+one_each c = c.requires ∙ ap (λ (w : View). w.shape.blocks) (sym c.self.view_is)
+
+each-lined : (c : After-self-2-1) → AreLined c.self.inside.shape.caches c.self.inside.blocks.items
+each-lined c =
+    lined c.self.inside.shape.caches c.self.inside.opening.items c.self.inside.blocks.items (c.self.invariant.places ∙ sym c.self.invariant.opening)
+    c.self.invariant.shaped.lines
+
+again : (c : After-self-2-1) → (i v : ℕ) → slice_get c.args.opening.now i ≡ Some v →
+    IsOpened c.self.inside.shape.caches v (kept_at c.reset_all.new.blocks.items i)
+again c i v e = c.reset_all.ensures.opened c.self.inside.shape.caches (each-lined c) i v e
+
+opened-state : (c : After-self-2-1)
+    → ◌≡◌ {A = State} (record { blocks = states c.self.inside.shape.caches c.copy_from_slice.new.self.items c.reset_all.new.blocks.items; broken = false })
+    (opened c.self.inside.shape c.args.opening.now)
+opened-state c =
+    ap (λ (bs : List BlockState). record { blocks = bs; broken = false })
+    (ap (λ vs. states c.self.inside.shape.caches vs c.reset_all.new.blocks.items) c.copy_from_slice.ensures.items
+    ∙ states-reset c.self.inside.shape.caches c.args.opening.now c.reset_all.new.blocks.items (again c))
+
+counted : (c : After-self-2-1) → length c.self.inside.counts.requests ≡ c.self.inside.shape.blocks
+counted c = ap length c.self.invariant.counted.of_requests ∙ length-map _ _ ∙ c.self.invariant.shaped.blocks
+
+pub invariant_of-self : goal.invariant_of-self
+invariant_of-self c =
+    rw c.copy_from_slice.ensures.items
+    (world-reset c.self.inside.shape c.self.inside.tables c.args.opening.now c.reset_all.new.blocks.items c.clear.new.self
+    c.self.invariant.shaped.within (one_each c) (c.reset_all.ensures.count ∙ c.self.invariant.places) (again c)
+    (c.clear.ensures.requests ∙ ap (λ n. replicate n 0) (counted c)) (c.clear.ensures.heads ∙ ap (λ n. replicate n 0) (counted c))
+    (c.clear.ensures.responses ∙ ap (λ n. replicate n 0) (counted c)))
+
+pub returns-clause-state : goal.returns-clause-state
+returns-clause-state c = rw (← c.self.view_is) (opened-state c)
+
+pub returns-clause-history : goal.returns-clause-history
+returns-clause-history c = rw (opened-state c) (record { opens = one_each c; leads = refl })
+
+pub returns-clause-safe : goal.returns-clause-safe
+returns-clause-safe c = been-safe _ _ _ c.self.invariant.shaped.within
+
+pub returns-clause-unstuck : goal.returns-clause-unstuck
+returns-clause-unstuck c = not-stuck _ _ _ c.self.invariant.shaped.within
