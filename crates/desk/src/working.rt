@@ -24,12 +24,7 @@ pub fn work<D: Naming>(desk: &Desk<'_, D>, seat: &mut DeskSeat<D>) -> Result<u32
     ensures same { seat.new.desk ≡ seat.old.desk }
 {
     let arena = Bump::new(desk.alloc);
-    let mut series = Series::new(
-        desk.alloc,
-        &arena,
-        &desk.job.scenario,
-        &desk.job.setup,
-    );
+    let mut series = Series::new(desk.alloc, &arena, &desk.job.scenario, &desk.job.setup);
     work_off(desk, seat, &mut series)
 }
 

@@ -23,16 +23,16 @@ loop-index-preserved c =
     ap (λ ks. slice_get ks c.loop-index.index) (sym h.0) ∙ sym c.in-Some.ensures.place in
     elim c.match-opening_value.branch [
       | in-Some-opening_value w ↦ rw w.blocks-is (
-          w.reset_one.ensures.keys ∙ h.0,
-          reset-more c.args.opening.now c.args.blocks.now.keys c.loop-index.index c.in-Some.number w.in-Some-opening_value.value c.args.blocks.now.items
-              c.loop-index.blocks.items w.reset_one.new.blocks.items h.1 key (sym w.in-Some-opening_value.ensures) w.reset_one.ensures.others
-              w.reset_one.ensures.none w.reset_one.ensures.here,
-        )
+        w.reset_one.ensures.keys ∙ h.0,
+        reset-more c.args.opening.now c.args.blocks.now.keys c.loop-index.index c.in-Some.number w.in-Some-opening_value.value c.args.blocks.now.items
+            c.loop-index.blocks.items w.reset_one.new.blocks.items h.1 key (sym w.in-Some-opening_value.ensures) w.reset_one.ensures.others
+            w.reset_one.ensures.none w.reset_one.ensures.here,
+      )
       | in_default-opening_value w ↦ rw w.blocks-is (
-          h.0,
-          reset-past c.args.opening.now c.args.blocks.now.keys c.loop-index.index c.in-Some.number c.args.blocks.now.items c.loop-index.blocks.items h.1 key
-              (sym w.in_default-opening_value.ensures),
-        )
+        h.0,
+        reset-past c.args.opening.now c.args.blocks.now.keys c.loop-index.index c.in-Some.number c.args.blocks.now.items c.loop-index.blocks.items h.1 key
+            (sym w.in_default-opening_value.ensures),
+      )
     ]
 
 pub returns-clause-count : goal.returns-clause-count
