@@ -1,19 +1,17 @@
 -- Blocks that are made as they open, one after another.
-use Rattle.std.proofs.Common.{◌≡◌, ◌≢◌, ◌<◌, ◌≤◌, ◌+◌, ℕ, List, [], ◌∷◌, Option, Some, None, IsSome, length, map, replicate, slice_get, get_or}
+use Rattle.std.proofs.Common.{◌≡◌, ◌<◌, ◌≤◌, ◌+◌, ℕ, List, [], ◌∷◌, Option, Some, None, IsSome, length, map, replicate, slice_get}
 use Rattle.std.proofs.Common.{refl, ap, sym, subst, ◌∙◌, zero, suc, arith, inl, inr, false}
 use Rattle.std.specs.Option.{is_some}
 use Rattle.std.proofs.lemmas.Bool.{cases_eq}
-use Rattle.std.proofs.lemmas.List.{get_or_past, length-map, length-replicate, length-set}
+use Rattle.std.proofs.lemmas.List.{length-replicate, length-set}
 use Rattle.base.specs.Extent.{Extent, IsWithinLimits}
 use Rattle.control.specs.LineEffect.{opened_line}
-use Rattle.network.specs.Marks.{no_marks}
 use Rattle.both_tables.specs.Tables.{Tables}
 use Rattle.machine.specs.Block.{BlockState, opened_block}
 use Rattle.blocks.specs.Kept.{Kept}
-use Rattle.blocks.specs.Marking.{marks_of}
 use Rattle.world.specs.View.{AllLined, IsShaped, state_or, states}
 use Rattle.world.specs.inner.Counts.{AreCounted, Rows}
-use Rattle.world.specs.inner.Held.{kept_at, AreLined, HasNoMarks, IsOpened, IsWorld, OthersStay}
+use Rattle.world.specs.inner.Held.{kept_at, AreLined, IsOpened, IsWorld, OthersStay}
 use Rattle.world.specs.inner.Tests.{IsMarked}
 use Rattle.world.proofs.Keeping.{kept-other, shaped-opened}
 use Rattle.world.proofs.QuietMarks.{counted-opened, marks-quiet}

@@ -1,4 +1,4 @@
-use Rattle.std.proofs.Common.{◌≡◌, ◌<◌, ◌∙◌, None, Some, IsSome, ap, arith, length, refl, slice_get, subst, sym}
+use Rattle.std.proofs.Common.{◌≡◌, ◌∙◌, Some, IsSome, ap, arith, length, refl, slice_get, subst, sym}
 use Rattle.std.proofs.lemmas.Bool.{false≢true}
 use Rattle.world.proofs.Keeping.{slice_get-some}
 use Rattle.world.proofs.Openings.{reset-all, reset-more, reset-none, reset-past}
