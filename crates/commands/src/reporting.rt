@@ -9,8 +9,8 @@ use trials::{TrialResult, Verdict};
 /// In how many parts progress is told.
 const PARTS: u64 = 100;
 
-/// After how many steps the lines of the trials that made them are put out, if they weren't before: as many as take a tenth of
-/// a second or less, so that whoever watches sees them come, and short trials don't cost a write each.
+/// After how many steps the lines of the trials that made them are put out, if they weren't before: about a
+/// tenth of a second of work in most scenarios, so that whoever watches sees them come, and short trials don't cost a write each.
 const STEPS_A_WRITE: u64 = 100_000;
 
 /// What a batch prints: a line for each trial in order of their numbers, and at the end how many there were of each kind,
