@@ -1,33 +1,43 @@
--- What counting lanes again makes of their counts.
-use Rattle.std.proofs.Common.{◌≡◌, ◌≢◌, ℕ, zero, suc, ◌+◌, ◌<◌, ◌≤◌, ◌^◌, ◌⊎◌, inl, inr, true, false, not, ◌&&◌, if◌then◌else◌, List, [], ◌∷◌, ◌++◌, length}
+-- What marking and counting lanes again makes of them.
+use Rattle.std.proofs.Common.{◌≡◌, ◌≢◌, ℕ, zero, suc, ◌+◌, ◌<◌, ◌≤◌, ◌^◌, ◌⊎◌, ◌==◌, inl, inr, Bool, true, false, not, ◌&&◌, if◌then◌else◌, List, [], ◌∷◌, ◌++◌, length, map}
 use Rattle.std.proofs.Common.{Option, Some, get_or, set, slice_get, refl, sym, ap, ◌∙◌, subst, arith}
 use Rattle.std.specs.List.{Contains}
-use Rattle.std.proofs.lemmas.List.{length-set, get_or_default, get_or-set_same, get_or-set_other}
+use Rattle.std.proofs.lemmas.List.{length-set, get_or_default, get_or_past, get_or-set_same, get_or-set_other}
 use Rattle.std.proofs.lemmas.Bool.{cases_eq, cases_lt}
+use Rattle.std.proofs.lemmas.Bool.Decides.{nat_tests}
+use Rattle.base.specs.declared.ids.BlockId.{BlockId}
 use Rattle.base.specs.declared.ids.CacheId.{CacheId}
 use Rattle.base.specs.declared.ids.Place.{Place}
 use Rattle.base.specs.declared.ids.Place.TheVariants.{Cache}
 use Rattle.base.specs.declared.step.CoreAsk.{CoreAsk}
 use Rattle.both_tables.specs.Tables.{Tables}
-use Rattle.machine.specs.Machine.{State, next}
-use Rattle.blocks.specs.Looks.{is_held}
+use Rattle.machine.specs.Coherence.{line_at}
+use Rattle.machine.specs.Machine.{State}
 use Rattle.cores.specs.Cores.{Core, is_free}
 use Rattle.scenario.specs.Tree.{Seq, Nil}
 use Rattle.scenario.specs.Taking as taking
-use Rattle.schedule.specs.Choices.{can_be_put, offers_from, step_of}
-use Rattle.schedule.specs.Lanes.{Agree, AgreeBut, AreReady, IsKept, IsLevel, IsListed, Laned, lanes_of, offers_at, puttable}
-use Rattle.schedule.specs.inner.Changes.{AreReadyOrWere, IsCountedIn, KeepsOthers, TakesFrom, counted_at}
+use Rattle.schedule.specs.Choices.{can_be_put, offers_from}
+use Rattle.schedule.specs.Lanes.{Agree, AgreeBut, AreReady, IsKept, IsLevel, IsListed, Laned, lanes_of, listed_at, offers_at, puttable}
+use Rattle.schedule.specs.Listed.{IsMarked, Listed, is_at, is_unheld, marked_at, marks_at, nothing_listed}
+use Rattle.schedule.specs.inner.Changes.{AreMarked, Counts, IsCountedAt, IsCountedIf, IsMarkedIn, KeepsOthers, Marks, TakesFrom, WereReady, count_by, counted_at, marked_in}
+use Rattle.schedule.specs.inner.Owned.{IsMarkedOrSame}
 use Rattle.schedule.specs.declared.choosing.Choice.TheVariants.{Offer}
+use Rattle.schedule.proofs.Marking.{by-marks}
 use Rattle.schedule.proofs.Touched.{asked, held-by-line}
 
 -- ---- what can be put of a core that two moments agree on
 
+-- where the line is the same, so is the mark
+same-unheld : (tables : Tables) (before now : State) (ask : CoreAsk) → before.broken ≡ false → now.broken ≡ false →
+    line_at now ask.core.0 ask.block.0 ≡ line_at before ask.core.0 ask.block.0 → is_unheld tables now ask ≡ is_unheld tables before ask
+same-unheld tables before now ask sb sn line =
+    ap not (held-by-line tables now ask sn ∙ ap (asked tables ask) line ∙ sym (held-by-line tables before ask sb))
+
 same-put : (tables : Tables) (before now : State) (cb cn : List Core) (ask : CoreAsk) → before.broken ≡ false → now.broken ≡ false →
     Agree ask.core.0 before now cb cn → can_be_put tables now cn ask ≡ can_be_put tables before cb ask
 same-put tables before now cb cn ask sb sn a =
-    ap (λ f. f && not (is_held (next tables now (step_of ask)).outcome)) a.free
-    ∙ ap (λ h. is_free cb ask.core.0 && not h)
-    (held-by-line tables now ask sn ∙ ap (asked tables ask) (a.lines ask.block.0) ∙ sym (held-by-line tables before ask sb))
+    ap (λ f. f && is_unheld tables now ask) a.free
+    ∙ ap (λ h. is_free cb ask.core.0 && h) (same-unheld tables before now ask sb sn (a.lines ask.block.0))
 
 same-count : (tables : Tables) (before now : State) (cb cn : List Core) (i : ℕ) (asks : List CoreAsk) → before.broken ≡ false → now.broken ≡ false →
     ((at : ℕ) (ask : CoreAsk) → slice_get asks at ≡ Some ask → Agree ask.core.0 before now cb cn) →
@@ -47,108 +57,115 @@ same-count tables before now cb cn i (ask ∷ asks) sb sn a =
 same-cache : (cache core : CacheId) → Some (Cache cache) ≡ Some (Cache core) → cache ≡ core
 same-cache cache core e = cc e
 
--- ---- counting again what a step changed
+-- ---- marks made anew for a core and a block
 
--- where the lanes of a core were counted again, the counts are right
-pub all-ready : (tables : Tables) (before now : State) (cb cn : List Core) (cache : CacheId) (old new : Laned) → IsKept old →
-    new.trees ≡ old.trees → new.offers ≡ old.offers → before.broken ≡ false → AreReadyOrWere tables before cb now cn old →
-    AgreeBut (Some (Cache cache)) before now cb cn →
-    ((lane : ℕ) → lane < length old.trees → IsCountedIn tables now cn old.offers (lanes_of old.reached cache.0) old.ready new.ready lane) →
-    AreReady tables now cn new
-all-ready tables before now cb cn cache old new kept trees offers sb were agree each sn lane low =
-    let there : lane < length old.trees = subst (λ ts. lane < length ts) trees low in
-    let same : offers_at old lane ≡ offers_at new lane = ap (λ xs. get_or xs lane []) (sym offers) in
-    elim (each lane there) [
-      | inl e ↦ e ∙ ap (puttable tables now cn) same
-      | inr h ↦ elim (were lane there) [
-        | inl e ↦ h.0 ∙ e ∙ ap (puttable tables now cn) same
-        | inr e ↦
-            h.0 ∙ e
-            ∙ same-count tables before now cb cn 0 (offers_at old lane) sb sn (λ at ask is. agree ask.core (λ c.
-            h.1 (subst (λ (core : CacheId). Contains (lanes_of old.reached core.0) lane) (sym (same-cache cache ask.core c))
-            ((kept.listed lane there).reached at ask is))))
-            ∙ ap (puttable tables now cn) same
-      ]
-    ]
+-- asks of another core or about another block have lines that stayed
+StaysApart : (before now : State) (core : CacheId) (block : BlockId) (asks : List CoreAsk) → Type 0
+StaysApart before now core block asks = (at : ℕ) (ask : CoreAsk) → slice_get asks at ≡ Some ask → is_at core block ask ≡ false →
+    line_at now ask.core.0 ask.block.0 ≡ line_at before ask.core.0 ask.block.0
 
--- where nothing was done at a cache, they were right
-pub all-same : (tables : Tables) (before now : State) (cb cn : List Core) (at : Option Place) (l : Laned) →
-    ((core : CacheId) → at ≢ Some (Cache core)) → before.broken ≡ false → AreReadyOrWere tables before cb now cn l → AgreeBut at before now cb cn →
-    AreReady tables now cn l
-all-same tables before now cb cn at l nowhere sb were agree sn lane low = elim (were lane low) [
-  | inl e ↦ e
-  | inr e ↦ e ∙ same-count tables before now cb cn 0 (offers_at l lane) sb sn (λ i ask is. agree ask.core (nowhere ask.core))
+anew-before : (tables : Tables) (before now : State) (core : CacheId) (block : BlockId) (asks : List CoreAsk) → before.broken ≡ false → now.broken ≡ false →
+    StaysApart before now core block asks → marks_at tables now core block asks (map (is_unheld tables before) asks) ≡ map (is_unheld tables now) asks
+unfolding StaysApart
+anew-before tables before now core block [] sb sn stay = refl
+anew-before tables before now core block (ask ∷ asks) sb sn stay =
+    ap (λ ms. (if is_at core block ask then is_unheld tables now ask else is_unheld tables before ask) ∷ ms)
+    (anew-before tables before now core block asks sb sn (λ at d e. stay (suc at) d e))
+    ∙ ap (λ m. m ∷ map (is_unheld tables now) asks) (by (is_at core block ask) refl)
+  where
+    by : (b : Bool) → is_at core block ask ≡ b → (if b then is_unheld tables now ask else is_unheld tables before ask) ≡ is_unheld tables now ask
+    by true e = refl
+    by false e = sym (same-unheld tables before now ask sb sn (stay zero ask refl e))
+
+anew-now : (tables : Tables) (now : State) (core : CacheId) (block : BlockId) (asks : List CoreAsk) →
+    marks_at tables now core block asks (map (is_unheld tables now) asks) ≡ map (is_unheld tables now) asks
+anew-now tables now core block [] = refl
+anew-now tables now core block (ask ∷ asks) =
+    ap (λ ms. (if is_at core block ask then is_unheld tables now ask else is_unheld tables now ask) ∷ ms) (anew-now tables now core block asks)
+    ∙ ap (λ m. m ∷ map (is_unheld tables now) asks) (by (is_at core block ask))
+  where
+    by : (b : Bool) → (if b then is_unheld tables now ask else is_unheld tables now ask) ≡ is_unheld tables now ask
+    by true = refl
+    by false = refl
+
+-- making them anew twice is making them anew
+anew-twice : (tables : Tables) (now : State) (core : CacheId) (block : BlockId) (asks : List CoreAsk) (marks : List Bool) →
+    marks_at tables now core block asks (marks_at tables now core block asks marks) ≡ marks_at tables now core block asks marks
+anew-twice tables now core block [] marks = refl
+anew-twice tables now core block (ask ∷ asks) [] = refl
+anew-twice tables now core block (ask ∷ asks) (m ∷ marks) =
+    ap (λ ms. (if is_at core block ask then is_unheld tables now ask else (if is_at core block ask then is_unheld tables now ask else m)) ∷ ms)
+    (anew-twice tables now core block asks marks)
+    ∙ ap (λ x. x ∷ marks_at tables now core block asks marks) (by (is_at core block ask))
+  where
+    by : (b : Bool) → (if b then is_unheld tables now ask else (if b then is_unheld tables now ask else m)) ≡ (if b then is_unheld tables now ask else m)
+    by true = refl
+    by false = refl
+
+-- where all lines stayed, the marks did
+stayed : (tables : Tables) (before now : State) (asks : List CoreAsk) → before.broken ≡ false → now.broken ≡ false →
+    ((at : ℕ) (ask : CoreAsk) → slice_get asks at ≡ Some ask → line_at now ask.core.0 ask.block.0 ≡ line_at before ask.core.0 ask.block.0) →
+    map (is_unheld tables before) asks ≡ map (is_unheld tables now) asks
+stayed tables before now [] sb sn stay = refl
+stayed tables before now (ask ∷ asks) sb sn stay =
+    ap (λ m. m ∷ map (is_unheld tables before) asks) (sym (same-unheld tables before now ask sb sn (stay zero ask refl)))
+    ∙ ap (λ ms. is_unheld tables now ask ∷ ms) (stayed tables before now asks sb sn (λ at d e. stay (suc at) d e))
+
+other-core : (core other : CacheId) → other.0 ≢ core.0 → Some (Cache core) ≢ Some (Cache other)
+other-core core other ne e = ne (ap (λ (c : CacheId). c.0) (sym (same-cache core other e)))
+
+is-another : (core : CacheId) (block : BlockId) (ask : CoreAsk) → is_at core block ask ≡ false → (ask.core.0 ≢ core.0) ⊎ (ask.block.0 ≢ block.0)
+is-another core block ask e = elim (cases_eq ask.core.0 core.0) [
+  | inr ne ↦ inl ne
+  | inl same ↦ elim (cases_eq ask.block.0 block.0) [
+    | inr ne ↦ inr ne
+    | inl too ↦ absurd (let h : (ask.core.0 == core.0) && (ask.block.0 == block.0) ≡ false = e in grind (arith, nat_tests))
+  ]
 ]
 
--- counts alone have changed
-pub kept-still : (old new : Laned) → new ≡ record old { ready = new.ready } → length new.ready ≡ length old.ready → IsKept old → IsKept new
-kept-still old new same long kept =
-    let trees : new.trees ≡ old.trees = ap (λ (l : Laned). l.trees) same in
-    let offers : new.offers ≡ old.offers = ap (λ (l : Laned). l.offers) same in
-    let lengths : new.lengths ≡ old.lengths = ap (λ (l : Laned). l.lengths) same in
-    let reached : new.reached ≡ old.reached = ap (λ (l : Laned). l.reached) same in
-    let level = kept.level in
-    record {
-      level = record {
-        offers = ap length offers ∙ level.offers ∙ sym (ap length trees);
-        lengths = ap length lengths ∙ level.lengths ∙ sym (ap length trees);
-        ready = long ∙ level.ready ∙ sym (ap length trees);
-        few = subst (λ n. n ≤ 2 ^ 31) (sym (ap length trees)) level.few;
-        rows = subst (λ n. 1 ≤ n) (sym (ap length reached)) level.rows;
-      };
-      listed = λ lane low.
-          let h = kept.listed lane (subst (λ ts. lane < length ts) trees low) in
-          let same : offers_at new lane ≡ offers_at old lane = ap (λ xs. get_or xs lane []) offers in
-          record {
-            offered = same ∙ h.offered ∙ ap (λ ts. taking.offers (get_or ts lane (Seq Nil))) (sym trees);
-            count = ap (λ ns. get_or ns lane 0) lengths ∙ h.count ∙ ap length (sym same);
-            short = subst (λ xs. length xs < 2 ^ 32) (sym same) h.short;
-            reached = λ at ask e. subst (λ rs. Contains (lanes_of rs ask.core.0) lane) (sym reached) (h.reached at ask (ap (λ xs. slice_get xs at) (sym same) ∙ e));
-          };
-    }
+-- a lane whose marks were right, of which those of a core and a block were made anew
+pub anew-right : (tables : Tables) (before now : State) (cb cn : List Core) (core : CacheId) (block : BlockId) (old : Listed) → before.broken ≡ false → now.broken ≡ false →
+    AgreeBut (Some (Cache core)) block.0 before now cb cn → IsMarked tables now old ⊎ IsMarked tables before old →
+    IsMarked tables now (marked_at tables now core block old)
+unfolding StaysApart
+anew-right tables before now cb cn core block old sb sn agree were = elim were [
+  | inl e ↦ ap (marks_at tables now core block old.asks) e ∙ anew-now tables now core block old.asks
+  | inr e ↦
+      ap (marks_at tables now core block old.asks) e
+      ∙ anew-before tables before now core block old.asks sb sn (λ at ask is apart. elim (is-another core block ask apart) [
+        | inl ne ↦ (agree.cores ask.core (other-core core ask.core ne)).lines ask.block.0
+        | inr ne ↦ agree.blocks ask.core.0 ask.block.0 ne
+      ])
+]
 
--- ---- taking an offer and counting its lane
+-- a lane whose marks were right, and which has no ask of the core
+pub still-right : (tables : Tables) (before now : State) (cb cn : List Core) (at : Option Place) (block : ℕ) (old : Listed) → before.broken ≡ false →
+    now.broken ≡ false → AgreeBut at block before now cb cn →
+    ((i : ℕ) (ask : CoreAsk) → slice_get old.asks i ≡ Some ask → at ≢ Some (Cache ask.core)) → IsMarked tables now old ⊎ IsMarked tables before old →
+    IsMarked tables now old
+still-right tables before now cb cn at block old sb sn agree apart were = elim were [
+  | inl e ↦ e
+  | inr e ↦ e ∙ stayed tables before now old.asks sb sn (λ i ask is. (agree.cores ask.core (apart i ask is)).lines ask.block.0)
+]
 
-pub counted-kept : (tables : Tables) (s : State) (cores : List Core) (lane : ℕ) (l new : Laned) → new ≡ counted_at tables s cores lane l → IsKept l → IsKept new
-counted-kept tables s cores lane l new e kept =
-    kept-still l new (e ∙ ap (λ (ns : List ℕ). record l { ready = ns }) (sym (ap (λ (x : Laned). x.ready) e)))
-    (ap (λ (x : Laned). length x.ready) e ∙ length-set l.ready lane _) kept
+-- ---- marking each of some lanes
 
-pub ready-or-were : (tables : Tables) (before now : State) (cb cn : List Core) (lane offer : ℕ) (old l new : Laned) → TakesFrom lane offer old l →
-    new ≡ counted_at tables now cn lane l → IsKept old → before.broken ≡ false → AreReady tables before cb old →
-    AreReadyOrWere tables before cb now cn new
-ready-or-were tables before now cb cn lane offer old l new takes e kept sb ready other low =
-    let trees : new.trees ≡ l.trees = ap (λ (x : Laned). x.trees) e in
-    let offers : offers_at new other ≡ offers_at l other = ap (λ (x : Laned). offers_at x other) e in
-    let here : get_or new.ready other 0 ≡ get_or (set l.ready lane (puttable tables now cn (offers_at l lane))) other 0 = ap (λ (x : Laned). get_or x.ready other 0) e in
-    let count = takes.others.count in
-    let many = ap length trees in
-    let long = takes.kept.level.ready in
-    let there = takes.there in
-    elim (cases_eq other lane) [
-      | inl q ↦ inl (here ∙ ap (λ n. get_or (set l.ready lane (puttable tables now cn (offers_at l lane))) n 0) q
-          ∙ get_or-set_same l.ready lane (puttable tables now cn (offers_at l lane)) 0 (omega (arith, there, count, long))
-          ∙ ap (λ n. puttable tables now cn (offers_at l n)) (sym q) ∙ ap (puttable tables now cn) (sym offers))
-      | inr ne ↦ inr (here ∙ get_or-set_other l.ready lane other (puttable tables now cn (offers_at l lane)) 0 ne
-          ∙ ap (λ ns. get_or ns other 0) takes.others.ready ∙ ready sb other (omega (arith, low, many, count))
-          ∙ ap (puttable tables before cb) (sym (offers ∙ takes.others.offers other ne)))
-    ]
-
--- ---- counting each of some lanes
-
-pub counted-more : (tables : Tables) (s : State) (cores : List Core) (lanes : List (List CoreAsk)) (ready start which : List ℕ) (n count : ℕ) →
-    ((lane : ℕ) → lane < length lanes → (get_or ready lane 0 ≡ puttable tables s cores (get_or lanes lane []))
-    ⊎ ((get_or ready lane 0 ≡ get_or start lane 0) × ((k : ℕ) → k < n → get_or which k 0 ≢ lane))) →
-    get_or which n 0 < length ready → count ≡ puttable tables s cores (get_or lanes (get_or which n 0) []) → (lane : ℕ) → lane < length lanes →
-    (get_or (set ready (get_or which n 0) count) lane 0 ≡ puttable tables s cores (get_or lanes lane []))
-    ⊎ ((get_or (set ready (get_or which n 0) count) lane 0 ≡ get_or start lane 0) × ((k : ℕ) → k < n + 1 → get_or which k 0 ≢ lane))
-counted-more tables s cores lanes ready start which n count each within e lane low =
+pub marked-more : (tables : Tables) (s : State) (core : CacheId) (block : BlockId) (now start : List Listed) (which : List ℕ) (n : ℕ) →
+    ((lane : ℕ) → lane < length now → (get_or now lane nothing_listed ≡ marked_at tables s core block (get_or start lane nothing_listed))
+    ⊎ ((get_or now lane nothing_listed ≡ get_or start lane nothing_listed) × ((k : ℕ) → k < n → get_or which k 0 ≢ lane))) →
+    get_or which n 0 < length now → (lane : ℕ) → lane < length now →
+    (get_or (set now (get_or which n 0) (marked_at tables s core block (get_or now (get_or which n 0) nothing_listed))) lane nothing_listed
+    ≡ marked_at tables s core block (get_or start lane nothing_listed))
+    ⊎ ((get_or (set now (get_or which n 0) (marked_at tables s core block (get_or now (get_or which n 0) nothing_listed))) lane nothing_listed
+    ≡ get_or start lane nothing_listed) × ((k : ℕ) → k < n + 1 → get_or which k 0 ≢ lane))
+marked-more tables s core block now start which n each within lane low =
     let at = get_or which n 0 in
+    let made = marked_at tables s core block (get_or now at nothing_listed) in
     elim (cases_eq lane at) [
-      | inl q ↦ inl (ap (λ j. get_or (set ready at count) j 0) q ∙ get_or-set_same ready at count 0 within ∙ e
-          ∙ ap (λ j. puttable tables s cores (get_or lanes j [])) (sym q))
+      | inl q ↦ inl (ap (λ j. get_or (set now at made) j nothing_listed) q ∙ get_or-set_same now at made nothing_listed within
+          ∙ once (each at within) ∙ ap (λ j. marked_at tables s core block (get_or start j nothing_listed)) (sym q))
       | inr ne ↦
-          let o : get_or (set ready at count) lane 0 ≡ get_or ready lane 0 = get_or-set_other ready at lane count 0 ne in
+          let o : get_or (set now at made) lane nothing_listed ≡ get_or now lane nothing_listed = get_or-set_other now at lane made nothing_listed ne in
           elim (each lane low) [
             | inl x ↦ inl (o ∙ x)
             | inr x ↦ inr (
@@ -160,14 +177,22 @@ counted-more tables s cores lanes ready start which n count each within e lane l
             )
           ]
     ]
+  where
+    once : (get_or now (get_or which n 0) nothing_listed ≡ marked_at tables s core block (get_or start (get_or which n 0) nothing_listed))
+        ⊎ ((get_or now (get_or which n 0) nothing_listed ≡ get_or start (get_or which n 0) nothing_listed) × ((k : ℕ) → k < n → get_or which k 0 ≢ get_or which n 0)) →
+        marked_at tables s core block (get_or now (get_or which n 0) nothing_listed) ≡ marked_at tables s core block (get_or start (get_or which n 0) nothing_listed)
+    once h = elim h [
+      | inl e ↦
+          let was = get_or start (get_or which n 0) nothing_listed in
+          ap (marked_at tables s core block) e
+          ∙ ap (λ (ms : List Bool). let l : Listed = record { asks = was.asks; unheld = ms } in l) (anew-twice tables s core block was.asks was.unheld)
+      | inr x ↦ ap (marked_at tables s core block) x.0
+    ]
 
-pub passed-more : (tables : Tables) (s : State) (cores : List Core) (lanes : List (List CoreAsk)) (ready start which : List ℕ) (n : ℕ) →
-    ((lane : ℕ) → lane < length lanes → (get_or ready lane 0 ≡ puttable tables s cores (get_or lanes lane []))
-    ⊎ ((get_or ready lane 0 ≡ get_or start lane 0) × ((k : ℕ) → k < n → get_or which k 0 ≢ lane))) →
-    length lanes ≤ get_or which n 0 → (lane : ℕ) → lane < length lanes →
-    (get_or ready lane 0 ≡ puttable tables s cores (get_or lanes lane []))
-    ⊎ ((get_or ready lane 0 ≡ get_or start lane 0) × ((k : ℕ) → k < n + 1 → get_or which k 0 ≢ lane))
-passed-more tables s cores lanes ready start which n each past lane low = elim (each lane low) [
+pub left-more : (P : ℕ → Type 0) (Q : ℕ → Type 0) (which : List ℕ) (n many : ℕ) →
+    ((lane : ℕ) → lane < many → P lane ⊎ (Q lane × ((k : ℕ) → k < n → get_or which k 0 ≢ lane))) → many ≤ get_or which n 0 →
+    (lane : ℕ) → lane < many → P lane ⊎ (Q lane × ((k : ℕ) → k < n + 1 → get_or which k 0 ≢ lane))
+left-more P Q which n many each past lane low = elim (each lane low) [
   | inl x ↦ inl x
   | inr x ↦ inr (
     x.0,
@@ -183,51 +208,292 @@ pub not-among : (which : List ℕ) (n lane : ℕ) → length which ≤ n → ((k
 not-among which n lane all each there =
     each there.0 (let h = there.1 in omega (arith, h, all)) (get_or_default which there.0 0 lane there.1 ∙ there.2)
 
+-- nothing but marks has changed
+pub kept-marks : (old new : Laned) → Marks old new → IsKept old → IsKept new
+kept-marks old new m kept =
+    let level = kept.level in
+    record {
+      level = record {
+        listed = m.long ∙ level.listed ∙ sym (ap length m.trees);
+        lengths = ap length m.lengths ∙ level.lengths ∙ sym (ap length m.trees);
+        ready = ap length m.ready ∙ level.ready ∙ sym (ap length m.trees);
+        few = subst (λ n. n ≤ 2 ^ 31) (sym (ap length m.trees)) level.few;
+        rows = subst (λ n. 1 ≤ n) (sym (ap length m.reached)) level.rows;
+      };
+      listed = λ lane low.
+          let h = kept.listed lane (subst (λ ts. lane < length ts) m.trees low) in
+          let same = m.asks lane in
+          record {
+            offered = same ∙ h.offered ∙ ap (λ ts. taking.offers (get_or ts lane (Seq Nil))) (sym m.trees);
+            count = ap (λ ns. get_or ns lane 0) m.lengths ∙ h.count ∙ ap length (sym same);
+            short = subst (λ xs. length xs < 2 ^ 32) (sym same) h.short;
+            reached = λ at ask e. subst (λ rs. Contains (lanes_of rs ask.core.0) lane) (sym m.reached) (h.reached at ask (ap (λ xs. slice_get xs at) (sym same) ∙ e));
+          };
+    }
+
+pub marks-only : (tables : Tables) (s : State) (core : CacheId) (block : BlockId) (which : List ℕ) (old new : Laned) → new.trees ≡ old.trees →
+    new.lengths ≡ old.lengths → new.ready ≡ old.ready → new.reached ≡ old.reached → length new.listed ≡ length old.listed →
+    length old.listed ≡ length old.trees →
+    ((lane : ℕ) → lane < length old.trees → IsMarkedIn tables s core block which (listed_at old lane) (listed_at new lane) lane) → Marks old new
+marks-only tables s core block which old new trees lengths ready reached long many each = record {
+  trees = trees;
+  lengths = lengths;
+  ready = ready;
+  reached = reached;
+  long = long;
+  asks = λ lane. elim (cases_lt lane (length old.trees)) [
+    | inl low ↦ elim (each lane low) [
+      | inl e ↦ ap (λ (l : Listed). l.asks) e
+      | inr h ↦ ap (λ (l : Listed). l.asks) h.0
+    ]
+    | inr past ↦ ap (λ (l : Listed). l.asks) (get_or_past new.listed lane nothing_listed (omega (arith, past, long, many))
+        ∙ sym (get_or_past old.listed lane nothing_listed (omega (arith, past, many))))
+  ];
+}
+
+-- where the lanes of a core were marked again, all marks are right
+pub all-marked : (tables : Tables) (before now : State) (cb cn : List Core) (but : Option ℕ) (core : CacheId) (block : BlockId) (old new : Laned) → IsKept old →
+    Marks old new → before.broken ≡ false → now.broken ≡ false → WereReady tables before cb now but old → AgreeBut (Some (Cache core)) block.0 before now cb cn →
+    ((lane : ℕ) → lane < length old.trees → IsMarkedIn tables now core block (lanes_of old.reached core.0) (listed_at old lane) (listed_at new lane) lane) →
+    AreMarked tables now new
+all-marked tables before now cb cn but core block old new kept m sb sn were agree each lane low =
+    let there : lane < length old.trees = subst (λ ts. lane < length ts) m.trees low in
+    elim (each lane there) [
+      | inl e ↦ subst (IsMarked tables now) (sym e) (anew-right tables before now cb cn core block (listed_at old lane) sb sn agree (were.marked lane there))
+      | inr h ↦ subst (IsMarked tables now) (sym h.0)
+          (still-right tables before now cb cn (Some (Cache core)) block.0 (listed_at old lane) sb sn agree
+          (λ i ask is c. h.1 (subst (λ (of : CacheId). Contains (lanes_of old.reached of.0) lane) (sym (same-cache core ask.core c))
+          ((kept.listed lane there).reached i ask is))) (were.marked lane there))
+    ]
+
+-- where nothing was done at a cache, they stayed so
+pub all-right : (tables : Tables) (before now : State) (cb cn : List Core) (but : Option ℕ) (at : Option Place) (block : ℕ) (l : Laned) →
+    ((core : CacheId) → at ≢ Some (Cache core)) → before.broken ≡ false → now.broken ≡ false → WereReady tables before cb now but l →
+    AgreeBut at block before now cb cn → AreMarked tables now l
+all-right tables before now cb cn but at block l nowhere sb sn were agree lane low =
+    still-right tables before now cb cn at block (listed_at l lane) sb sn agree (λ i ask is. nowhere ask.core) (were.marked lane low)
+
+-- ---- counting again
+
+pub counted-more : (cores : List Core) (lanes : List Listed) (ready start which : List ℕ) (n count : ℕ) →
+    ((lane : ℕ) → lane < length lanes → (get_or ready lane 0 ≡ count_by cores (get_or lanes lane nothing_listed))
+    ⊎ ((get_or ready lane 0 ≡ get_or start lane 0) × ((k : ℕ) → k < n → get_or which k 0 ≢ lane))) →
+    get_or which n 0 < length ready → count ≡ count_by cores (get_or lanes (get_or which n 0) nothing_listed) → (lane : ℕ) → lane < length lanes →
+    (get_or (set ready (get_or which n 0) count) lane 0 ≡ count_by cores (get_or lanes lane nothing_listed))
+    ⊎ ((get_or (set ready (get_or which n 0) count) lane 0 ≡ get_or start lane 0) × ((k : ℕ) → k < n + 1 → get_or which k 0 ≢ lane))
+counted-more cores lanes ready start which n count each within e lane low =
+    let at = get_or which n 0 in
+    elim (cases_eq lane at) [
+      | inl q ↦ inl (ap (λ j. get_or (set ready at count) j 0) q ∙ get_or-set_same ready at count 0 within ∙ e
+          ∙ ap (λ j. count_by cores (get_or lanes j nothing_listed)) (sym q))
+      | inr ne ↦
+          let o : get_or (set ready at count) lane 0 ≡ get_or ready lane 0 = get_or-set_other ready at lane count 0 ne in
+          elim (each lane low) [
+            | inl x ↦ inl (o ∙ x)
+            | inr x ↦ inr (
+              o ∙ x.0,
+              λ k h q. elim (cases_lt k n) [
+                | inl l ↦ x.1 k l q
+                | inr l ↦ (let z : k ≡ n = omega (arith, h, l) in ne (sym q ∙ ap (λ j. get_or which j 0) z))
+              ],
+            )
+          ]
+    ]
+
+-- nothing but counts has changed
+pub kept-counts : (old new : Laned) → Counts old new → IsKept old → IsKept new
+kept-counts old new c kept =
+    let trees : new.trees ≡ old.trees = ap (λ (l : Laned). l.trees) c.same in
+    let listed : new.listed ≡ old.listed = ap (λ (l : Laned). l.listed) c.same in
+    let lengths : new.lengths ≡ old.lengths = ap (λ (l : Laned). l.lengths) c.same in
+    let reached : new.reached ≡ old.reached = ap (λ (l : Laned). l.reached) c.same in
+    let level = kept.level in
+    record {
+      level = record {
+        listed = ap length listed ∙ level.listed ∙ sym (ap length trees);
+        lengths = ap length lengths ∙ level.lengths ∙ sym (ap length trees);
+        ready = c.long ∙ level.ready ∙ sym (ap length trees);
+        few = subst (λ n. n ≤ 2 ^ 31) (sym (ap length trees)) level.few;
+        rows = subst (λ n. 1 ≤ n) (sym (ap length reached)) level.rows;
+      };
+      listed = λ lane low.
+          let h = kept.listed lane (subst (λ ts. lane < length ts) trees low) in
+          let same : offers_at new lane ≡ offers_at old lane = ap (λ xs. (get_or xs lane nothing_listed).asks) listed in
+          record {
+            offered = same ∙ h.offered ∙ ap (λ ts. taking.offers (get_or ts lane (Seq Nil))) (sym trees);
+            count = ap (λ ns. get_or ns lane 0) lengths ∙ h.count ∙ ap length (sym same);
+            short = subst (λ xs. length xs < 2 ^ 32) (sym same) h.short;
+            reached = λ at ask e. subst (λ rs. Contains (lanes_of rs ask.core.0) lane) (sym reached) (h.reached at ask (ap (λ xs. slice_get xs at) (sym same) ∙ e));
+          };
+    }
+
+-- one lane was counted
+pub counts-at : (cores : List Core) (lane : ℕ) (old new : Laned) → new ≡ counted_at cores lane old → Counts old new
+counts-at cores lane old new e = record {
+  same = e ∙ ap (λ (ns : List ℕ). record old { ready = ns }) (sym (ap (λ (x : Laned). x.ready) e));
+  long = ap (λ (x : Laned). length x.ready) e ∙ length-set old.ready lane (count_by cores (listed_at old lane));
+}
+
+pub counted-if : (cores : List Core) (lane at : ℕ) (taken : Option ℕ) (old new : Laned) → taken ≡ Some lane → IsLevel old → lane < length old.trees →
+    new ≡ counted_at cores lane old → IsCountedIf cores taken old new at
+counted-if cores lane at taken old new is level low e =
+    let count = count_by cores (listed_at old lane) in
+    let here : get_or new.ready at 0 ≡ get_or (set old.ready lane count) at 0 = ap (λ (x : Laned). get_or x.ready at 0) e in
+    let long = level.ready in
+    elim (cases_eq at lane) [
+      | inl q ↦ inl (here ∙ ap (λ n. get_or (set old.ready lane count) n 0) q ∙ get_or-set_same old.ready lane count 0 (omega (arith, low, long))
+          ∙ ap (λ n. count_by cores (listed_at old n)) (sym q))
+      | inr ne ↦ inr (
+        here ∙ get_or-set_other old.ready lane at count 0 ne,
+        λ some. ne (same-number at lane (sym (sym is ∙ some))),
+      )
+    ]
+  where
+    same-number : (a b : ℕ) → Some a ≡ Some b → a ≡ b
+    same-number a b e = cc e
+
+-- the counts are right behind it all: of the lanes that have an ask of the core and of the one that an offer was taken from anew, and of the others
+-- as they were
+pub all-counted : (tables : Tables) (before now : State) (cb cn : List Core) (but : Option ℕ) (at : Option Place) (block : ℕ) (old mid once new : Laned) →
+    IsKept old → before.broken ≡ false → WereReady tables before cb now but old → Marks old mid →
+    (now.broken ≡ false → AreMarked tables now mid) → Counts mid once →
+    ((lane : ℕ) → lane < length mid.trees → IsCountedAt cn at mid once lane) → Counts once new →
+    ((lane : ℕ) → lane < length once.trees → IsCountedIf cn but once new lane) → AgreeBut at block before now cb cn → AreReady tables now cn new
+all-counted tables before now cb cn but at block old mid once new kept sb were marks right first each second last agree = record {
+  marked = λ sn lane low. subst (λ ls. IsMarked tables now (get_or ls lane nothing_listed)) (sym listings) (right sn lane (there lane low));
+  counted = λ sn lane low.
+      let here = there lane low in
+      let same : offers_at new lane ≡ offers_at old lane = ap (λ xs. (get_or xs lane nothing_listed).asks) listings ∙ marks.asks lane in
+      let by : count_by cn (listed_at mid lane) ≡ puttable tables now cn (offers_at new lane) =
+      ap length (by-marks tables now cn 0 (offers_at mid lane) (listed_at mid lane).unheld (right sn lane here))
+      ∙ ap (puttable tables now cn) (ap (λ xs. (get_or xs lane nothing_listed).asks) (sym listings)) in
+      elim (last lane (subst (λ ts. lane < length ts) (ap (λ (l : Laned). l.trees) second.same) low)) [
+        | inl e ↦ e ∙ ap (λ xs. count_by cn (get_or xs lane nothing_listed)) (ap (λ (l : Laned). l.listed) first.same) ∙ by
+        | inr h ↦ elim (each lane here) [
+          | inl e ↦ h.0 ∙ e ∙ by
+          | inr f ↦
+              let low-old : lane < length old.trees = subst (λ ts. lane < length ts) marks.trees here in
+              h.0 ∙ f.0 ∙ ap (λ ns. get_or ns lane 0) marks.ready ∙ were.counted lane low-old h.1
+              ∙ same-count tables before now cb cn 0 (offers_at old lane) sb sn (λ i ask is. agree.cores ask.core (λ c.
+              f.1 ask.core c (subst (λ rs. Contains (lanes_of rs ask.core.0) lane) (sym marks.reached) ((kept.listed lane low-old).reached i ask is))))
+              ∙ ap (puttable tables now cn) (sym same)
+        ]
+      ];
+}
+  where
+    listings : new.listed ≡ mid.listed
+    listings = ap (λ (l : Laned). l.listed) second.same ∙ ap (λ (l : Laned). l.listed) first.same
+
+    there : (lane : ℕ) → lane < length new.trees → lane < length mid.trees
+    there lane low = subst (λ ts. lane < length ts) (ap (λ (l : Laned). l.trees) second.same ∙ ap (λ (l : Laned). l.trees) first.same) low
+
+-- ---- behind an offer that was taken
+
+pub taken-were : (tables : Tables) (before now : State) (cb : List Core) (lane offer : ℕ) (old new : Laned) → TakesFrom lane offer old new →
+    IsMarkedOrSame tables now (listed_at old lane) (listed_at new lane) → before.broken ≡ false → AreReady tables before cb old →
+    WereReady tables before cb now (Some lane) new
+taken-were tables before now cb lane offer old new takes marks sb ready = record {
+  marked = λ other low. elim (cases_eq other lane) [
+    | inl q ↦ subst (λ n. IsMarked tables now (listed_at new n) ⊎ IsMarked tables before (listed_at new n)) (sym q) (elim marks [
+      | inl e ↦ inl e
+      | inr e ↦ inr (subst (IsMarked tables before) (sym e) (ready.marked sb lane takes.there))
+    ])
+    | inr ne ↦ inr (subst (IsMarked tables before) (sym (takes.others.same other ne))
+        (ready.marked sb other (let many = takes.others.count in omega (arith, low, many))))
+  ];
+  counted = λ other low apart.
+      let ne : other ≢ lane = λ q. apart (ap Some (sym q)) in
+      ap (λ ns. get_or ns other 0) takes.others.ready ∙ ready.counted sb other (let many = takes.others.count in omega (arith, low, many))
+      ∙ ap (λ (l : Listed). puttable tables before cb l.asks) (sym (takes.others.same other ne));
+}
+
+pub ready-were : (tables : Tables) (before now : State) (cb : List Core) (but : Option ℕ) (l : Laned) → before.broken ≡ false → AreReady tables before cb l →
+    WereReady tables before cb now but l
+ready-were tables before now cb but l sb ready = record {
+  marked = λ lane low. inr (ready.marked sb lane low);
+  counted = λ lane low apart. ready.counted sb lane low;
+}
+
 -- ---- opening lanes one by one
 
-listed-counted : (tables : Tables) (s : State) (cores : List Core) (lane at : ℕ) (mid new : Laned) → new ≡ counted_at tables s cores lane mid →
-    IsListed mid at → IsListed new at
-listed-counted tables s cores lane at mid new e h = subst (λ l. IsListed l at) (sym e) (record {
-  offered = h.offered;
-  count = h.count;
-  short = h.short;
-  reached = h.reached;
-})
+listed-marked : (tables : Tables) (s : State) (lane at : ℕ) (l : Laned) → IsListed l at → lane < length l.listed → IsListed (marked_in tables s lane l) at
+listed-marked tables s lane at l h low =
+    let new = marked_in tables s lane l in
+    let same : offers_at new at ≡ offers_at l at = (elim (cases_eq at lane) [
+      | inl q ↦ ap (λ n. (get_or (set l.listed lane (record { asks = offers_at l lane; unheld = map (is_unheld tables s) (offers_at l lane) })) n nothing_listed).asks) q
+          ∙ ap (λ (x : Listed). x.asks) (get_or-set_same l.listed lane _ nothing_listed low) ∙ ap (offers_at l) (sym q)
+      | inr ne ↦ ap (λ (x : Listed). x.asks) (get_or-set_other l.listed lane at _ nothing_listed ne)
+    ]) in
+    record {
+      offered = same ∙ h.offered;
+      count = h.count ∙ ap length (sym same);
+      short = subst (λ xs. length xs < 2 ^ 32) (sym same) h.short;
+      reached = λ i ask e. h.reached i ask (ap (λ xs. slice_get xs i) (sym same) ∙ e);
+    }
 
-pub level-counted : (tables : Tables) (s : State) (cores : List Core) (lane : ℕ) (mid new : Laned) → new ≡ counted_at tables s cores lane mid →
-    IsLevel mid → IsLevel new
-level-counted tables s cores lane mid new e h = subst IsLevel (sym e) (record {
-  offers = h.offers;
-  lengths = h.lengths;
-  ready = length-set mid.ready lane (puttable tables s cores (offers_at mid lane)) ∙ h.ready;
-  few = h.few;
-  rows = h.rows;
-})
+listed-counted : (cores : List Core) (lane at : ℕ) (l : Laned) → IsListed l at → IsListed (counted_at cores lane l) at
+listed-counted cores lane at l h = record { offered = h.offered; count = h.count; short = h.short; reached = h.reached }
 
-pub one-listed : (tables : Tables) (s : State) (cores : List Core) (lane : ℕ) (old mid new : Laned) → new ≡ counted_at tables s cores lane mid →
-    IsListed mid lane → KeepsOthers lane old mid → ((at : ℕ) → at < lane → IsListed old at) → (at : ℕ) → at < lane + 1 → IsListed new at
-one-listed tables s cores lane old mid new e here others before at low = elim (cases_lt at lane) [
-  | inl l ↦ listed-counted tables s cores lane at mid new e (others.listed at (λ q. absurd (omega (arith, q, l))) (before at l))
-  | inr l ↦
-      let z : at ≡ lane = omega (arith, l, low) in
-      listed-counted tables s cores lane at mid new e (subst (IsListed mid) (sym z) here)
-]
+-- a lane was listed, marked and counted
+pub record Opens (tables : Tables) (s : State) (cores : List Core) (lane : ℕ) (old mid marked new : Laned) : Type 0 where
+  pub level : IsLevel mid
+  pub there : lane < length mid.trees
+  pub here : IsListed mid lane
+  pub others : KeepsOthers lane old mid
+  pub marks : marked ≡ marked_in tables s lane mid
+  pub counts : new ≡ counted_at cores lane marked
 
-pub one-ready : (tables : Tables) (s : State) (cores : List Core) (lane : ℕ) (old mid new : Laned) → new ≡ counted_at tables s cores lane mid →
-    lane < length mid.ready → KeepsOthers lane old mid →
-    ((at : ℕ) → at < lane → get_or old.ready at 0 ≡ puttable tables s cores (offers_at old at)) → (at : ℕ) → at < lane + 1 →
-    get_or new.ready at 0 ≡ puttable tables s cores (offers_at new at)
-one-ready tables s cores lane old mid new e there others before at low =
-    let count = puttable tables s cores (offers_at mid lane) in
-    let here : get_or new.ready at 0 ≡ get_or (set mid.ready lane count) at 0 = ap (λ (l : Laned). get_or l.ready at 0) e in
-    let same : offers_at new at ≡ offers_at mid at = ap (λ (l : Laned). offers_at l at) e in
-    elim (cases_lt at lane) [
-      | inl l ↦
-          let ne : at ≢ lane = λ q. absurd (omega (arith, q, l)) in
-          here ∙ get_or-set_other mid.ready lane at count 0 ne ∙ ap (λ ns. get_or ns at 0) others.ready ∙ before at l
-          ∙ ap (puttable tables s cores) (sym (same ∙ others.offers at ne))
-      | inr l ↦
-          let z : at ≡ lane = omega (arith, l, low) in
-          here ∙ ap (λ n. get_or (set mid.ready lane count) n 0) z ∙ get_or-set_same mid.ready lane count 0 there
-          ∙ ap (λ n. puttable tables s cores (offers_at mid n)) (sym z) ∙ ap (puttable tables s cores) (sym same)
-    ]
+pub level-opened : (tables : Tables) (s : State) (cores : List Core) (lane : ℕ) (old mid marked new : Laned) → Opens tables s cores lane old mid marked new → IsLevel new
+level-opened tables s cores lane old mid marked new o =
+    let h = o.level in
+    subst IsLevel (sym (o.counts ∙ ap (counted_at cores lane) o.marks)) (record {
+      listed = length-set mid.listed lane _ ∙ h.listed;
+      lengths = h.lengths;
+      ready = length-set mid.ready lane _ ∙ h.ready;
+      few = h.few;
+      rows = h.rows;
+    })
+
+pub one-listed : (tables : Tables) (s : State) (cores : List Core) (lane : ℕ) (old mid marked new : Laned) → Opens tables s cores lane old mid marked new →
+    ((at : ℕ) → at < lane → IsListed old at) → (at : ℕ) → at < lane + 1 → IsListed new at
+one-listed tables s cores lane old mid marked new o before at low =
+    let inside : lane < length mid.listed = (let t = o.there in let m = o.level.listed in omega (arith, t, m)) in
+    let was : IsListed mid at = (elim (cases_lt at lane) [
+      | inl l ↦ o.others.listed at (λ q. absurd (omega (arith, q, l))) (before at l)
+      | inr l ↦ (let z : at ≡ lane = omega (arith, l, low) in subst (IsListed mid) (sym z) o.here)
+    ]) in
+    subst (λ (l : Laned). IsListed l at) (sym (o.counts ∙ ap (counted_at cores lane) o.marks))
+    (listed-counted cores lane at (marked_in tables s lane mid) (listed-marked tables s lane at mid was inside))
+
+-- the marks and the count of a lane are right
+pub record IsRight (tables : Tables) (s : State) (cores : List Core) (l : Laned) (at : ℕ) : Type 0 where
+  pub marked : IsMarked tables s (listed_at l at)
+  pub counted : get_or l.ready at 0 ≡ puttable tables s cores (offers_at l at)
+
+pub one-right : (tables : Tables) (s : State) (cores : List Core) (lane : ℕ) (old mid marked new : Laned) → Opens tables s cores lane old mid marked new →
+    ((at : ℕ) → at < lane → IsRight tables s cores old at) → (at : ℕ) → at < lane + 1 → IsRight tables s cores new at
+one-right tables s cores lane old mid marked new o before at low =
+    subst (λ (l : Laned). IsRight tables s cores l at) (sym (o.counts ∙ ap (counted_at cores lane) o.marks)) (elim (cases_lt at lane) [
+      | inl l ↦ (let ne : at ≢ lane = λ q. absurd (omega (arith, q, l)) in
+          let was = before at l in
+          let same : listed_at (marked_in tables s lane mid) at ≡ listed_at old at =
+          get_or-set_other mid.listed lane at (right-at lane) nothing_listed ne ∙ o.others.same at ne in
+          record {
+            marked = subst (IsMarked tables s) (sym same) was.marked;
+            counted = get_or-set_other mid.ready lane at _ 0 ne ∙ ap (λ ns. get_or ns at 0) o.others.ready ∙ was.counted
+                ∙ ap (λ (x : Listed). puttable tables s cores x.asks) (sym same);
+          })
+      | inr l ↦ (let z : at ≡ lane = omega (arith, l, low) in
+          let inside : lane < length mid.listed = (let t = o.there in let m = o.level.listed in omega (arith, t, m)) in
+          let same : listed_at (marked_in tables s lane mid) lane ≡ right-at lane = get_or-set_same mid.listed lane (right-at lane) nothing_listed inside in
+          subst (IsRight tables s cores (counted_at cores lane (marked_in tables s lane mid))) (sym z) (record {
+            marked = subst (IsMarked tables s) (sym same) refl;
+            counted = get_or-set_same mid.ready lane _ 0 (let t = o.there in let m = o.level.ready in omega (arith, t, m))
+                ∙ ap (count_by cores) same
+                ∙ ap length (by-marks tables s cores 0 (offers_at mid lane) (map (is_unheld tables s) (offers_at mid lane)) refl)
+                ∙ ap (λ (x : Listed). puttable tables s cores x.asks) (sym same);
+          }))
+    ])
+  where
+    right-at : ℕ → Listed
+    right-at lane = record { asks = offers_at mid lane; unheld = map (is_unheld tables s) (offers_at mid lane) }

@@ -1,6 +1,6 @@
 -- What is kept of lanes, and what it says of all offers.
-use Rattle.std.proofs.Common.{◌≡◌, ℕ, zero, suc, ◌+◌, ◌-◌, ◌<◌, ◌≤◌, ◌^◌, nat_eq, Bool, true, false, if◌then◌else◌, List, [], ◌∷◌, ◌++◌, length, map, take, drop, add-one}
-use Rattle.std.proofs.Common.{get_or, slice_get, refl, sym, ap, ◌∙◌, subst, arith}
+use Rattle.std.proofs.Common.{◌≡◌, ℕ, zero, suc, ◌+◌, ◌-◌, ◌<◌, ◌≤◌, ◌^◌, nat_eq, true, false, if◌then◌else◌, List, [], ◌∷◌, ◌++◌, length, map, take}
+use Rattle.std.proofs.Common.{get_or, slice_get, refl, sym, ap, ◌∙◌, arith}
 use Rattle.std.specs.List.{sum}
 use Rattle.std.proofs.lemmas.List.{length-map, length-append, ext_get_or, get_or-map}
 use Rattle.std.proofs.lemmas.List.Sums.{sum_by_more_le}
@@ -16,13 +16,12 @@ use Rattle.world.specs.Enabled.{enabled_steps}
 use Rattle.cores.specs.Cores.{Core}
 use Rattle.scenario.specs.Tree.{Tree, Seq, Nil}
 use Rattle.scenario.specs.Taking.{offers}
-use Rattle.schedule.specs.Choices.{can_be_put, choices_of, offers_from}
+use Rattle.schedule.specs.Choices.{choices_of, offers_from}
 use Rattle.schedule.specs.declared.lanes.Lane.{Lane}
 use Rattle.scenario.specs.Cursors.{remaining}
-use Rattle.std.proofs.Math.Seq.{drop-cons}
 use Rattle.schedule.specs.Lanes.{AreReady, IsKept, Laned, offers_at, puttable, tree_at, whole}
-use Rattle.schedule.specs.declared.choosing.Choice.{Choice}
-use Rattle.schedule.specs.declared.choosing.Choice.TheVariants.{Offer, Deliver}
+use Rattle.schedule.specs.Listed.{nothing_listed}
+use Rattle.schedule.specs.declared.choosing.Choice.TheVariants.{Deliver}
 use Rattle.schedule.proofs.Offered.{CountsOf, all-counted, all-found}
 use Rattle.schedule.proofs.Rows.{lengths_of, sum-lengths}
 
@@ -42,7 +41,7 @@ all-lengths l kept = ap sum (lengths-are l kept) ∙ sum-lengths l.trees
 pub counts-are : (tables : Tables) (s : State) (cores : List Core) (l : Laned) → IsKept l → AreReady tables s cores l → s.broken ≡ false →
     CountsOf tables s cores l.trees l.ready
 counts-are tables s cores l kept ready sound i low =
-    ready sound i low ∙ ap (puttable tables s cores) (kept.listed i low).offered
+    ready.counted sound i low ∙ ap (puttable tables s cores) (kept.listed i low).offered
 
 -- the choices of a world that isn't broken
 pub choices-sound : (tables : Tables) (s : State) (cores : List Core) (t : Tree) → s.broken ≡ false →
@@ -114,76 +113,23 @@ numbers-fit l k p r first kept found front fits =
     let most : sum (take p l.lengths) + get_or l.lengths p 0 ≤ sum l.lengths = sum_by_more_le (λ x. x) l.lengths p 0 (omega (arith, here, many)) in
     omega (arith, front, fits, count, most)
 
-pub few-puttable : (tables : Tables) (s : State) (cores : List Core) (i : ℕ) (asks : List CoreAsk) → length (offers_from tables s cores i asks) ≤ length asks
-few-puttable tables s cores i [] = omega arith
-few-puttable tables s cores i (ask ∷ asks) =
-    let r = few-puttable tables s cores (i + 1) asks in
-    elim (can_be_put tables s cores ask) as
-    (λ b. length ((if b then Offer i ask ∷ [] else []) ++ offers_from tables s cores (i + 1) asks) ≤ length (ask ∷ asks)) [
-      | true ↦ omega (arith, r)
-      | false ↦ omega (arith, r)
-    ]
-
 -- whether a list is empty, by its length
 pub none-or-some : (n : ℕ) (asks : List CoreAsk) → n ≡ length asks → (nat_eq n 0 ≡ true → asks ≡ []) × (asks ≡ [] → nat_eq n 0 ≡ true)
 none-or-some n [] e = (λ h. refl, λ h. let z : n ≡ 0 = e in grind (arith, nat_tests))
 none-or-some n (ask ∷ asks) e = (λ h. let z : n ≡ 0 = grind (arith, nat_tests) in absurd (omega (arith, e, z)), λ h. absurd (cc h))
 
--- ---- going through a lane's offers
-
-head-step : (tables : Tables) (s : State) (cores : List Core) (i n : ℕ) (asks : List CoreAsk) (d : CoreAsk) → n < length asks →
-    offers_from tables s cores i (drop n asks)
-    ≡ (if can_be_put tables s cores (get_or asks n d) then Offer i (get_or asks n d) ∷ [] else []) ++ offers_from tables s cores (i + 1) (drop (n + 1) asks)
-head-step tables s cores i n asks d low =
-    ap (λ xs. offers_from tables s cores i xs) (drop-cons asks n d low)
-    ∙ ap (λ m. (if can_be_put tables s cores (get_or asks n d) then Offer i (get_or asks n d) ∷ [] else []) ++ offers_from tables s cores (i + 1) (drop m asks))
-    (sym (add-one n))
-
-first-counts : (b : Bool) (c : Choice) (cs : List Choice) → b ≡ true → 1 ≤ length ((if b then c ∷ [] else []) ++ cs)
-first-counts true c cs e = omega arith
-first-counts false c cs e = absurd (cc e)
-
-pub some-puttable : (tables : Tables) (s : State) (cores : List Core) (i n : ℕ) (asks : List CoreAsk) (d : CoreAsk) → n < length asks →
-    can_be_put tables s cores (get_or asks n d) ≡ true → 1 ≤ length (offers_from tables s cores i (drop n asks))
-some-puttable tables s cores i n asks d low e =
-    subst (λ cs. 1 ≤ length cs) (sym (head-step tables s cores i n asks d low))
-    (first-counts (can_be_put tables s cores (get_or asks n d)) (Offer i (get_or asks n d)) (offers_from tables s cores (i + 1) (drop (n + 1) asks)) e)
-
-get-later : (c : Choice) (cs : List Choice) (k : ℕ) → 0 < k → slice_get (c ∷ cs) k ≡ slice_get cs (k - 1)
-get-later c cs zero h = absurd (omega (arith, h))
-get-later c cs (suc k) h = ap (slice_get cs) (let z : k ≡ suc k - 1 = omega arith in z)
-
-pub passed-put : (tables : Tables) (s : State) (cores : List Core) (first n k : ℕ) (asks : List CoreAsk) (d : CoreAsk) → n < length asks →
-    can_be_put tables s cores (get_or asks n d) ≡ true → 0 < k →
-    slice_get (offers_from tables s cores (first + (n + 1)) (drop (n + 1) asks)) (k - 1) ≡ slice_get (offers_from tables s cores (first + n) (drop n asks)) k
-passed-put tables s cores first n k asks d low e some =
-    let later = offers_from tables s cores (first + n + 1) (drop (n + 1) asks) in
-    sym (ap (λ cs. slice_get cs k) (head-step tables s cores (first + n) n asks d low)
-    ∙ ap (λ b. slice_get ((if b then Offer (first + n) (get_or asks n d) ∷ [] else []) ++ later) k) e
-    ∙ get-later (Offer (first + n) (get_or asks n d)) later k some
-    ∙ ap (λ m. slice_get (offers_from tables s cores m (drop (n + 1) asks)) (k - 1)) (let z : first + n + 1 ≡ first + (n + 1) = omega arith in z))
-
-pub passed-held : (tables : Tables) (s : State) (cores : List Core) (first n k : ℕ) (asks : List CoreAsk) (d : CoreAsk) → n < length asks →
-    can_be_put tables s cores (get_or asks n d) ≡ false →
-    slice_get (offers_from tables s cores (first + (n + 1)) (drop (n + 1) asks)) k ≡ slice_get (offers_from tables s cores (first + n) (drop n asks)) k
-passed-held tables s cores first n k asks d low e =
-    let later = offers_from tables s cores (first + n + 1) (drop (n + 1) asks) in
-    sym (ap (λ cs. slice_get cs k) (head-step tables s cores (first + n) n asks d low)
-    ∙ ap (λ b. slice_get ((if b then Offer (first + n) (get_or asks n d) ∷ [] else []) ++ later) k) e
-    ∙ ap (λ m. slice_get (offers_from tables s cores m (drop (n + 1) asks)) k) (let z : first + n + 1 ≡ first + (n + 1) = omega arith in z))
-
 -- ---- a lane as it is kept
 
-pub lane-offers : {A B : Type 0} (lanes : List (Lane A B)) (p : ℕ) (lane : Lane A B) → p < length lanes → lane ≡ get_or lanes p lane →
-    lane.offers.items ≡ get_or (map (λ (l : Lane A B). l.offers.items) lanes) p []
-lane-offers lanes p lane low is =
-    ap (λ l. l.offers.items) is ∙ sym (get_or-map (λ l. l.offers.items) lanes p lane [] low)
+pub lane-listed : {A B : Type 0} (lanes : List (Lane A B)) (p : ℕ) (lane : Lane A B) → p < length lanes → lane ≡ get_or lanes p lane →
+    lane.asks ≡ get_or (map (λ (l : Lane A B). l.asks) lanes) p nothing_listed
+lane-listed lanes p lane low is =
+    ap (λ l. l.asks) is ∙ sym (get_or-map (λ l. l.asks) lanes p lane nothing_listed low)
 
 pub lane-tree : {A B : Type 0} (lanes : List (Lane A B)) (p : ℕ) (lane : Lane A B) → p < length lanes → lane ≡ get_or lanes p lane →
     remaining lane.rest ≡ get_or (map (λ (l : Lane A B). remaining l.rest) lanes) p (Seq Nil)
 lane-tree lanes p lane low is =
     ap (λ l. remaining l.rest) is ∙ sym (get_or-map (λ l. remaining l.rest) lanes p lane (Seq Nil) low)
 
-pub offers-of-lane : {A B : Type 0} (lanes : List (Lane A B)) (p : ℕ) (d : Lane A B) → p < length lanes →
-    (get_or lanes p d).offers.items ≡ get_or (map (λ (l : Lane A B). l.offers.items) lanes) p []
-offers-of-lane lanes p d low = sym (get_or-map (λ l. l.offers.items) lanes p d [] low)
+pub listed-of-lane : {A B : Type 0} (lanes : List (Lane A B)) (p : ℕ) (d : Lane A B) → p < length lanes →
+    (get_or lanes p d).asks ≡ get_or (map (λ (l : Lane A B). l.asks) lanes) p nothing_listed
+listed-of-lane lanes p d low = sym (get_or-map (λ l. l.asks) lanes p d nothing_listed low)

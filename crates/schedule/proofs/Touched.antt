@@ -162,6 +162,18 @@ lines-stay tables s step other block sound ne =
     ap (λ (n : Next). line_at n.state other.0 block) (next-sound tables s step sound)
     ∙ lines-at tables s step (slice_get s.blocks (block_of step)) other block refl ne
 
+blocks-at : (tables : Tables) (s : State) (step : Step) (found : Option BlockState) (core block : ℕ) → block ≢ block_of step →
+    line_at (next_at tables s step found).state core block ≡ line_at s core block
+blocks-at tables s step None core block ne = refl
+blocks-at tables s step (Some b) core block ne = ap (line_in core) (set-other s.blocks (block_of step) block (transition tables step b).block ne)
+
+-- and the lines of all blocks but its own
+pub other-blocks-stay : (tables : Tables) (s : State) (step : Step) (core block : ℕ) → s.broken ≡ false → block ≢ block_of step →
+    line_at (next tables s step).state core block ≡ line_at s core block
+other-blocks-stay tables s step core block sound ne =
+    ap (λ (n : Next). line_at n.state core block) (next-sound tables s step sound)
+    ∙ blocks-at tables s step (slice_get s.blocks (block_of step)) core block ne
+
 -- ---- an ask is held where its line holds it
 
 abbrev pub asked : Tables → CoreAsk → Option Line → Bool

@@ -13,13 +13,14 @@ use Rattle.scenario.specs.Tree.{Tree, Seq, Both, Nil, trees_of}
 use Rattle.scenario.specs.Taking.{offers}
 use Rattle.scenario.specs.Cursors.{remaining}
 use Rattle.schedule.specs.Choices.{offers_from}
+use Rattle.schedule.specs.Listed.{IsMarked, Listed, nothing_listed}
 use Rattle.schedule.specs.declared.lanes.Lanes.{Lanes}
 
 -- of each lane the tree that is left, what it offers, how many offers that is, and how many of them can be put; and of each
 -- core the lanes that may offer an ask of it
 pub record Laned : Type 0 where
   pub trees : List Tree
-  pub offers : List (List CoreAsk)
+  pub listed : List Listed
   pub lengths : List ℕ
   pub ready : List ℕ
   pub reached : List (List ℕ)
@@ -28,7 +29,7 @@ pub record Laned : Type 0 where
 abbrev pub laned : {A B : Type 0} → Lanes A B → Laned
 laned l = record {
   trees = map (λ lane. remaining lane.rest) l.lanes.items;
-  offers = map (λ lane. lane.offers.items) l.lanes.items;
+  listed = map (λ lane. lane.asks) l.lanes.items;
   lengths = l.lengths;
   ready = l.ready;
   reached = map (λ of. of.items) l.reached.items;
@@ -42,8 +43,11 @@ whole l = Both (trees_of l.trees)
 abbrev pub tree_at : Laned → ℕ → Tree
 tree_at l lane = slice_index_or l.trees lane (Seq Nil)
 
+abbrev pub listed_at : Laned → ℕ → Listed
+listed_at l lane = slice_index_or l.listed lane nothing_listed
+
 abbrev pub offers_at : Laned → ℕ → List CoreAsk
-offers_at l lane = slice_index_or l.offers lane []
+offers_at l lane = (listed_at l lane).asks
 
 -- how many of some asks can be put
 abbrev pub puttable : Tables → State → List Core → List CoreAsk → ℕ
@@ -66,7 +70,7 @@ pub record IsListed (l : Laned) (lane : ℕ) : Type 0 where
 
 -- as much is kept of each lane, and there are at most 2^31; there is a row for cores
 pub record IsLevel (l : Laned) : Type 0 where
-  pub offers : length l.offers ≡ length l.trees
+  pub listed : length l.listed ≡ length l.trees
   pub lengths : length l.lengths ≡ length l.trees
   pub ready : length l.ready ≡ length l.trees
   pub few : length l.trees ≤ 2 ^ 31
@@ -77,17 +81,18 @@ pub record IsKept (l : Laned) : Type 0 where
   pub level : IsLevel l
   pub listed : (lane : ℕ) → lane < length l.trees → IsListed l lane
 
--- where the world isn't broken, the counts of what can be put are right
-abbrev pub AreReady : Tables → State → List Core → Laned → Type 0
-AreReady tables state cores l =
-    state.broken ≡ false → (lane : ℕ) → lane < length l.trees → slice_index l.ready lane ≡ puttable tables state cores (offers_at l lane)
+-- where the world isn't broken, the marks beside the offers are right, and so are the counts of what can be put
+pub record AreReady (tables : Tables) (state : State) (cores : List Core) (l : Laned) : Type 0 where
+  pub marked : state.broken ≡ false → (lane : ℕ) → lane < length l.trees → IsMarked tables state (listed_at l lane)
+  pub counted : state.broken ≡ false → (lane : ℕ) → lane < length l.trees → slice_index l.ready lane ≡ puttable tables state cores (offers_at l lane)
 
 -- two moments agree on a core: on whether it is free, and on the lines of its cache
 pub record Agree (core : ℕ) (before behind : State) (cores_before cores_behind : List Core) : Type 0 where
   pub free : is_free cores_behind core ≡ is_free cores_before core
   pub lines : (block : ℕ) → line_at behind core block ≡ line_at before core block
 
--- they agree on each core but that of the cache where something was done, if it was done at a cache
-abbrev pub AgreeBut : Option Place → State → State → List Core → List Core → Type 0
-AgreeBut at before behind cores_before cores_behind =
-    (core : CacheId) → at ≢ Some (Cache core) → Agree core.0 before behind cores_before cores_behind
+-- they agree on each core but that of the cache where something was done, if it was done at a cache, and on all lines but those of
+-- one block
+pub record AgreeBut (at : Option Place) (block : ℕ) (before behind : State) (cores_before cores_behind : List Core) : Type 0 where
+  pub cores : (core : CacheId) → at ≢ Some (Cache core) → Agree core.0 before behind cores_before cores_behind
+  pub blocks : (core other : ℕ) → other ≢ block → line_at behind core other ≡ line_at before core other

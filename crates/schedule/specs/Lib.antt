@@ -1,4 +1,5 @@
 pub mod Choices
+pub mod Listed
 pub mod Lanes
 pub mod Words
 pub mod inner

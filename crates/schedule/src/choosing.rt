@@ -148,7 +148,7 @@ impl Choice {
 }
 
 /// The step of putting the ask to its core's cache.
-fn step_of(ask: CoreAsk) -> Step
+pub(crate) fn step_of(ask: CoreAsk) -> Step
     ensures { result ≡ step_of ask }
 {
     Step::Ask {
@@ -159,7 +159,7 @@ fn step_of(ask: CoreAsk) -> Step
 }
 
 /// Whether the ask can be put now: its core is free, and its step wouldn't be held.
-pub(crate) fn can_be_put(world: &World, cores: &Cores, ask: CoreAsk) -> bool
+fn can_be_put(world: &World, cores: &Cores, ask: CoreAsk) -> bool
     ensures { result ≡ can_be_put world.now.tables world.now.state cores.now ask }
 {
     cores.free(ask.core) && !world.held(step_of(ask))

@@ -4,15 +4,16 @@ mod changing;
 mod counting;
 mod making;
 
-use base::CoreAsk;
+use crate::asks::Asks;
 use rows::Sums;
 use scenario::Cursor;
 use std::alloc::Allocator;
 
 /// What is left of a scenario, by its lanes: the trees that go on at once at its top, or itself alone where it is no such row.
 ///
-/// Of each lane it keeps what it offers, and how many of these offers can be put. So nothing is listed to count the choices of
-/// a moment, or to find one of them; a step changes what can be put for one core, whose lanes are counted again.
+/// Of each lane it keeps what it offers, which of these offers wouldn't be held, and how many of them can be put. So nothing is
+/// listed to count the choices of a moment, or to find one of them. A step changes what can be put for one core: of the lanes of
+/// that core the offers about the step's block are looked at again, and the others are counted.
 ///
 /// A lane has at most 4,294,967,295 offers at once, which would take over 100 GB: more of them are refused for want of memory.
 #[derive(Drop)]
@@ -29,5 +30,5 @@ pub struct Lanes<'s, A: Allocator, B: Allocator> {
 #[derive(Drop)]
 pub(crate) struct Lane<'s, A: Allocator, B: Allocator> {
     rest: Cursor<'s, A, B>,
-    offers: Vec<CoreAsk>,
+    asks: Asks,
 }

@@ -1,6 +1,7 @@
 //! What can happen next in a world under a scenario, and the dice that choose.
 #![tactic(auto)]
 
+mod asks;
 mod choosing;
 mod dice;
 mod lanes;

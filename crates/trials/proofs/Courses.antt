@@ -9,7 +9,7 @@ use Rattle.monitor.specs.Watching.{HasSeen}
 use Rattle.world.specs.Looks.{all_quiet}
 use Rattle.cores.specs.Cores.{Core, is_free}
 use Rattle.scenario.specs.Tree.{Tree}
-use Rattle.scenario.specs.Alike.{Alike, seen}
+use Rattle.scenario.specs.Alike.{Alike}
 use Rattle.scenario.specs.Taking.{left, offers}
 use Rattle.schedule.specs.Choices.{choices_of}
 use Rattle.schedule.specs.Words.{dice, dice_after}

@@ -1,5 +1,5 @@
 -- A trial on its way stays one under the same terms.
-use Rattle.std.proofs.Common.{◌≡◌, ◌∙◌, Option, None, Some, refl, subst, sym}
+use Rattle.std.proofs.Common.{◌∙◌, Option, None, Some, refl, subst, sym}
 use Rattle.schedule.specs.declared.choosing.Choice.{Choice}
 use Rattle.trials.specs.Going.{Chooses, Course, IsLike}
 

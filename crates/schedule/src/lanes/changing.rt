@@ -6,46 +6,34 @@ ghost use Rattle.std.specs.List.{Contains};
 ghost use Rattle.base.specs.declared.ids.CacheId.{CacheId};
 ghost use Rattle.base.specs.declared.ids.Place.TheVariants.{Cache};
 ghost use Rattle.base.specs.declared.step.CoreAsk.{CoreAsk};
+ghost use Rattle.scenario.specs.Cursors.{remaining};
 ghost use Rattle.schedule.specs.Lanes.{lanes_of};
-ghost use Rattle.schedule.specs.inner.Changes.{IsCountedIn};
+ghost use Rattle.schedule.specs.Listed.{nothing_listed};
+ghost use Rattle.schedule.specs.inner.Changes.{IsCountedIn, IsMarkedIn};
 
-use super::counting::count_puttable;
 use super::{Lane, Lanes};
 use crate::choosing::Choice;
-use base::{CacheId, CoreAsk, NoMemory, Place};
+use base::{BlockId, CacheId, CoreAsk, NoMemory, Place};
 use cores::Cores;
 use rows::Sums;
-use scenario::Rest;
 use std::alloc::Allocator;
 use world::World;
 
-impl<'s, A: Allocator, B: Allocator + Clone> Lane<'s, A, B> {
-    ghost use Rattle.std.specs.Prelude.{◌≡◌, OnOk};
-    ghost use Rattle.scenario.specs.Cursors.{remaining};
-    ghost use Rattle.scenario.specs.Taking.{offers};
-
-    /// Lists anew what is offered.
-    fn list(&mut self) -> Result<(), NoMemory>
-        ensures rest { remaining self.new.rest ≡ remaining self.old.rest }
-        ensures ok { OnOk result (self.new.offers.items ≡ offers (remaining self.old.rest)) }
-    {
-        self.offers.clear();
-        self.rest.offers(&mut self.offers)
-    }
-}
-
 impl<'s, A: Allocator, B: Allocator + Clone> Lanes<'s, A, B> {
-    ghost use Rattle.std.specs.Prelude.{◌≡◌, ◌<◌, ℕ, List, OnOk, IfOk, false, length};
+    ghost use Rattle.std.specs.Prelude.{◌≡◌, ◌<◌, ℕ, List, Option, OnOk, IfOk, IfSome, false, length};
+    ghost use Rattle.base.specs.Steps.{block_of};
     ghost use Rattle.cores.specs.Cores.{Core};
     ghost use Rattle.machine.specs.Machine.{State};
     ghost use Rattle.scenario.specs.Alike.{Alike};
     ghost use Rattle.scenario.specs.Taking.{offers};
-    ghost use Rattle.schedule.specs.Choices.{IsOffered, rest_after};
-    ghost use Rattle.schedule.specs.Lanes.{AgreeBut, AreReady, IsKept, IsLevel, IsListed, laned, lanes_of, whole};
-    ghost use Rattle.schedule.specs.inner.Changes.{AreReadyOrWere, IsCountedIn, KeepsOthers, TakesFrom, counted_at};
+    ghost use Rattle.schedule.specs.Choices.{IsOffered, chosen_step, rest_after};
+    ghost use Rattle.schedule.specs.Lanes.{AgreeBut, AreReady, IsKept, IsLevel, IsListed, laned, lanes_of, listed_at, whole};
+    ghost use Rattle.schedule.specs.inner.Changes.{AreMarked, Counts, IsCountedAt, IsCountedIf, IsCountedIn, IsMarkedIn, KeepsOthers};
+    ghost use Rattle.schedule.specs.inner.Changes.{Marks, TakesFrom, WereReady, counted_at, marked_in};
+    ghost use Rattle.schedule.specs.inner.Owned.{IsMarkedOrSame};
 
     /// Follows a choice that was made, by a step that went to a controller: an offer is taken, what is made anew for it is
-    /// `alloc`'s, and the lanes that this and the step changed are counted again.
+    /// `alloc`'s, and the lanes that this and the step changed are marked and counted again.
     ///
     /// Where memory is refused, the lanes are of no more use.
     pub fn follow(
@@ -62,80 +50,110 @@ impl<'s, A: Allocator, B: Allocator + Clone> Lanes<'s, A, B> {
         ensures kept { OnOk result (IsKept (laned self.new)) }
         ensures ready { OnOk result ((before : State) (cores_before : List Core) → before.broken ≡ false →
             AreReady world.now.tables before cores_before (laned self.old) →
-            AgreeBut at before world.now.state cores_before cores.now →
+            AgreeBut at (block_of (chosen_step choice)) before world.now.state cores_before cores.now →
             AreReady world.now.tables world.now.state cores.now (laned self.new)) }
     {
-        self.take_chosen(alloc, choice, world, cores)?;
-        self.count_again(at, world, cores);
+        let taken = self.take_chosen(alloc, choice, world)?;
+        self.mark_again(at, choice.step().block(), world);
+        self.count_at(at, cores);
+        self.count_taken(taken, cores);
         Ok(())
     }
 
-    /// Takes the offer that was chosen, where the choice is one, and counts its lane again.
+    /// Takes the offer that was chosen, where the choice is one, and answers the lane that had it.
     fn take_chosen(
         &mut self,
         alloc: B,
         choice: Choice,
         world: &World,
-        cores: &Cores,
-    ) -> Result<(), NoMemory>
+    ) -> Result<Option<usize>, NoMemory>
         requires kept { IsKept (laned self.old) }
         requires offered { IsOffered choice (whole (laned self.old)) }
         ensures rest { OnOk result (Alike (whole (laned self.new)) (rest_after choice (whole (laned self.old)))) }
         ensures kept { OnOk result (IsKept (laned self.new)) }
-        ensures ready { OnOk result ((before : State) (cores_before : List Core) → before.broken ≡ false →
+        ensures there { IfOk result (λ taken. IfSome taken (λ lane. lane < length (laned self.new).trees)) }
+        ensures were { IfOk result (λ taken. (before : State) (cores_before : List Core) → before.broken ≡ false →
             AreReady world.now.tables before cores_before (laned self.old) →
-            AreReadyOrWere world.now.tables before cores_before world.now.state cores.now (laned self.new)) }
+            WereReady world.now.tables before cores_before world.now.state taken (laned self.new)) }
     {
         match choice {
             Choice::Offer(number, _) => {
-                let lane = self.take(alloc, number)?;
-                self.count_lane(lane, world, cores);
-                Ok(())
+                let lane = self.take(alloc, number, world)?;
+                Ok(Some(lane))
             }
-            Choice::Deliver(_) => Ok(()),
+            Choice::Deliver(_) => Ok(None),
         }
     }
 
-    /// Counts again what a step at a controller changed.
-    fn count_again(&mut self, at: Option<Place>, world: &World, cores: &Cores)
+    /// Marks again what a step about a block changed, which went to a controller.
+    fn mark_again(&mut self, at: Option<Place>, block: BlockId, world: &World)
         requires { IsKept (laned self.old) }
-        ensures trees { (laned self.new).trees ≡ (laned self.old).trees }
         ensures kept { IsKept (laned self.new) }
-        ensures ready { (before : State) (cores_before : List Core) → before.broken ≡ false →
-            AreReadyOrWere world.now.tables before cores_before world.now.state cores.now (laned self.old) →
-            AgreeBut at before world.now.state cores_before cores.now →
-            AreReady world.now.tables world.now.state cores.now (laned self.new) }
+        ensures same { Marks (laned self.old) (laned self.new) }
+        ensures marked { (before : State) (cores_before cores_now : List Core) (but : Option ℕ) → before.broken ≡ false →
+            world.now.state.broken ≡ false → WereReady world.now.tables before cores_before world.now.state but (laned self.old) →
+            AgreeBut at block.0 before world.now.state cores_before cores_now → AreMarked world.now.tables world.now.state (laned self.new) }
     {
         if let Some(core) = cache_of(at) {
-            self.count_core(core, world, cores);
+            self.mark_core(core, block, world);
+        }
+    }
+
+    /// Counts again what can be put of each lane that may offer an ask of the core whose cache a step went to.
+    fn count_at(&mut self, at: Option<Place>, cores: &Cores)
+        requires { IsKept (laned self.old) }
+        ensures kept { IsKept (laned self.new) }
+        ensures counts { Counts (laned self.old) (laned self.new) }
+        ensures each { (lane : ℕ) → lane < length (laned self.old).trees →
+            IsCountedAt cores.now at (laned self.old) (laned self.new) lane }
+    {
+        if let Some(core) = cache_of(at) {
+            self.count_core(core, cores);
+        }
+    }
+
+    /// Counts again what can be put of a lane, if there is one.
+    fn count_taken(&mut self, taken: Option<usize>, cores: &Cores)
+        requires kept { IsKept (laned self.old) }
+        requires there { IfSome taken (λ lane. lane < length (laned self.old).trees) }
+        ensures kept { IsKept (laned self.new) }
+        ensures counts { Counts (laned self.old) (laned self.new) }
+        ensures each { (lane : ℕ) → lane < length (laned self.old).trees →
+            IsCountedIf cores.now taken (laned self.old) (laned self.new) lane }
+    {
+        if let Some(lane) = taken {
+            self.count_lane(lane, cores);
         }
     }
 
     /// Takes the offer of this number, and answers the lane that had it.
-    fn take(&mut self, alloc: B, number: usize) -> Result<usize, NoMemory>
+    fn take(&mut self, alloc: B, number: usize, world: &World) -> Result<usize, NoMemory>
         requires kept { IsKept (laned self.old) }
         requires offered { number < length (offers (whole (laned self.old))) }
-        ensures { IfOk result (λ lane. TakesFrom lane number (laned self.old) (laned self.new)) }
+        ensures takes { IfOk result (λ lane. TakesFrom lane number (laned self.old) (laned self.new)) }
+        ensures marks { IfOk result (λ lane. IsMarkedOrSame world.now.tables world.now.state (listed_at (laned self.old) lane) (listed_at (laned self.new) lane)) }
     {
         let found = self.lengths.find(number as u64);
         self.lanes[found.place]
             .rest
             .take(alloc, found.rest as usize)?;
-        self.list(found.place)?;
+        self.list(found.place, world)?;
         Ok(found.place)
     }
 
-    /// Lists anew what a lane offers.
-    pub(super) fn list(&mut self, lane: usize) -> Result<(), NoMemory>
+    /// Lists anew what a lane offers. Where that is what it offered before, the marks stay.
+    pub(super) fn list(&mut self, lane: usize, world: &World) -> Result<(), NoMemory>
         requires level { IsLevel (laned self.old) }
         requires there { lane < length (laned self.old).trees }
         ensures trees { OnOk result ((laned self.new).trees ≡ (laned self.old).trees) }
         ensures level { OnOk result (IsLevel (laned self.new)) }
         ensures listed { OnOk result (IsListed (laned self.new) lane) }
         ensures others { OnOk result (KeepsOthers lane (laned self.old) (laned self.new)) }
+        ensures marks { OnOk result (IsMarkedOrSame world.now.tables world.now.state
+            (listed_at (laned self.old) lane) (listed_at (laned self.new) lane)) }
     {
-        self.lanes[lane].list()?;
-        let offers = self.lanes[lane].offers.as_slice();
+        self.lanes[lane].list(world)?;
+        let offers = self.lanes[lane].asks.asks();
         let Ok(length) = u32::try_from(offers.len()) else {
             return Err(NoMemory);
         };
@@ -143,34 +161,74 @@ impl<'s, A: Allocator, B: Allocator + Clone> Lanes<'s, A, B> {
         reach(&mut self.reached, offers, lane as u32)
     }
 
+    /// Marks anew all that a lane offers.
+    pub(super) fn mark_lane(&mut self, lane: usize, world: &World)
+        requires { lane < length (laned self.old).trees }
+        ensures { laned self.new ≡ marked_in world.now.tables world.now.state lane (laned self.old) }
+    {
+        self.lanes[lane].asks.mark_all(world);
+    }
+
     /// Counts anew what can be put of a lane.
-    pub(super) fn count_lane(&mut self, lane: usize, world: &World, cores: &Cores)
+    pub(super) fn count_lane(&mut self, lane: usize, cores: &Cores)
         requires level { IsLevel (laned self.old) }
         requires there { lane < length (laned self.old).trees }
-        requires listed { IsListed (laned self.old) lane }
-        ensures { laned self.new ≡ counted_at world.now.tables world.now.state cores.now lane (laned self.old) }
+        ensures { laned self.new ≡ counted_at cores.now lane (laned self.old) }
     {
-        let count = count_puttable(world, cores, self.lanes[lane].offers.as_slice());
+        let count = self.lanes[lane].asks.count(cores);
         self.ready.set(lane, count);
     }
 
-    /// Counts anew what can be put of each lane that may offer an ask of a core.
-    fn count_core(&mut self, core: CacheId, world: &World, cores: &Cores)
-        requires kept { IsKept (laned self.old) }
-        ensures same { (laned self.new) ≡ record (laned self.old) { ready = (laned self.new).ready } }
-        ensures long { length (laned self.new).ready ≡ length (laned self.old).ready }
+    /// Marks anew the offers of a core about a block.
+    fn mark_core(&mut self, core: CacheId, block: BlockId, world: &World)
+        requires { IsKept (laned self.old) }
+        ensures kept { IsKept (laned self.new) }
+        ensures same { Marks (laned self.old) (laned self.new) }
         ensures each { (lane : ℕ) → lane < length (laned self.old).trees →
-            IsCountedIn world.now.tables world.now.state cores.now (laned self.old).offers (lanes_of (laned self.old).reached core.0)
+            IsMarkedIn world.now.tables world.now.state core block (lanes_of (laned self.old).reached core.0)
+            (listed_at (laned self.old) lane) (listed_at (laned self.new) lane) lane }
+    {
+        let row = row_of(&self.reached, core);
+        mark_each(
+            world,
+            core,
+            block,
+            &mut self.lanes,
+            self.reached[row].as_slice(),
+        );
+    }
+
+    /// Counts anew what can be put of each lane that may offer an ask of a core.
+    fn count_core(&mut self, core: CacheId, cores: &Cores)
+        requires { IsKept (laned self.old) }
+        ensures counts { Counts (laned self.old) (laned self.new) }
+        ensures each { (lane : ℕ) → lane < length (laned self.old).trees →
+            IsCountedIn cores.now (laned self.old).listed (lanes_of (laned self.old).reached core.0)
             (laned self.old).ready (laned self.new).ready lane }
     {
         let row = row_of(&self.reached, core);
         count_each(
-            world,
             cores,
             self.lanes.as_slice(),
             self.reached[row].as_slice(),
             &mut self.ready,
         );
+    }
+}
+
+impl<'s, A: Allocator, B: Allocator + Clone> Lane<'s, A, B> {
+    ghost use Rattle.std.specs.Prelude.{◌≡◌, OnOk};
+    ghost use Rattle.scenario.specs.Cursors.{remaining};
+    ghost use Rattle.scenario.specs.Taking.{offers};
+    ghost use Rattle.schedule.specs.inner.Owned.{IsMarkedOrSame};
+
+    /// Lists anew what is offered. Where that is what was offered before, the marks stay.
+    fn list(&mut self, world: &World) -> Result<(), NoMemory>
+        ensures rest { remaining self.new.rest ≡ remaining self.old.rest }
+        ensures asks { OnOk result (self.new.asks.asks ≡ offers (remaining self.old.rest)) }
+        ensures marks { OnOk result (IsMarkedOrSame world.now.tables world.now.state self.old.asks self.new.asks) }
+    {
+        self.asks.list(&self.rest, world)
     }
 }
 
@@ -186,24 +244,45 @@ fn cache_of(at: Option<Place>) -> Option<CacheId>
     }
 }
 
+/// Marks anew the offers of a core about a block, in each of these lanes.
+fn mark_each<A: Allocator, B: Allocator>(
+    world: &World,
+    core: CacheId,
+    block: BlockId,
+    lanes: &mut Vec<Lane<'_, A, B>>,
+    which: &[u32],
+)
+    ensures count { length lanes.new.items ≡ length lanes.old.items }
+    ensures trees { map (λ l. remaining l.rest) lanes.new.items ≡ map (λ l. remaining l.rest) lanes.old.items }
+    ensures each { (lane : ℕ) → lane < length lanes.old.items →
+        IsMarkedIn world.now.tables world.now.state core block which.now
+        (slice_index_or (map (λ l. l.asks) lanes.old.items) lane nothing_listed)
+        (slice_index_or (map (λ l. l.asks) lanes.new.items) lane nothing_listed) lane }
+{
+    for number in which {
+        let lane = *number as usize;
+        if lane < lanes.len() {
+            lanes[lane].asks.mark(world, core, block);
+        }
+    }
+}
+
 /// Counts anew what can be put of each of these lanes.
 fn count_each<A: Allocator, B: Allocator>(
-    world: &World,
     cores: &Cores,
     lanes: &[Lane<'_, A, B>],
     which: &[u32],
     ready: &mut Sums,
 )
-    requires long { length ready.old ≡ length lanes.now }
-    requires short { (lane : ℕ) → lane < length lanes.now → length (slice_index_or (map (λ l. l.offers.items) lanes.now) lane []) < 2 ^ 32 }
+    requires { length ready.old ≡ length lanes.now }
     ensures long { length ready.new ≡ length ready.old }
     ensures each { (lane : ℕ) → lane < length lanes.now →
-        IsCountedIn world.now.tables world.now.state cores.now (map (λ l. l.offers.items) lanes.now) which.now ready.old ready.new lane }
+        IsCountedIn cores.now (map (λ l. l.asks) lanes.now) which.now ready.old ready.new lane }
 {
     for number in which {
         let lane = *number as usize;
         if lane < lanes.len() {
-            let count = count_puttable(world, cores, lanes[lane].offers.as_slice());
+            let count = lanes[lane].asks.count(cores);
             ready.set(lane, count);
         }
     }

@@ -1,12 +1,7 @@
 //! How many choices there are, and which is the k-th, without a list.
 
-ghost use Rattle.std.specs.Prelude.{◌≡◌, ◌<◌, ◌+◌, ◌^◌, length, slice_get};
-ghost use Rattle.schedule.specs.Choices.{offers_from};
-ghost use Rattle.schedule.specs.Lanes.{puttable};
-
 use super::Lanes;
-use crate::choosing::{Choice, can_be_put};
-use base::CoreAsk;
+use crate::choosing::Choice;
 use cores::Cores;
 use std::alloc::Allocator;
 use world::World;
@@ -42,8 +37,9 @@ impl<'s, A: Allocator, B: Allocator> Lanes<'s, A, B> {
         if k < offers {
             let found = self.ready.find(k);
             let first = self.lengths.front(found.place) as usize;
-            let lane = self.lanes[found.place].offers.as_slice();
-            return offer_at(world, cores, lane, first, found.rest);
+            return self.lanes[found.place]
+                .asks
+                .choice(cores, first, found.rest);
         }
         let step = world.enabled_at(k - offers)?;
         Some(Choice::Deliver(step))
@@ -56,41 +52,4 @@ impl<'s, A: Allocator, B: Allocator> Lanes<'s, A, B> {
     {
         self.lengths.total() == 0
     }
-}
-
-/// How many of a lane's offers can be put.
-pub(super) fn count_puttable(world: &World, cores: &Cores, offers: &[CoreAsk]) -> u32
-    requires { length offers.now < 2 ^ 32 }
-    ensures { result ≡ puttable world.now.tables world.now.state cores.now offers.now }
-{
-    let mut count = 0;
-    for ask in offers {
-        if can_be_put(world, cores, *ask) {
-            count += 1;
-        }
-    }
-    count
-}
-
-/// The k-th of a lane's offers that can be put, where its first offer has a number.
-fn offer_at(
-    world: &World,
-    cores: &Cores,
-    offers: &[CoreAsk],
-    first: usize,
-    k: u32,
-) -> Option<Choice>
-    requires { first + length offers.now < 2 ^ 64 }
-    ensures { result ≡ slice_get (offers_from world.now.tables world.now.state cores.now first offers.now) k }
-{
-    let mut left = k;
-    for (number, ask) in offers.iter().enumerate() {
-        if can_be_put(world, cores, *ask) {
-            if left == 0 {
-                return Some(Choice::Offer(first + number, *ask));
-            }
-            left -= 1;
-        }
-    }
-    None
 }

@@ -6,6 +6,7 @@ ghost use Rattle.scenario.specs.Cursors.{remaining};
 ghost use Rattle.scenario.specs.Tree.{Both, plain, trees_of};
 
 use super::{Lane, Lanes};
+use crate::asks::Asks;
 use base::NoMemory;
 use cores::Cores;
 use rows::Sums;
@@ -17,18 +18,19 @@ use world::World;
 const MOST_LANES: usize = 1 << 31;
 
 impl<'s, A: Allocator, B: Allocator> Lane<'s, A, B> {
-    ghost use Rattle.std.specs.Prelude.{◌≡◌, []};
+    ghost use Rattle.std.specs.Prelude.{◌≡◌, IfOk};
     ghost use Rattle.scenario.specs.Cursors.{remaining};
     ghost use Rattle.scenario.specs.Tree.{plain};
 
     /// All of a tree is left, and nothing is listed yet.
-    fn unlisted(alloc: Global, tree: &'s Scenario<A>) -> Lane<'s, A, B>
-        ensures { remaining result.rest ≡ plain tree.entry.now }
+    fn unlisted(alloc: Global, tree: &'s Scenario<A>) -> Result<Lane<'s, A, B>, NoMemory>
+        ensures { IfOk result (λ lane. remaining lane.rest ≡ plain tree.entry.now) }
     {
-        Lane {
+        let asks = Asks::open(alloc)?;
+        Ok(Lane {
             rest: Cursor::open(tree),
-            offers: Vec::new(alloc),
-        }
+            asks,
+        })
     }
 }
 
@@ -99,8 +101,9 @@ impl<'s, A: Allocator, B: Allocator + Clone> Lanes<'s, A, B> {
         ensures ready { OnOk result (AreReady world.now.tables world.now.state cores.now (laned self.new)) }
     {
         for lane in 0..self.lanes.len() {
-            self.list(lane)?;
-            self.count_lane(lane, world, cores);
+            self.list(lane, world)?;
+            self.mark_lane(lane, world);
+            self.count_lane(lane, cores);
         }
         Ok(())
     }
@@ -140,8 +143,9 @@ fn lanes_of<'s, A: Allocator, B: Allocator>(
             lanes_of_each(alloc, children.as_slice())
         }
         tree => {
+            let lane = Lane::unlisted(alloc, tree)?;
             let mut lanes = Vec::new(alloc);
-            lanes.push(Lane::unlisted(alloc, tree))?;
+            lanes.push(lane)?;
             Ok(lanes)
         }
     }
@@ -196,7 +200,8 @@ fn lanes_of_each<'s, A: Allocator, B: Allocator>(
 {
     let mut lanes = Vec::with_capacity(alloc, trees.len())?;
     for tree in trees {
-        lanes.push(Lane::unlisted(alloc, tree))?;
+        let lane = Lane::unlisted(alloc, tree)?;
+        lanes.push(lane)?;
     }
     Ok(lanes)
 }

@@ -9,15 +9,14 @@ use Rattle.schedule.proofs.lanes.Lanes.count_core.Goals as goal
 
 pub returns-clause-each : goal.returns-clause-each
 returns-clause-each g c lane low =
-    let some = c.requires.kept.level.rows in
+    let some = c.requires.level.rows in
     let many = length-map c.args.self.now.reached.items (λ of. of.items) in
     let row = c.row_of-row.ensures in
     let there : c.row_of-row.result < length c.args.self.now.reached.items = grind arith in
     let which : c.as_slice-2.result.now ≡ lanes_of (rows_in c.args.self.now.reached.items) c.args.core.0 =
     c.as_slice-2.ensures.value ∙ row-items c.args.self.now.reached.items c.row_of-row.result c.args.core.0 c.index.result.now there c.index.ensures row in
-    subst (λ ws. IsCountedIn c.args.world.now.tables c.args.world.now.state c.args.cores.now (laned c.args.self.now).offers ws c.args.self.now.ready
-    c.count_each.new.ready lane) which
-    (subst (λ (ls : List (Lane g.row.A.Denot g.row.B.Denot)). IsCountedIn c.args.world.now.tables c.args.world.now.state c.args.cores.now
-    (map (λ l. l.offers.items) ls) c.as_slice-2.result.now c.args.self.now.ready c.count_each.new.ready lane) c.as_slice.ensures.value
+    subst (λ ws. IsCountedIn c.args.cores.now (laned c.args.self.now).listed ws c.args.self.now.ready c.count_each.new.ready lane) which
+    (subst (λ (ls : List (Lane g.row.A.Denot g.row.B.Denot)). IsCountedIn c.args.cores.now (map (λ l. l.asks) ls) c.as_slice-2.result.now
+    c.args.self.now.ready c.count_each.new.ready lane) c.as_slice.ensures.value
     (c.count_each.ensures.each lane (subst (λ (ls : List (Lane g.row.A.Denot g.row.B.Denot)). lane < length ls) (sym c.as_slice.ensures.value)
     (lane-low c.args.self.now lane low))))

@@ -1,5 +1,16 @@
+use Rattle.std.proofs.Common.{ℕ, ◌∙◌, ap, subst, sym}
+use Rattle.base.specs.Steps.{block_of}
+use Rattle.schedule.specs.Lanes.{AgreeBut, laned}
+use Rattle.schedule.proofs.Counting.{all-counted}
 use Rattle.schedule.proofs.lanes.Lanes.follow.Goals as goal
 
 pub returns-clause-ready : goal.returns-clause-ready
 returns-clause-ready g c before cb sound ready agree =
-    c.count_again.ensures.ready before cb sound (c.in_ok-take_chosen.ensures.ready before cb sound ready) agree
+    let now = c.args.world.now.state in
+    let were = c.in_ok-taken.ensures.were before cb sound ready in
+    let there : AgreeBut c.args.at c.block.result.0 before now cb c.args.cores.now =
+    subst (λ (b : ℕ). AgreeBut c.args.at b before now cb c.args.cores.now) (sym (c.block.ensures ∙ ap block_of c.step.ensures)) agree in
+    all-counted c.args.world.now.tables before now cb c.args.cores.now c.in_ok-taken.taken c.args.at c.block.result.0 (laned c.take_chosen.new.self)
+    (laned c.mark_again.new.self) (laned c.count_at.new.self) (laned c.count_taken.new.self) c.in_ok-taken.ensures.kept sound were c.mark_again.ensures.same
+    (λ sn. c.mark_again.ensures.marked before cb c.args.cores.now c.in_ok-taken.taken sound sn were there) c.count_at.ensures.counts
+    c.count_at.ensures.each c.count_taken.ensures.counts c.count_taken.ensures.each there

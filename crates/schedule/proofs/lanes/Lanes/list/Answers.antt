@@ -6,8 +6,11 @@ use Rattle.std.proofs.lemmas.List.{get_or-set_same}
 use Rattle.base.specs.declared.step.CoreAsk.{CoreAsk}
 use Rattle.schedule.specs.declared.lanes.Lane.{Lane}
 use Rattle.schedule.specs.declared.lanes.Lanes.{Lanes}
-use Rattle.schedule.specs.Lanes.{laned, lanes_of}
-use Rattle.schedule.proofs.Listing.{Relists, lane-low, lane-relists, others-kept, relisted}
+use Rattle.schedule.specs.Lanes.{laned, lanes_of, listed_at}
+use Rattle.schedule.specs.Listed.{Listed}
+use Rattle.schedule.specs.inner.Owned.{IsMarkedOrSame}
+use Rattle.schedule.proofs.Kept.{lane-listed}
+use Rattle.schedule.proofs.Listing.{Relists, lane-is, lane-low, lane-relists, others-kept, relisted}
 use Rattle.schedule.proofs.lanes.Lanes.list.Given as given
 use Rattle.schedule.proofs.lanes.Lanes.list.Goals as goal
 
@@ -21,17 +24,17 @@ made g c = record {
 }
 
 relists : (g : given.Over) (c : goal.After-reach g) →
-    ((at : ℕ) (ask : CoreAsk) → slice_get c.as_slice-offers.result.now at ≡ Some ask → Contains (lanes_of (laned (made g c)).reached ask.core.0) c.args.lane) →
-    Relists c.args.lane c.list.new.self.offers.items (laned c.args.self.now) (laned (made g c))
+    ((at : ℕ) (ask : CoreAsk) → slice_get c.asks-offers.result.now at ≡ Some ask → Contains (lanes_of (laned (made g c)).reached ask.core.0) c.args.lane) →
+    Relists c.args.lane c.list.new.self.asks (laned c.args.self.now) (laned (made g c))
 relists g c reached =
     let low = lane-low c.args.self.now c.args.lane c.requires.there in
-    let listed : c.as_slice-offers.result.now ≡ c.list.new.self.offers.items =
-    c.as_slice-offers.ensures.value
-    ∙ ap (λ (x : Lane g.row.A.Denot g.row.B.Denot). x.offers.items)
+    let listed : c.asks-offers.result.now ≡ c.list.new.self.asks.asks =
+    c.asks-offers.ensures.value
+    ∙ ap (λ (x : Lane g.row.A.Denot g.row.B.Denot). x.asks.asks)
     (c.index.ensures ∙ get_or-set_same c.args.self.now.lanes.items c.args.lane c.list.new.self c.index.result.now low) in
     let fits = c.in-Ok.ensures in
     lane-relists c.args.self.now (made g c) c.args.lane c.in-Ok.length c.index_mut.result.now c.list.new.self low c.index_mut.ensures.value refl
-    c.list.ensures.rest c.in_ok-list.ensures.ok c.set.ensures (fits.1 ∙ ap length listed) (subst (λ n. n < 4294967296) (sym fits.1) fits.0) refl
+    c.list.ensures.rest c.in_ok-list.ensures.asks c.set.ensures (fits.1 ∙ ap length listed) (subst (λ n. n < 4294967296) (sym fits.1) fits.0) refl
     c.reach.ensures.more (λ at ask e. reached at ask (ap (λ xs. slice_get xs at) listed ∙ e))
 
 pub returns-clause-trees : goal.returns-clause-trees
@@ -40,10 +43,20 @@ returns-clause-trees g c = on_ok_weaker c.reach.result (λ h. (relists g c h).tr
 pub returns-clause-listed : goal.returns-clause-listed
 returns-clause-listed g c =
     on_ok_weaker c.reach.result
-    (λ h. relisted c.args.lane c.list.new.self.offers.items (laned c.args.self.now) (laned (made g c)) (relists g c h) c.requires.level c.requires.there)
+    (λ h. relisted c.args.lane c.list.new.self.asks (laned c.args.self.now) (laned (made g c)) (relists g c h) c.requires.level c.requires.there)
     c.reach.ensures.ok
 
 pub returns-clause-others : goal.returns-clause-others
 returns-clause-others g c =
     on_ok_weaker c.reach.result
-    (λ h. others-kept c.args.lane c.list.new.self.offers.items (laned c.args.self.now) (laned (made g c)) (relists g c h)) c.reach.ensures.ok
+    (λ h. others-kept c.args.lane c.list.new.self.asks (laned c.args.self.now) (laned (made g c)) (relists g c h)) c.reach.ensures.ok
+
+pub returns-clause-marks : goal.returns-clause-marks
+returns-clause-marks g c =
+    let low = lane-low c.args.self.now c.args.lane c.requires.there in
+    let before = lane-listed c.args.self.now.lanes.items c.args.lane c.index_mut.result.now low c.index_mut.ensures.value in
+    let behind = lane-is c.args.self.now (made g c) c.args.lane c.list.new.self low refl in
+    on_ok_weaker c.reach.result
+    (λ h. subst (λ (l : Listed). IsMarkedOrSame c.args.world.now.tables c.args.world.now.state l (listed_at (laned (made g c)) c.args.lane)) before
+    (subst (IsMarkedOrSame c.args.world.now.tables c.args.world.now.state c.index_mut.result.now.asks) (sym behind) c.in_ok-list.ensures.marks))
+    c.reach.ensures.ok

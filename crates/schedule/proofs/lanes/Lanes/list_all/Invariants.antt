@@ -1,5 +1,6 @@
-use Rattle.std.proofs.Common.{◌≡◌, ◌<◌, ℕ, get_or, length}
-use Rattle.schedule.specs.Lanes.{IsLevel, IsListed, laned, offers_at, puttable}
+use Rattle.std.proofs.Common.{◌≡◌, ◌<◌, ℕ, length}
+use Rattle.schedule.specs.Lanes.{IsLevel, IsListed, laned}
+use Rattle.schedule.proofs.Counting.{IsRight}
 use Rattle.schedule.proofs.lanes.Lanes.list_all.Given as goal
 
 abbrev pub invariant-loop-lane : goal.invariant-loop-lane
@@ -8,4 +9,4 @@ invariant-loop-lane g l =
     × ((laned l.self).trees ≡ (laned l.fn.self).trees)
     × (length l.self.lanes.items ≡ l.lane-end)
     × ((at : ℕ) → at < l.lane → IsListed (laned l.self) at)
-    × ((at : ℕ) → at < l.lane → get_or l.self.ready at 0 ≡ puttable l.world.tables l.world.state l.cores (offers_at (laned l.self) at))
+    × ((at : ℕ) → at < l.lane → IsRight l.world.tables l.world.state l.cores (laned l.self) at)

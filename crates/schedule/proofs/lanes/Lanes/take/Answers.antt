@@ -1,12 +1,14 @@
-use Rattle.std.proofs.Common.{refl, subst, arith}
+use Rattle.std.proofs.Common.{ap, get_or, refl, subst, arith}
 use Rattle.std.specs.Vec.{with_item}
 use Rattle.scenario.specs.Alike.{Takes}
 use Rattle.scenario.specs.Cursors.{remaining}
 use Rattle.schedule.specs.declared.lanes.Lane.{Lane}
 use Rattle.schedule.specs.declared.lanes.Lanes.{Lanes}
-use Rattle.schedule.specs.Lanes.{laned}
+use Rattle.schedule.specs.Lanes.{laned, listed_at}
+use Rattle.schedule.specs.Listed.{Listed, nothing_listed}
+use Rattle.schedule.specs.inner.Owned.{IsMarkedOrSame}
 use Rattle.schedule.proofs.Kept.{all-lengths, found-within, lane-tree}
-use Rattle.schedule.proofs.Listing.{lane-low, lane-steps, takes-from}
+use Rattle.schedule.proofs.Listing.{Steps, lane-low, lane-steps, takes-from}
 use Rattle.schedule.proofs.lanes.Lanes.take.Given as given
 use Rattle.schedule.proofs.lanes.Lanes.take.Goals as goal
 
@@ -18,7 +20,7 @@ find-found-requires g c =
 
 -- the lane that the offer was taken from, before it is listed, and the lanes with it
 abbrev taken : (g : given.Over) → goal.In_ok-list g → Lane g.row.A.Denot g.row.B.Denot
-taken g c = record { rest = c.take.new.self; offers = c.index_mut.result.now.offers }
+taken g c = record { rest = c.take.new.self; asks = c.index_mut.result.now.asks }
 
 abbrev mid : (g : given.Over) → goal.In_ok-list g → Lanes g.row.A.Denot g.row.B.Denot
 mid g c = record {
@@ -28,8 +30,13 @@ mid g c = record {
   reached = c.args.self.now.reached;
 }
 
-pub returns : goal.returns
-returns g c =
+-- another tree is left of that lane, and nothing else has changed
+steps : (g : given.Over) (c : goal.In_ok-list g) → Steps c.find-found.result.place (remaining c.take.new.self) (laned c.args.self.now) (laned (mid g c))
+steps g c =
+    lane-steps c.args.self.now (mid g c) c.find-found.result.place c.index_mut.result.now (taken g c) c.index_mut.ensures.value refl refl refl refl refl
+
+pub returns-clause-takes : goal.returns-clause-takes
+returns-clause-takes g c =
     let low = found-within c.args.self.now.lengths c.find-found.result.place c.find-found.result.rest c.find-found.ensures.within in
     let many = c.requires.kept.level.lengths in
     let there = lane-low c.args.self.now c.find-found.result.place (omega (arith, low, many)) in
@@ -37,5 +44,9 @@ returns g c =
     (laned (mid g c)) (laned c.list.new.self) c.requires.kept c.find-found.ensures
     (subst (λ t. Takes t c.find-found.result.rest c.in_ok-take.field-0 (remaining c.take.new.self))
     (lane-tree c.args.self.now.lanes.items c.find-found.result.place c.index_mut.result.now there c.index_mut.ensures.value) c.in_ok-take.ensures.ok)
-    (lane-steps c.args.self.now (mid g c) c.find-found.result.place c.index_mut.result.now (taken g c) c.index_mut.ensures.value refl refl refl refl refl)
-    c.in_ok-list.ensures.trees c.in_ok-list.ensures.level c.in_ok-list.ensures.listed c.in_ok-list.ensures.others
+    (steps g c) c.in_ok-list.ensures.trees c.in_ok-list.ensures.level c.in_ok-list.ensures.listed c.in_ok-list.ensures.others
+
+pub returns-clause-marks : goal.returns-clause-marks
+returns-clause-marks g c =
+    subst (λ (l : Listed). IsMarkedOrSame c.args.world.now.tables c.args.world.now.state l (listed_at (laned c.list.new.self) c.find-found.result.place))
+    (ap (λ ls. get_or ls c.find-found.result.place nothing_listed) (steps g c).listed) c.in_ok-list.ensures.marks

@@ -15,7 +15,8 @@ returns-in-Both-clause-rest g c =
 
 pub returns-in_ok-push-in_default-clause-rest : goal.returns-in_ok-push-in_default-clause-rest
 returns-in_ok-push-in_default-clause-rest g c =
-    let items = c.in_ok-push-in_default.ensures.items ∙ ap (λ ls. ls ++ c.unlisted.result ∷ []) c.new-lanes.ensures.items in
+    let lane = c.in_ok-lane-in_default.lane in
+    let items = c.in_ok-push-in_default.ensures.items ∙ ap (λ (ls : List (Lane g.row.A.Denot g.row.B.Denot)). ls ++ lane ∷ []) c.new-lanes.ensures.items in
     let trees : map (λ (lane : Lane g.row.A.Denot g.row.B.Denot). remaining lane.rest) c.push.new.self.items ≡ plain c.args.scenario.now ∷ [] =
-    ap (map (λ (lane : Lane g.row.A.Denot g.row.B.Denot). remaining lane.rest)) items ∙ ap (λ t. t ∷ []) c.unlisted.ensures in
+    ap (map (λ (lane : Lane g.row.A.Denot g.row.B.Denot). remaining lane.rest)) items ∙ ap (λ t. t ∷ []) c.in_ok-lane-in_default.ensures in
     subst (λ (ts : List Tree). Alike (Both (trees_of ts)) (plain c.args.scenario.now)) (sym trees) (alone (plain c.args.scenario.now))

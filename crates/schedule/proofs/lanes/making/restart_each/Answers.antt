@@ -23,7 +23,7 @@ pub returns-else-len-ne1 : goal.returns-else-len-ne1
 returns-else-len-ne1 g c =
     let one : length c.args.lanes.now.items ≡ 1 = omega (arith, c.if-len-ne1.false, c.len-in_default.ensures) in
     let trees : map (λ (lane : Lane g.row.A.Denot g.row.B.Denot). remaining lane.rest)
-    (set c.args.lanes.now.items 0 (record { rest = c.restart.new.self; offers = c.index_mut.result.now.offers })) ≡ plain c.args.scenario.now ∷ [] =
+    (set c.args.lanes.now.items 0 (record { rest = c.restart.new.self; asks = c.index_mut.result.now.asks })) ≡ plain c.args.scenario.now ∷ [] =
     only-one (λ (lane : Lane g.row.A.Denot g.row.B.Denot). remaining lane.rest) c.args.lanes.now.items _ one ∙ ap (λ t. t ∷ []) c.restart.ensures in
     record {
       count = length-set c.args.lanes.now.items 0 _;

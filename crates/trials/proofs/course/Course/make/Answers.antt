@@ -1,13 +1,13 @@
 use Rattle.std.proofs.Common.{◌∙◌, refl, ap, sym, subst}
 use Rattle.both_tables.specs.Tables.{Tables}
+use Rattle.base.specs.Steps.{block_of}
 use Rattle.base.specs.declared.step.Step.{Step}
 use Rattle.machine.specs.Machine.{next}
 use Rattle.monitor.specs.Watching.{AnswersHistory, SeesNext}
 use Rattle.record.specs.Kept.{with_entry}
-use Rattle.schedule.specs.Lanes.{AreReady, laned}
+use Rattle.schedule.specs.Lanes.{AgreeBut, AreReady, laned}
 use Rattle.trials.specs.Moments.{cores_after}
-use Rattle.trials.proofs.Counted.{agree-but, sound-before}
-use Rattle.trials.proofs.course.Course.make.Given as given
+use Rattle.trials.proofs.Counted.{agree-but, sound-before, where-sound}
 use Rattle.trials.proofs.course.Course.make.Goals as goal
 
 pub returns-clause-makes : goal.returns-clause-makes
@@ -30,12 +30,14 @@ returns-clause-makes g c =
 pub returns-clause-counted : goal.returns-clause-counted
 returns-clause-counted g c = record {
   kept = c.in_ok-follow.ensures.kept;
-  ready = λ sound.
+  ready = where-sound c.step.new.self.tables c.step.new.self.state c.note.new.cores (laned c.follow.new.self) (λ sound.
       let tables = c.in_ok-outcome.ensures.tables in
       let made = c.in_ok-outcome.ensures.ok in
       let before = sound-before c.args.self.now.world.tables c.args.self.now.world.state c.step.new.self.state c.step-step.result c.in_ok-outcome.outcome made sound in
       c.in_ok-follow.ensures.ready c.args.self.now.world.state c.args.self.now.cores before
       (subst (λ (t : Tables). AreReady t c.args.self.now.world.state c.args.self.now.cores (laned c.args.self.now.lanes)) (sym tables) c.requires.counted.ready)
+      (subst (λ (s : Step). AgreeBut c.at-at.result (block_of s) c.args.self.now.world.state c.step.new.self.state c.args.self.now.cores c.note.new.cores)
+      c.step-step.ensures
       (agree-but c.args.self.now.world.tables c.args.self.now.world.state c.step.new.self.state c.step-step.result c.in_ok-outcome.outcome c.at-at.result
-      c.args.self.now.cores c.note.new.cores made before c.at-at.ensures c.note.ensures) sound;
+      c.args.self.now.cores c.note.new.cores made before c.at-at.ensures c.note.ensures)));
 }

@@ -1,0 +1,24 @@
+use Rattle.std.proofs.Common.{refl}
+use Rattle.std.specs.Vec.{with_item}
+use Rattle.schedule.specs.declared.lanes.Lane.{Lane}
+use Rattle.schedule.specs.declared.lanes.Lanes.{Lanes}
+use Rattle.schedule.proofs.Listing.{lane-low, lane-marked}
+use Rattle.schedule.proofs.lanes.Lanes.mark_lane.Given as given
+use Rattle.schedule.proofs.lanes.Lanes.mark_lane.Goals as goal
+
+-- the lane behind it, and the lanes with it
+abbrev marked : (g : given.Over) → goal.After-self-1 g → Lane g.row.A.Denot g.row.B.Denot
+marked g c = record { rest = c.index_mut.result.now.rest; asks = c.mark_all.new.self }
+
+abbrev made : (g : given.Over) → goal.After-self-1 g → Lanes g.row.A.Denot g.row.B.Denot
+made g c = record {
+  lanes = with_item c.args.self.now.lanes c.args.lane (marked g c);
+  lengths = c.args.self.now.lengths;
+  ready = c.args.self.now.ready;
+  reached = c.args.self.now.reached;
+}
+
+pub returns : goal.returns
+returns g c =
+    lane-marked c.args.world.now.tables c.args.world.now.state c.args.self.now (made g c) c.args.lane c.index_mut.result.now (marked g c)
+    (lane-low c.args.self.now c.args.lane c.requires) c.index_mut.ensures.value refl refl c.mark_all.ensures refl refl refl

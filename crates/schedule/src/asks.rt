@@ -1,0 +1,274 @@
+//! Asks that are offered together, with a mark beside each.
+
+ghost use Rattle.std.specs.Prelude.{◌≡◌, ◌<◌, ◌+◌, ◌^◌, ◌&&◌, IfSome, OnErr, OnOk, length, map, slice_get, true};
+ghost use Rattle.cores.specs.Cores.{is_free};
+ghost use Rattle.rows.specs.Flags.{is_set};
+ghost use Rattle.schedule.specs.Listed.{is_at, is_unheld, marks_at, offers_by};
+ghost use Rattle.schedule.specs.inner.Owned.{AreOf};
+
+use crate::choosing::{Choice, step_of};
+use base::{BlockId, CacheId, CoreAsk, NoMemory};
+use cores::Cores;
+use rows::Bits;
+use scenario::{Cursor, Rest};
+use std::alloc::{Allocator, Global};
+use std::marker::Model;
+use std::mem::swap;
+use world::World;
+
+/// What a lane offers: asks, at most 4,294,967,295, and beside each whether it wouldn't be held. Whether its core is free isn't
+/// kept, so that a mark changes only where a step went to the core's cache, about the ask's block.
+#[derive(Drop)]
+pub(crate) struct Asks {
+    alloc: Global,
+    asks: Vec<CoreAsk>,
+    unheld: Bits,
+    // Whose all asks are, where there are some and they are one core's.
+    core: Option<CacheId>,
+    // Where what is offered next is listed.
+    next: Vec<CoreAsk>,
+}
+
+impl Model for Asks {
+    ghost use Rattle.schedule.specs.Listed.{Listed};
+    ghost use Rattle.schedule.specs.inner.Owned.{AreKept};
+
+    ghost Value = { Listed };
+
+    ghost view = { λ a. record { asks = a.asks.items; unheld = a.unheld } };
+
+    ghost invariant = { λ a. AreKept a.asks.items a.unheld a.core };
+}
+
+impl Asks {
+    ghost use Rattle.std.specs.Prelude.{◌≡◌, ◌<◌, ◌+◌, ◌^◌, OnOk, length, slice_get};
+    ghost use Rattle.scenario.specs.Cursors.{remaining};
+    ghost use Rattle.scenario.specs.Taking.{offers};
+    ghost use Rattle.schedule.specs.Listed.{all_marked, marked_at, offers_by};
+    ghost use Rattle.schedule.specs.inner.Owned.{IsMarkedOrSame};
+
+    /// No asks.
+    pub(crate) fn open(alloc: Global) -> Result<Asks, NoMemory> {
+        let unheld = Bits::open(alloc, 0)?;
+        Ok(Asks {
+            alloc,
+            asks: Vec::new(alloc),
+            unheld,
+            core: None,
+            next: Vec::new(alloc),
+        })
+    }
+
+    /// The asks.
+    pub(crate) fn asks(&self) -> &[CoreAsk]
+        ensures value { result.now ≡ self.now.asks }
+        ensures short { length self.now.asks < 2 ^ 32 }
+    {
+        self.asks.as_slice()
+    }
+
+    /// Lists what is offered. Where that is what was offered before, the marks stay; else it is marked.
+    pub(crate) fn list<A: Allocator, B: Allocator + Clone>(
+        &mut self,
+        rest: &Cursor<'_, A, B>,
+        world: &World,
+    ) -> Result<(), NoMemory>
+        ensures asks { OnOk result (self.new.asks ≡ offers (remaining rest.now)) }
+        ensures marked { OnOk result (IsMarkedOrSame world.now.tables world.now.state self.old self.new) }
+    {
+        self.next.clear();
+        rest.offers(&mut self.next)?;
+        if are_same(self.next.as_slice(), self.asks.as_slice()) {
+            return Ok(());
+        }
+        take_over(
+            self.alloc,
+            world,
+            &mut self.next,
+            &mut self.asks,
+            &mut self.unheld,
+        )?;
+        self.core = core_of(self.asks.as_slice());
+        Ok(())
+    }
+
+    /// Marks all asks anew.
+    pub(crate) fn mark_all(&mut self, world: &World)
+        ensures { self.new ≡ all_marked world.now.tables world.now.state self.old }
+    {
+        mark_each(world, self.asks.as_slice(), &mut self.unheld);
+    }
+
+    /// Marks a core's asks about a block anew.
+    pub(crate) fn mark(&mut self, world: &World, core: CacheId, block: BlockId)
+        ensures { self.new ≡ marked_at world.now.tables world.now.state core block self.old }
+    {
+        mark_at(world, core, block, self.asks.as_slice(), &mut self.unheld);
+    }
+
+    /// How many asks can be put, by their marks.
+    pub(crate) fn count(&self, cores: &Cores) -> u32
+        ensures { result ≡ length (offers_by cores.now 0 self.now.asks self.now.unheld) }
+    {
+        match self.core {
+            Some(core) => {
+                if cores.free(core) {
+                    self.unheld.ones()
+                } else {
+                    0
+                }
+            }
+            None => count_by(cores, self.asks.as_slice(), &self.unheld),
+        }
+    }
+
+    /// The k-th of the asks that can be put, by their marks, where the first ask has a number.
+    pub(crate) fn choice(&self, cores: &Cores, first: usize, k: u32) -> Option<Choice>
+        requires { first + length self.now.asks < 2 ^ 64 }
+        ensures { result ≡ slice_get (offers_by cores.now first self.now.asks self.now.unheld) k }
+    {
+        match self.core {
+            Some(core) => {
+                if !cores.free(core) {
+                    return None;
+                }
+                let at = self.unheld.find(k)? as usize;
+                Some(Choice::Offer(first + at, self.asks[at]))
+            }
+            None => choice_by(cores, self.asks.as_slice(), &self.unheld, first, k),
+        }
+    }
+}
+
+/// Takes the asks that were listed next in the place of those that there were, and marks them. Where memory is refused nothing has
+/// changed.
+fn take_over(
+    alloc: Global,
+    world: &World,
+    next: &mut Vec<CoreAsk>,
+    asks: &mut Vec<CoreAsk>,
+    unheld: &mut Bits,
+) -> Result<(), NoMemory>
+    ensures asks { OnOk result (asks.new.items ≡ next.old.items) }
+    ensures short { OnOk result (length asks.new.items < 2 ^ 32) }
+    ensures marks { OnOk result (unheld.new ≡ map (is_unheld world.now.tables world.now.state) asks.new.items) }
+    ensures err { OnErr result (asks.new ≡ asks.old) }
+    ensures err_marks { OnErr result (unheld.new ≡ unheld.old) }
+{
+    let Ok(count) = u32::try_from(next.len()) else {
+        return Err(NoMemory);
+    };
+    if count != unheld.places() {
+        *unheld = Bits::open(alloc, count)?;
+    }
+    swap(asks, next);
+    mark_each(world, asks.as_slice(), unheld);
+    Ok(())
+}
+
+/// Whether these are the same asks in the same order.
+fn are_same(asks: &[CoreAsk], others: &[CoreAsk]) -> bool
+    ensures { result ≡ true → asks.now ≡ others.now }
+{
+    if asks.len() != others.len() {
+        return false;
+    }
+    for (number, ask) in asks.iter().enumerate() {
+        if *ask != others[number] {
+            return false;
+        }
+    }
+    true
+}
+
+/// The core that all these asks are of, where there are some and there is one.
+fn core_of(asks: &[CoreAsk]) -> Option<CacheId>
+    ensures { IfSome result (λ core. AreOf core asks.now) }
+{
+    let core = asks.first()?.core;
+    for ask in asks {
+        if ask.core != core {
+            return None;
+        }
+    }
+    Some(core)
+}
+
+/// Whether the ask's step wouldn't be held.
+fn is_unheld(world: &World, ask: CoreAsk) -> bool
+    ensures { result ≡ is_unheld world.now.tables world.now.state ask }
+{
+    !world.held(step_of(ask))
+}
+
+/// Whether the ask is this core's, and about this block.
+fn is_at(core: CacheId, block: BlockId, ask: CoreAsk) -> bool
+    ensures { result ≡ is_at core block ask }
+{
+    ask.core.0 == core.0 && ask.block.0 == block.0
+}
+
+/// Marks these asks.
+fn mark_each(world: &World, asks: &[CoreAsk], unheld: &mut Bits)
+    requires long { length unheld.old ≡ length asks.now }
+    requires short { length asks.now < 2 ^ 32 }
+    ensures { unheld.new ≡ map (is_unheld world.now.tables world.now.state) asks.now }
+{
+    for (number, ask) in asks.iter().enumerate() {
+        unheld.set(number as u32, is_unheld(world, *ask));
+    }
+}
+
+/// Marks a core's asks about a block anew.
+fn mark_at(world: &World, core: CacheId, block: BlockId, asks: &[CoreAsk], unheld: &mut Bits)
+    requires long { length unheld.old ≡ length asks.now }
+    requires short { length asks.now < 2 ^ 32 }
+    ensures { unheld.new ≡ marks_at world.now.tables world.now.state core block asks.now unheld.old }
+{
+    for (number, ask) in asks.iter().enumerate() {
+        if is_at(core, block, *ask) {
+            unheld.set(number as u32, is_unheld(world, *ask));
+        }
+    }
+}
+
+/// Whether the ask of this number can be put, by its mark.
+fn is_ready(cores: &Cores, unheld: &Bits, number: u32, ask: CoreAsk) -> bool
+    ensures { result ≡ (is_free cores.now ask.core.0 && is_set unheld.now number) }
+{
+    cores.free(ask.core) && unheld.contains(number)
+}
+
+/// How many of these asks can be put, by their marks.
+fn count_by(cores: &Cores, asks: &[CoreAsk], unheld: &Bits) -> u32
+    requires long { length unheld.now ≡ length asks.now }
+    requires short { length asks.now < 2 ^ 32 }
+    ensures { result ≡ length (offers_by cores.now 0 asks.now unheld.now) }
+{
+    let mut count = 0;
+    for (number, ask) in asks.iter().enumerate() {
+        if is_ready(cores, unheld, number as u32, *ask) {
+            count += 1;
+        }
+    }
+    count
+}
+
+/// The k-th of these asks that can be put, by their marks, where the first ask has a number.
+fn choice_by(cores: &Cores, asks: &[CoreAsk], unheld: &Bits, first: usize, k: u32) -> Option<Choice>
+    requires long { length unheld.now ≡ length asks.now }
+    requires short { length asks.now < 2 ^ 32 }
+    requires fits { first + length asks.now < 2 ^ 64 }
+    ensures { result ≡ slice_get (offers_by cores.now first asks.now unheld.now) k }
+{
+    let mut left = k;
+    for (number, ask) in asks.iter().enumerate() {
+        if is_ready(cores, unheld, number as u32, *ask) {
+            if left == 0 {
+                return Some(Choice::Offer(first + number, *ask));
+            }
+            left -= 1;
+        }
+    }
+    None
+}
