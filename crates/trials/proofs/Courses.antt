@@ -82,15 +82,15 @@ tracked terms tree number c g =
     (path-tracked terms tree number g.moments c.recording.entries g.path (length c.recording.entries) g.last g.at_last))
 
 pub can-be-made : (terms : Terms) (tree : Tree) (number : ℕ) (c chosen : Course) (choice : Choice) → IsGoing terms tree number c →
-    Chooses c (Some choice) chosen → CanBeMade choice chosen
+    Chooses c (Some choice) chosen → CanBeMade choice chosen.world.tables (moment_of chosen)
 can-be-made terms tree number c chosen choice g taken =
-    let made : CanBeMade choice c = record {
+    let made : CanBeMade choice c.world.tables (moment_of c) = record {
       offered = choice-offered c.world.tables c.world.state c.cores c.rest _ choice taken.0;
       notable =
           choice-notable c.world.tables c.world.state c.cores choice (tracked terms tree number c g)
           (choice-fair c.world.tables c.world.state c.cores c.rest _ choice taken.0);
     } in
-    subst (CanBeMade choice) (sym taken.1) (record { offered = made.offered; notable = made.notable })
+    subst (λ (x : Course). CanBeMade choice x.world.tables (moment_of x)) (sym taken.1) made
 
 -- ---- the end
 
@@ -115,7 +115,7 @@ at-rest-here same c last state cores alike rest = record {
 
 verdict-at-rest : SameOffers → SameChoices →
     (terms : Terms) (tree : Tree) (number : ℕ) (c : Course) (verdict : Verdict) (g : IsGoing terms tree number c) → choices_on c ≡ [] →
-    IsVerdictAtRest c verdict → IsVerdict terms (steps_of c.recording) g.last verdict
+    IsVerdictAtRest (moment_of c) verdict → IsVerdict terms (steps_of c.recording) g.last verdict
 verdict-at-rest offered same terms tree number c Quiet g none rest =
     (g.clean, sym (same-choices same terms tree number c g) ∙ none, at-rest-there offered c g.last g.state g.cores g.alike rest)
 verdict-at-rest offered same terms tree number c Stuck g none rest =
@@ -124,7 +124,7 @@ verdict-at-rest offered same terms tree number c Cut g none rest = absurd rest
 verdict-at-rest offered same terms tree number c (Broke violation) g none rest = absurd rest
 
 pub ends-at-rest : SameOffers → SameChoices → (terms : Terms) (tree : Tree) (number : ℕ) (c chosen : Course) (verdict : Verdict) →
-    IsGoing terms tree number c → length c.recording.entries ≤ terms.limit → Chooses c None chosen → IsVerdictAtRest chosen verdict →
+    IsGoing terms tree number c → length c.recording.entries ≤ terms.limit → Chooses c None chosen → IsVerdictAtRest (moment_of chosen) verdict →
     IsTrial terms tree number chosen.recording verdict
 ends-at-rest offered same terms tree number c chosen verdict g few none rest =
     subst (λ (x : Course). IsTrial terms tree number x.recording verdict) (sym none.1) (record {
@@ -136,5 +136,5 @@ ends-at-rest offered same terms tree number c chosen verdict g few none rest =
       path = g.path;
       at_last = g.at_last;
       few = few;
-      ends = verdict-at-rest offered same terms tree number c verdict g none.0 (subst (λ (x : Course). IsVerdictAtRest x verdict) none.1 rest);
+      ends = verdict-at-rest offered same terms tree number c verdict g none.0 (subst (λ (x : Course). IsVerdictAtRest (moment_of x) verdict) none.1 rest);
     })

@@ -5,6 +5,7 @@ use Rattle.rand_pcg.specs.Pcg.{multiplier_64}
 use Rattle.base.specs.declared.step.CoreAsk.{CoreAsk}
 use Rattle.base.specs.declared.step.Step.{Step}
 use Rattle.base.specs.declared.step.Outcome.{Outcome}
+use Rattle.both_tables.specs.Tables.{Tables}
 use Rattle.machine.specs.Machine as machine
 use Rattle.machine.specs.Machine.{after, opened}
 use Rattle.machine.specs.Completions.{Completion, completed_by}
@@ -15,7 +16,7 @@ use Rattle.cores.specs.Cores.{Core, idle, is_free}
 use Rattle.scenario.specs.Tree.{Tree}
 use Rattle.scenario.specs.Alike.{Alike}
 use Rattle.schedule.specs.Choices.{chosen_step, IsOffered, rest_after}
-use Rattle.schedule.specs.Lanes.{AreReady, IsKept, Laned, laned, whole}
+use Rattle.schedule.specs.Lanes.{AreReady, IsKept, laned, whole}
 use Rattle.schedule.specs.Words.{dice, dice_after, word_of}
 use Rattle.schedule.specs.declared.choosing.Choice.{Choice}
 use Rattle.record.specs.Kept.{Kept, opened_recording, steps_of, with_entry}
@@ -26,36 +27,38 @@ use Rattle.trials.specs.Terms.{Terms, AreLawful}
 use Rattle.trials.specs.Moments.{Moment, IsPath, choices_at, put_by, with_issued, cores_after}
 use Rattle.trials.specs.Trial.{AreClean, IsAtRest, IsTrial}
 
--- the parts of a trial: its world and what watches it, the cores, what is left of the scenario, by its lanes, the dice, and the recording
+-- the parts of a trial: its world and what watches it, the cores, what is left of the scenario, the dice, and the recording
 pub record Course : Type 0 where
   pub world : View
   pub watch : List ℕ
   pub cores : List Core
   pub rest : Tree
-  pub lanes : Laned
   pub dice : Lcg
   pub recording : Kept
 
--- the parts of a trial, as its code keeps them
-abbrev pub parts_of : {A : Type 0} → course.Course A → Course
-parts_of c = record {
+-- the parts of a trial, as its code keeps them, where its notes tell of this recording
+abbrev pub parts_of : {A N : Type 0} → Kept → course.Course A N → Course
+parts_of r c = record {
   world = c.world;
   watch = c.watch;
   cores = c.cores;
   rest = whole (laned c.lanes);
-  lanes = laned c.lanes;
   dice = c.dice;
-  recording = c.recording;
+  recording = r;
 }
 
 -- what is kept of the lanes is right, and so are the counts of what can be put
-pub record IsCounted (c : Course) : Type 0 where
-  pub kept : IsKept c.lanes
-  pub ready : AreReady c.world.tables c.world.state c.cores c.lanes
+pub record IsCounted {A N : Type 0} (c : course.Course A N) : Type 0 where
+  pub kept : IsKept (laned c.lanes)
+  pub ready : AreReady c.world.tables c.world.state c.cores (laned c.lanes)
 
 -- the moment that it is at
 abbrev pub moment_of : Course → Moment
 moment_of c = record { state = c.world.state; cores = c.cores; rest = c.rest }
+
+-- the same, read off the code's parts, which say nothing of a recording
+abbrev pub now_of : {A N : Type 0} → course.Course A N → Moment
+now_of c = record { state = c.world.state; cores = c.cores; rest = whole (laned c.lanes) }
 
 -- the choices that there are
 abbrev pub choices_on : Course → List Choice
@@ -78,6 +81,10 @@ pub record IsGoing (terms : Terms) (tree : Tree) (number : ℕ) (c : Course) : T
   pub seen : HasSeen c.world terms.opening (steps_of c.recording) c.watch
   pub clean : AreClean terms (steps_of c.recording)
 
+-- the recording of a trial that starts
+abbrev pub blank : Terms → Kept
+blank terms = opened_recording terms.shape terms.tables terms.opening
+
 -- the parts of a trial that starts
 pub record Starts (terms : Terms) (tree : Tree) (number : ℕ) (c : Course) : Type 0 where
   pub shape : c.world.shape ≡ terms.shape
@@ -87,25 +94,28 @@ pub record Starts (terms : Terms) (tree : Tree) (number : ℕ) (c : Course) : Ty
   pub cores : c.cores ≡ replicate terms.shape.caches idle
   pub rest : Alike c.rest tree
   pub dice : c.dice ≡ dice terms.seed number
-  pub recording : c.recording ≡ opened_recording terms.shape terms.tables terms.opening
+  pub recording : c.recording ≡ blank terms
+
+-- its notes tell of no entry, and its parts are those of a trial that starts
+pub record Begins {A N : Type 0} (tells : N → Kept → Type 0) (terms : Terms) (tree : Tree) (number : ℕ) (c : course.Course A N) : Type 0 where
+  pub told : tells c.notes (blank terms)
+  pub starts : Starts terms tree number (parts_of (blank terms) c)
   pub counted : IsCounted c
 
--- it is a trial under these terms, whatever has come of it: its world and its recording are of their shape, under their tables,
--- and the recording has their opening values
-pub record IsUnder (terms : Terms) (c : Course) : Type 0 where
-  pub shape : (c.world.shape ≡ terms.shape) × (c.recording.shape ≡ terms.shape)
-  pub tables : (c.world.tables ≡ terms.tables) × (c.recording.tables ≡ terms.tables)
-  pub opening : c.recording.opening ≡ terms.opening
+-- the world of a trial is one under these terms, whatever has come of it
+pub record IsUnder (terms : Terms) (world : View) : Type 0 where
+  pub shape : world.shape ≡ terms.shape
+  pub tables : world.tables ≡ terms.tables
 
 -- under whatever terms one is, the other is too
-pub record IsLike (old new : Course) : Type 0 where
-  pub shape : (new.world.shape ≡ old.world.shape) × (new.recording.shape ≡ old.recording.shape)
-  pub tables : (new.world.tables ≡ old.world.tables) × (new.recording.tables ≡ old.recording.tables)
-  pub opening : new.recording.opening ≡ old.recording.opening
+pub record IsLike (old new : View) : Type 0 where
+  pub shape : new.shape ≡ old.shape
+  pub tables : new.tables ≡ old.tables
 
 -- some trial starts so, of at most so many steps
-abbrev pub IsStart : ℕ → Course → Type 0
-IsStart limit c = (terms : Terms) × (tree : Tree) × (number : ℕ) × (terms.limit ≡ limit) × AreLawful terms × Starts terms tree number c
+abbrev pub IsStart : {A N : Type 0} → (N → Kept → Type 0) → ℕ → course.Course A N → Type 0
+IsStart tells limit c =
+    (terms : Terms) × (tree : Tree) × (number : ℕ) × (terms.limit ≡ limit) × AreLawful terms × Begins tells terms tree number c
 
 -- a word of the dice has chosen, where there is a choice, and nothing else has changed
 abbrev pub Chooses : Course → Option Choice → Course → Type 0
@@ -114,10 +124,10 @@ Chooses old (Some choice) new =
     (slice_get (choices_on old) (word_of old.dice % length (choices_on old)) ≡ Some choice) × (new ≡ record old { dice = next 64 multiplier_64 old.dice })
 
 -- the verdict where there is no choice: whether nothing is left to do
-abbrev pub IsVerdictAtRest : Course → Verdict → Type 0
-IsVerdictAtRest c Quiet = IsAtRest (moment_of c)
-IsVerdictAtRest c Stuck = ¬ IsAtRest (moment_of c)
-IsVerdictAtRest c other = ⊥
+abbrev pub IsVerdictAtRest : Moment → Verdict → Type 0
+IsVerdictAtRest m Quiet = IsAtRest m
+IsVerdictAtRest m Stuck = ¬ IsAtRest m
+IsVerdictAtRest m other = ⊥
 
 -- the choice's step has been made, noted, recorded and looked at
 pub record Makes (old : Course) (choice : Choice) (new : Course) (violation : Option Violation) : Type 0 where
@@ -131,6 +141,11 @@ pub record Makes (old : Course) (choice : Choice) (new : Course) (violation : Op
   pub recorded : new.recording ≡ with_entry old.recording (record { step = chosen_step choice; outcome = outcome })
   pub answer : AnswersHistory new.world old.watch (chosen_step choice) outcome violation
   pub seen : SeesNext new.world old.watch (chosen_step choice) outcome new.watch
+
+-- so it is of each recording of which the old notes told, and the new ones tell of what it has become
+abbrev pub MakesNoted : {A N : Type 0} → (N → Kept → Type 0) → course.Course A N → Choice → course.Course A N → Option Violation → Type 0
+MakesNoted tells old choice new violation =
+    (r : Kept) → tells old.notes r → (made : Kept) × tells new.notes made × Makes (parts_of r old) choice (parts_of made new) violation
 
 -- these cores are free
 abbrev pub AreFree : List CoreAsk → List Core → Type 0
@@ -146,16 +161,16 @@ pub record CanBeNoted (step : Step) (outcome : Outcome) (cores : List Core) : Ty
   pub completes : AreBusy (completed_by step outcome) (with_issued (put_by step outcome) cores)
 
 -- a choice can be made: what it takes is offered, and what comes of its step can be noted
-pub record CanBeMade (choice : Choice) (c : Course) : Type 0 where
-  pub offered : IsOffered choice c.rest
-  pub notable : CanBeNoted (chosen_step choice) (machine.next c.world.tables c.world.state (chosen_step choice)).outcome c.cores
+pub record CanBeMade (choice : Choice) (tables : Tables) (m : Moment) : Type 0 where
+  pub offered : IsOffered choice m.rest
+  pub notable : CanBeNoted (chosen_step choice) (machine.next tables m.state (chosen_step choice)).outcome m.cores
 
 -- with this violation, if there is one, the trial has ended; else it goes on, with one more entry
 abbrev pub GoesOn : Terms → Tree → ℕ → Course → Option Violation → Type 0
 GoesOn terms tree number c None = IsGoing terms tree number c
 GoesOn terms tree number c (Some violation) = IsTrial terms tree number c.recording (Broke violation)
 
--- the recording and the verdict are those of the trial that started so
-abbrev pub Ends : Course → ℕ → Course → Verdict → Type 0
-Ends old limit new verdict =
-    (terms : Terms) (tree : Tree) (number : ℕ) → terms.limit ≡ limit → Starts terms tree number old → IsTrial terms tree number new.recording verdict
+-- the notes tell of the recording of the trial that began so, whose verdict this is
+abbrev pub Ends : {A N : Type 0} → (N → Kept → Type 0) → course.Course A N → ℕ → course.Course A N → Verdict → Type 0
+Ends tells old limit new verdict = (terms : Terms) (tree : Tree) (number : ℕ) → terms.limit ≡ limit → Begins tells terms tree number old →
+    (r : Kept) × tells new.notes r × IsTrial terms tree number r verdict

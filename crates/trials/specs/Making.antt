@@ -3,7 +3,7 @@ use Rattle.std.specs.Prelude.{IfSome}
 use Rattle.scenario.specs.Tree.{plain}
 use Rattle.trials.specs.declared.series.Series.{Series}
 use Rattle.trials.specs.Terms.{Plan}
-use Rattle.trials.specs.Going.{IsUnder, parts_of}
+use Rattle.trials.specs.Going.{IsUnder}
 
 -- what the trials of a series are: those of its scenario under its setup
 abbrev pub planned : {A : Type 0} → Series A → Plan
@@ -11,4 +11,4 @@ planned s = record { terms = s.setup.now; tree = plain s.scenario.now }
 
 -- whatever has come of the last trial of a series, it was one under the series' setup
 abbrev pub CanGoOn : {A : Type 0} → Series A → Type 0
-CanGoOn s = IfSome s.course (λ course. IsUnder s.setup.now (parts_of course))
+CanGoOn s = IfSome s.course (λ course. IsUnder s.setup.now course.world)

@@ -1,6 +1,7 @@
 //! A trial on its way, step by step.
 
 use crate::going::trials_go_on;
+use crate::notes::Notes;
 use crate::noting::note;
 use crate::setup::Setup;
 use crate::verdict::Verdict;
@@ -8,40 +9,43 @@ use base::{NoMemory, Outcome, Step};
 use bumpalo::Bump;
 use cores::Cores;
 use monitor::{Violation, Watch};
-use record::{Entry, Recording};
+use record::Entry;
 use scenario::Scenario;
 use schedule::{Choice, Dice, Lanes};
 use std::alloc::{Allocator, Global};
 use world::World;
 
-/// A trial on its way. Lanes, with the parts of their cursors in an arena, say what is left of its scenario.
+/// A trial on its way. Lanes, with the parts of their cursors in an arena, say what is left of its scenario, and notes
+/// what it has done.
 #[derive(Drop)]
-pub(crate) struct Course<'s, 'b, A: Allocator> {
+pub(crate) struct Course<'s, 'b, A: Allocator, N: Notes> {
     world: World,
     watch: Watch,
     cores: Cores,
     lanes: Lanes<'s, A, &'b Bump>,
     dice: Dice,
-    recording: Recording,
+    notes: N,
 }
 
-impl<'s, 'b, A: Allocator> Course<'s, 'b, A> {
+impl<'s, 'b, A: Allocator, N: Notes> Course<'s, 'b, A, N> {
     ghost use Rattle.std.specs.Prelude.{◌≡◌, ◌<◌, IfOk, OnOk, length};
+    ghost use Rattle.record.specs.Kept.{Kept};
     ghost use Rattle.scenario.specs.Tree.{plain};
-    ghost use Rattle.trials.specs.Going.{CanBeMade, Chooses, Ends, IsCounted, IsLike, IsStart, IsUnder, IsVerdictAtRest, Makes, Starts, parts_of};
+    ghost use Rattle.trials.specs.Going.{Begins, CanBeMade, Chooses, Ends, IsCounted, IsLike, IsStart, IsUnder, IsVerdictAtRest, MakesNoted, blank, now_of, parts_of};
 
-    /// The start of the trial of this number.
+    /// The start of the trial of this number, with notes of no entry.
     pub(crate) fn open(
         alloc: Global,
         scenario: &'s Scenario<A>,
         setup: &Setup,
         number: u32,
-    ) -> Result<Course<'s, 'b, A>, NoMemory>
-        ensures { IfOk result (λ course. Starts setup.now (plain scenario.entry.now) number (parts_of course)) }
+        notes: N,
+    ) -> Result<Course<'s, 'b, A, N>, NoMemory>
+        requires { N.tells notes (blank setup.now) }
+        ensures { IfOk result (λ course. Begins N.tells setup.now (plain scenario.entry.now) number course) }
     {
         let world = setup.open_world(alloc)?;
         let watch = Watch::open(alloc, setup.opening())?;
-        let recording = setup.open_recording(alloc)?;
         let caches = setup.shape().caches();
         let cores = Cores::open(alloc, caches)?;
         let lanes = Lanes::open(alloc, scenario, caches, &world, &cores)?;
@@ -51,25 +55,28 @@ impl<'s, 'b, A: Allocator> Course<'s, 'b, A> {
             cores,
             lanes,
             dice: Dice::new(setup.seed(), u64::from(number)),
-            recording,
+            notes,
         })
     }
 
-    /// The start of the trial of this number, whatever trial under this setup it was before. Its memory is used again.
+    /// The start of the trial of this number, with notes of no entry, whatever trial under this setup it was before. Its
+    /// memory is used again.
     pub(crate) fn restart(
         &mut self,
         alloc: Global,
         scenario: &'s Scenario<A>,
         setup: &Setup,
         number: u32,
+        notes: N,
     ) -> Result<(), NoMemory>
-        requires { IsUnder setup.now (parts_of self.old) }
-        ensures under { IsUnder setup.now (parts_of self.new) }
-        ensures ok { OnOk result (Starts setup.now (plain scenario.entry.now) number (parts_of self.new)) }
+        requires under { IsUnder setup.now self.old.world }
+        requires notes { N.tells notes (blank setup.now) }
+        ensures under { IsUnder setup.now self.new.world }
+        ensures ok { OnOk result (Begins N.tells setup.now (plain scenario.entry.now) number self.new) }
     {
         let caches = setup.shape().caches();
         self.world.reset(setup.opening());
-        self.recording.clear();
+        self.notes = notes;
         self.dice = Dice::new(setup.seed(), u64::from(number));
         self.watch.reset(setup.opening())?;
         self.cores.reset(caches)?;
@@ -79,9 +86,9 @@ impl<'s, 'b, A: Allocator> Course<'s, 'b, A> {
 
     /// Makes steps until the trial ends, at most so many.
     pub(crate) fn run(&mut self, arena: &'b Bump, limit: u32) -> Result<Verdict, NoMemory>
-        requires { IsStart limit (parts_of self.old) }
-        ensures ends { IfOk result (λ verdict. Ends (parts_of self.old) limit (parts_of self.new) verdict) }
-        ensures alike { IsLike (parts_of self.old) (parts_of self.new) }
+        requires { IsStart N.tells limit self.old }
+        ensures ends { IfOk result (λ verdict. Ends N.tells self.old limit self.new verdict) }
+        ensures alike { IsLike self.old.world self.new.world }
     {
         trials_go_on();
         for made in 0..limit {
@@ -100,8 +107,11 @@ impl<'s, 'b, A: Allocator> Course<'s, 'b, A> {
 
     /// Draws one of the choices, if there is any.
     fn choose(&mut self) -> Option<Choice>
-        requires { IsCounted (parts_of self.old) }
-        ensures { Chooses (parts_of self.old) result (parts_of self.new) }
+        requires { IsCounted self.old }
+        ensures chooses { (r : Kept) → Chooses (parts_of r self.old) result (parts_of r self.new) }
+        ensures counted { IsCounted self.new }
+        ensures notes { self.new.notes ≡ self.old.notes }
+        ensures world { self.new.world ≡ self.old.world }
     {
         let count = self.lanes.count(&self.world, &self.cores);
         if count == 0 {
@@ -119,12 +129,12 @@ impl<'s, 'b, A: Allocator> Course<'s, 'b, A> {
 
     /// Makes a choice, and answers the violation that its step shows.
     fn make(&mut self, arena: &'b Bump, choice: Choice) -> Result<Option<Violation>, NoMemory>
-        requires choice { CanBeMade choice (parts_of self.old) }
-        requires counted { IsCounted (parts_of self.old) }
-        requires room { length self.old.recording.entries < 1000000 }
-        ensures makes { IfOk result (λ violation. Makes (parts_of self.old) choice (parts_of self.new) violation) }
-        ensures counted { OnOk result (IsCounted (parts_of self.new)) }
-        ensures alike { IsLike (parts_of self.old) (parts_of self.new) }
+        requires choice { CanBeMade choice self.old.world.tables (now_of self.old) }
+        requires counted { IsCounted self.old }
+        requires room { (r : Kept) × N.tells self.old.notes r × (length r.entries < 1000000) }
+        ensures makes { IfOk result (λ violation. MakesNoted N.tells self.old choice self.new violation) }
+        ensures counted { OnOk result (IsCounted self.new) }
+        ensures alike { IsLike self.old.world self.new.world }
     {
         let step = choice.step();
         let at = self.world.at(step);
@@ -132,16 +142,14 @@ impl<'s, 'b, A: Allocator> Course<'s, 'b, A> {
         note(&mut self.cores, step, outcome);
         let (world, cores) = (&self.world, &self.cores);
         self.lanes.follow(arena, choice, at, world, cores)?;
-        if let Err(_) = self.recording.push(Entry { step, outcome }) {
-            return Err(NoMemory);
-        }
+        self.notes.add(Entry { step, outcome })?;
         Ok(self.watch.see(&self.world, step, outcome))
     }
 
     /// The verdict where there is no choice.
     fn verdict_at_rest(&self) -> Verdict
-        requires { IsCounted (parts_of self.now) }
-        ensures { IsVerdictAtRest (parts_of self.now) result }
+        requires { IsCounted self.now }
+        ensures { IsVerdictAtRest (now_of self.now) result }
     {
         if self.lanes.is_done() && self.world.empty() && self.cores.all_free() {
             Verdict::Quiet
@@ -152,15 +160,15 @@ impl<'s, 'b, A: Allocator> Course<'s, 'b, A> {
 
     /// How many steps the trial has made.
     pub(crate) fn steps(&self) -> u32
-        ensures { result ≡ length self.now.recording.entries }
+        ensures { (r : Kept) → N.tells self.now.notes r → result ≡ length r.entries }
     {
-        self.recording.entries().len() as u32
+        self.notes.count()
     }
 
-    /// What the trial has done.
-    pub(crate) fn into_recording(self) -> Recording
-        ensures { result ≡ self.entry.recording }
+    /// The notes of what the trial has done.
+    pub(crate) fn into_notes(self) -> N
+        ensures { result ≡ self.entry.notes }
     {
-        self.recording
+        self.notes
     }
 }

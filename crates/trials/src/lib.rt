@@ -6,6 +6,7 @@ mod course;
 mod going;
 mod laws;
 mod making;
+mod notes;
 mod noting;
 mod series;
 mod setup;

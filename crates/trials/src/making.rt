@@ -49,9 +49,10 @@ pub fn trial<A: Allocator>(
     trials_under_restrained_tables();
     trials_under_the_own_tables();
     let arena = Bump::new(alloc);
-    let mut course = Course::open(alloc, scenario, setup, number)?;
+    let recording = setup.open_recording(alloc)?;
+    let mut course = Course::open(alloc, scenario, setup, number, recording)?;
     let verdict = course.run(&arena, setup.limit())?;
-    let recording = course.into_recording();
+    let recording = course.into_notes();
     let steps = recording.entries().len() as u32;
     Ok(Trial {
         recording,

@@ -3,11 +3,13 @@
 ghost use Rattle.std.specs.Prelude.{◌≡◌, IfOk};
 ghost use Rattle.both_tables.specs.Tables.{baseline};
 ghost use Rattle.scenario.specs.Tree.{Tree, plain};
-ghost use Rattle.trials.specs.Going.{IsLike, Starts, parts_of};
+ghost use Rattle.trials.specs.Going.{Begins, IsLike};
+ghost use Rattle.trials.specs.Notes.{counts};
 ghost use Rattle.trials.specs.Trial.{IsResult, IsSound};
 
 use crate::course::Course;
 use crate::laws::trials_under_the_own_tables;
+use crate::notes::Tally;
 use crate::setup::Setup;
 use crate::verdict::TrialResult;
 use base::NoMemory;
@@ -23,7 +25,7 @@ pub struct Series<'s, 'b, A: Allocator> {
     scenario: &'s Scenario<A>,
     setup: &'s Setup,
     // The last trial, if there was one.
-    course: Option<Course<'s, 'b, A>>,
+    course: Option<Course<'s, 'b, A, Tally>>,
 }
 
 impl<'s, 'b, A: Allocator> Series<'s, 'b, A> {
@@ -52,7 +54,7 @@ impl<'s, 'b, A: Allocator> Series<'s, 'b, A> {
         }
     }
 
-    /// The result of the trial of this number, which is that of [`trial`](crate::trial). Its recording isn't kept.
+    /// The result of the trial of this number, which is that of [`trial`](crate::trial). Its steps are counted, and not kept.
     pub fn result(&mut self, number: u32) -> Result<TrialResult, NoMemory>
         requires { CanGoOn self.old }
         ensures result { IfOk result (λ made. IsResult (planned self.old).terms (planned self.old).tree number made) }
@@ -61,10 +63,10 @@ impl<'s, 'b, A: Allocator> Series<'s, 'b, A> {
         ensures can_go_on { CanGoOn self.new }
     {
         if let Some(course) = &mut self.course {
-            course.restart(self.alloc, self.scenario, self.setup, number)?;
+            course.restart(self.alloc, self.scenario, self.setup, number, Tally::new())?;
             return finish(course, self.arena, self.scenario, self.setup, number);
         }
-        let mut course = Course::open(self.alloc, self.scenario, self.setup, number)?;
+        let mut course = Course::open(self.alloc, self.scenario, self.setup, number, Tally::new())?;
         let made = finish(&mut course, self.arena, self.scenario, self.setup, number)?;
         self.course = Some(course);
         Ok(made)
@@ -73,16 +75,16 @@ impl<'s, 'b, A: Allocator> Series<'s, 'b, A> {
 
 /// Makes the trial of this number, from its start.
 fn finish<'s, 'b, A: Allocator>(
-    course: &mut Course<'s, 'b, A>,
+    course: &mut Course<'s, 'b, A, Tally>,
     arena: &'b Bump,
     scenario: &Scenario<A>,
     setup: &Setup,
     number: u32,
 ) -> Result<TrialResult, NoMemory>
-    requires { Starts setup.now (plain scenario.now) number (parts_of course.old) }
+    requires { Begins counts setup.now (plain scenario.now) number course.old }
     ensures result { IfOk result (λ made. IsResult setup.now (plain scenario.now) number made) }
     ensures sound { setup.now.tables ≡ baseline → IfOk result (λ made. IsSound made.verdict) }
-    ensures alike { IsLike (parts_of course.old) (parts_of course.new) }
+    ensures alike { IsLike course.old.world course.new.world }
 {
     trials_under_the_own_tables();
     let verdict = course.run(arena, setup.limit())?;

@@ -1,4 +1,4 @@
-use Rattle.std.proofs.Common.{sym, subst}
+use Rattle.std.proofs.Common.{◌∙◌, sym, subst}
 use Rattle.scenario.specs.Tree.{plain}
 use Rattle.record.specs.Kept.{Kept}
 use Rattle.trials.specs.Trial.{IsTrial}
@@ -6,8 +6,10 @@ use Rattle.trials.proofs.making.trial.Goals as goal
 
 pub returns-clause-trial : goal.returns-clause-trial
 returns-clause-trial g c =
-    subst (λ (r : Kept). IsTrial c.args.setup.now (plain c.args.scenario.now) c.args.number r c.in_ok-verdict.verdict) (sym c.into_recording-recording.ensures)
-    (c.in_ok-verdict.ensures.ends c.args.setup.now (plain c.args.scenario.now) c.args.number (sym c.limit.ensures.value) c.in_ok-course.ensures)
+    let ended =
+    c.in_ok-verdict.ensures.ends c.args.setup.now (plain c.args.scenario.now) c.args.number (sym c.limit.ensures.value) c.in_ok-course.ensures in
+    subst (λ (r : Kept). IsTrial c.args.setup.now (plain c.args.scenario.now) c.args.number r c.in_ok-verdict.verdict)
+    (sym (c.into_notes-recording.ensures ∙ ended.1)) ended.2
 
 pub returns-clause-legal : goal.returns-clause-legal
 returns-clause-legal g c =
@@ -16,10 +18,10 @@ returns-clause-legal g c =
 
 pub returns-clause-in_turn : goal.returns-clause-in_turn
 returns-clause-in_turn g c =
-    let trial : IsTrial c.args.setup.now (plain c.args.scenario.now) c.args.number c.into_recording-recording.result c.in_ok-verdict.verdict =
+    let trial : IsTrial c.args.setup.now (plain c.args.scenario.now) c.args.number c.into_notes-recording.result c.in_ok-verdict.verdict =
     returns-clause-trial g c in
     c.cores_are_answered_in_turn.ensures c.args.setup.now
-    (plain c.args.scenario.now) c.args.number trial.moments c.into_recording-recording.result.entries trial.path
+    (plain c.args.scenario.now) c.args.number trial.moments c.into_notes-recording.result.entries trial.path
 
 pub returns-clause-broke : goal.returns-clause-broke
 returns-clause-broke g c =

@@ -11,21 +11,24 @@ use Rattle.trials.proofs.Counted.{agree-but, sound-before, where-sound}
 use Rattle.trials.proofs.course.Course.make.Goals as goal
 
 pub returns-clause-makes : goal.returns-clause-makes
-returns-clause-makes g c =
-    let is = c.step-step.ensures in
-    record {
-      outcome = c.in_ok-outcome.outcome;
-      made = ap (next c.args.self.now.world.tables c.args.self.now.world.state) (sym is) ∙ c.in_ok-outcome.ensures.ok;
-      shape = c.in_ok-outcome.ensures.shape;
-      tables = c.in_ok-outcome.ensures.tables;
-      cores = c.note.ensures ∙ ap (λ s. cores_after s c.in_ok-outcome.outcome c.args.self.now.cores) is;
-      rest = c.in_ok-follow.ensures.rest;
-      dice = refl;
-      recorded = c.in_default.ensures.ok ∙ ap (λ s. with_entry c.args.self.now.recording (record { step = s; outcome = c.in_ok-outcome.outcome })) is;
-      answer =
-          subst (λ (s : Step). AnswersHistory c.step.new.self c.args.self.now.watch s c.in_ok-outcome.outcome c.see.result) is c.see.ensures.history;
-      seen = subst (λ (s : Step). SeesNext c.step.new.self c.args.self.now.watch s c.in_ok-outcome.outcome c.see.new.self) is c.see.ensures.seen;
-    }
+returns-clause-makes g c r told =
+    let is = c.step-step.ensures in (
+      with_entry r (record { step = c.step-step.result; outcome = c.in_ok-outcome.outcome }),
+      c.in_ok-add.ensures r told,
+      record {
+        outcome = c.in_ok-outcome.outcome;
+        made = ap (next c.args.self.now.world.tables c.args.self.now.world.state) (sym is) ∙ c.in_ok-outcome.ensures.ok;
+        shape = c.in_ok-outcome.ensures.shape;
+        tables = c.in_ok-outcome.ensures.tables;
+        cores = c.note.ensures ∙ ap (λ s. cores_after s c.in_ok-outcome.outcome c.args.self.now.cores) is;
+        rest = c.in_ok-follow.ensures.rest;
+        dice = refl;
+        recorded = ap (λ (s : Step). with_entry r (record { step = s; outcome = c.in_ok-outcome.outcome })) is;
+        answer =
+            subst (λ (s : Step). AnswersHistory c.step.new.self c.args.self.now.watch s c.in_ok-outcome.outcome c.see.result) is c.see.ensures.history;
+        seen = subst (λ (s : Step). SeesNext c.step.new.self c.args.self.now.watch s c.in_ok-outcome.outcome c.see.new.self) is c.see.ensures.seen;
+      },
+    )
 
 pub returns-clause-counted : goal.returns-clause-counted
 returns-clause-counted g c = record {
