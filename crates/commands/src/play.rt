@@ -79,7 +79,9 @@ fn play_one<O: Write>(
     output: &mut O,
 ) -> Result<Finding, Fault> {
     let outcome = world.step(step)?;
-    writeln!(output, "{outcome}")?;
+    let mut text = outcome.text();
+    text.push(b"\n");
+    output.write_all(text.as_slice())?;
     let Some(violation) = watch.see(world, step, outcome) else {
         return Ok(Finding::Nothing);
     };
