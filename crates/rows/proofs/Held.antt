@@ -1,15 +1,20 @@
 use Rattle.std.proofs.Common.{◌≡◌, ℕ, ◌<◌, List, [], ◌∷◌, Option, None, Some, Bool, true, false, cond}
 use Rattle.std.proofs.Common.{true≢false, length, get_or, set, replicate}
 use Rattle.std.proofs.Common.{refl, sym, ap, ◌∙◌, zero, suc, arith, inl, inr, nat_eq, slice_get, slice_index, is_some}
-use Rattle.std.proofs.Common.{Result, Ok, Err, OnOk, OnErr}
+use Rattle.std.proofs.Common.{Result, Ok, Err, OnOk, OnErr, IfSome, position}
 use Rattle.std.specs.Borrow.{MutBor}
 use Rattle.std.specs.List.{IsDistinct}
-use Rattle.std.specs.Map.{keys_of, lookup}
+use Rattle.std.specs.Map.{keys_of, lookup, values_of}
 use Rattle.std.specs.Option.{IsSome, ghost_name_of, option_copied_mut}
-use Rattle.std.proofs.lemmas.Bool.{cases_eq, cases_lt, eq-eqb, ne_eqb}
+use Rattle.std.proofs.lemmas.Bool.{cases_eq, cases_lt, eq-eqb, eqb-true, ne_eqb}
 use Rattle.std.proofs.lemmas.List.{ext_get_or, get_or_past, get_or-replicate, get_or-set_other, get_or-set_same, length-replicate, length-set}
 use Rattle.std.proofs.lemmas.List.FromFn.{get_or-map-range_with_len, length-map-range_with_len}
+use Rattle.std.proofs.lemmas.Cmp.{nat_eq_equiv}
+use Rattle.std.proofs.lemmas.List.Quantifiers.{position-Some}
 use Rattle.std.proofs.lemmas.Map.Keys.{apart_from_distinct}
+use Rattle.std.proofs.lemmas.Option.{slice_get-get_or}
+use Rattle.indexmap.proofs.CallerLemmas.{updates-with_value_at}
+use Rattle.indexmap.specs.IndexMap.{IndexMap, IsUnique, keys, values, with_value_at}
 use Rattle.rows.specs.Row.{AreTouched}
 use Rattle.rows.specs.inner.Held.{IsWithin, items_of}
 use borrow.Follows.Closed.{read_of}
@@ -151,3 +156,28 @@ pub within-insert : {T X E P : Type 0} (old new : List (ℕ × T)) (places at : 
     IsWithin new places
 within-insert old new places at value below within get (Ok x) ok err = within-set old new places at value below within (get ok)
 within-insert old new places at value below within get (Err y) ok err = within-same_keys old new places within (ap keys_of err)
+
+-- where a key was sought, it is found
+pub key_there : (ks : List ℕ) (at : ℕ) (o : Option ℕ) → o ≡ position (nat_eq at) ks → IfSome o (λ i. slice_get ks i ≡ Some at)
+key_there ks at None e = tt
+key_there ks at (Some i) e =
+    let there = position-Some (nat_eq at) ks i 0 (sym e) in
+    slice_get-get_or ks i 0 there.0 ∙ ap Some (sym (eqb-true at (get_or ks i 0) there.1))
+
+-- a key and its value are an entry
+entry_there : {T : Type 0} (held : List (ℕ × T)) (i at : ℕ) (value : T) → slice_get (keys_of held) i ≡ Some at →
+    slice_get (values_of held) i ≡ Some value → slice_get held i ≡ Some (at, value)
+entry_there [] i at value key here = cc
+entry_there (e ∷ es) zero at value key here =
+    let same_key : e.0 ≡ at = cc in
+    let same_value : e.1 ≡ value = cc in
+    λ j. Some (same_key j, same_value j)
+entry_there (e ∷ es) (suc i) at value key here = entry_there es i at value key here
+
+-- where a value is written at a key's index, a look-up finds what it found but at this key
+pub updates-there : {T S : Type 0} (m : IndexMap ℕ T S) (i at : ℕ) (w : T) → IsUnique nat_eq m → slice_get (keys m) i ≡ Some at →
+    (o : Option T) → slice_get (values m) i ≡ o → IsSome o →
+    (q : ℕ) → lookup (nat_eq q) (with_value_at m i w).entries ≡ cond (nat_eq at q) (Some w) (lookup (nat_eq q) m.entries)
+updates-there m i at w unique key None here some = absurd (true≢false (sym some))
+updates-there m i at w unique key (Some v) here some =
+    (updates-with_value_at m i w nat_eq_equiv unique at v (entry_there m.entries i at v key here)).0

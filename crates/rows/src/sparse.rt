@@ -1,10 +1,10 @@
 ghost use Rattle.std.specs.Prelude.{◌≡◌, ◌<◌, ◌≤◌, ◌+◌, ◌++◌, ◌∷◌, [], None, Some, IsOk, IsSome, IfErr, IfOk, IfSome};
 ghost use Rattle.std.specs.Prelude.{OnErr, OnOk};
-ghost use Rattle.std.specs.Prelude.{length, map, replicate, slice_get, slice_set};
+ghost use Rattle.std.specs.Prelude.{IfNone, length, map, nat_eq, replicate, slice_get, slice_set};
 ghost use Rattle.std.specs.Borrow.{sem};
 ghost use Rattle.std.specs.Option.{option_copied, option_copied_mut, option_map};
 ghost use Rattle.rows.specs.Lends.{lends_item};
-ghost use Rattle.indexmap.specs.IndexMap.{IsEmpty};
+ghost use Rattle.indexmap.specs.IndexMap.{IsEmpty, get, keys, values};
 ghost use Rattle.rows.specs.inner.Held.{seen_entries};
 ghost use Rattle.rows.specs.Row.{item, keys_with, AreTouched, UsesOnePlace};
 
@@ -20,6 +20,8 @@ pub struct Sparse<T> {
     places: u32,
     // In order of first use.
     held: IndexMap<u32, T>,
+    // For the places with the same last six bits where one of them was found last. Another may stand there by now.
+    hints: [u16; 64],
 }
 
 impl<T> Model for Sparse<T> {
@@ -43,6 +45,7 @@ impl<T> Sparse<T> {
         Sparse {
             places,
             held: IndexMap::new(alloc),
+            hints: [0; 64],
         }
     }
 
@@ -65,6 +68,11 @@ impl<T> Sparse<T> {
     pub fn get(&self, at: u32) -> Option<&T>
         ensures { option_copied result ≡ item self.now at }
     {
+        if let Some((held, item)) = self.held.get_index(hint_of(&self.hints, at)) {
+            if *held == at {
+                return Some(item);
+            }
+        }
         self.held.get(&at)
     }
 
@@ -73,7 +81,13 @@ impl<T> Sparse<T> {
         ensures* writes_back { sem 𝓛 (lends_item T.row self.entry at result) }
         ensures item { option_copied_mut result ≡ item self.old at }
     {
-        self.held.get_mut(&at)
+        match index_of(&self.held, &self.hints, at) {
+            Some(index) => {
+                remember(&mut self.hints, at, index);
+                self.held.get_index_mut(index)
+            }
+            None => None,
+        }
     }
 
     /// Puts an item at a place, over the one that it has, or gives it back where there is no memory for it.
@@ -111,8 +125,12 @@ impl<T> Sparse<T> {
         ensures succeeds { 0 < self.old.spare → IsOk result }
         ensures room { self.old.spare ≤ self.new.spare + 1 }
     {
+        let index = self.held.len();
         match self.held.insert(at, value) {
-            Ok(_) => Ok(()),
+            Ok(_) => {
+                remember(&mut self.hints, at, index);
+                Ok(())
+            }
             Err(failed) => Err(failed.value.1),
         }
     }
@@ -150,6 +168,31 @@ impl<T> Sparse<T> {
     }
 }
 
+/// Where a place may stand in the map.
+fn hint_of(hints: &[u16; 64], at: u32) -> usize {
+    usize::from(hints[(at % 64) as usize])
+}
+
+/// Keeps where a place stands in the map.
+fn remember(hints: &mut [u16; 64], at: u32, index: usize) {
+    hints[(at % 64) as usize] = (index % 65536) as u16;
+}
+
+/// Where a place stands in the map, if it does.
+fn index_of<T>(held: &IndexMap<u32, T>, hints: &[u16; 64], at: u32) -> Option<usize>
+    ensures key { IfSome result (λ index. slice_get (keys held.now) index ≡ Some at) }
+    ensures value { IfSome result (λ index. slice_get (values held.now) index ≡ get nat_eq held.now at) }
+    ensures none { IfNone result (get nat_eq held.now at ≡ None) }
+{
+    let hint = hint_of(hints, at);
+    if let Some((held, _)) = held.get_index(hint) {
+        if *held == at {
+            return Some(hint);
+        }
+    }
+    held.get_index_of(&at)
+}
+
 impl<T: TryClone + Drop> TryClone for Sparse<T> {
     ghost use Rattle.std.specs.Option.{option_map};
     ghost use Rattle.std.specs.Prelude.{map, ℕ, List, Option};
@@ -165,6 +208,7 @@ impl<T: TryClone + Drop> TryClone for Sparse<T> {
         Ok(Sparse {
             places: self.places,
             held,
+            hints: self.hints,
         })
     }
 }

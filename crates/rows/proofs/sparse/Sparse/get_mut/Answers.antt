@@ -1,33 +1,43 @@
-use Rattle.std.proofs.Common.{sym, ◌∙◌}
-use Rattle.rows.proofs.Held.{items-at, items-set, same_loan, within-same_keys}
-use Rattle.rows.specs.inner.Held.{items_of}
-use Rattle.indexmap.specs.IndexMap.{keys, spare}
+use Rattle.std.proofs.Common.{refl, sym, ◌∙◌}
+use Rattle.indexmap.proofs.CallerLemmas.{keys-with_value_at}
+use Rattle.indexmap.specs.IndexMap.{spare, with_value_at}
+use Rattle.rows.proofs.Held.{items-at, items-set, same_loan, updates-there, within-same_keys}
 use Rattle.rows.proofs.sparse.Sparse.get_mut.Goals as goal
 
 pub invariant_of-self-lent : goal.invariant_of-self-lent
 invariant_of-self-lent g c =
-    let held = c.self.inside.held.entries in
-    let places = c.self.inside.places in
+    let held = c.self.inside.held in
+    let index = c.in-Some.index in
     λ r. (
-      λ w. within-same_keys held (c.get_mut.follows.lender w).entries places c.self.invariant (c.get_mut.follows.holds w).1,
-      within-same_keys held c.get_mut.follows.lender-at-none.entries places c.self.invariant (λ i. keys (c.get_mut.follows.holds-at-none i)),
+      λ w. within-same_keys held.entries (with_value_at held index w).entries c.self.inside.places c.self.invariant
+          (keys-with_value_at held index w),
+      c.self.invariant,
     )
 
-pub returns : goal.returns
-returns g c =
-    let held = c.self.inside.held.entries in
+pub returns-in-Some : goal.returns-in-Some
+returns-in-Some g c =
+    let held = c.self.inside.held in
+    let index = c.in-Some.index in
     let places = c.self.inside.places in
+    let value = c.get_index_mut.ensures.value ∙ c.in-Some.ensures.value in
     rw (← c.self.view_is) (
-      same_loan c.get_mut.result _ _ _ _ _ c.get_mut.ensures.value
-          (λ some w i. let p = c.get_mut.follows.holds w in record {
-            items = items-set held (c.get_mut.follows.lender w).entries places c.args.at w ((p.3 some).0) i;
-            keys = p.1 i;
-            spare = p.6 i;
+      same_loan c.get_index_mut.result _ _ _ _ _ value
+          (λ some w i. record {
+            items = items-set held.entries (with_value_at held index w).entries places c.args.at w
+                (updates-there held index c.args.at w c.get_index_mut.ensures.unique c.in-Some.ensures.key _ c.in-Some.ensures.value some) i;
+            keys = keys-with_value_at held index w i;
+            spare = spare held;
           })
-          (λ i. record {
-            items = items_of (c.get_mut.follows.holds-at-none i).entries places;
-            keys = keys (c.get_mut.follows.holds-at-none i);
-            spare = spare (c.get_mut.follows.holds-at-none i);
-          }),
-      record { writes_back = tt; item = c.get_mut.ensures.value ∙ sym (items-at held places c.args.at c.self.invariant) },
+          refl,
+      record { writes_back = tt; item = value ∙ sym (items-at held.entries places c.args.at c.self.invariant) },
+    )
+
+pub returns-in-None : goal.returns-in-None
+returns-in-None g c =
+    rw (← c.self.view_is) (
+      refl,
+      record {
+        writes_back = tt;
+        item = sym (items-at c.self.inside.held.entries c.self.inside.places c.args.at c.self.invariant ∙ c.in-None.ensures.none);
+      },
     )
