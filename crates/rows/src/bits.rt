@@ -1,5 +1,5 @@
 ghost use Rattle.std.specs.Prelude.{◌≡◌, ℕ, ◌+◌, ◌*◌, ◌<◌, ◌≤◌, ◌^◌, ◌↔◌, ◌/◌, ◌%◌, false, true, IfNone};
-ghost use Rattle.std.specs.Prelude.{IfOk, IfSome, IsSome, length, replicate, slice_set};
+ghost use Rattle.std.specs.Prelude.{IfOk, IfSome, IsSome, OnErr, OnOk, length, replicate, slice_set};
 ghost use Rattle.std.specs.Int.{bit_at};
 ghost use Rattle.rows.specs.Flags.{is_set, set_count, IsFirstFrom, IsKth, NoneFrom};
 ghost use Rattle.rows.specs.inner.Words.{low};
@@ -100,8 +100,23 @@ impl Bits {
     pub fn clear(&mut self)
         ensures { self.new ≡ replicate (length self.old) false }
     {
-        self.words.fill(0);
-        self.ones = 0;
+        wipe(&mut self.words, &mut self.ones);
+    }
+
+    /// So many flags from now on, none of them set. It takes memory only where there were fewer words of them.
+    ///
+    /// Where memory is refused nothing has changed.
+    pub fn reopen(&mut self, alloc: Global, places: u32) -> Result<(), NoMemory>
+        ensures ok { OnOk result (self.new ≡ replicate places false) }
+        ensures err { OnErr result (self.new ≡ self.old) }
+    {
+        if self.words.len() < places as usize / 64 + 1 {
+            *self = Bits::open(alloc, places)?;
+            return Ok(());
+        }
+        wipe(&mut self.words, &mut self.ones);
+        self.places = places;
+        Ok(())
     }
 
     /// The first place from one on whose flag is set, if there is one.
@@ -136,6 +151,15 @@ impl Bits {
         }
         None
     }
+}
+
+/// Takes all bits of these words back, and counts none.
+fn wipe(words: &mut Vec<u64>, ones: &mut u32)
+    ensures words { words.new.items ≡ replicate (length words.old.items) 0 }
+    ensures ones { ones.new ≡ 0 }
+{
+    words.fill(0);
+    *ones = 0;
 }
 
 /// The lowest bit from one on that is set, if there is one.
