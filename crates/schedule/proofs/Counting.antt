@@ -18,7 +18,8 @@ use Rattle.scenario.specs.Tree.{Seq, Nil}
 use Rattle.scenario.specs.Taking as taking
 use Rattle.schedule.specs.Choices.{can_be_put, offers_from}
 use Rattle.schedule.specs.Lanes.{Agree, AgreeBut, AreReady, IsKept, IsLevel, IsListed, Laned, lanes_of, listed_at, offers_at, puttable}
-use Rattle.schedule.specs.Listed.{IsMarked, Listed, is_at, is_unheld, marked_at, marks_at, nothing_listed}
+use Rattle.schedule.specs.Listed.{IsMarked, Listed, is_unheld, nothing_listed}
+use Rattle.schedule.specs.inner.Marks.{is_at, marked_at, marks_at}
 use Rattle.schedule.specs.inner.Changes.{AreMarked, Counts, IsCountedAt, IsCountedIf, IsMarkedIn, KeepsOthers, Marks, TakesFrom, WereReady, count_by, counted_at, marked_in}
 use Rattle.schedule.specs.inner.Owned.{IsMarkedOrSame}
 use Rattle.schedule.specs.declared.choosing.Choice.TheVariants.{Offer}

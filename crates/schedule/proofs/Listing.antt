@@ -15,7 +15,8 @@ use Rattle.schedule.specs.declared.lanes.Lane.{Lane}
 use Rattle.schedule.specs.declared.lanes.Lanes.{Lanes}
 use Rattle.scenario.specs.Cursors.{remaining}
 use Rattle.schedule.specs.Lanes.{laned, IsKept, IsLevel, IsListed, Laned, lanes_of, listed_at, offers_at, tree_at, whole}
-use Rattle.schedule.specs.Listed.{Listed, all_marked, nothing_listed}
+use Rattle.schedule.specs.Listed.{Listed, nothing_listed}
+use Rattle.schedule.specs.inner.Marks.{all_marked}
 use Rattle.schedule.specs.inner.Changes.{KeepsOthers, TakesFrom, marked_in}
 use Rattle.std.proofs.Math.Seq.{map-set_same}
 use Rattle.schedule.proofs.Kept.{found-within, lane-listed, lane-tree, lengths-are}

@@ -13,7 +13,8 @@ use Rattle.both_tables.specs.Tables.{Tables}
 use Rattle.machine.specs.Machine.{State}
 use Rattle.cores.specs.Cores.{Core, is_free}
 use Rattle.schedule.specs.Choices.{can_be_put, offers_from}
-use Rattle.schedule.specs.Listed.{is_at, is_unheld, marks_at, offers_by}
+use Rattle.schedule.specs.Listed.{is_unheld}
+use Rattle.schedule.specs.inner.Marks.{is_at, marks_at, offers_by}
 use Rattle.schedule.specs.inner.Owned.{AreKept, AreOf}
 use Rattle.schedule.specs.declared.choosing.Choice.{Choice}
 use Rattle.schedule.specs.declared.choosing.Choice.TheVariants.{Offer}

@@ -1,15 +1,10 @@
 -- Asks that are offered together, each with a mark: whether it wouldn't be held.
-use Rattle.std.specs.Prelude.{◌≡◌, ℕ, ◌+◌, ◌==◌, Bool, not, ◌&&◌, if◌then◌else◌, List, [], ◌∷◌, ◌++◌, map}
-use Rattle.base.specs.declared.ids.BlockId.{BlockId}
-use Rattle.base.specs.declared.ids.CacheId.{CacheId}
+use Rattle.std.specs.Prelude.{◌≡◌, Bool, not, List, [], map}
 use Rattle.base.specs.declared.step.CoreAsk.{CoreAsk}
 use Rattle.both_tables.specs.Tables.{Tables}
 use Rattle.machine.specs.Machine.{State, next}
 use Rattle.blocks.specs.Looks.{is_held}
-use Rattle.cores.specs.Cores.{Core, is_free}
 use Rattle.schedule.specs.Choices.{step_of}
-use Rattle.schedule.specs.declared.choosing.Choice.{Choice}
-use Rattle.schedule.specs.declared.choosing.Choice.TheVariants.{Offer}
 
 -- asks, and their marks
 pub record Listed : Type 0 where
@@ -27,28 +22,3 @@ is_unheld tables state ask = not (is_held (next tables state (step_of ask)).outc
 -- the marks are right
 abbrev pub IsMarked : Tables → State → Listed → Type 0
 IsMarked tables state l = l.unheld ≡ map (is_unheld tables state) l.asks
-
--- the asks with right marks
-abbrev pub all_marked : Tables → State → Listed → Listed
-all_marked tables state l = record { asks = l.asks; unheld = map (is_unheld tables state) l.asks }
-
--- an ask is this core's, and about this block
-abbrev pub is_at : CacheId → BlockId → CoreAsk → Bool
-is_at core block ask = (ask.core.0 == core.0) && (ask.block.0 == block.0)
-
--- the marks, with those of a core's asks about a block made anew
-abbrev pub marks_at : Tables → State → CacheId → BlockId → List CoreAsk → List Bool → List Bool
-marks_at tables state core block [] marks = marks
-marks_at tables state core block (ask ∷ asks) [] = []
-marks_at tables state core block (ask ∷ asks) (mark ∷ marks) =
-    (if is_at core block ask then is_unheld tables state ask else mark) ∷ marks_at tables state core block asks marks
-
-abbrev pub marked_at : Tables → State → CacheId → BlockId → Listed → Listed
-marked_at tables state core block l = record { asks = l.asks; unheld = marks_at tables state core block l.asks l.unheld }
-
--- the offers whose core is free and whose mark says that they wouldn't be held, of those from a number on
-abbrev pub offers_by : List Core → ℕ → List CoreAsk → List Bool → List Choice
-offers_by cores i [] marks = []
-offers_by cores i (ask ∷ asks) [] = []
-offers_by cores i (ask ∷ asks) (mark ∷ marks) =
-    (if is_free cores ask.core.0 && mark then Offer i ask ∷ [] else []) ++ offers_by cores (i + 1) asks marks

@@ -3,7 +3,8 @@
 ghost use Rattle.std.specs.Prelude.{◌≡◌, ◌<◌, ◌+◌, ◌^◌, ◌&&◌, IfSome, OnErr, OnOk, length, map, slice_get, true};
 ghost use Rattle.cores.specs.Cores.{is_free};
 ghost use Rattle.rows.specs.Flags.{is_set};
-ghost use Rattle.schedule.specs.Listed.{is_at, is_unheld, marks_at, offers_by};
+ghost use Rattle.schedule.specs.Listed.{is_unheld};
+ghost use Rattle.schedule.specs.inner.Marks.{is_at, marks_at, offers_by};
 ghost use Rattle.schedule.specs.inner.Owned.{AreOf};
 
 use crate::choosing::{Choice, step_of};
@@ -44,7 +45,7 @@ impl Asks {
     ghost use Rattle.std.specs.Prelude.{◌≡◌, ◌<◌, ◌+◌, ◌^◌, OnOk, length, slice_get};
     ghost use Rattle.scenario.specs.Cursors.{remaining};
     ghost use Rattle.scenario.specs.Taking.{offers};
-    ghost use Rattle.schedule.specs.Listed.{all_marked, marked_at, offers_by};
+    ghost use Rattle.schedule.specs.inner.Marks.{all_marked, marked_at, offers_by};
     ghost use Rattle.schedule.specs.inner.Owned.{IsMarkedOrSame};
 
     /// No asks.
@@ -159,7 +160,7 @@ fn take_over(
         return Err(NoMemory);
     };
     if count != unheld.places() {
-        *unheld = Bits::open(alloc, count)?;
+        unheld.reopen(alloc, count)?;
     }
     swap(asks, next);
     mark_each(world, asks.as_slice(), unheld);

@@ -12,8 +12,8 @@ use std::alloc::Allocator;
 /// What is left of a scenario, by its lanes: the trees that go on at once at its top, or itself alone where it is no such row.
 ///
 /// Of each lane it keeps what it offers, which of these offers wouldn't be held, and how many of them can be put. So nothing is
-/// listed to count the choices of a moment, or to find one of them. A step changes what can be put for one core: of the lanes of
-/// that core the offers about the step's block are looked at again, and the others are counted.
+/// listed to count the choices of a moment, or to find one of them. A step changes what can be put for one core: in the lanes of
+/// that core the offers about the step's block are marked again, and what can be put of these lanes is counted by the marks.
 ///
 /// A lane has at most 4,294,967,295 offers at once, which would take over 100 GB: more of them are refused for want of memory.
 #[derive(Drop)]

@@ -10,7 +10,8 @@ use Rattle.cores.specs.Cores.{Core}
 use Rattle.scenario.specs.Alike.{Alike}
 use Rattle.scenario.specs.Taking.{left}
 use Rattle.schedule.specs.Lanes.{Laned, IsKept, IsListed, lanes_of, listed_at, offers_at, puttable, whole}
-use Rattle.schedule.specs.Listed.{IsMarked, Listed, all_marked, marked_at, nothing_listed, offers_by}
+use Rattle.schedule.specs.Listed.{IsMarked, Listed, nothing_listed}
+use Rattle.schedule.specs.inner.Marks.{all_marked, marked_at, offers_by}
 use Rattle.std.specs.List.{Contains}
 
 -- one lane was listed anew: of the others the same is kept, and they are where they were

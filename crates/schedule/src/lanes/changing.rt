@@ -1,6 +1,6 @@
 //! Keeping lanes up to date.
 
-ghost use Rattle.std.specs.Prelude.{◌≡◌, ◌≢◌, ◌≤◌, ◌<◌, ◌^◌, ◌-◌, ℕ, Some, OnOk, IfSome, IfNone, [], length, map, min};
+ghost use Rattle.std.specs.Prelude.{◌≡◌, ◌≢◌, ◌≤◌, ◌<◌, ◌^◌, ◌-◌, ℕ, Some, OnOk, IfSome, IfNone, true, [], length, map, min};
 ghost use Rattle.std.specs.Prelude.{slice_get, slice_index_or};
 ghost use Rattle.std.specs.List.{Contains};
 ghost use Rattle.base.specs.declared.ids.CacheId.{CacheId};
@@ -305,11 +305,26 @@ fn reach(reached: &mut Vec<Vec<u32>>, offers: &[CoreAsk], lane: u32) -> Result<(
     ensures ok { OnOk result ((at : ℕ) (ask : CoreAsk) → slice_get offers.now at ≡ Some ask →
         Contains (lanes_of (map (λ of. of.items) reached.new.items) ask.core.0) lane) }
 {
+    let mut last = None;
     for ask in offers {
+        if is_of(last, *ask) {
+            continue;
+        }
         let row = row_of(reached, ask.core);
         add(&mut reached[row], lane)?;
+        last = Some(ask.core);
     }
     Ok(())
+}
+
+/// Whether there is a core, and the ask is its.
+fn is_of(core: Option<CacheId>, ask: CoreAsk) -> bool
+    ensures { result ≡ true → core ≡ Some ask.core }
+{
+    match core {
+        Some(core) => core == ask.core,
+        None => false,
+    }
 }
 
 /// The lane is among these from now on.

@@ -5,7 +5,8 @@ use Rattle.schedule.specs.declared.choosing.Choice.TheVariants.{Deliver}
 use Rattle.schedule.specs.declared.lanes.Lane.{Lane}
 use Rattle.scenario.specs.Cursors.{remaining}
 use Rattle.schedule.specs.Lanes.{laned, listed_at, offers_at}
-use Rattle.schedule.specs.Listed.{Listed, offers_by}
+use Rattle.schedule.specs.Listed.{Listed}
+use Rattle.schedule.specs.inner.Marks.{offers_by}
 use Rattle.schedule.proofs.Kept.{choice-delivered, choice-offered, lane-listed, lane-there, numbers-fit}
 use Rattle.schedule.proofs.Marking.{by-marks}
 use Rattle.schedule.proofs.lanes.Lanes.choice.Given as given

@@ -2,7 +2,8 @@ use Rattle.std.proofs.Common.{◌∙◌, ◌≡◌, ◌≢◌, ◌⊎◌, ◌+�
 use Rattle.std.proofs.lemmas.List.{length-set, length-map, map-set}
 use Rattle.std.proofs.Math.Seq.{map-set_same}
 use Rattle.scenario.specs.Cursors.{remaining}
-use Rattle.schedule.specs.Listed.{Listed, marked_at, nothing_listed}
+use Rattle.schedule.specs.Listed.{Listed, nothing_listed}
+use Rattle.schedule.specs.inner.Marks.{marked_at}
 use Rattle.schedule.specs.declared.lanes.Lane.{Lane}
 use Rattle.schedule.proofs.Kept.{lane-listed}
 use Rattle.schedule.proofs.Counting.{left-more, marked-more, not-among}

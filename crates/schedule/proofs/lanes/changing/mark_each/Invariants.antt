@@ -1,6 +1,7 @@
 use Rattle.std.proofs.Common.{◌≡◌, ◌≢◌, ◌⊎◌, ◌<◌, ℕ, length, map, get_or}
 use Rattle.scenario.specs.Cursors.{remaining}
-use Rattle.schedule.specs.Listed.{marked_at, nothing_listed}
+use Rattle.schedule.specs.Listed.{nothing_listed}
+use Rattle.schedule.specs.inner.Marks.{marked_at}
 use Rattle.schedule.proofs.lanes.changing.mark_each.Given as goal
 
 abbrev pub invariant-loop-number : goal.invariant-loop-number

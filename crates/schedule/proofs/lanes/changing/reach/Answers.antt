@@ -26,6 +26,7 @@ loop-ask-preserved c =
           c.index_mut.ensures.value c.in_ok-add.ensures.more (c.loop-ask.invariant.2 at ask l e))
           c.loop-ask-test.true
           (now-in-vec c.loop-ask.reached.items c.row_of-row.result _ c.args.lane c.add.new.lanes low c.row_of-row.ensures c.in_ok-add.ensures.ok),
+      now-in-vec c.loop-ask.reached.items c.row_of-row.result _ c.args.lane c.add.new.lanes low c.row_of-row.ensures c.in_ok-add.ensures.ok,
     )
 
 pub returns-clause-ok : goal.returns-clause-ok

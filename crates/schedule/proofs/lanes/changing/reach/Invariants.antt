@@ -1,4 +1,4 @@
-use Rattle.std.proofs.Common.{◌≡◌, ◌<◌, ℕ, Some, length, map, slice_get}
+use Rattle.std.proofs.Common.{◌≡◌, ◌<◌, ℕ, Some, IfSome, length, map, slice_get}
 use Rattle.std.specs.List.{Contains}
 use Rattle.base.specs.declared.step.CoreAsk.{CoreAsk}
 use Rattle.schedule.specs.Lanes.{lanes_of}
@@ -11,3 +11,4 @@ invariant-loop-ask l =
     Contains (lanes_of (map (λ of. of.items) l.reached.items) core) other)
     × ((at : ℕ) (ask : CoreAsk) → at < l.ask-index → slice_get l.offers at ≡ Some ask →
     Contains (lanes_of (map (λ of. of.items) l.reached.items) ask.core.0) l.lane)
+    × IfSome l.last (λ core. Contains (lanes_of (map (λ of. of.items) l.reached.items) core.0) l.lane)
