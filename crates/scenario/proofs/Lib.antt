@@ -16,6 +16,7 @@ pub mod Lengths
 pub mod Places
 pub mod Reached
 pub mod Refusing
+pub mod Repeating
 pub mod Shown
 pub mod Small
 pub mod Sought

@@ -4,6 +4,7 @@ pub mod Limits
 pub mod Nodes
 pub mod Parts
 pub mod Refusals
+pub mod Repeats
 pub mod Rests
 pub mod Saving
 pub mod Says

@@ -1,6 +1,6 @@
 //! What is left of a scenario that is borrowed.
 
-use crate::part::{Part, Place, take_from};
+use crate::part::{Part, Place, part_repeats, take_from};
 use crate::seeking::find_offer;
 use crate::tree::Scenario;
 use base::{CoreAsk, NoMemory};
@@ -32,9 +32,17 @@ impl<'t, A: Allocator, B: Allocator> Cursor<'t, A, B> {
 }
 
 impl<'t, A: Allocator, B: Allocator> Cursor<'t, A, B> {
-    ghost use Rattle.std.specs.Prelude.{◌≡◌};
+    ghost use Rattle.std.specs.Prelude.{◌≡◌, true};
     ghost use Rattle.scenario.specs.Cursors.{remaining};
+    ghost use Rattle.scenario.specs.Repeats.{Repeats};
     ghost use Rattle.scenario.specs.Tree.{plain};
+
+    /// Whether the same is offered again, whichever offer is taken. It is told by a look: `false` promises nothing.
+    pub fn repeats(&self) -> bool
+        ensures { result ≡ true → Repeats (remaining self.now) }
+    {
+        part_repeats(&self.root)
+    }
 
     /// All of this tree is left from now on, whatever was. The parts that the cursor has are used again.
     pub fn restart(&mut self, tree: &'t Scenario<A>)

@@ -1,11 +1,13 @@
 //! The parts of a cursor: how far it is in each of the trees that it has begun.
 
 mod looking;
+mod repeating;
 mod starting;
 mod taking;
 
 use crate::tree::Scenario;
 pub(crate) use looking::part_may_end;
+pub(crate) use repeating::part_repeats;
 use std::alloc::{AllocError, Allocator};
 pub(crate) use taking::take_from;
 

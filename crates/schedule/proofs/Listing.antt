@@ -1,6 +1,6 @@
 -- What listing a lane anew, and taking an offer from it, keeps of the lanes.
 use Rattle.std.proofs.Common.{◌≡◌, ◌≢◌, ℕ, ◌<◌, ◌^◌, inl, inr, length, map, Option, Some, None, get_or, set, slice_get}
-use Rattle.std.proofs.Common.{sym, ap, ◌∙◌, subst, arith}
+use Rattle.std.proofs.Common.{List, [], ◌≤◌, refl, sym, ap, ◌∙◌, subst, arith}
 use Rattle.std.specs.List.{Contains}
 use Rattle.std.proofs.lemmas.List.{length-map, length-set, map-set, get_or-set_same, get_or-set_other}
 use Rattle.std.proofs.lemmas.Bool.{cases_eq}
@@ -9,7 +9,8 @@ use Rattle.rows.specs.Counts.{Finds}
 use Rattle.both_tables.specs.Tables.{Tables}
 use Rattle.machine.specs.Machine.{State}
 use Rattle.scenario.specs.Tree.{Tree, Seq, Both, Nil, trees_of}
-use Rattle.scenario.specs.Alike.{Alike, Takes}
+use Rattle.scenario.specs.Alike.{Alike, Seen, Takes}
+use Rattle.scenario.specs.Repeats.{Repeats}
 use Rattle.scenario.specs.Taking.{left, offers}
 use Rattle.schedule.specs.declared.lanes.Lane.{Lane}
 use Rattle.schedule.specs.declared.lanes.Lanes.{Lanes}
@@ -122,6 +123,49 @@ takes-from lane offer rest t taken old mid new kept found takes steps trees leve
         listed = still;
       };
     }
+
+abbrev seen-offers : Option Seen → List CoreAsk
+seen-offers None = []
+seen-offers (Some s) = s.offers
+
+-- a lane that offers the same again isn't listed anew
+pub repeated-listed : (lane : ℕ) (t : Tree) (old mid : Laned) → IsKept old → lane < length old.trees → Steps lane t old mid →
+    offers t ≡ offers (tree_at old lane) → IsListed mid lane
+repeated-listed lane t old mid kept low s again =
+    let h = kept.listed lane low in
+    let same : offers_at mid lane ≡ offers_at old lane = ap (λ xs. (get_or xs lane nothing_listed).asks) s.listed in
+    let tree : tree_at mid lane ≡ t = ap (λ ts. get_or ts lane (Seq Nil)) s.trees ∙ get_or-set_same old.trees lane t (Seq Nil) low in
+    record {
+      offered = same ∙ h.offered ∙ sym again ∙ ap offers (sym tree);
+      count = ap (λ ns. get_or ns lane 0) s.lengths ∙ h.count ∙ ap length (sym same);
+      short = subst (λ xs. length xs < 2 ^ 32) (sym same) h.short;
+      reached = λ at ask e. subst (λ rs. Contains (lanes_of rs ask.core.0) lane) (sym s.reached) (h.reached at ask (ap (λ xs. slice_get xs at) (sym same) ∙ e));
+    }
+
+steps-level : (lane : ℕ) (t : Tree) (old mid : Laned) → IsLevel old → Steps lane t old mid → IsLevel mid
+steps-level lane t old mid level s =
+    let many : length mid.trees ≡ length old.trees = ap length s.trees ∙ length-set old.trees lane t in
+    record {
+      listed = ap length s.listed ∙ level.listed ∙ sym many;
+      lengths = ap length s.lengths ∙ level.lengths ∙ sym many;
+      ready = ap length s.ready ∙ level.ready ∙ sym many;
+      few = subst (λ n. n ≤ 2 ^ 31) (sym many) level.few;
+      rows = subst (λ rs. 1 ≤ length rs) (sym s.reached) level.rows;
+    }
+
+pub takes-again : (lane offer rest : ℕ) (t : Tree) (taken : Option CoreAsk) (old mid : Laned) → IsKept old → Finds old.lengths offer lane rest →
+    Takes (tree_at old lane) rest taken t → Repeats (tree_at old lane) → Steps lane t old mid → TakesFrom lane offer old mid
+takes-again lane offer rest t taken old mid kept found takes repeats steps =
+    let low : lane < length old.trees = (let h = found-within old.lengths lane rest found.within in let m = kept.level.lengths in omega (arith, h, m)) in
+    let here = kept.listed lane low in
+    let count = here.count in
+    let offered = ap length here.offered in
+    let within = found.within in
+    let inside : rest < length (offers (tree_at old lane)) = omega (arith, count, offered, within) in
+    let alike : Alike t (left (tree_at old lane) rest) = takes-alike (tree_at old lane) t rest taken takes inside in
+    takes-from lane offer rest t taken old mid mid kept found takes steps refl (steps-level lane t old mid kept.level steps)
+    (repeated-listed lane t old mid kept low steps (ap seen-offers (alike []) ∙ repeats rest inside))
+    (record { count = refl; ready = refl; same = λ other ne. refl; listed = λ other ne h. h })
 
 -- ---- the same of lanes as they are kept
 

@@ -219,3 +219,41 @@ fn a_refused_take_leaves_a_cursor_as_it_was(rt: HostRuntime) -> Result<(), Fail>
     let mut cursor: InArena<'_, '_> = Cursor::open(&source);
     take_all(&rt, rt.alloc(), &mut cursor, &bump)
 }
+
+/// Takes the first offer again and again, and compares before each whether the same is offered behind it.
+fn compare_repeats<'b>(
+    rt: &impl Abort,
+    cursor: &mut InArena<'_, 'b>,
+    bump: &'b Bump,
+    wanted: &[bool],
+) -> Result<(), Fail> {
+    for repeats in wanted {
+        same(rt, &cursor.repeats(), repeats);
+        let _taken = cursor.take(bump, 0)?;
+    }
+    Ok(())
+}
+
+/// The same of a scenario in JSON.
+fn compare_repeats_of(
+    rt: &impl Abort,
+    heap: Global,
+    text: &str,
+    wanted: &[bool],
+) -> Result<(), Fail> {
+    let source = read(heap, text)?;
+    let bump = Bump::new(heap);
+    let mut cursor: InArena<'_, '_> = Cursor::open(&source);
+    compare_repeats(rt, &mut cursor, &bump, wanted)
+}
+
+#[test]
+fn turns_of_a_choice_offer_the_same_up_to_the_last(rt: HostRuntime) -> Result<(), Fail> {
+    let heap = rt.alloc();
+    let choice = format!(in heap; r#"{{"any":[{LOAD},{STORE}]}}"#)?;
+    let turns = format!(in heap; r#"{{"times":3,"of":{choice}}}"#)?;
+    let both = format!(in heap; r#"{{"both":[{turns},{choice}]}}"#)?;
+    compare_repeats_of(&rt, heap, turns.as_str(), &[true, true, false, false])?;
+    compare_repeats_of(&rt, heap, choice.as_str(), &[false])?;
+    compare_repeats_of(&rt, heap, both.as_str(), &[false, false])
+}

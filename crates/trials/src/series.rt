@@ -66,6 +66,18 @@ impl<'s, 'b, A: Allocator> Series<'s, 'b, A> {
             course.restart(self.alloc, self.scenario, self.setup, number, Tally::new())?;
             return finish(course, self.arena, self.scenario, self.setup, number);
         }
+        self.first(number)
+    }
+
+    /// The result of a trial for which everything is opened. It stands apart, as whoever makes a course clears the stack for one.
+    #[inline(never)]
+    fn first(&mut self, number: u32) -> Result<TrialResult, NoMemory>
+        requires { CanGoOn self.old }
+        ensures result { IfOk result (λ made. IsResult (planned self.old).terms (planned self.old).tree number made) }
+        ensures sound { (planned self.old).terms.tables ≡ baseline → IfOk result (λ made. IsSound made.verdict) }
+        ensures plan { planned self.new ≡ planned self.old }
+        ensures can_go_on { CanGoOn self.new }
+    {
         let mut course = Course::open(self.alloc, self.scenario, self.setup, number, Tally::new())?;
         let made = finish(&mut course, self.arena, self.scenario, self.setup, number)?;
         self.course = Some(course);

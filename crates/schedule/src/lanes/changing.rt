@@ -126,7 +126,7 @@ impl<'s, A: Allocator, B: Allocator + Clone> Lanes<'s, A, B> {
         }
     }
 
-    /// Takes the offer of this number, and answers the lane that had it.
+    /// Takes the offer of this number, and answers the lane that had it. The lane is listed anew, but where it offers the same again.
     fn take(&mut self, alloc: B, number: usize, world: &World) -> Result<usize, NoMemory>
         requires kept { IsKept (laned self.old) }
         requires offered { number < length (offers (whole (laned self.old))) }
@@ -134,9 +134,13 @@ impl<'s, A: Allocator, B: Allocator + Clone> Lanes<'s, A, B> {
         ensures marks { IfOk result (λ lane. IsMarkedOrSame world.now.tables world.now.state (listed_at (laned self.old) lane) (listed_at (laned self.new) lane)) }
     {
         let found = self.lengths.find(number as u64);
+        let repeats = self.lanes[found.place].rest.repeats();
         self.lanes[found.place]
             .rest
             .take(alloc, found.rest as usize)?;
+        if repeats {
+            return Ok(found.place);
+        }
         self.list(found.place, world)?;
         Ok(found.place)
     }
