@@ -152,6 +152,32 @@ quiet-count ((x ∷ l) ∷ ls) =
     ne_eqb (set_count (true ∷ waiting_of ls)) 0
     (λ e. absurd (omega (arith, sum_by-cons (λ flag. if flag then 1 else 0) true (waiting_of ls), e)))
 
+quiet-first : (l : List Forward) (ls : List (List Forward)) → all_nil (l ∷ ls) ≡ true → l ≡ []
+quiet-first [] ls h = refl
+quiet-first (x ∷ l) ls h = absurd (true≢false (sym h))
+
+quiet-rest : (l : List Forward) (ls : List (List Forward)) → all_nil (l ∷ ls) ≡ true → all_nil ls ≡ true
+quiet-rest [] ls h = h
+quiet-rest (x ∷ l) ls h = absurd (true≢false (sym h))
+
+empty : {A : Type 0} (xs : List A) → length xs ≡ 0 → xs ≡ []
+empty [] h = refl
+empty (x ∷ xs) h = absurd (omega (arith, h))
+
+-- quiet links have no message
+pub no_messages : (ls : List (List Forward)) → all_nil ls ≡ true → ls ≡ replicate (length ls) []
+no_messages [] h = refl
+no_messages (l ∷ ls) h =
+    ap (λ x. x ∷ ls) (quiet-first l ls h) ∙ ap (λ xs. [] ∷ xs) (no_messages ls (quiet-rest l ls h))
+
+-- and no mark
+pub no_marks : (os : List (Option (Wired Forward))) → AreMarked os → all_nil (map on_link os) ≡ true →
+    map marks_on os ≡ replicate (length (map on_link os)) []
+no_marks [] all h = refl
+no_marks (o ∷ os) all h =
+    ap (λ x. x ∷ map marks_on os) (empty (marks_on o) (all zero ∙ ap length (quiet-first (on_link o) (map on_link os) h)))
+    ∙ ap (λ xs. [] ∷ xs) (no_marks os (λ k. all (suc k)) (quiet-rest (on_link o) (map on_link os) h))
+
 -- a list that has nothing
 pub nil-is : {A : Type 0} (xs : List A) → not (is_nil xs) ≡ false → xs ≡ []
 nil-is [] h = refl

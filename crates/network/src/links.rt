@@ -63,11 +63,14 @@ impl Links {
         })
     }
 
-    /// Takes all messages off all links.
+    /// Takes all messages off all links. Where there are none the links keep their memory.
     pub fn clear(&mut self)
         ensures messages { self.new.messages ≡ replicate (length self.old.messages) [] }
         ensures marks { self.new.marks ≡ replicate (length self.old.messages) [] }
     {
+        if self.is_quiet() {
+            return;
+        }
         self.links.clear();
         self.waiting.clear();
     }
@@ -178,11 +181,11 @@ impl Links {
         ensures succeeds { count ≤ slice_index self.old.room cache.0 → IsOk result }
         ensures room { KeepsRoom self.old.room self.new.room }
     {
-        if let Some(link) = self.links.get_mut(cache.0) {
-            link.reserve(count)?;
+        if count == 0 {
             return Ok(());
         }
-        if count == 0 {
+        if let Some(link) = self.links.get_mut(cache.0) {
+            link.reserve(count)?;
             return Ok(());
         }
         let link = Wire::with_room(self.alloc, count)?;
