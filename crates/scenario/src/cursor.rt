@@ -53,9 +53,10 @@ impl<'t, A: Allocator, B: Allocator> Cursor<'t, A, B> {
 }
 
 impl<'t, A: Allocator, B: Allocator + Clone> Cursor<'t, A, B> {
-    ghost use Rattle.std.specs.Prelude.{◌≡◌, ◌≤◌, IfOk, OnErr};
-    ghost use Rattle.scenario.specs.Alike.{Takes};
+    ghost use Rattle.std.specs.Prelude.{◌≡◌, ◌<◌, ◌≤◌, IfOk, OnErr, OnOk, length};
+    ghost use Rattle.scenario.specs.Alike.{Alike, Takes};
     ghost use Rattle.scenario.specs.Cursors.{most_nodes, remaining, standing};
+    ghost use Rattle.scenario.specs.Taking.{left, offers};
 
     /// Takes offer `at`, counted from 0 in the order of [`Rest::offers`](crate::Rest::offers): answers its ask, and what is
     /// then left of the tree is left. `None` comes where there is no such offer, and then nothing has changed.
@@ -69,7 +70,20 @@ impl<'t, A: Allocator, B: Allocator + Clone> Cursor<'t, A, B> {
         let Some(ask) = find_offer(&self.root, at) else {
             return Ok(None);
         };
-        take_from(&mut self.root, &alloc, at)?;
+        self.pass(alloc, at)?;
         Ok(Some(ask))
+    }
+
+    /// Takes offer `at`, which there has to be, without a look at its ask.
+    ///
+    /// What is made anew is `alloc`'s. Where memory is refused, nothing has changed.
+    pub fn pass(&mut self, alloc: B, at: usize) -> Result<(), NoMemory>
+        requires { at < length (offers (remaining self.old)) }
+        ensures ok { OnOk result (Alike (remaining self.new) (left (remaining self.old) at)) }
+        ensures err { OnErr result (remaining self.new ≡ remaining self.old) }
+        ensures nodes { most_nodes (standing self.new) ≤ most_nodes (standing self.old) }
+    {
+        take_from(&mut self.root, &alloc, at)?;
+        Ok(())
     }
 }

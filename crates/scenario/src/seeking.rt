@@ -64,7 +64,11 @@ impl<A: Allocator> HasOffers for Scenario<A> {
 
     ghost tree = { plain };
 
+    #[inline(always)]
     fn seek(&self, at: usize) -> Result<CoreAsk, usize> {
+        if let Scenario::One(ask) = self {
+            return if at == 0 { Ok(*ask) } else { Err(at - 1) };
+        }
         seek_in_tree(self, at)
     }
 
@@ -170,6 +174,13 @@ fn seek_in_all<A: Allocator>(children: &[Scenario<A>], at: usize) -> Result<Core
 {
     let mut further = at;
     for child in children {
+        if let Scenario::One(ask) = child {
+            if further == 0 {
+                return Ok(*ask);
+            }
+            further -= 1;
+            continue;
+        }
         match seek_in_tree(child, further) {
             Ok(ask) => return Ok(ask),
             Err(behind) => further = behind,

@@ -9,7 +9,7 @@ use Rattle.rows.specs.Counts.{Finds}
 use Rattle.both_tables.specs.Tables.{Tables}
 use Rattle.machine.specs.Machine.{State}
 use Rattle.scenario.specs.Tree.{Tree, Seq, Both, Nil, trees_of}
-use Rattle.scenario.specs.Alike.{Alike, Seen, Takes}
+use Rattle.scenario.specs.Alike.{Alike, Seen}
 use Rattle.scenario.specs.Repeats.{Repeats}
 use Rattle.scenario.specs.Taking.{left, offers}
 use Rattle.schedule.specs.declared.lanes.Lane.{Lane}
@@ -70,9 +70,15 @@ others-kept lane made old new r =
 
 -- ---- taking an offer
 
-pub takes-alike : (t new : Tree) (r : ℕ) (taken : Option CoreAsk) → Takes t r taken new → r < length (offers t) → Alike new (left t r)
-takes-alike t new r None h low = absurd (omega (arith, h.0, low))
-takes-alike t new r (Some ask) h low = h.1
+-- the offer that is found is one of its lane's
+pub found-offered : (lane offer rest : ℕ) (old : Laned) → IsKept old → Finds old.lengths offer lane rest → rest < length (offers (tree_at old lane))
+found-offered lane offer rest old kept found =
+    let low : lane < length old.trees = (let h = found-within old.lengths lane rest found.within in let m = kept.level.lengths in omega (arith, h, m)) in
+    let here = kept.listed lane low in
+    let count = here.count in
+    let offered = ap length here.offered in
+    let within = found.within in
+    omega (arith, count, offered, within)
 
 -- of the lanes before the one that an offer was taken from is listed anew: another tree is left there
 pub record Steps (lane : ℕ) (new : Tree) (old mid : Laned) : Type 0 where
@@ -89,26 +95,23 @@ listed-still lane t old mid s other ne h =
       offered = same ∙ h.offered ∙ ap offers (sym (ap (λ ts. get_or ts other (Seq Nil)) s.trees ∙ get_or-set_other old.trees lane other t (Seq Nil) ne));
       count = ap (λ ns. get_or ns other 0) s.lengths ∙ h.count ∙ ap length (sym same);
       short = subst (λ xs. length xs < 2 ^ 32) (sym same) h.short;
-      reached = λ at ask e. subst (λ rs. Contains (lanes_of rs ask.core.0) other) (sym s.reached) (h.reached at ask (ap (λ xs. slice_get xs at) (sym same) ∙ e));
+      reached = λ at ask e. subst (λ rs. Contains (lanes_of rs ask.core.0) other) (sym s.reached)
+          (h.reached at ask (ap (λ xs. slice_get xs at) (sym same) ∙ e));
     }
 
-pub takes-from : (lane offer rest : ℕ) (t : Tree) (taken : Option CoreAsk) (old mid new : Laned) → IsKept old → Finds old.lengths offer lane rest →
-    Takes (tree_at old lane) rest taken t → Steps lane t old mid → new.trees ≡ mid.trees → IsLevel new → IsListed new lane → KeepsOthers lane mid new →
+pub takes-from : (lane offer rest : ℕ) (t : Tree) (old mid new : Laned) → IsKept old → Finds old.lengths offer lane rest →
+    Alike t (left (tree_at old lane) rest) → Steps lane t old mid → new.trees ≡ mid.trees → IsLevel new → IsListed new lane → KeepsOthers lane mid new →
     TakesFrom lane offer old new
-takes-from lane offer rest t taken old mid new kept found takes steps trees level listed others =
+takes-from lane offer rest t old mid new kept found alike steps trees level listed others =
     let finds : Finds (lengths_of old.trees) offer lane rest = subst (λ ns. Finds ns offer lane rest) (lengths-are old kept) found in
     let low : lane < length old.trees = (let h = found-within old.lengths lane rest found.within in let m = kept.level.lengths in omega (arith, h, m)) in
-    let here = kept.listed lane low in
-    let count = here.count in
-    let offered = ap length here.offered in
-    let within = found.within in
-    let alike : Alike t (left (tree_at old lane) rest) = takes-alike (tree_at old lane) t rest taken takes (omega (arith, count, offered, within)) in
     let many : length new.trees ≡ length old.trees = ap length trees ∙ ap length steps.trees ∙ length-set old.trees lane t in
     let still : (other : ℕ) → other ≢ lane → IsListed old other → IsListed new other =
     λ other ne h. others.listed other ne (listed-still lane t old mid steps other ne h) in
     record {
       there = low;
-      rest = subst (λ ts. Alike (Both (trees_of ts)) (left (whole old) offer)) (sym (trees ∙ steps.trees)) (taken-there old.trees offer lane rest t finds alike);
+      rest = subst (λ ts. Alike (Both (trees_of ts)) (left (whole old) offer)) (sym (trees ∙ steps.trees))
+          (taken-there old.trees offer lane rest t finds alike);
       kept = record {
         level = level;
         listed = λ other h. elim (cases_eq other lane) [
@@ -153,18 +156,12 @@ steps-level lane t old mid level s =
       rows = subst (λ rs. 1 ≤ length rs) (sym s.reached) level.rows;
     }
 
-pub takes-again : (lane offer rest : ℕ) (t : Tree) (taken : Option CoreAsk) (old mid : Laned) → IsKept old → Finds old.lengths offer lane rest →
-    Takes (tree_at old lane) rest taken t → Repeats (tree_at old lane) → Steps lane t old mid → TakesFrom lane offer old mid
-takes-again lane offer rest t taken old mid kept found takes repeats steps =
+pub takes-again : (lane offer rest : ℕ) (t : Tree) (old mid : Laned) → IsKept old → Finds old.lengths offer lane rest →
+    Alike t (left (tree_at old lane) rest) → Repeats (tree_at old lane) → Steps lane t old mid → TakesFrom lane offer old mid
+takes-again lane offer rest t old mid kept found alike repeats steps =
     let low : lane < length old.trees = (let h = found-within old.lengths lane rest found.within in let m = kept.level.lengths in omega (arith, h, m)) in
-    let here = kept.listed lane low in
-    let count = here.count in
-    let offered = ap length here.offered in
-    let within = found.within in
-    let inside : rest < length (offers (tree_at old lane)) = omega (arith, count, offered, within) in
-    let alike : Alike t (left (tree_at old lane) rest) = takes-alike (tree_at old lane) t rest taken takes inside in
-    takes-from lane offer rest t taken old mid mid kept found takes steps refl (steps-level lane t old mid kept.level steps)
-    (repeated-listed lane t old mid kept low steps (ap seen-offers (alike []) ∙ repeats rest inside))
+    takes-from lane offer rest t old mid mid kept found alike steps refl (steps-level lane t old mid kept.level steps)
+    (repeated-listed lane t old mid kept low steps (ap seen-offers (alike []) ∙ repeats rest (found-offered lane offer rest old kept found)))
     (record { count = refl; ready = refl; same = λ other ne. refl; listed = λ other ne h. h })
 
 -- ---- the same of lanes as they are kept
@@ -221,4 +218,5 @@ pub lane-is : {A B : Type 0} (l new : Lanes A B) (lane : ℕ) (made : Lane A B) 
 lane-is l new lane made low lanes =
     ap (λ xs. get_or (map (λ x. x.asks) xs) lane nothing_listed) lanes
     ∙ ap (λ xs. get_or xs lane nothing_listed) (map-set (λ x. x.asks) l.lanes.items lane made)
-    ∙ get_or-set_same (map (λ x. x.asks) l.lanes.items) lane made.asks nothing_listed (let many = length-map l.lanes.items (λ x. x.asks) in omega (arith, low, many))
+    ∙ get_or-set_same (map (λ x. x.asks) l.lanes.items) lane made.asks nothing_listed (let many = length-map l.lanes.items (λ x. x.asks) in omega
+        (arith, low, many))

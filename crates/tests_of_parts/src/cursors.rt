@@ -257,3 +257,35 @@ fn turns_of_a_choice_offer_the_same_up_to_the_last(rt: HostRuntime) -> Result<()
     compare_repeats_of(&rt, heap, choice.as_str(), &[false])?;
     compare_repeats_of(&rt, heap, both.as_str(), &[false, false])
 }
+
+/// Takes the last offer of one cursor and passes the same of another, until nothing is offered, and compares what they offer.
+fn pass_what_is_taken<'b>(
+    rt: &impl Abort,
+    heap: Global,
+    taken: &mut InArena<'_, 'b>,
+    passed: &mut InArena<'_, 'b>,
+    bump: &'b Bump,
+) -> Result<u32, Fail> {
+    for count in 0..64 {
+        let many = passed.offer_count();
+        if many == 0 {
+            return Ok(count);
+        }
+        passed.pass(bump, many - 1)?;
+        let _taken = taken.take(bump, many - 1)?;
+        let wanted = letters(rt, heap, taken)?;
+        offers(rt, heap, passed, wanted.as_str())?;
+    }
+    Ok(64)
+}
+
+#[test]
+fn an_offer_is_passed_as_it_is_taken(rt: HostRuntime) -> Result<(), Fail> {
+    let source = four_turns(rt.alloc())?;
+    let bump = Bump::new(rt.alloc());
+    let mut taken: InArena<'_, '_> = Cursor::open(&source);
+    let mut passed: InArena<'_, '_> = Cursor::open(&source);
+    let count = pass_what_is_taken(&rt, rt.alloc(), &mut taken, &mut passed, &bump)?;
+    same(&rt, &count, &25);
+    Ok(())
+}

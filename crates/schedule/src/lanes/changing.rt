@@ -137,7 +137,7 @@ impl<'s, A: Allocator, B: Allocator + Clone> Lanes<'s, A, B> {
         let repeats = self.lanes[found.place].rest.repeats();
         self.lanes[found.place]
             .rest
-            .take(alloc, found.rest as usize)?;
+            .pass(alloc, found.rest as usize)?;
         if repeats {
             return Ok(found.place);
         }

@@ -1,9 +1,6 @@
-use Rattle.std.proofs.Common.{ap, arith, refl, sym, ◌∙◌}
-use Rattle.scenario.specs.Cursors.{most_nodes, progress, tree_left}
+use Rattle.std.proofs.Common.{refl, sym, ◌∙◌}
 use Rattle.scenario.specs.Parts.{part_left}
-use Rattle.scenario.specs.Taking.{left, offers}
-use Rattle.scenario.proofs.Failing.{on_err-always}
-use Rattle.scenario.proofs.Flat.{alike-flat, flat-rest}
+use Rattle.scenario.specs.Taking.{offers}
 use Rattle.scenario.proofs.Reached.{offer_below}
 use Rattle.scenario.proofs.Sought.{none-there}
 use Rattle.scenario.proofs.cursor.Cursor.take.Goals as goal
@@ -12,21 +9,8 @@ pub returns-in_default-clause-ok : goal.returns-in_default-clause-ok
 returns-in_default-clause-ok g c =
     (none-there (offers (part_left c.args.self.now.root)) c.args.at (sym c.find_offer.ensures ∙ c.in_default.is), refl)
 
-pub take_from-requires : goal.take_from-requires
-take_from-requires g c = offer_below (offers (part_left c.args.self.now.root)) c.args.at c.in-Some.ask (sym c.find_offer.ensures ∙ c.in-Some.is)
+pub pass-requires : goal.pass-requires
+pass-requires g c = offer_below (offers (part_left c.args.self.now.root)) c.args.at c.in-Some.ask (sym c.find_offer.ensures ∙ c.in-Some.is)
 
 pub returns-clause-ok : goal.returns-clause-ok
-returns-clause-ok g c =
-    let old = part_left c.args.self.now.root in (
-      sym c.find_offer.ensures ∙ c.in-Some.is,
-      alike-flat (tree_left (progress c.take_from.new.part)) (left old c.args.at) (c.in_ok-take_from.ensures.ok.0 ∙ flat-rest old c.args.at),
-    )
-
-pub returns-clause-nodes : goal.returns-clause-nodes
-returns-clause-nodes g c = c.in_ok-take_from.ensures.ok.1
-
-pub returns-in_err-take_from-clause-nodes : goal.returns-in_err-take_from-clause-nodes
-returns-in_err-take_from-clause-nodes g c = let same = ap most_nodes c.in_err-take_from.ensures.err in omega (arith, same)
-
-pub returns-in_err-take_from-clause-err : goal.returns-in_err-take_from-clause-err
-returns-in_err-take_from-clause-err g c = on_err-always c.from_residual.result _ (ap tree_left c.in_err-take_from.ensures.err)
+returns-clause-ok g c = (sym c.find_offer.ensures ∙ c.in-Some.is, c.in_ok-pass.ensures.ok)
