@@ -13,6 +13,7 @@ use network::Wires;
 /// Makes the room that an act of this input at a home wants. Where it is refused nothing else has changed.
 ///
 /// Each cache that the home or the input names has a flag at the home and a link.
+#[inline(always)]
 pub fn home_reserve(
     home: &Home,
     input: HomeInput,

@@ -211,6 +211,7 @@ impl Wires {
     }
 
     /// Takes the request at a place, if there is one.
+    #[inline(always)]
     pub fn take_request(&mut self, index: u64) -> Option<Request>
         ensures taken { result ≡ slice_get self.old.traffic.requests index }
         ensures some { OnSome result (self.new.traffic ≡ request_taken index self.old.traffic) }
@@ -223,6 +224,7 @@ impl Wires {
     }
 
     /// Takes the first message of the link to a cache, if there is one.
+    #[inline(always)]
     pub fn take_head(&mut self, cache: CacheId) -> Option<Forward>
         ensures taken { result ≡ slice_get (link self.old.traffic cache.0) 0 }
         ensures some { OnSome result (self.new.traffic ≡ head_taken cache.0 self.old.traffic) }
@@ -235,6 +237,7 @@ impl Wires {
     }
 
     /// Takes the response at a place, if there is one.
+    #[inline(always)]
     pub fn take_response(&mut self, index: u64) -> Option<Response>
         ensures taken { result ≡ slice_get self.old.traffic.responses index }
         ensures some { OnSome result (self.new.traffic ≡ response_taken index self.old.traffic) }
@@ -247,6 +250,7 @@ impl Wires {
     }
 
     /// Sends a message that there is room for. It takes no memory.
+    #[inline(always)]
     pub fn place(&mut self, message: Message)
         requires link { HasLinkFor message (length self.old.traffic.links) }
         requires room { HasRoomFor (message ∷ []) self.old.room }
@@ -352,6 +356,7 @@ impl Wires {
     }
 
     /// Room for so many more requests and responses. Where it is refused no list has changed.
+    #[inline(always)]
     pub fn reserve_ends(&mut self, requests: usize, responses: usize) -> Result<(), NoMemory>
         ensures traffic { self.new.traffic ≡ self.old.traffic }
         ensures marks { self.new.marks ≡ self.old.marks }
@@ -365,6 +370,7 @@ impl Wires {
     }
 
     /// Room for so many more messages on the link to a cache. Where it is refused no list has changed.
+    #[inline(always)]
     pub fn reserve_link(&mut self, cache: CacheId, count: usize) -> Result<(), NoMemory>
         requires { cache.0 < length self.old.traffic.links }
         ensures traffic { self.new.traffic ≡ self.old.traffic }

@@ -34,6 +34,7 @@ impl Block {
     ghost use Rattle.blocks.specs.Tests.{IsTested, tested_in};
 
     /// Makes the room that a decision wants. Where it is refused nothing has changed.
+    #[inline(always)]
     fn prepare(&mut self, decision: &Decision) -> Result<(), NoMemory>
         requires { Fits decision.now self.old.state }
         ensures state { self.new.state ≡ self.old.state }
@@ -85,6 +86,7 @@ impl Block {
     }
 
     /// Does what was decided, where there is room for it.
+    #[inline(always)]
     fn carry_out(&mut self, decision: &Decision) -> Outcome
         requires fits { Fits decision.now self.old.state }
         requires names { DecisionNames self.old.space.lines decision.now }
@@ -165,6 +167,7 @@ fn put_line(lines: &mut Sparse<Line>, cache: CacheId, line: Line)
 }
 
 /// Takes the message that is served off its wire.
+#[inline(always)]
 fn take(wires: &mut Wires, from: Origin)
     requires { IsThere from wires.old.traffic }
     ensures traffic { wires.new.traffic ≡ without from wires.old.traffic }

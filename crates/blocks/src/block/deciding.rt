@@ -24,6 +24,7 @@ pub fn opened_line(cache: CacheId, caches: u32) -> Option<Line>
 }
 
 /// What an input comes to at a line.
+#[inline(always)]
 fn at_line(
     tables: &Tables,
     cache: CacheId,
@@ -51,6 +52,7 @@ fn at_line(
 }
 
 /// What an ask comes to at the line of its cache.
+#[inline(always)]
 fn at_ask(tables: &Tables, cache: CacheId, ask: Ask, line: Option<Line>) -> Decision
     ensures { result ≡ at_ask tables.now.cache cache ask line }
 {
@@ -86,6 +88,7 @@ impl Block {
     ghost use Rattle.machine.specs.Transition.{at_line, at_home, at_request, at_forward, at_response, decision_of, Fits};
     ghost use Rattle.blocks.specs.inner.Named.{DecisionNames};
 
+    #[inline(always)]
     fn at_home(&self, tables: &Tables, input: HomeInput, from: Origin) -> Decision
         ensures { result ≡ at_home tables.now.directory input from self.now.state.home }
     {
@@ -104,12 +107,14 @@ impl Block {
         }
     }
 
+    #[inline(always)]
     fn at_line(&self, tables: &Tables, cache: CacheId, input: LineInput, from: Origin) -> Decision
         ensures { result ≡ at_line tables.now.cache cache input from (slice_get self.now.state.lines cache.0) }
     {
         at_line(tables, cache, input, from, self.line(cache))
     }
 
+    #[inline(always)]
     fn at_request(&self, tables: &Tables, index: u64) -> Decision
         ensures { result ≡ at_request tables.now.directory index self.now.state.home (slice_get self.now.state.traffic.requests index) }
     {
@@ -121,6 +126,7 @@ impl Block {
         }
     }
 
+    #[inline(always)]
     fn at_forward(&self, tables: &Tables, cache: CacheId) -> Decision
         ensures { result ≡ at_forward tables.now.cache cache self.now.state.lines (slice_get (link self.now.state.traffic cache.0) 0) }
     {
@@ -135,6 +141,7 @@ impl Block {
         }
     }
 
+    #[inline(always)]
     fn at_response(&self, tables: &Tables, index: u64) -> Decision
         ensures { result ≡ at_response tables.now index self.now.state (slice_get self.now.state.traffic.responses index) }
     {
@@ -161,6 +168,7 @@ impl Block {
         }
     }
 
+    #[inline(always)]
     fn find(&self, tables: &Tables, step: Step) -> Decision
         ensures { result ≡ decision_of tables.now step self.now.state }
     {
@@ -177,6 +185,7 @@ impl Block {
     }
 
     /// What a step comes to here.
+    #[inline(always)]
     pub fn decide(&self, tables: &Tables, step: Step) -> Decision
         ensures decision { result ≡ decision_of tables.now step self.now.state }
         ensures fits { Fits result self.now.state }
