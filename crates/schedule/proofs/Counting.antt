@@ -1,5 +1,6 @@
 -- What marking and counting lanes again makes of them.
-use Rattle.std.proofs.Common.{◌≡◌, ◌≢◌, ℕ, zero, suc, ◌+◌, ◌<◌, ◌≤◌, ◌^◌, ◌⊎◌, ◌==◌, inl, inr, Bool, true, false, not, ◌&&◌, if◌then◌else◌, List, [], ◌∷◌, ◌++◌, length, map}
+use Rattle.std.proofs.Common.{◌≡◌, ◌≢◌, ℕ, zero, suc, ◌+◌, ◌<◌, ◌≤◌, ◌^◌, ◌⊎◌, ◌==◌, inl, inr, Bool, true, false}
+use Rattle.std.proofs.Common.{not, ◌&&◌, if◌then◌else◌, List, [], ◌∷◌, ◌++◌, length, map}
 use Rattle.std.proofs.Common.{Option, Some, get_or, set, slice_get, refl, sym, ap, ◌∙◌, subst, arith}
 use Rattle.std.specs.List.{Contains}
 use Rattle.std.proofs.lemmas.List.{length-set, get_or_default, get_or_past, get_or-set_same, get_or-set_other}
@@ -20,7 +21,8 @@ use Rattle.schedule.specs.Choices.{can_be_put, offers_from}
 use Rattle.schedule.specs.Lanes.{Agree, AgreeBut, AreReady, IsKept, IsLevel, IsListed, Laned, lanes_of, listed_at, offers_at, puttable}
 use Rattle.schedule.specs.Listed.{IsMarked, Listed, is_unheld, nothing_listed}
 use Rattle.schedule.specs.inner.Marks.{is_at, marked_at, marks_at}
-use Rattle.schedule.specs.inner.Changes.{AreMarked, Counts, IsCountedAt, IsCountedIf, IsMarkedIn, KeepsOthers, Marks, TakesFrom, WereReady, count_by, counted_at, marked_in}
+use Rattle.schedule.specs.inner.Changes.{AreMarked, Counts, IsCountedAt, IsCountedIf, IsMarkedIn, KeepsOthers, Marks, TakesFrom}
+use Rattle.schedule.specs.inner.Changes.{WereReady, count_by, counted_at, marked_in}
 use Rattle.schedule.specs.inner.Owned.{IsMarkedOrSame}
 use Rattle.schedule.specs.declared.choosing.Choice.TheVariants.{Offer}
 use Rattle.schedule.proofs.Marking.{by-marks}
@@ -125,7 +127,8 @@ is-another core block ask e = elim (cases_eq ask.core.0 core.0) [
 ]
 
 -- a lane whose marks were right, of which those of a core and a block were made anew
-pub anew-right : (tables : Tables) (before now : State) (cb cn : List Core) (core : CacheId) (block : BlockId) (old : Listed) → before.broken ≡ false → now.broken ≡ false →
+pub anew-right : (tables : Tables) (before now : State) (cb cn : List Core) (core : CacheId) (block : BlockId) (old : Listed) → before.broken ≡ false →
+    now.broken ≡ false →
     AgreeBut (Some (Cache core)) block.0 before now cb cn → IsMarked tables now old ⊎ IsMarked tables before old →
     IsMarked tables now (marked_at tables now core block old)
 unfolding StaysApart
@@ -180,8 +183,10 @@ marked-more tables s core block now start which n each within lane low =
     ]
   where
     once : (get_or now (get_or which n 0) nothing_listed ≡ marked_at tables s core block (get_or start (get_or which n 0) nothing_listed))
-        ⊎ ((get_or now (get_or which n 0) nothing_listed ≡ get_or start (get_or which n 0) nothing_listed) × ((k : ℕ) → k < n → get_or which k 0 ≢ get_or which n 0)) →
-        marked_at tables s core block (get_or now (get_or which n 0) nothing_listed) ≡ marked_at tables s core block (get_or start (get_or which n 0) nothing_listed)
+        ⊎ ((get_or now (get_or which n 0) nothing_listed ≡ get_or start (get_or which n 0) nothing_listed) × ((k : ℕ) → k < n →
+        get_or which k 0 ≢ get_or which n 0)) →
+        marked_at tables s core block (get_or now (get_or which n 0) nothing_listed) ≡ marked_at tables s core block
+        (get_or start (get_or which n 0) nothing_listed)
     once h = elim h [
       | inl e ↦
           let was = get_or start (get_or which n 0) nothing_listed in
@@ -228,7 +233,8 @@ kept-marks old new m kept =
             offered = same ∙ h.offered ∙ ap (λ ts. taking.offers (get_or ts lane (Seq Nil))) (sym m.trees);
             count = ap (λ ns. get_or ns lane 0) m.lengths ∙ h.count ∙ ap length (sym same);
             short = subst (λ xs. length xs < 2 ^ 32) (sym same) h.short;
-            reached = λ at ask e. subst (λ rs. Contains (lanes_of rs ask.core.0) lane) (sym m.reached) (h.reached at ask (ap (λ xs. slice_get xs at) (sym same) ∙ e));
+            reached = λ at ask e. subst (λ rs. Contains (lanes_of rs ask.core.0) lane) (sym m.reached)
+                (h.reached at ask (ap (λ xs. slice_get xs at) (sym same) ∙ e));
           };
     }
 
@@ -254,7 +260,8 @@ marks-only tables s core block which old new trees lengths ready reached long ma
 
 -- where the lanes of a core were marked again, all marks are right
 pub all-marked : (tables : Tables) (before now : State) (cb cn : List Core) (but : Option ℕ) (core : CacheId) (block : BlockId) (old new : Laned) → IsKept old →
-    Marks old new → before.broken ≡ false → now.broken ≡ false → WereReady tables before cb now but old → AgreeBut (Some (Cache core)) block.0 before now cb cn →
+    Marks old new → before.broken ≡ false → now.broken ≡ false → WereReady tables before cb now but old →
+    AgreeBut (Some (Cache core)) block.0 before now cb cn →
     ((lane : ℕ) → lane < length old.trees → IsMarkedIn tables now core block (lanes_of old.reached core.0) (listed_at old lane) (listed_at new lane) lane) →
     AreMarked tables now new
 all-marked tables before now cb cn but core block old new kept m sb sn were agree each lane low =
@@ -324,7 +331,8 @@ kept-counts old new c kept =
             offered = same ∙ h.offered ∙ ap (λ ts. taking.offers (get_or ts lane (Seq Nil))) (sym trees);
             count = ap (λ ns. get_or ns lane 0) lengths ∙ h.count ∙ ap length (sym same);
             short = subst (λ xs. length xs < 2 ^ 32) (sym same) h.short;
-            reached = λ at ask e. subst (λ rs. Contains (lanes_of rs ask.core.0) lane) (sym reached) (h.reached at ask (ap (λ xs. slice_get xs at) (sym same) ∙ e));
+            reached = λ at ask e. subst (λ rs. Contains (lanes_of rs ask.core.0) lane) (sym reached)
+                (h.reached at ask (ap (λ xs. slice_get xs at) (sym same) ∙ e));
           };
     }
 
@@ -421,7 +429,8 @@ listed-marked : (tables : Tables) (s : State) (lane at : ℕ) (l : Laned) → Is
 listed-marked tables s lane at l h low =
     let new = marked_in tables s lane l in
     let same : offers_at new at ≡ offers_at l at = (elim (cases_eq at lane) [
-      | inl q ↦ ap (λ n. (get_or (set l.listed lane (record { asks = offers_at l lane; unheld = map (is_unheld tables s) (offers_at l lane) })) n nothing_listed).asks) q
+      | inl q ↦ ap (λ n. (get_or (set l.listed lane (record { asks = offers_at l lane; unheld = map (is_unheld tables s) (offers_at l lane) })) n
+          nothing_listed).asks) q
           ∙ ap (λ (x : Listed). x.asks) (get_or-set_same l.listed lane _ nothing_listed low) ∙ ap (offers_at l) (sym q)
       | inr ne ↦ ap (λ (x : Listed). x.asks) (get_or-set_other l.listed lane at _ nothing_listed ne)
     ]) in
@@ -444,7 +453,8 @@ pub record Opens (tables : Tables) (s : State) (cores : List Core) (lane : ℕ) 
   pub marks : marked ≡ marked_in tables s lane mid
   pub counts : new ≡ counted_at cores lane marked
 
-pub level-opened : (tables : Tables) (s : State) (cores : List Core) (lane : ℕ) (old mid marked new : Laned) → Opens tables s cores lane old mid marked new → IsLevel new
+pub level-opened : (tables : Tables) (s : State) (cores : List Core) (lane : ℕ) (old mid marked new : Laned) →
+    Opens tables s cores lane old mid marked new → IsLevel new
 level-opened tables s cores lane old mid marked new o =
     let h = o.level in
     subst IsLevel (sym (o.counts ∙ ap (counted_at cores lane) o.marks)) (record {

@@ -219,4 +219,4 @@ lane-is l new lane made low lanes =
     ap (λ xs. get_or (map (λ x. x.asks) xs) lane nothing_listed) lanes
     ∙ ap (λ xs. get_or xs lane nothing_listed) (map-set (λ x. x.asks) l.lanes.items lane made)
     ∙ get_or-set_same (map (λ x. x.asks) l.lanes.items) lane made.asks nothing_listed (let many = length-map l.lanes.items (λ x. x.asks) in omega
-        (arith, low, many))
+    (arith, low, many))

@@ -38,14 +38,16 @@ pub marks-first : (f : CoreAsk → Bool) (n : ℕ) (asks : List CoreAsk) (marks 
     take (n + 1) (set marks n (f (get_or asks n d))) ++ map f (drop (n + 1) asks) ≡ map f asks
 marks-first f n asks marks d low long before =
     let later = map f (drop (n + 1) asks) in
-    let step : map f (drop n asks) ≡ f (get_or asks n d) ∷ later = ap (map f) (drop-cons asks n d low) ∙ ap (λ m. f (get_or asks n d) ∷ map f (drop m asks)) (sym (add-one n)) in
+    let step : map f (drop n asks) ≡ f (get_or asks n d) ∷ later = ap (map f) (drop-cons asks n d low) ∙ ap (λ m. f (get_or asks n d) ∷ map f (drop m asks))
+    (sym (add-one n)) in
     ap (λ front. front ++ later) (take_more_set marks n (f (get_or asks n d)) (omega (arith, low, long)))
     ∙ append_assoc (take n marks) (f (get_or asks n d) ∷ []) later ∙ ap (λ back. take n marks ++ back) (sym step) ∙ before
 
 pub marks-long : (n : ℕ) (asks : List CoreAsk) (marks : List Bool) → length marks ≡ length asks → length asks ≤ n → length marks ≤ n
 marks-long n asks marks long past = omega (arith, long, past)
 
-marks-step : (tables : Tables) (s : State) (core : CacheId) (block : BlockId) (n : ℕ) (asks : List CoreAsk) (marks : List Bool) (d : CoreAsk) → n < length asks →
+marks-step : (tables : Tables) (s : State) (core : CacheId) (block : BlockId) (n : ℕ) (asks : List CoreAsk) (marks : List Bool) (d : CoreAsk) →
+    n < length asks →
     length marks ≡ length asks → marks_at tables s core block (drop n asks) (drop n marks)
     ≡ (if is_at core block (get_or asks n d) then is_unheld tables s (get_or asks n d) else get_or marks n false)
     ∷ marks_at tables s core block (drop (n + 1) asks) (drop (n + 1) marks)
@@ -54,7 +56,8 @@ marks-step tables s core block n asks marks d low long =
     ∙ ap (λ ms. marks_at tables s core block (get_or asks n d ∷ drop (n + 1) asks) ms)
     (drop-cons marks n false (omega (arith, low, long)) ∙ ap (λ m. get_or marks n false ∷ drop m marks) (sym (add-one n)))
 
-pub marks-here : (tables : Tables) (s : State) (core : CacheId) (block : BlockId) (n : ℕ) (asks : List CoreAsk) (marks all : List Bool) (d : CoreAsk) → n < length asks →
+pub marks-here : (tables : Tables) (s : State) (core : CacheId) (block : BlockId) (n : ℕ) (asks : List CoreAsk) (marks all : List Bool) (d : CoreAsk) →
+    n < length asks →
     length marks ≡ length asks → is_at core block (get_or asks n d) ≡ true →
     take n marks ++ marks_at tables s core block (drop n asks) (drop n marks) ≡ all →
     take (n + 1) (set marks n (is_unheld tables s (get_or asks n d)))
@@ -71,7 +74,8 @@ marks-here tables s core block n asks marks all d low long here before =
     ∙ ap (λ t. take n marks ++ ((if t then mark else get_or marks n false) ∷ later)) (sym here)
     ∙ ap (λ b. take n marks ++ b) (sym step) ∙ before
 
-pub marks-apart : (tables : Tables) (s : State) (core : CacheId) (block : BlockId) (n : ℕ) (asks : List CoreAsk) (marks all : List Bool) (d : CoreAsk) → n < length asks →
+pub marks-apart : (tables : Tables) (s : State) (core : CacheId) (block : BlockId) (n : ℕ) (asks : List CoreAsk) (marks all : List Bool) (d : CoreAsk) →
+    n < length asks →
     length marks ≡ length asks → is_at core block (get_or asks n d) ≡ false →
     take n marks ++ marks_at tables s core block (drop n asks) (drop n marks) ≡ all →
     take (n + 1) marks ++ marks_at tables s core block (drop (n + 1) asks) (drop (n + 1) marks) ≡ all
@@ -112,7 +116,8 @@ by-few cores i (ask ∷ asks) (m ∷ marks) =
     ]
 
 -- how many there are is the same from any number on
-pub by-length : (cores : List Core) (i j : ℕ) (asks : List CoreAsk) (marks : List Bool) → length (offers_by cores i asks marks) ≡ length (offers_by cores j asks marks)
+pub by-length : (cores : List Core) (i j : ℕ) (asks : List CoreAsk) (marks : List Bool) → length (offers_by cores i asks marks) ≡ length
+    (offers_by cores j asks marks)
 by-length cores i j [] marks = refl
 by-length cores i j (ask ∷ asks) [] = refl
 by-length cores i j (ask ∷ asks) (m ∷ marks) =
@@ -134,7 +139,8 @@ pub counted-put : (cores : List Core) (n count all : ℕ) (asks : List CoreAsk) 
     (count + 1) + length (offers_by cores (n + 1) (drop (n + 1) asks) (drop (n + 1) marks)) ≡ all
 counted-put cores n count all asks marks d low long put before =
     let step = ap length (by-step cores n n asks marks d low long) in
-    let one = one-first (Offer n (get_or asks n d)) (offers_by cores (n + 1) (drop (n + 1) asks) (drop (n + 1) marks)) (is_free cores (get_or asks n d).core.0 && get_or marks n false) put in
+    let one = one-first (Offer n (get_or asks n d)) (offers_by cores (n + 1) (drop (n + 1) asks) (drop (n + 1) marks))
+    (is_free cores (get_or asks n d).core.0 && get_or marks n false) put in
     omega (arith, before, step, one)
 
 pub counted-not : (cores : List Core) (n count all : ℕ) (asks : List CoreAsk) (marks : List Bool) (d : CoreAsk) → n < length asks → length marks ≡ length asks →
@@ -238,13 +244,15 @@ kth-free cores i k (suc at) (ask ∷ asks) (m ∷ marks) d free long kth =
     by later false j e = later j (omega (arith, e))
 
 -- asks of one core are free or busy as it is
-pub as-its-core : (cores : List Core) (core : CacheId) (free : Bool) (asks : List CoreAsk) → AreOf core asks → is_free cores core.0 ≡ free → AllFree cores free asks
+pub as-its-core : (cores : List Core) (core : CacheId) (free : Bool) (asks : List CoreAsk) → AreOf core asks → is_free cores core.0 ≡ free →
+    AllFree cores free asks
 as-its-core cores core free asks of is at ask e = ap (λ (c : CacheId). is_free cores c.0) (of.each at ask e) ∙ is
 
 pub count-free : (cores : List Core) (core : CacheId) (kept : Option CacheId) (asks : List CoreAsk) (marks : List Bool) (n : ℕ) → AreKept asks marks kept →
     kept ≡ Some core → is_free cores core.0 ≡ true → n ≡ set_count marks → n ≡ length (offers_by cores 0 asks marks)
 count-free cores core kept asks marks n k is free e =
-    e ∙ sym (all-free cores 0 asks marks (as-its-core cores core true asks (subst (λ (c : Option CacheId). IfSome c (λ of. AreOf of asks)) is k.owned) free) k.long)
+    e ∙ sym (all-free cores 0 asks marks (as-its-core cores core true asks (subst (λ (c : Option CacheId). IfSome c (λ of. AreOf of asks)) is k.owned) free)
+    k.long)
 
 pub none-of-busy : (cores : List Core) (core : CacheId) (kept : Option CacheId) (i : ℕ) (asks : List CoreAsk) (marks : List Bool) → AreKept asks marks kept →
     kept ≡ Some core → is_free cores core.0 ≡ false → offers_by cores i asks marks ≡ []
@@ -255,7 +263,8 @@ pub kth-of-free : (cores : List Core) (core : CacheId) (kept : Option CacheId) (
     AreKept asks marks kept → kept ≡ Some core → is_free cores core.0 ≡ true → IsKth marks k at →
     Some (Offer (i + at) (get_or asks at d)) ≡ slice_get (offers_by cores i asks marks) k
 kth-of-free cores core kept i k at asks marks d h is free kth =
-    sym (kth-free cores i k at asks marks d (as-its-core cores core true asks (subst (λ (c : Option CacheId). IfSome c (λ of. AreOf of asks)) is h.owned) free) h.long kth)
+    sym (kth-free cores i k at asks marks d (as-its-core cores core true asks (subst (λ (c : Option CacheId). IfSome c (λ of. AreOf of asks)) is h.owned)
+    free) h.long kth)
 
 past-end : {X : Type 0} (xs : List X) (k : ℕ) → length xs ≤ k → slice_get xs k ≡ None
 past-end [] k h = refl
@@ -265,7 +274,8 @@ past-end (x ∷ xs) (suc k) h = past-end xs k (omega (arith, h))
 pub past-free : (cores : List Core) (core : CacheId) (kept : Option CacheId) (i k : ℕ) (asks : List CoreAsk) (marks : List Bool) → AreKept asks marks kept →
     kept ≡ Some core → is_free cores core.0 ≡ true → set_count marks ≤ k → None ≡ slice_get (offers_by cores i asks marks) k
 past-free cores core kept i k asks marks h is free past =
-    let all = all-free cores i asks marks (as-its-core cores core true asks (subst (λ (c : Option CacheId). IfSome c (λ of. AreOf of asks)) is h.owned) free) h.long in
+    let all = all-free cores i asks marks (as-its-core cores core true asks (subst (λ (c : Option CacheId). IfSome c (λ of. AreOf of asks)) is h.owned)
+    free) h.long in
     sym (past-end (offers_by cores i asks marks) k (omega (arith, all, past)))
 
 -- a place that is set is one of the asks

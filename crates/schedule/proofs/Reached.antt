@@ -36,7 +36,8 @@ row-low rows core some = grind arith
 pub grown : (rows : List (List ℕ)) (row core other : ℕ) (v : List ℕ) → row < length rows → ((o : ℕ) → Contains (get_or rows row []) o → Contains v o) →
     Contains (lanes_of rows core) other → Contains (lanes_of (set rows row v) core) other
 grown rows row core other v low more there =
-    let same : lanes_of (set rows row v) core ≡ get_or (set rows row v) (row_of rows core) [] = ap (λ r. get_or (set rows row v) r []) (row-set rows row core v) in
+    let same : lanes_of (set rows row v) core ≡ get_or (set rows row v) (row_of rows core) [] = ap (λ r. get_or (set rows row v) r [])
+    (row-set rows row core v) in
     subst (λ xs. Contains xs other) (sym same)
     (elim (cases_eq (row_of rows core) row) [
       | inl e ↦ subst (λ xs. Contains xs other)
@@ -70,7 +71,8 @@ grown-vec vs row core other old new low is more there =
     (grown (rows_in vs) row core other new.items (low-row vs row low)
     (λ o h. more o (subst (λ xs. Contains xs o) (items-at vs row old low is) h)) there)
 
-pub now-in-vec : (vs : List (Vec ℕ Global)) (row core lane : ℕ) (new : Vec ℕ Global) → row < length vs → row ≡ min core (length vs - 1) → Contains new.items lane →
+pub now-in-vec : (vs : List (Vec ℕ Global)) (row core lane : ℕ) (new : Vec ℕ Global) → row < length vs → row ≡ min core (length vs - 1) →
+    Contains new.items lane →
     Contains (lanes_of (rows_in (set vs row new)) core) lane
 now-in-vec vs row core lane new low is there =
     subst (λ rows. Contains (lanes_of rows core) lane) (sym (map-set (λ (of : Vec ℕ Global). of.items) vs row new))

@@ -94,11 +94,14 @@ left-found : (ts : List Tree) (i p r : ℕ) → sum (take p (lengths_of ts)) + r
 left-found [] i p r e w = absurd (omega (arith, w))
 left-found (t ∷ ts) i zero r e w =
     let q : r ≡ i = omega (arith, e) in
-    ap (λ b. if b then Cons (left t i) (trees_of ts) else Cons t (left_of_all (trees_of ts) (i - length (offers t)))) (is_below i (length (offers t)) (omega (arith, w, q)))
+    ap (λ b. if b then Cons (left t i) (trees_of ts) else Cons t (left_of_all (trees_of ts) (i - length (offers t))))
+    (is_below i (length (offers t)) (omega (arith, w, q)))
     ∙ ap (λ n. Cons (left t n) (trees_of ts)) (sym q)
 left-found (t ∷ ts) i (suc p) r e w =
-    let s : sum (length (offers t) ∷ take p (lengths_of ts)) ≡ length (offers t) + sum (take p (lengths_of ts)) = sum_by-cons (λ x. x) (length (offers t)) (take p (lengths_of ts)) in
-    ap (λ b. if b then Cons (left t i) (trees_of ts) else Cons t (left_of_all (trees_of ts) (i - length (offers t)))) (isnt_below i (length (offers t)) (omega (arith, e, s)))
+    let s : sum (length (offers t) ∷ take p (lengths_of ts)) ≡ length (offers t) + sum (take p (lengths_of ts)) = sum_by-cons (λ x. x) (length (offers t))
+    (take p (lengths_of ts)) in
+    ap (λ b. if b then Cons (left t i) (trees_of ts) else Cons t (left_of_all (trees_of ts) (i - length (offers t))))
+    (isnt_below i (length (offers t)) (omega (arith, e, s)))
     ∙ ap (Cons t) (left-found ts (i - length (offers t)) p r (omega (arith, e, s)) w)
 
 same-row : (ts : Trees) → AllAlike ts ts

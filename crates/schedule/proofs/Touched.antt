@@ -133,13 +133,15 @@ lines-at tables s step (Some b) other block there ne =
     let new : BlockState = (transition tables step b).block in
     elim (cases_eq block (block_of step)) [
       | inl e ↦
-          ap (λ n. line_in other.0 (slice_get (slice_set s.blocks (block_of step) new) n)) e ∙ ap (line_in other.0) (set-here s.blocks (block_of step) new b there)
+          ap (λ n. line_in other.0 (slice_get (slice_set s.blocks (block_of step) new) n)) e ∙ ap (line_in other.0)
+          (set-here s.blocks (block_of step) new b there)
           ∙ lines-left (decision_of tables step b) (place_in step b) b other (decision-goes tables step b) ne
           ∙ sym (ap (λ n. line_in other.0 (slice_get s.blocks n)) e ∙ ap (line_in other.0) there)
       | inr apart ↦ ap (line_in other.0) (set-other s.blocks (block_of step) block new apart)
     ]
 
-pub next-sound : (tables : Tables) (s : State) (step : Step) → s.broken ≡ false → next tables s step ≡ next_at tables s step (slice_get s.blocks (block_of step))
+pub next-sound : (tables : Tables) (s : State) (step : Step) → s.broken ≡ false → next tables s step ≡ next_at tables s step
+    (slice_get s.blocks (block_of step))
 next-sound tables s step e =
     ap (λ t. if t then record { state = s; outcome = outcome.Broken } else next_at tables s step (slice_get s.blocks (block_of step))) e
 

@@ -12,5 +12,6 @@ returns-in-Some-clause-marked g c before cb cn but sb sn were agree =
 
 pub returns-in_default-clause-marked : goal.returns-in_default-clause-marked
 returns-in_default-clause-marked g c before cb cn but sb sn were agree =
-    all-right c.args.world.now.tables before c.args.world.now.state cb cn but c.args.at c.args.block.0 (laned c.args.self.now) c.in_default.ensures.none sb sn were
+    all-right c.args.world.now.tables before c.args.world.now.state cb cn but c.args.at c.args.block.0 (laned c.args.self.now) c.in_default.ensures.none sb
+    sn were
     agree

@@ -37,7 +37,8 @@ loop-number-preserved g c = elim c.if-lane-len.branch [
             (ap (λ (l : Lane g.row.A.Denot g.row.B.Denot). remaining l.rest) w.index_mut.ensures.value) ∙ c.loop-number.invariant.1,
         λ lane under. subst (λ (ls : List Listed).
             (get_or ls lane nothing_listed
-            ≡ marked_at c.args.world.now.tables c.args.world.now.state c.args.core c.args.block (get_or (listed_in g c.args.lanes.now.items) lane nothing_listed))
+            ≡ marked_at c.args.world.now.tables c.args.world.now.state c.args.core c.args.block
+            (get_or (listed_in g c.args.lanes.now.items) lane nothing_listed))
             ⊎ ((get_or ls lane nothing_listed ≡ get_or (listed_in g c.args.lanes.now.items) lane nothing_listed)
             × ((k : ℕ) → k < c.loop-number.number-index + 1 → get_or c.args.which.now k 0 ≢ lane)))
             (sym written)

@@ -9,7 +9,8 @@ returns-in_err-add-clause-more c core other there =
     let some = c.requires in
     let row = c.row_of-row.ensures in
     let low : c.row_of-row.result < length c.loop-ask.reached.items = grind arith in
-    grown-vec c.loop-ask.reached.items c.row_of-row.result core other c.index_mut.result.now c.add.new.lanes low c.index_mut.ensures.value c.in_err-add.ensures.more
+    grown-vec c.loop-ask.reached.items c.row_of-row.result core other c.index_mut.result.now c.add.new.lanes low c.index_mut.ensures.value
+    c.in_err-add.ensures.more
     (c.loop-ask.invariant.1 core other there)
 
 pub loop-ask-preserved : goal.loop-ask-preserved
