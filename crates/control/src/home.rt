@@ -18,7 +18,7 @@ pub struct Home {
 }
 
 /// What is put to a home: a request, or the value of a Data.
-#[derive(Clone, Copy, Debug, PartialEq, Eq)]
+#[derive(Clone, Copy, Debug)]
 pub enum HomeInput {
     Request(Request),
     Data(u64),

@@ -19,7 +19,7 @@ pub struct Line {
 }
 
 /// What is put to a line: an ask of its core, the head of its link, or a response.
-#[derive(Clone, Copy, Debug, PartialEq, Eq)]
+#[derive(Clone, Copy, Debug)]
 pub enum LineInput {
     Ask(Ask),
     Forward(Forward),

@@ -27,7 +27,7 @@ pub trait Gate {
 }
 
 /// What a seat wishes to do next.
-#[derive(Clone, Copy, Debug, PartialEq, Eq)]
+#[derive(Clone, Copy)]
 pub enum Wish {
     /// To make this step, by [`turn`](Floor::turn).
     Step(Step),

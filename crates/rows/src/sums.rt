@@ -17,7 +17,7 @@ pub struct Sums {
 }
 
 /// Where the k-th is.
-#[derive(Clone, Copy, Debug, PartialEq, Eq)]
+#[derive(Clone, Copy)]
 pub struct Found {
     /// The place of the number that it falls in.
     pub place: usize,

@@ -4,7 +4,7 @@ use std::alloc::Allocator;
 /// What cores may ask, and in which order. A scenario stands for words, which are lists of asks.
 ///
 /// Its memory is the allocator's `A`, such as the machine's or an arena.
-#[derive(Debug, Drop)]
+#[derive(Drop)]
 pub enum Scenario<A: Allocator> {
     /// This one ask.
     One(CoreAsk),

@@ -19,7 +19,7 @@ impl Source for &[u8] {
 }
 
 /// A sink in memory. A call fails where there was no memory for its bytes.
-#[derive(Debug, Drop)]
+#[derive(Drop)]
 pub struct Buffer {
     bytes: Vec<u8>,
     failed: bool,
@@ -66,7 +66,7 @@ impl Sink for Buffer {
 }
 
 /// An end that gives or takes little at a time, and fails at one of its calls: a device for tests.
-#[derive(Debug, Drop)]
+#[derive(Drop)]
 pub struct Faltering<E> {
     end: E,
     most: usize,

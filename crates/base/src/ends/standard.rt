@@ -2,7 +2,7 @@ use super::{Failed, Sink, Source};
 use std::io::{Read, Write};
 
 /// A reader of the standard library as a source. An interrupted call counts as a failure.
-#[derive(Debug, Drop)]
+#[derive(Drop)]
 pub struct FromRead<R> {
     inner: R,
     failed: bool,
@@ -41,7 +41,7 @@ impl<R: Read> Source for FromRead<R> {
 
 /// A writer of the standard library as a sink. An interrupted call counts as a failure, and so does one that took no
 /// byte of a text that isn't empty.
-#[derive(Debug, Drop)]
+#[derive(Drop)]
 pub struct ToWrite<W> {
     inner: W,
     failed: bool,

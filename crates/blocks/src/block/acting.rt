@@ -18,7 +18,7 @@ use network::Wires;
 use rows::Sparse;
 
 /// What a step came to at its block.
-#[derive(Clone, Copy, Debug, PartialEq, Eq)]
+#[derive(Clone, Copy)]
 pub struct Made {
     pub outcome: Outcome,
     /// What the test of the block's messages found, where a cell acted.

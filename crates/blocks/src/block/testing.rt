@@ -18,7 +18,7 @@ use network::{Response, Wires};
 use rows::Sparse;
 
 /// What a test of all messages of a block finds.
-#[derive(Clone, Copy, Debug, PartialEq, Eq)]
+#[derive(Clone, Copy)]
 pub struct Tested {
     /// How many requests wouldn't be held.
     pub requests: u32,
