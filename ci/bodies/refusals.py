@@ -5,7 +5,8 @@ from dataclasses import dataclass
 from enum import Enum
 
 OPEN = re.compile(r"^note: (src/\S+?):(\d+):\d+: it is not proved that (.*?) \(`([^`]*)`\)", re.M)
-ANSWER = re.compile(r"^(?:\./)?(proofs/\S+?):(\d+):\d+: error: (?:`([^`]*)`: )?(.*)$", re.M)
+# (what is said goes on in lines that begin with blanks)
+ANSWER = re.compile(r"^(?:\./)?(proofs/\S+?):(\d+):\d+: error: (?:`([^`]*)`: )?(.*(?:\n  .*)*)$", re.M)
 CALLS = re.compile(r"^fn (\S+): no proof: it calls ", re.M)
 # What is said of an answer where a tactic was left with a goal that doesn't hold, or that it couldn't close.
 TACTIC = re.compile(r"^`(omega|grind|search|simp|decide)\b")
@@ -52,7 +53,8 @@ def refusals_in(said):
     for file, line, goal, why in ANSWER.findall(said):
         plain = re.sub(r"`[^`]*`", "", why)
         kind = Kind.UNREAD if NAMES.search(plain) or not goal else Kind.OPEN if TACTIC.match(why) else Kind.OTHER
-        found.append(Refusal(kind, file, int(line), goal, f"{subject_of(goal)}, {why[:80]}"))
+        said_first = " ".join(why.split()).split(". ")[0]
+        found.append(Refusal(kind, file, int(line), goal, f"{subject_of(goal)}, {said_first[:90]}"))
     return found
 
 
