@@ -3,7 +3,7 @@ use std::io;
 use thiserror::Error;
 
 /// Why a table wasn't written to its end.
-#[derive(Debug, Drop, Error)]
+#[derive(Clone, Copy, Debug, Error)]
 pub enum ShowFault {
     /// A write failed.
     #[error("device")]

@@ -1,7 +1,8 @@
+use crate::list::List;
 use crate::trips::Trip;
 use base::{BlockId, CacheId, NoMemory, Place, Step};
 use network::Message;
-use std::alloc::{AllocError, Global};
+use std::alloc::Global;
 use world::World;
 
 /// The messages that are on their way in a world, each with the step that sent it.
@@ -53,7 +54,7 @@ impl Flights {
         block: BlockId,
         from: Place,
         number: u64,
-        sent: &mut Vec<Trip>,
+        sent: &mut List<Trip>,
     ) -> Result<(), NoMemory> {
         let Some(flights) = self.blocks.get_mut(block.0 as usize) else {
             return Ok(());
@@ -63,13 +64,13 @@ impl Flights {
             number,
             sent,
         };
-        found.look_for_requests(world, flights.requests.len() as u64)?;
+        found.look_for_requests(world, flights.requests.len() as u64);
         if from == Place::Dir {
             count(&mut self.counts, flights.forwards.as_slice());
-            found.look_for_forwards(world, self.counts.as_slice())?;
+            found.look_for_forwards(world, self.counts.as_slice());
         }
-        found.look_for_responses(world, flights.responses.len() as u64)?;
-        flights.add(sent.as_slice())
+        found.look_for_responses(world, flights.responses.len() as u64);
+        flights.add(sent.whole()?)
     }
 
     /// The messages of a block that are on their way: requests, those on links, and responses.
@@ -96,13 +97,18 @@ impl BlockFlights {
 
     fn add(&mut self, sent: &[Trip]) -> Result<(), NoMemory> {
         for trip in sent {
-            match trip.message {
-                Message::Request(_) => self.requests.push(*trip)?,
-                Message::Forward(..) => self.forwards.push(*trip)?,
-                Message::Response(_) => self.responses.push(*trip)?,
-            }
+            self.row_of(trip.message).push(*trip)?;
         }
         Ok(())
+    }
+
+    /// Those of a message's kind.
+    fn row_of(&mut self, message: Message) -> &mut Vec<Trip> {
+        match message {
+            Message::Request(_) => &mut self.requests,
+            Message::Forward(..) => &mut self.forwards,
+            Message::Response(_) => &mut self.responses,
+        }
     }
 }
 
@@ -111,60 +117,54 @@ impl BlockFlights {
 struct Found<'a> {
     block: BlockId,
     number: u64,
-    sent: &'a mut Vec<Trip>,
+    sent: &'a mut List<Trip>,
 }
 
 impl Found<'_> {
-    fn push(&mut self, message: Message) -> Result<(), AllocError> {
-        let trip = Trip {
+    fn push(&mut self, message: Message) {
+        self.sent.push(Trip {
             block: self.block,
             message,
             sent: self.number,
-        };
-        self.sent.push(trip)?;
-        Ok(())
+        });
     }
 
     /// The requests from a place on.
-    fn look_for_requests(&mut self, world: &World, from: u64) -> Result<(), NoMemory> {
+    fn look_for_requests(&mut self, world: &World, from: u64) {
         let block = self.block;
         for index in from..u64::MAX {
             let Some(message) = world.message(Step::Request { block, index }) else {
                 break;
             };
-            self.push(message)?;
+            self.push(message);
         }
-        Ok(())
     }
 
     /// The responses from a place on.
-    fn look_for_responses(&mut self, world: &World, from: u64) -> Result<(), NoMemory> {
+    fn look_for_responses(&mut self, world: &World, from: u64) {
         let block = self.block;
         for index in from..u64::MAX {
             let Some(message) = world.message(Step::Response { block, index }) else {
                 break;
             };
-            self.push(message)?;
+            self.push(message);
         }
-        Ok(())
     }
 
     /// What is on each link, from a place on.
-    fn look_for_forwards(&mut self, world: &World, from: &[u64]) -> Result<(), NoMemory> {
+    fn look_for_forwards(&mut self, world: &World, from: &[u64]) {
         for (number, from) in (0..u32::MAX).zip(from.iter()) {
-            self.look_on_link(world, CacheId(number), *from)?;
+            self.look_on_link(world, CacheId(number), *from);
         }
-        Ok(())
     }
 
-    fn look_on_link(&mut self, world: &World, cache: CacheId, from: u64) -> Result<(), NoMemory> {
+    fn look_on_link(&mut self, world: &World, cache: CacheId, from: u64) {
         for index in from..u64::MAX {
             let Some(forward) = world.forward(self.block, cache, index) else {
                 break;
             };
-            self.push(Message::Forward(cache, forward))?;
+            self.push(Message::Forward(cache, forward));
         }
-        Ok(())
     }
 }
 

@@ -4,6 +4,8 @@
 
 mod fault;
 mod flights;
+mod list;
+mod output;
 mod part;
 mod sheet;
 mod starting;
@@ -14,6 +16,7 @@ mod words;
 
 pub use fault::ShowFault;
 pub use flights::Flights;
+pub use list::List;
 pub use part::{Cut, Part, Shown};
 pub use sheet::Sheet;
 pub use tabling::show;

@@ -1,4 +1,5 @@
 use crate::fault::ShowFault;
+use crate::output::Output;
 use crate::part::{Cut, Part, Shown};
 use crate::sheet::Sheet;
 use crate::starting::put_start;
@@ -8,7 +9,7 @@ use crate::words::{put_holdings, put_home, put_line, put_message};
 use base::NoMemory;
 use record::{Entry, Recording};
 use std::alloc::Global;
-use std::io::{self, Write};
+use std::io::Write;
 
 /// What the columns have.
 const HEADINGS: [&str; 7] = ["", "step", "outcome", "serves", "changes", "sends", "finds"];
@@ -25,7 +26,12 @@ pub fn show<W: Write>(
 ) -> Result<Shown, ShowFault> {
     let mut table = Table::open(alloc);
     table.measure(alloc, recording, part)?;
-    table.print(alloc, recording, part, output)
+    let mut output = Output::new(output);
+    let shown = table.print(alloc, recording, part, &mut output)?;
+    match output.fault() {
+        None => Ok(shown),
+        Some(fault) => Err(fault),
+    }
 }
 
 /// The lines of a table, of which one at a time is kept.
@@ -55,17 +61,12 @@ impl Table {
         alloc: Global,
         recording: &Recording,
         part: Part,
-    ) -> Result<(), ShowFault> {
+    ) -> Result<(), NoMemory> {
         let mut story = Story::open(alloc, recording)?;
         self.measure_all(&mut story, part, part.cut(recording.entries()))
     }
 
-    fn measure_all(
-        &mut self,
-        story: &mut Story,
-        part: Part,
-        cut: Cut<'_>,
-    ) -> Result<(), ShowFault> {
+    fn measure_all(&mut self, story: &mut Story, part: Part, cut: Cut<'_>) -> Result<(), NoMemory> {
         story.skip(cut.before)?;
         self.fill_headings();
         self.widen();
@@ -90,14 +91,14 @@ impl Table {
         }
     }
 
-    /// Writes the state at the start of a part, and its lines.
+    /// Writes the state at the start of a part, and its lines. Where the output notes a fault, the rest is left out.
     fn print<W: Write>(
         &mut self,
         alloc: Global,
         recording: &Recording,
         part: Part,
-        output: &mut W,
-    ) -> Result<Shown, ShowFault> {
+        output: &mut Output<'_, W>,
+    ) -> Result<Shown, NoMemory> {
         let mut story = Story::open(alloc, recording)?;
         self.print_all(
             alloc,
@@ -114,11 +115,11 @@ impl Table {
         story: &mut Story,
         part: Part,
         cut: Cut<'_>,
-        output: &mut W,
-    ) -> Result<Shown, ShowFault> {
+        output: &mut Output<'_, W>,
+    ) -> Result<Shown, NoMemory> {
         story.skip(cut.before)?;
         self.fill_start(alloc, story, part, cut.chosen)?;
-        output.write_all(self.sheet.text()?.as_bytes())?;
+        output.put(self.sheet.text()?.as_bytes());
         self.print_lines(story, part, cut.chosen, output)
     }
 
@@ -142,36 +143,40 @@ impl Table {
         story: &mut Story,
         part: Part,
         chosen: &[Entry],
-        output: &mut W,
-    ) -> Result<Shown, ShowFault> {
+        output: &mut Output<'_, W>,
+    ) -> Result<Shown, NoMemory> {
         self.fill_headings();
-        self.write_line(output)?;
+        self.write_line(output);
         let mut shown = Shown::nothing();
         for entry in chosen {
+            if output.fault().is_some() {
+                break;
+            }
             let happening = story.advance(*entry)?;
             if part.is_of(happening.step.block()) {
                 shown.note(&happening);
                 self.fill(story, &happening);
-                self.write_line(output)?;
+                self.write_line(output);
             }
         }
         Ok(shown)
     }
 
     /// Writes the line that is kept, each text at its column.
-    fn write_line<W: Write>(&self, output: &mut W) -> Result<(), ShowFault> {
-        let line = self.sheet.text()?;
-        self.write_columns(line.as_bytes(), output)?;
-        Ok(())
+    fn write_line<W: Write>(&self, output: &mut Output<'_, W>) {
+        match self.sheet.text() {
+            Ok(line) => self.write_columns(line.as_bytes(), output),
+            Err(NoMemory) => output.fail(ShowFault::NoMemory),
+        }
     }
 
-    fn write_columns<W: Write>(&self, line: &[u8], output: &mut W) -> io::Result<()> {
+    fn write_columns<W: Write>(&self, line: &[u8], output: &mut Output<'_, W>) {
         let (mut start, mut spaces) = (0, 0);
         for (end, width) in self.ends.iter().zip(self.widths.iter()) {
             let text = line.get(start..*end).unwrap_or(b"");
             if !text.is_empty() {
-                write_spaces(output, spaces)?;
-                output.write_all(text)?;
+                put_spaces(output, spaces);
+                output.put(text);
                 spaces = 0;
             }
             spaces = width
@@ -180,7 +185,7 @@ impl Table {
                 .saturating_add(2);
             start = *end;
         }
-        output.write_all(b"\n")
+        output.put(b"\n");
     }
 
     fn clear(&mut self) {
@@ -263,9 +268,8 @@ impl Table {
     }
 }
 
-fn write_spaces<W: Write>(output: &mut W, count: usize) -> io::Result<()> {
+fn put_spaces<W: Write>(output: &mut Output<'_, W>, count: usize) {
     for _ in 0..count {
-        output.write_all(b" ")?;
+        output.put(b" ");
     }
-    Ok(())
 }

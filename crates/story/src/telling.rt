@@ -1,4 +1,5 @@
 use crate::flights::Flights;
+use crate::list::List;
 use crate::trips::Trip;
 use base::{BlockId, CacheId, NoMemory, Outcome, Place, Step};
 use control::Line;
@@ -14,7 +15,7 @@ pub struct Story {
     world: World,
     watch: Watch,
     flights: Flights,
-    sent: Vec<Trip>,
+    sent: List<Trip>,
     number: u64,
 }
 
@@ -61,7 +62,7 @@ impl Story {
             world: open_world(alloc, recording)?,
             watch,
             flights,
-            sent: Vec::new(alloc),
+            sent: List::new(alloc),
             number: 0,
         })
     }
@@ -108,7 +109,7 @@ impl Story {
 
     /// The messages that the last step has sent.
     pub fn sent(&self) -> &[Trip] {
-        self.sent.as_slice()
+        self.sent.so_far()
     }
 
     /// The number of the next step.

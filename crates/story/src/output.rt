@@ -1,0 +1,35 @@
+use crate::fault::ShowFault;
+use std::io::Write;
+
+/// An output whose first fault is noted: nothing more is written from then on, and the fault is told at the end.
+#[derive(Drop)]
+pub struct Output<'o, W: Write> {
+    inner: &'o mut W,
+    fault: Option<ShowFault>,
+}
+
+impl<'o, W: Write> Output<'o, W> {
+    pub fn new(inner: &'o mut W) -> Output<'o, W> {
+        Output { inner, fault: None }
+    }
+
+    pub fn put(&mut self, bytes: &[u8]) {
+        if self.fault.is_none() {
+            if let Err(error) = self.inner.write_all(bytes) {
+                self.fault = Some(ShowFault::from(error));
+            }
+        }
+    }
+
+    /// Notes a fault, as if a write had had it.
+    pub fn fail(&mut self, fault: ShowFault) {
+        if self.fault.is_none() {
+            self.fault = Some(fault);
+        }
+    }
+
+    /// The fault that was noted.
+    pub fn fault(&self) -> Option<ShowFault> {
+        self.fault
+    }
+}
