@@ -65,7 +65,7 @@ pub enum Layer {
 /// Draws a layer of the arrows of a picture.
 pub fn draw_arrows(pen: &mut Pen, picture: &Picture, layout: &Layout, layer: Layer) {
     let mut left: usize = 0;
-    for arrow in picture.arrows.iter() {
+    for arrow in picture.arrows() {
         let row = arrow.row_in(picture);
         let height = match row {
             Some(row) => layout.row_y(row),

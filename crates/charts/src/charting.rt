@@ -51,7 +51,7 @@ fn drawn(alloc: Global, picture: &Picture, layout: &Layout) -> Sheet {
 
 fn draw(pen: &mut Pen, picture: &Picture, layout: &Layout) {
     pen.title(&TitleText {
-        steps: picture.rows.len(),
+        steps: picture.rows().len(),
     });
     pen.rectangle("page", Point { x: 0, y: 0 }, layout.size);
     draw_bands(pen, picture, layout);

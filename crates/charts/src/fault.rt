@@ -4,7 +4,7 @@ use std::io;
 use thiserror::Error;
 
 /// Why a chart wasn't written.
-#[derive(Debug, Drop, Error)]
+#[derive(Clone, Copy, Debug, Error)]
 pub enum ChartFault {
     /// So many steps are chosen, which are too many for one picture.
     #[error("{0} steps are too many for one picture")]

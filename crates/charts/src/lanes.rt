@@ -1,7 +1,7 @@
 use crate::picture::Picture;
 use base::{BlockId, CacheId, NoMemory, Place, Shape};
 use std::alloc::Global;
-use story::Trip;
+use story::{List, Trip};
 
 /// A controller that has a lifeline: a cache, or the home of a block.
 #[derive(Clone, Copy)]
@@ -13,7 +13,7 @@ pub enum Lane {
 /// The lifelines of a picture, from left to right: the homes stand in the middle of the caches that take part.
 #[derive(Drop)]
 pub struct Lanes {
-    pub order: Vec<Lane>,
+    order: List<Lane>,
     /// Where each cache stands, if it takes part.
     caches: Vec<Option<u32>>,
     /// Where the home of each block stands, if it takes part.
@@ -23,27 +23,34 @@ pub struct Lanes {
 impl Lanes {
     pub fn of(alloc: Global, picture: &Picture, shape: Shape) -> Result<Lanes, NoMemory> {
         let mut lanes = Lanes {
-            order: Vec::new(alloc),
+            order: List::new(alloc),
             caches: vec![in alloc; None; shape.caches() as usize]?,
             homes: vec![in alloc; None; shape.blocks() as usize]?,
         };
-        for row in picture.rows.iter() {
+        for row in picture.rows() {
             if let Some(place) = row.place {
                 lanes.mark(place);
             }
         }
-        for arrow in picture.arrows.iter() {
+        for arrow in picture.arrows() {
             lanes.mark(arrow.trip.from());
             lanes.mark(arrow.trip.to());
         }
-        lanes.line_up(picture.blocks.as_slice())?;
+        lanes.line_up(picture.blocks());
         lanes.number();
+        if lanes.order.is_refused() {
+            return Err(NoMemory);
+        }
         Ok(lanes)
+    }
+
+    pub fn order(&self) -> &[Lane] {
+        self.order.so_far()
     }
 
     /// How many there are.
     pub fn count(&self) -> u32 {
-        u32::try_from(self.order.len()).unwrap_or(u32::MAX)
+        u32::try_from(self.order().len()).unwrap_or(u32::MAX)
     }
 
     /// Notes that a controller takes part, if it is a cache.
@@ -55,26 +62,25 @@ impl Lanes {
         }
     }
 
-    fn line_up(&mut self, blocks: &[BlockId]) -> Result<(), NoMemory> {
+    fn line_up(&mut self, blocks: &[BlockId]) {
         let all = self.caches.iter().filter(|lane| lane.is_some()).count();
         let mut placed: usize = 0;
         for (number, lane) in (0..u32::MAX).zip(self.caches.iter()) {
             if lane.is_some() {
                 if placed == all.div_ceil(2) {
-                    push_homes(&mut self.order, blocks)?;
+                    push_homes(&mut self.order, blocks);
                 }
-                self.order.push(Lane::Cache(CacheId(number)))?;
+                self.order.push(Lane::Cache(CacheId(number)));
                 placed = placed.saturating_add(1);
             }
         }
         if placed == all.div_ceil(2) {
-            push_homes(&mut self.order, blocks)?;
+            push_homes(&mut self.order, blocks);
         }
-        Ok(())
     }
 
     fn number(&mut self) {
-        for (number, lane) in (0..u32::MAX).zip(self.order.iter()) {
+        for (number, lane) in (0..u32::MAX).zip(self.order.so_far().iter()) {
             match *lane {
                 Lane::Cache(cache) => stand(&mut self.caches, cache.0, number),
                 Lane::Home(block) => stand(&mut self.homes, block.0, number),
@@ -105,9 +111,8 @@ fn stand(row: &mut Vec<Option<u32>>, controller: u32, number: u32) {
     }
 }
 
-fn push_homes(order: &mut Vec<Lane>, blocks: &[BlockId]) -> Result<(), NoMemory> {
+fn push_homes(order: &mut List<Lane>, blocks: &[BlockId]) {
     for block in blocks {
-        order.push(Lane::Home(*block))?;
+        order.push(Lane::Home(*block));
     }
-    Ok(())
 }

@@ -6,7 +6,7 @@ use crate::picture::Picture;
 use crate::svg::Point;
 use base::{NoMemory, Shape};
 use std::alloc::Global;
-use story::{Happening, Sight};
+use story::{Happening, List, Sight};
 
 /// How wide a letter is taken to be.
 pub const LETTER: i64 = 7;
@@ -38,9 +38,9 @@ pub struct Layout {
     /// Where the steps' texts begin.
     pub steps: i64,
     /// The heights of the rows.
-    rows: Vec<i64>,
+    rows: List<i64>,
     /// The heights of the names of the lifelines.
-    pub plates: Vec<i64>,
+    plates: List<i64>,
     /// The height of what the controllers are at the start.
     starts: i64,
     /// The height of the first message that isn't served in the picture.
@@ -70,37 +70,44 @@ impl Layout {
             first: longest.first(steps),
             spacing: longest.spacing(),
             steps,
-            rows: Vec::new(alloc),
-            plates: Vec::new(alloc),
+            rows: List::new(alloc),
+            plates: List::new(alloc),
             starts: 0,
             tail: 0,
             legend: 0,
             size: Point { x: 0, y: 0 },
         };
-        layout.stack(picture)?;
+        layout.stack(picture);
+        if layout.rows.is_refused() || layout.plates.is_refused() {
+            return Err(NoMemory);
+        }
         layout.size.x = layout.width(longest);
         Ok(layout)
     }
 
     /// Gives each thing its height, from above.
-    fn stack(&mut self, picture: &Picture) -> Result<(), NoMemory> {
-        self.plates.push(PLATES / 2)?;
+    fn stack(&mut self, picture: &Picture) {
+        self.plates.push(PLATES / 2);
         self.starts = PLATES + ROW / 2;
-        let mut height = below(PLATES, ROW, picture.blocks.len());
-        for (number, row) in picture.rows.iter().enumerate() {
+        let mut height = below(PLATES, ROW, picture.blocks().len());
+        for (number, row) in picture.rows().iter().enumerate() {
             if number > 0 && number % EACH == 0 {
-                self.plates.push(height.saturating_add(PLATES / 2))?;
+                self.plates.push(height.saturating_add(PLATES / 2));
                 height = height.saturating_add(PLATES);
             }
-            self.rows.push(height.saturating_add(ROW / 2))?;
+            self.rows.push(height.saturating_add(ROW / 2));
             height = below(height.saturating_add(ROW), BAND, bands(row));
         }
         self.tail = height.saturating_add(TAIL / 2);
         height = below(height, TAIL, tail_count(picture));
-        self.plates.push(height.saturating_add(PLATES / 2))?;
+        self.plates.push(height.saturating_add(PLATES / 2));
         self.legend = height.saturating_add(PLATES + LEGEND / 2);
         self.size.y = below(height.saturating_add(PLATES), LEGEND, 8);
-        Ok(())
+    }
+
+    /// The heights of the names of the lifelines.
+    pub fn plates(&self) -> &[i64] {
+        self.plates.so_far()
     }
 
     fn width(&self, longest: Longest) -> i64 {
@@ -117,7 +124,7 @@ impl Layout {
 
     /// The height of a row.
     pub fn row_y(&self, row: usize) -> i64 {
-        self.rows.get(row).copied().unwrap_or(0)
+        self.rows.so_far().get(row).copied().unwrap_or(0)
     }
 
     /// The height of a block's controllers at the start; the blocks are counted in the picture.
@@ -127,7 +134,7 @@ impl Layout {
 
     /// The height at which messages of before come in.
     pub fn top(&self, picture: &Picture) -> i64 {
-        below(PLATES, ROW, picture.blocks.len())
+        below(PLATES, ROW, picture.blocks().len())
     }
 
     /// The height of a message that isn't served in the picture, counted among these.
@@ -140,7 +147,7 @@ impl Layout {
         let Some(row) = row else {
             return DOT;
         };
-        let Some(happening) = picture.rows.get(row) else {
+        let Some(happening) = picture.rows().get(row) else {
             return DOT;
         };
         match changed(happening) {
@@ -160,14 +167,14 @@ impl Longest {
             step: 8,
             finding: 0,
         };
-        for arrow in picture.arrows.iter() {
+        for arrow in picture.arrows() {
             let text = ArrowText {
                 trip: arrow.trip,
                 block: BlockText::of(picture, arrow.trip.block),
             };
             longest.label = longest.label.max(length(&text));
         }
-        for row in picture.rows.iter() {
+        for row in picture.rows() {
             longest.widen(picture, row);
         }
         longest
@@ -241,7 +248,7 @@ fn bands(row: &Happening) -> usize {
 /// How many messages aren't served in a picture.
 fn tail_count(picture: &Picture) -> usize {
     picture
-        .arrows
+        .arrows()
         .iter()
         .filter(|arrow| arrow.row_in(picture).is_none())
         .count()

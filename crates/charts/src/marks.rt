@@ -15,7 +15,7 @@ const BASE: i64 = 4;
 
 /// Draws for each row a line from its step to where that step goes.
 pub fn draw_guides(pen: &mut Pen, picture: &Picture, layout: &Layout) {
-    for (number, row) in picture.rows.iter().enumerate() {
+    for (number, row) in picture.rows().iter().enumerate() {
         if let Some(center) = center_of(layout, number, row) {
             let text = length(&StepText(*row)).saturating_mul(LETTER);
             let from = Point {
@@ -38,7 +38,7 @@ fn center_of(layout: &Layout, number: usize, row: &Happening) -> Option<Point> {
 
 /// Draws what the controllers are at the start.
 pub fn draw_starts(pen: &mut Pen, picture: &Picture, layout: &Layout) {
-    for (number, block) in picture.blocks.iter().enumerate() {
+    for (number, block) in picture.blocks().iter().enumerate() {
         let at = Point {
             x: layout.steps,
             y: layout.start_y(number).saturating_add(BASE),
@@ -50,9 +50,9 @@ pub fn draw_starts(pen: &mut Pen, picture: &Picture, layout: &Layout) {
             &StartText(BlockText::of(picture, *block)),
         );
     }
-    for start in picture.starts.iter() {
+    for start in picture.starts() {
         let number = picture
-            .blocks
+            .blocks()
             .iter()
             .position(|block| *block == start.block);
         let lane = layout.lanes.of_place(place_of(start.sight), start.block);
@@ -90,7 +90,7 @@ fn draw_box(pen: &mut Pen, picture: &Picture, center: Point, sight: Sight, block
 
 /// Draws the rows: the step, and what its controller did.
 pub fn draw_rows(pen: &mut Pen, picture: &Picture, layout: &Layout) {
-    for (number, row) in picture.rows.iter().enumerate() {
+    for (number, row) in picture.rows().iter().enumerate() {
         let at = Point {
             x: layout.steps,
             y: layout.row_y(number).saturating_add(BASE),

@@ -4,20 +4,20 @@ use base::{BlockId, CacheId, NoMemory, Place, Shape};
 use cache_table::CacheState;
 use record::{Entry, Recording};
 use std::alloc::Global;
-use story::{Cut, Happening, Part, Shown, Sight, Story, Trip, look};
+use story::{Cut, Happening, List, Part, Shown, Sight, Story, Trip, look};
 
 /// What is drawn of a part of a recording.
 #[derive(Drop)]
 pub struct Picture {
-    pub rows: Vec<Happening>,
+    rows: List<Happening>,
     /// The numbers of the rows' steps.
-    numbers: Vec<u64>,
-    pub arrows: Vec<Arrow>,
+    numbers: List<u64>,
+    arrows: List<Arrow>,
     /// The blocks that are looked at, and for each block whether it is one of them.
-    pub blocks: Vec<BlockId>,
+    blocks: List<BlockId>,
     looked_at: Vec<bool>,
     /// What controllers are at the part's start, but for lines in I where there are several blocks.
-    pub starts: Vec<Start>,
+    starts: List<Start>,
 }
 
 /// A message, with the number of the step that served it, if one did.
@@ -63,12 +63,12 @@ impl Picture {
     ) -> Result<Picture, NoMemory> {
         let looked_at = part.blocks(alloc, shape, chosen)?;
         Ok(Picture {
-            rows: Vec::new(alloc),
-            numbers: Vec::new(alloc),
-            arrows: Vec::new(alloc),
-            blocks: Vec::new(alloc),
+            rows: List::new(alloc),
+            numbers: List::new(alloc),
+            arrows: List::new(alloc),
+            blocks: List::new(alloc),
             looked_at,
-            starts: Vec::new(alloc),
+            starts: List::new(alloc),
         })
     }
 
@@ -79,33 +79,64 @@ impl Picture {
 
     /// Follows a story from its beginning to its end.
     fn follow(&mut self, story: &mut Story, part: Part, cut: Cut<'_>) -> Result<(), NoMemory> {
-        self.list_blocks()?;
+        self.list_blocks();
         story.skip(cut.before)?;
-        self.begin(story)?;
+        self.begin(story);
         self.tell(story, part, cut.chosen)?;
         let end = story.number();
         self.look_behind(story, cut.behind, end)?;
-        self.leave(story, end)
-    }
-
-    fn list_blocks(&mut self) -> Result<(), NoMemory> {
-        for (number, looked_at) in (0..u32::MAX).zip(self.looked_at.iter()) {
-            if *looked_at {
-                self.blocks.push(BlockId(number))?;
-            }
+        self.leave(story, end);
+        if self.is_refused() {
+            return Err(NoMemory);
         }
         Ok(())
     }
 
+    /// Whether the growth of a list was refused.
+    fn is_refused(&self) -> bool {
+        self.rows.is_refused()
+            || self.numbers.is_refused()
+            || self.arrows.is_refused()
+            || self.blocks.is_refused()
+            || self.starts.is_refused()
+    }
+
+    fn list_blocks(&mut self) {
+        for (number, looked_at) in (0..u32::MAX).zip(self.looked_at.iter()) {
+            if *looked_at {
+                self.blocks.push(BlockId(number));
+            }
+        }
+    }
+
+    /// What happened in the steps that it has.
+    pub fn rows(&self) -> &[Happening] {
+        self.rows.so_far()
+    }
+
+    pub fn arrows(&self) -> &[Arrow] {
+        self.arrows.so_far()
+    }
+
+    /// The blocks that are looked at.
+    pub fn blocks(&self) -> &[BlockId] {
+        self.blocks.so_far()
+    }
+
+    /// What controllers are at the part's start, but for lines in I where there are several blocks.
+    pub fn starts(&self) -> &[Start] {
+        self.starts.so_far()
+    }
+
     /// Whether there are several blocks, which have to be told apart.
     pub fn has_blocks(&self) -> bool {
-        self.blocks.len() > 1
+        self.blocks().len() > 1
     }
 
     /// What its rows show.
     pub fn shown(&self) -> Shown {
         let mut shown = Shown::nothing();
-        for row in self.rows.iter() {
+        for row in self.rows() {
             shown.note(row);
         }
         shown
@@ -113,22 +144,21 @@ impl Picture {
 
     /// The row of the step of a number, if it is in the picture.
     pub fn row_of(&self, number: u64) -> Option<usize> {
-        self.numbers.as_slice().binary_search(&number).ok()
+        self.numbers.so_far().binary_search(&number).ok()
     }
 
     /// Notes what the controllers are before the first row.
-    fn begin(&mut self, story: &Story) -> Result<(), NoMemory> {
+    fn begin(&mut self, story: &Story) {
         let shows_all = !self.has_blocks();
-        for block in self.blocks.iter() {
+        for block in self.blocks.so_far() {
             if let Some(sight) = look(story.world(), *block, Some(Place::Dir)) {
                 self.starts.push(Start {
                     block: *block,
                     sight,
-                })?;
+                });
             }
-            begin_lines(story, *block, shows_all, &mut self.starts)?;
+            begin_lines(story, *block, shows_all, &mut self.starts);
         }
-        Ok(())
     }
 
     /// Makes the steps of the rows.
@@ -136,9 +166,9 @@ impl Picture {
         for entry in chosen {
             let happening = story.advance(*entry)?;
             if part.is_of(happening.step.block()) {
-                self.rows.push(happening)?;
-                self.numbers.push(happening.number)?;
-                self.end(happening)?;
+                self.rows.push(happening);
+                self.numbers.push(happening.number);
+                self.end(happening);
             }
         }
         Ok(())
@@ -154,7 +184,7 @@ impl Picture {
         for entry in behind {
             let happening = story.advance(*entry)?;
             if self.looks_at(happening.step.block()) && was_sent_before(&happening, end) {
-                self.end(happening)?;
+                self.end(happening);
             }
         }
         Ok(())
@@ -165,36 +195,33 @@ impl Picture {
     }
 
     /// Notes the message that a step has served.
-    fn end(&mut self, happening: Happening) -> Result<(), NoMemory> {
+    fn end(&mut self, happening: Happening) {
         if let Some(trip) = happening.served {
             let served = Some(happening.number);
-            self.arrows.push(Arrow { trip, served })?;
+            self.arrows.push(Arrow { trip, served });
         }
-        Ok(())
     }
 
     /// Notes the messages of before the rows' end that no step has served.
-    fn leave(&mut self, story: &Story, end: u64) -> Result<(), NoMemory> {
-        for block in self.blocks.iter() {
+    fn leave(&mut self, story: &Story, end: u64) {
+        for block in self.blocks.so_far() {
             for row in story.flights().of(*block) {
-                leave_row(&mut self.arrows, row, end)?;
+                leave_row(&mut self.arrows, row, end);
             }
         }
-        Ok(())
     }
 }
 
 /// Notes those of these messages that were sent before a step, as served by none.
-fn leave_row(arrows: &mut Vec<Arrow>, row: &[Trip], end: u64) -> Result<(), NoMemory> {
+fn leave_row(arrows: &mut List<Arrow>, row: &[Trip], end: u64) {
     for trip in row {
         if trip.sent < end {
             arrows.push(Arrow {
                 trip: *trip,
                 served: None,
-            })?;
+            });
         }
     }
-    Ok(())
 }
 
 /// How many of these entries are in a part.
@@ -215,12 +242,7 @@ fn was_sent_before(happening: &Happening, end: u64) -> bool {
     }
 }
 
-fn begin_lines(
-    story: &Story,
-    block: BlockId,
-    shows_all: bool,
-    starts: &mut Vec<Start>,
-) -> Result<(), NoMemory> {
+fn begin_lines(story: &Story, block: BlockId, shows_all: bool, starts: &mut List<Start>) {
     let world = story.world();
     for number in 0..world.shape().caches() {
         let cache = CacheId(number);
@@ -229,8 +251,7 @@ fn begin_lines(
         };
         if shows_all || line.state != CacheState::I {
             let sight = Sight::Line(cache, line);
-            starts.push(Start { block, sight })?;
+            starts.push(Start { block, sight });
         }
     }
-    Ok(())
 }

@@ -12,7 +12,7 @@ const HALF_PLATE: i64 = 11;
 
 /// Draws a lifeline for each controller that takes part.
 pub fn draw_lifelines(pen: &mut Pen, layout: &Layout) {
-    let (Some(upper), Some(lower)) = (layout.plates.first(), layout.plates.last()) else {
+    let (Some(upper), Some(lower)) = (layout.plates().first(), layout.plates().last()) else {
         return;
     };
     for lane in 0..layout.lanes.count() {
@@ -24,8 +24,8 @@ pub fn draw_lifelines(pen: &mut Pen, layout: &Layout) {
 
 /// Writes the names of the lifelines, above, below and in between.
 pub fn draw_plates(pen: &mut Pen, picture: &Picture, layout: &Layout) {
-    for y in layout.plates.iter() {
-        for (number, lane) in (0..u32::MAX).zip(layout.lanes.order.iter()) {
+    for y in layout.plates() {
+        for (number, lane) in (0..u32::MAX).zip(layout.lanes.order().iter()) {
             let center = Point {
                 x: layout.lane_x(number),
                 y: *y,
@@ -55,7 +55,7 @@ pub fn draw_bands(pen: &mut Pen, picture: &Picture, layout: &Layout) {
         x: layout.size.x,
         y: BAND - 2,
     };
-    for (number, row) in picture.rows.iter().enumerate() {
+    for (number, row) in picture.rows().iter().enumerate() {
         let mut corner = Point {
             x: 0,
             y: layout.row_y(number).saturating_add(BEHIND),
@@ -72,7 +72,7 @@ pub fn draw_bands(pen: &mut Pen, picture: &Picture, layout: &Layout) {
 
 /// Writes what the bands are about.
 pub fn draw_findings(pen: &mut Pen, picture: &Picture, layout: &Layout) {
-    for (number, row) in picture.rows.iter().enumerate() {
+    for (number, row) in picture.rows().iter().enumerate() {
         let mut at = Point {
             x: MARGIN,
             y: layout.row_y(number).saturating_add(BEHIND + 13),
