@@ -2,7 +2,7 @@
 
 ghost use Rattle.std.specs.Prelude.{◌≡◌, ◌<◌, ◌≤◌, [], Some, drop, length, vec_capacity, IfNone, IfOk, IfSome, OnErr};
 ghost use Rattle.scenario.specs.Tree as tree;
-ghost use Rattle.scenario.specs.Tree.{plain, plain_all};
+ghost use Rattle.scenario.specs.Tree.{Trees, plain, plain_all};
 ghost use Rattle.scenario.specs.Taking.{offers, offers_in_turn, offers_of_all};
 ghost use Rattle.scenario.specs.Alike.{Takes};
 ghost use Rattle.scenario.specs.Limits.{peak_depth};
@@ -52,9 +52,7 @@ fn take_one<A: Allocator + Clone>(
         }
         Scenario::Seq(children) => {
             let ask = take_in_turn(children, alloc, at)?;
-            if let Some(only) = only_child(children) {
-                *tree = only;
-            }
+            shorten_row(tree);
             Ok(ask)
         }
         Scenario::Any(children) => {
@@ -63,8 +61,7 @@ fn take_one<A: Allocator + Clone>(
             Ok(ask)
         }
         Scenario::Times(turns, child) => {
-            let parts = children_in(&alloc, 2)?;
-            let (ask, turn) = take_from_turn(child, alloc, at)?;
+            let (ask, turn, parts) = take_from_turn(child, alloc, at)?;
             *turns -= 1;
             put_before(tree, ask, turn, parts);
             Ok(ask)
@@ -89,6 +86,17 @@ fn take_in_turn<A: Allocator + Clone>(
     let ask = take_one(&mut children[offer.child], alloc, offer.at)?;
     drop_front(children, offer.child);
     Ok(ask)
+}
+
+/// A row of one child becomes the child.
+fn shorten_row<A: Allocator>(scenario: &mut Scenario<A>)
+    ensures { (ts : Trees) → plain scenario.old ≡ tree.Seq ts → plain scenario.new ≡ row_of ts }
+{
+    if let Scenario::Seq(children) = scenario {
+        if let Some(only) = only_child(children) {
+            *scenario = only;
+        }
+    }
 }
 
 /// The child of a row that has no other: it is taken out, and stands for the row.
@@ -139,21 +147,34 @@ fn take_among<A: Allocator + Clone>(
     take_one(child, alloc, offer.at)
 }
 
-/// What is left of a turn of the child, which itself stays as it is.
+/// What is left of a turn of the child, which itself stays as it is, and an empty row with room for both.
 #[cycle(taking)]
 fn take_from_turn<A: Allocator + Clone>(
     child: &mut Scenario<A>,
     alloc: A,
     at: usize,
-) -> Result<(CoreAsk, Scenario<A>), NoMemory>
+) -> Result<(CoreAsk, Scenario<A>, Vec<Scenario<A>, A>), NoMemory>
     requires { at < length (offers (plain child.old)) }
-    ensures ok { IfOk result (λ turn. Leaves (plain child.old) at (Some turn.0) (plain turn.1)) }
+    ensures ok { IfOk result (λ taken. Leaves (plain child.old) at (Some taken.0) (plain taken.1)) }
+    ensures parts { IfOk result (λ taken. (taken.2.items ≡ []) × (2 ≤ vec_capacity taken.2)) }
     ensures child { plain child.new ≡ plain child.old }
 {
-    let mut turn = copy_one(child, &alloc)?;
+    let (mut turn, parts) = copy_with_room(child, &alloc)?;
     let ask = take_one(child, alloc, at)?;
     mem::swap(child, &mut turn);
-    Ok((ask, turn))
+    Ok((ask, turn, parts))
+}
+
+/// A copy of a scenario, and an empty row with room for both.
+fn copy_with_room<A: Allocator + Clone>(
+    scenario: &Scenario<A>,
+    alloc: &A,
+) -> Result<(Scenario<A>, Vec<Scenario<A>, A>), NoMemory>
+    ensures copy { IfOk result (λ made. plain made.0 ≡ plain scenario.now) }
+    ensures parts { IfOk result (λ made. (made.1.items ≡ []) × (2 ≤ vec_capacity made.1)) }
+{
+    let parts = children_in(alloc, 2)?;
+    Ok((copy_one(scenario, alloc)?, parts))
 }
 
 /// What is left of a turn goes before the scenario: the row of both stands in its place.

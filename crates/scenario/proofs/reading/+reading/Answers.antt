@@ -92,3 +92,12 @@ scenario_at-scenarios_at-requires g t c = grind (arith, common_steps)
 
 pub scenarios_at-scenario_at-requires : goal.scenarios_at-scenario_at-requires
 scenarios_at-scenario_at-requires g t c = grind (arith, common_steps)
+
+pub scenario_at-scenarios_at-requires-in-Some-Both : goal.scenario_at-scenarios_at-requires-in-Some-Both
+scenario_at-scenarios_at-requires-in-Some-Both g t c = grind (arith, common_steps)
+
+pub scenario_at-scenarios_at-requires-in-Some-Seq : goal.scenario_at-scenarios_at-requires-in-Some-Seq
+scenario_at-scenarios_at-requires-in-Some-Seq g t c = grind (arith, common_steps)
+
+pub scenarios_at-bounds-values-value-index : goal.scenarios_at-bounds-values-value-index
+scenarios_at-bounds-values-value-index g t c = grind (arith, common_steps)

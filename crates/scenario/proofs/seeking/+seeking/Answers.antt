@@ -97,3 +97,27 @@ seek_in_tree-seek_in_tree-requires g t c = grind (the_lemmas, arith, common_step
 
 pub seek_in_tree-seek_in_all-requires : goal.seek_in_tree-seek_in_all-requires
 seek_in_tree-seek_in_all-requires g t c = grind (the_lemmas, arith, common_steps)
+
+pub seek_in_all-loop-child-smaller-in-One : goal.seek_in_all-loop-child-smaller-in-One
+seek_in_all-loop-child-smaller-in-One g t c = omega arith
+
+pub seek_in_all-overflow_sub-further : goal.seek_in_all-overflow_sub-further
+seek_in_all-overflow_sub-further g t c = grind (arith, common_steps)
+
+pub seek_in_all-returns-then-further-eq0 : goal.seek_in_all-returns-then-further-eq0
+seek_in_all-returns-then-further-eq0 g t c = grind (arith, common_steps)
+
+pub seek_in_all-loop-child-preserved-in-One : goal.seek_in_all-loop-child-preserved-in-One
+seek_in_all-loop-child-preserved-in-One g t c = grind (arith, common_steps)
+
+pub seek_in_tree-returns-else-at-eq0 : goal.seek_in_tree-returns-else-at-eq0
+seek_in_tree-returns-else-at-eq0 g t c = grind (arith, common_steps)
+
+pub seek_in_tree-returns-then-at-eq0 : goal.seek_in_tree-returns-then-at-eq0
+seek_in_tree-returns-then-at-eq0 g t c = grind (arith, common_steps)
+
+pub seek_in_all-bounds-children-child-index : goal.seek_in_all-bounds-children-child-index
+seek_in_all-bounds-children-child-index g t c = grind (arith, common_steps)
+
+pub seek_in_turn-bounds-children-child-index : goal.seek_in_turn-bounds-children-child-index
+seek_in_turn-bounds-children-child-index g t c = grind (arith, common_steps)

@@ -119,12 +119,6 @@ take_from_turn-returns-in_err-ask-clause-child g t c = grind (arith, common_step
 pub take_from_turn-returns-in_err-ask-clause-ok : goal.take_from_turn-returns-in_err-ask-clause-ok
 take_from_turn-returns-in_err-ask-clause-ok g t c = if_ok-failed _ _ c.from_residual-in_err-ask.ensures.0
 
-pub take_from_turn-returns-in_err-turn-clause-child : goal.take_from_turn-returns-in_err-turn-clause-child
-take_from_turn-returns-in_err-turn-clause-child g t c = grind (arith, common_steps, children)
-
-pub take_from_turn-returns-in_err-turn-clause-ok : goal.take_from_turn-returns-in_err-turn-clause-ok
-take_from_turn-returns-in_err-turn-clause-ok g t c = if_ok-failed _ _ c.from_residual.ensures.0
-
 pub take_from_turn-take_one-requires : goal.take_from_turn-take_one-requires
 take_from_turn-take_one-requires g t c κs within = (search (rules, the_lemmas), grind (arith, common_steps))
 
@@ -170,18 +164,6 @@ take_one-returns-in-One-clause-err g t c = tt
 pub take_one-returns-in-One-clause-ok : goal.take_one-returns-in-One-clause-ok
 take_one-returns-in-One-clause-ok g t c = grind (arith, common_steps, children)
 
-pub take_one-returns-in-Some-clause-err : goal.take_one-returns-in-Some-clause-err
-take_one-returns-in-Some-clause-err g t c = tt
-
-pub take_one-returns-in-Some-clause-ok : goal.take_one-returns-in-Some-clause-ok
-take_one-returns-in-Some-clause-ok g t c = grind (arith, common_steps, children)
-
-pub take_one-returns-in_default-clause-err : goal.take_one-returns-in_default-clause-err
-take_one-returns-in_default-clause-err g t c = tt
-
-pub take_one-returns-in_default-clause-ok : goal.take_one-returns-in_default-clause-ok
-take_one-returns-in_default-clause-ok g t c = grind (arith, common_steps, children)
-
 pub take_one-returns-in_err-ask-in-Any-clause-err : goal.take_one-returns-in_err-ask-in-Any-clause-err
 take_one-returns-in_err-ask-in-Any-clause-err g t c = grind (arith, common_steps, children)
 
@@ -200,12 +182,6 @@ take_one-returns-in_err-ask-in-Times-clause-err g t c = grind (arith, common_ste
 pub take_one-returns-in_err-ask-in-Times-clause-ok : goal.take_one-returns-in_err-ask-in-Times-clause-ok
 take_one-returns-in_err-ask-in-Times-clause-ok g t c = if_ok-failed _ _ c.from_residual-in_err-ask-in-Times.ensures.0
 
-pub take_one-returns-in_err-parts-in-Times-clause-err : goal.take_one-returns-in_err-parts-in-Times-clause-err
-take_one-returns-in_err-parts-in-Times-clause-err g t c = grind (arith, common_steps, children)
-
-pub take_one-returns-in_err-parts-in-Times-clause-ok : goal.take_one-returns-in_err-parts-in-Times-clause-ok
-take_one-returns-in_err-parts-in-Times-clause-ok g t c = if_ok-failed _ _ c.from_residual-in_err-parts-in-Times.ensures.0
-
 pub take_one-returns-in_ok-ask-in-Any-clause-err : goal.take_one-returns-in_ok-ask-in-Any-clause-err
 take_one-returns-in_ok-ask-in-Any-clause-err g t c = tt
 
@@ -220,3 +196,15 @@ take_one-returns-in_ok-ask-in-Times-clause-ok g t c = grind (arith, common_steps
 
 pub take_one-take_from_turn-requires : goal.take_one-take_from_turn-requires
 take_one-take_from_turn-requires g t c κs within = (search (rules, the_lemmas), grind (arith, common_steps))
+
+pub take_one-returns-in_ok-ask-in-Seq-clause-err : goal.take_one-returns-in_ok-ask-in-Seq-clause-err
+take_one-returns-in_ok-ask-in-Seq-clause-err g t c = tt
+
+pub take_one-returns-in_ok-ask-in-Seq-clause-ok : goal.take_one-returns-in_ok-ask-in-Seq-clause-ok
+take_one-returns-in_ok-ask-in-Seq-clause-ok g t c = grind (arith, common_steps, children)
+
+pub take_from_turn-returns-clause-parts : goal.take_from_turn-returns-clause-parts
+take_from_turn-returns-clause-parts g t c = grind (arith, common_steps, children)
+
+pub take_from_turn-returns-in_err-ask-clause-parts : goal.take_from_turn-returns-in_err-ask-clause-parts
+take_from_turn-returns-in_err-ask-clause-parts g t c = if_ok-failed _ _ c.from_residual-in_err-ask.ensures.0

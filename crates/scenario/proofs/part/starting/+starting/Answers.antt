@@ -229,3 +229,33 @@ start_row-slice_bounds-move_to-count g t c = grind (arith, common_steps)
 
 pub start_row-slice_bounds-move_to-end : goal.start_row-slice_bounds-move_to-end
 start_row-slice_bounds-move_to-end g t c = grind (arith, common_steps)
+
+pub start_both-bounds-children-offer : goal.start_both-bounds-children-offer
+start_both-bounds-children-offer g t c = grind (arith, common_steps)
+
+pub start_both-offset_bounds-children-offer : goal.start_both-offset_bounds-children-offer
+start_both-offset_bounds-children-offer g t c = grind (arith, common_steps)
+
+pub start_row-bounds-children-offer : goal.start_row-bounds-children-offer
+start_row-bounds-children-offer g t c = grind (arith, common_steps)
+
+pub start_row-offset_bounds-children-offer : goal.start_row-offset_bounds-children-offer
+start_row-offset_bounds-children-offer g t c = grind (arith, common_steps)
+
+pub start_row-offset_bounds-children-offer-2 : goal.start_row-offset_bounds-children-offer-2
+start_row-offset_bounds-children-offer-2 g t c = grind (arith, common_steps)
+
+pub start_turn-overflow_sub-turns : goal.start_turn-overflow_sub-turns
+start_turn-overflow_sub-turns g t c = grind (arith, common_steps)
+
+pub start-index-requires : goal.start-index-requires
+start-index-requires g t c = grind (arith, common_steps)
+
+pub start_part-unreachable-unreachable : goal.start_part-unreachable-unreachable
+start_part-unreachable-unreachable g t c = grind (arith, common_steps)
+
+pub start_both-place_among-offer-requires : goal.start_both-place_among-offer-requires
+start_both-place_among-offer-requires g t c = c.requires
+
+pub start_row-place_in_turn-offer-requires : goal.start_row-place_in_turn-offer-requires
+start_row-place_in_turn-offer-requires g t c = c.requires

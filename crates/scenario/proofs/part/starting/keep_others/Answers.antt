@@ -19,3 +19,9 @@ unreachable-requires g c =
 
 pub returns-clause-count : goal.returns-clause-count
 returns-clause-count g c = grind (arith, common_steps, parts, length-map)
+
+pub make_whole_but-requires-clause-part : goal.make_whole_but-requires-clause-part
+make_whole_but-requires-clause-part g c = grind (arith, common_steps)
+
+pub unreachable-unreachable : goal.unreachable-unreachable
+unreachable-unreachable g c = grind (arith, common_steps)

@@ -62,3 +62,9 @@ returns-in-Begun-clause-most g c = grind (arith, common_steps, parts, length-map
 
 pub returns-in_ok-push_ended-in-Fresh-clause-most : goal.returns-in_ok-push_ended-in-Fresh-clause-most
 returns-in_ok-push_ended-in-Fresh-clause-most g c = grind (arith, common_steps, parts, length-map)
+
+pub returns-in_err-clone-in-Fresh-clause-most : goal.returns-in_err-clone-in-Fresh-clause-most
+returns-in_err-clone-in-Fresh-clause-most g c = grind (arith, common_steps)
+
+pub returns-in_err-push_ended-in-Fresh-clause-most : goal.returns-in_err-push_ended-in-Fresh-clause-most
+returns-in_err-push_ended-in-Fresh-clause-most g c = grind (arith, common_steps)

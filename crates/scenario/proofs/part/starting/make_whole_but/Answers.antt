@@ -28,3 +28,27 @@ returns-clause-whole g c =
     ap (λ n. map progress (take n c.loop-i.parts.items)) (length-map ss plain ∙ sym count)
     ∙ (c.loop-i.invariant.0 ∙ ap (λ us. map Whole (map plain us)) (ap (λ n. take n ss) count ∙ front-whole ss)) in
     whole-but progress old c.loop-i.parts.items _ c.args.number begun (map plain c.args.children.now) there (search rules) whole
+
+pub bounds-children-i : goal.bounds-children-i
+bounds-children-i g c = grind (arith, common_steps)
+
+pub index_mut-requires : goal.index_mut-requires
+index_mut-requires g c = grind (arith, common_steps)
+
+pub index_mut-requires-2 : goal.index_mut-requires-2
+index_mut-requires-2 g c = grind (arith, common_steps)
+
+pub index_mut-requires-in-loop-i : goal.index_mut-requires-in-loop-i
+index_mut-requires-in-loop-i g c = grind (arith, common_steps)
+
+pub loop-i-init : goal.loop-i-init
+loop-i-init g c = grind (arith, common_steps)
+
+pub offset_bounds-children-i : goal.offset_bounds-children-i
+offset_bounds-children-i g c = grind (arith, common_steps)
+
+pub returns-clause-count : goal.returns-clause-count
+returns-clause-count g c = grind (arith, common_steps)
+
+pub loop-i-smaller : goal.loop-i-smaller
+loop-i-smaller g c = omega arith

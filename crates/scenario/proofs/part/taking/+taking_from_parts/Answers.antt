@@ -95,3 +95,12 @@ take_from_part-returns-clause-ok g t c =
       grind (arith, common_steps, parts, map-set),
       h,
     )) c.take_from.ensures.ok
+
+pub take_from-returns-in-Err-clause-err : goal.take_from-returns-in-Err-clause-err
+take_from-returns-in-Err-clause-err g t c = c.go_on.ensures.err
+
+pub take_from-returns-in-Ok-clause-err : goal.take_from-returns-in-Ok-clause-err
+take_from-returns-in-Ok-clause-err g t c = c.take_from_part.ensures.err
+
+pub take_from_part-unreachable-unreachable : goal.take_from_part-unreachable-unreachable
+take_from_part-unreachable-unreachable g t c = grind (arith, common_steps)
