@@ -96,6 +96,14 @@ pub record Starts (terms : Terms) (tree : Tree) (number : ℕ) (c : Course) : Ty
   pub dice : c.dice ≡ dice terms.seed number
   pub recording : c.recording ≡ blank terms
 
+-- a world under these terms that has made no step, what watches it, and its cores
+pub record AreOpened (terms : Terms) (world : View) (watch : List ℕ) (cores : List Core) : Type 0 where
+  pub shape : world.shape ≡ terms.shape
+  pub tables : world.tables ≡ terms.tables
+  pub state : world.state ≡ opened terms.shape terms.opening
+  pub seen : (seen : View) → HasSeen seen terms.opening [] watch
+  pub cores_are : cores ≡ replicate terms.shape.caches idle
+
 -- its notes tell of no entry, and its parts are those of a trial that starts
 pub record Begins {A N : Type 0} (tells : N → Kept → Type 0) (terms : Terms) (tree : Tree) (number : ℕ) (c : course.Course A N) : Type 0 where
   pub told : tells c.notes (blank terms)

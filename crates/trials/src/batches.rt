@@ -1,13 +1,15 @@
-ghost use Rattle.std.specs.Prelude.{◌≡◌, ◌<◌, ◌↔◌, IfOk, IsErrOf};
+ghost use Rattle.std.specs.Prelude.{◌≡◌, ◌<◌, ◌≤◌, ◌↔◌, [], IfOk, IsErrOf, OnOk, vec_capacity};
 ghost use Rattle.both_tables.specs.Tables.{baseline};
 ghost use Rattle.machine.specs.Restraint.{Restrains};
 ghost use Rattle.scenario.specs.Tree.{plain};
+ghost use Rattle.trials.specs.Making.{CanGoOn, planned};
 ghost use Rattle.trials.specs.Trial.{AreResults, AreSound, AreUnbroken};
 
 use crate::laws::trials_under_restrained_tables;
 use crate::series::Series;
 use crate::setup::Setup;
 use crate::verdict::TrialResult;
+use base::NoMemory;
 use bumpalo::Bump;
 use scenario::Scenario;
 use std::alloc::{Allocator, Global};
@@ -51,13 +53,47 @@ pub fn batch<A: Allocator>(
     let Ok(mut results) = Vec::with_capacity(alloc, n as usize) else {
         return Err(BatchFault::NoMemory);
     };
+    match fill(alloc, scenario, setup, n, &mut results) {
+        Ok(()) => Ok(results),
+        Err(_) => Err(BatchFault::NoMemory),
+    }
+}
+
+/// Makes the trials of numbers 0 to `n` - 1, whose results the list has room for.
+fn fill<A: Allocator>(
+    alloc: Global,
+    scenario: &Scenario<A>,
+    setup: &Setup,
+    n: u32,
+    results: &mut Vec<TrialResult>,
+) -> Result<(), NoMemory>
+    requires none { results.old.items ≡ [] }
+    requires room { n ≤ vec_capacity results.old }
+    ensures ok { OnOk result (AreResults setup.now (plain scenario.now) n results.new.items) }
+    ensures sound { setup.now.tables ≡ baseline → OnOk result (AreSound results.new.items) }
+{
     let arena = Bump::new(alloc);
     let mut series = Series::new(alloc, &arena, scenario, setup);
+    append(&mut series, n, results)
+}
+
+/// Makes the first `n` trials of a series.
+fn append<A: Allocator>(
+    series: &mut Series<'_, '_, A>,
+    n: u32,
+    results: &mut Vec<TrialResult>,
+) -> Result<(), NoMemory>
+    requires can_go_on { CanGoOn series.old }
+    requires none { results.old.items ≡ [] }
+    requires room { n ≤ vec_capacity results.old }
+    ensures ok { OnOk result (AreResults (planned series.old).terms (planned series.old).tree n results.new.items) }
+    ensures sound { (planned series.old).terms.tables ≡ baseline → OnOk result (AreSound results.new.items) }
+{
     for number in 0..n {
         match series.result(number) {
             Ok(made) => results.push_reserved(made),
-            Err(_) => return Err(BatchFault::NoMemory),
+            Err(refused) => return Err(refused),
         }
     }
-    Ok(results)
+    Ok(())
 }

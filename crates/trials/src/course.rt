@@ -1,5 +1,11 @@
 //! A trial on its way, step by step.
 
+ghost use Rattle.std.specs.Prelude.{IfOk};
+ghost use Rattle.scenario.specs.Alike.{Alike};
+ghost use Rattle.scenario.specs.Tree.{plain};
+ghost use Rattle.schedule.specs.Lanes.{AreReady, IsKept, laned, whole};
+ghost use Rattle.trials.specs.Going.{AreOpened};
+
 use crate::going::trials_go_on;
 use crate::notes::Notes;
 use crate::noting::note;
@@ -44,11 +50,7 @@ impl<'s, 'b, A: Allocator, N: Notes> Course<'s, 'b, A, N> {
         requires { N.tells notes (blank setup.now) }
         ensures { IfOk result (λ course. Begins N.tells setup.now (plain scenario.entry.now) number course) }
     {
-        let world = setup.open_world(alloc)?;
-        let watch = Watch::open(alloc, setup.opening())?;
-        let caches = setup.shape().caches();
-        let cores = Cores::open(alloc, caches)?;
-        let lanes = Lanes::open(alloc, scenario, caches, &world, &cores)?;
+        let (world, watch, cores, lanes) = open_parts(alloc, scenario, setup)?;
         Ok(Course {
             world,
             watch,
@@ -171,4 +173,30 @@ impl<'s, 'b, A: Allocator, N: Notes> Course<'s, 'b, A, N> {
     {
         self.notes
     }
+}
+
+/// The parts of a trial that starts, beside its dice and its notes.
+fn open_parts<'s, 'b, A: Allocator>(
+    alloc: Global,
+    scenario: &'s Scenario<A>,
+    setup: &Setup,
+) -> Result<(World, Watch, Cores, Lanes<'s, A, &'b Bump>), NoMemory>
+    ensures opened { IfOk result (λ made. AreOpened setup.now made.0 made.1 made.2) }
+    ensures rest { IfOk result (λ made. Alike (whole (laned made.3)) (plain scenario.entry.now)) }
+    ensures kept { IfOk result (λ made. IsKept (laned made.3)) }
+    ensures ready { IfOk result (λ made. AreReady made.0.tables made.0.state made.2 (laned made.3)) }
+{
+    let (world, watch, cores) = open_world(alloc, setup)?;
+    let lanes = Lanes::open(alloc, scenario, setup.shape().caches(), &world, &cores)?;
+    Ok((world, watch, cores, lanes))
+}
+
+/// A world that has made no step, what watches it, and its cores.
+fn open_world(alloc: Global, setup: &Setup) -> Result<(World, Watch, Cores), NoMemory>
+    ensures { IfOk result (λ made. AreOpened setup.now made.0 made.1 made.2) }
+{
+    let world = setup.open_world(alloc)?;
+    let watch = Watch::open(alloc, setup.opening())?;
+    let cores = Cores::open(alloc, setup.shape().caches())?;
+    Ok((world, watch, cores))
 }

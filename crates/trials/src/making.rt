@@ -13,9 +13,10 @@ use crate::laws::{
     trials_under_the_own_tables,
 };
 use crate::setup::Setup;
-use crate::verdict::{Trial, TrialResult};
+use crate::verdict::{Trial, TrialResult, Verdict};
 use base::NoMemory;
 use bumpalo::Bump;
+use record::Recording;
 use scenario::Scenario;
 use std::alloc::{Allocator, Global};
 
@@ -49,10 +50,9 @@ pub fn trial<A: Allocator>(
     trials_under_restrained_tables();
     trials_under_the_own_tables();
     let arena = Bump::new(alloc);
-    let recording = setup.open_recording(alloc)?;
-    let mut course = Course::open(alloc, scenario, setup, number, recording)?;
-    let verdict = course.run(&arena, setup.limit())?;
-    let recording = course.into_notes();
+    // Called for its contract: a setup is lawful.
+    let _limit = setup.limit();
+    let (recording, verdict) = record_trial(alloc, &arena, scenario, setup, number)?;
     let steps = recording.entries().len() as u32;
     Ok(Trial {
         recording,
@@ -62,4 +62,20 @@ pub fn trial<A: Allocator>(
             steps,
         },
     })
+}
+
+/// Makes the trial of this number, from its start, and keeps its steps.
+fn record_trial<A: Allocator>(
+    alloc: Global,
+    arena: &Bump,
+    scenario: &Scenario<A>,
+    setup: &Setup,
+    number: u32,
+) -> Result<(Recording, Verdict), NoMemory>
+    ensures { IfOk result (λ made. IsTrial setup.now (plain scenario.now) number made.0 made.1) }
+{
+    let recording = setup.open_recording(alloc)?;
+    let mut course = Course::open(alloc, scenario, setup, number, recording)?;
+    let verdict = course.run(arena, setup.limit())?;
+    Ok((course.into_notes(), verdict))
 }

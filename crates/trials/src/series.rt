@@ -29,10 +29,10 @@ pub struct Series<'s, 'b, A: Allocator> {
 }
 
 impl<'s, 'b, A: Allocator> Series<'s, 'b, A> {
-    ghost use Rattle.std.specs.Prelude.{◌≡◌, IfOk};
+    ghost use Rattle.std.specs.Prelude.{◌≡◌, IfOk, OnErr, OnOk};
     ghost use Rattle.both_tables.specs.Tables.{baseline};
     ghost use Rattle.scenario.specs.Tree.{plain};
-    ghost use Rattle.trials.specs.Making.{CanGoOn, planned};
+    ghost use Rattle.trials.specs.Making.{CanGoOn, HasBegun, planned};
     ghost use Rattle.trials.specs.Trial.{IsResult, IsSound};
 
     /// The trials of a scenario under a setup. How far a trial is in the scenario is kept in memory of the arena.
@@ -69,8 +69,7 @@ impl<'s, 'b, A: Allocator> Series<'s, 'b, A> {
         self.first(number)
     }
 
-    /// The result of a trial for which everything is opened. It stands apart, as whoever makes a course clears the stack for one.
-    #[inline(never)]
+    /// The result of a trial for which everything is opened.
     fn first(&mut self, number: u32) -> Result<TrialResult, NoMemory>
         requires { CanGoOn self.old }
         ensures result { IfOk result (λ made. IsResult (planned self.old).terms (planned self.old).tree number made) }
@@ -78,10 +77,27 @@ impl<'s, 'b, A: Allocator> Series<'s, 'b, A> {
         ensures plan { planned self.new ≡ planned self.old }
         ensures can_go_on { CanGoOn self.new }
     {
-        let mut course = Course::open(self.alloc, self.scenario, self.setup, number, Tally::new())?;
-        let made = finish(&mut course, self.arena, self.scenario, self.setup, number)?;
+        self.open(number)?;
+        let Some(course) = &mut self.course else {
+            unreachable!();
+        };
+        let made = finish(course, self.arena, self.scenario, self.setup, number);
+        if made.is_err() {
+            self.course = None;
+        }
+        made
+    }
+
+    /// Opens everything for the trial of this number. It stands apart, as whoever makes a course clears the stack for one.
+    #[inline(never)]
+    fn open(&mut self, number: u32) -> Result<(), NoMemory>
+        ensures ok { OnOk result (HasBegun self.new number) }
+        ensures err { OnErr result (self.new ≡ self.old) }
+        ensures plan { planned self.new ≡ planned self.old }
+    {
+        let course = Course::open(self.alloc, self.scenario, self.setup, number, Tally::new())?;
         self.course = Some(course);
-        Ok(made)
+        Ok(())
     }
 }
 
