@@ -1,5 +1,6 @@
 use crate::broken::BROKEN;
-use crate::serving::{expect, run_over};
+use crate::expect;
+use command_lines::run_over;
 use std::alloc::Global;
 use std::sync::Wait;
 use std::test::Fail;

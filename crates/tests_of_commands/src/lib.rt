@@ -1,4 +1,4 @@
-//! Tests of what `msi` prints and of how it ends, over streams and files of their own.
+//! Tests of what `msi` prints and of how it ends where it plays, replays, shows and certifies, over streams and files of their own.
 #![tactic(auto)]
 
 #[cfg(test)]
@@ -10,18 +10,24 @@ mod certificates;
 #[cfg(test)]
 mod charted;
 #[cfg(test)]
-mod ends;
-#[cfg(test)]
 mod pictures;
-#[cfg(test)]
-mod racing;
 #[cfg(test)]
 mod replaying;
 #[cfg(test)]
 mod serving;
 #[cfg(test)]
-mod sharing;
-#[cfg(test)]
-mod trying;
-#[cfg(test)]
 mod worked;
+
+#[cfg(test)]
+use command_lines::Served;
+#[cfg(test)]
+use std::process::Abort;
+
+/// What a command line came to has to be this.
+#[cfg(test)]
+fn expect(rt: &impl Abort, served: &Served, status: u8, output: &str, errors: &str) {
+    assert_eq!(rt;
+        served.all(),
+        (status, output.as_bytes(), errors.as_bytes())
+    );
+}

@@ -1,5 +1,6 @@
 use crate::charted::FROM_OWNER_CHART;
-use crate::serving::{expect, run};
+use crate::expect;
+use command_lines::run;
 use std::alloc::{AllocError, Global};
 use std::test::Fail;
 

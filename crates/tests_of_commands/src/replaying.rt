@@ -1,6 +1,6 @@
 use crate::broken::{BROKEN, Broken};
 use crate::cells::CELLS;
-use crate::serving::{run, run_over};
+use command_lines::{run, run_over};
 use std::alloc::Global;
 use std::process::Abort;
 use std::sync::Wait;

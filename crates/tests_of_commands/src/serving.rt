@@ -1,107 +1,10 @@
 use crate::broken::BROKEN;
 use crate::cells::CELLS;
+use crate::expect;
 use crate::worked::ROWS;
-use commands::{Files, LoadFault, VERSION, serve};
-use std::alloc::{AllocError, Global};
-use std::io::{Read, Write};
-use std::process::Abort;
-use std::sync::Wait;
+use command_lines::{recording, run, run_over};
+use commands::VERSION;
 use std::test::Fail;
-use std::thread::Threads;
-
-/// The file `table.json`, with its text, and the file `huge.json`, for which there is no memory.
-#[derive(Drop)]
-pub struct OneFile {
-    pub alloc: Global,
-    pub text: &'static str,
-}
-
-impl Files for OneFile {
-    fn load(&mut self, name: &str) -> Result<Vec<u8>, LoadFault> {
-        if name == "huge.json" {
-            return Err(LoadFault::NoMemory);
-        }
-        if name != "table.json" {
-            return Err(LoadFault::Device);
-        }
-        match String::from_str(self.alloc, self.text) {
-            Ok(text) => Ok(text.into_bytes()),
-            Err(_) => Err(LoadFault::NoMemory),
-        }
-    }
-}
-
-/// What a command line came to.
-#[derive(Drop)]
-pub struct Served {
-    pub status: u8,
-    pub output: Vec<u8>,
-    pub errors: Vec<u8>,
-}
-
-fn words(alloc: Global, line: &str) -> Result<Vec<String>, AllocError> {
-    let mut words = Vec::new(alloc);
-    for word in line.split_whitespace() {
-        words.push(String::from_str(alloc, word)?)?;
-    }
-    Ok(words)
-}
-
-pub fn run<R: Threads + Wait + Sync>(
-    rt: &R,
-    alloc: Global,
-    line: &str,
-    input: &str,
-) -> Result<Served, AllocError> {
-    run_over(rt, alloc, line, "{}", input)
-}
-
-/// What a command line comes to where the file `table.json` has this text.
-pub fn run_over<R: Threads + Wait + Sync>(
-    rt: &R,
-    alloc: Global,
-    line: &str,
-    text: &'static str,
-    input: &str,
-) -> Result<Served, AllocError> {
-    let mut output = Vec::new(alloc);
-    let (status, errors) = serve_line(rt, alloc, line, text, input.as_bytes(), &mut output)?;
-    Ok(Served {
-        status,
-        output,
-        errors,
-    })
-}
-
-/// The exit status of a command line over this file, input and output, and what it says on the errors.
-pub fn serve_line<R: Threads + Wait + Sync, I: Read + Drop, O: Write + Drop>(
-    rt: &R,
-    alloc: Global,
-    line: &str,
-    text: &'static str,
-    input: I,
-    output: O,
-) -> Result<(u8, Vec<u8>), AllocError> {
-    let words = words(alloc, line)?;
-    let mut files = OneFile { alloc, text };
-    let mut errors = Vec::new(alloc);
-    let status = serve(
-        rt,
-        alloc,
-        &Ok(words),
-        &mut files,
-        input,
-        output,
-        &mut errors,
-    );
-    Ok((status, errors))
-}
-
-pub fn expect(rt: &impl Abort, served: &Served, status: u8, output: &str, errors: &str) {
-    assert_eq!(rt; served.output.as_slice(), output.as_bytes());
-    assert_eq!(rt; served.errors.as_slice(), errors.as_bytes());
-    assert_eq!(rt; served.status, status);
-}
 
 #[test]
 fn rows_are_played(rt: HostRuntime) -> Result<(), Fail> {
@@ -303,15 +206,8 @@ fn bad_words_and_help(rt: HostRuntime) -> Result<(), Fail> {
     Ok(())
 }
 
-/// A recording of a load from the owner. The entry 6 is told as given.
-pub fn recording(alloc: Global, told: &str) -> Result<String, AllocError> {
-    format!(in alloc;
-        "msi-recording 1\nshape 2 1\nopening 0\ncells 0\nentries 8\nask 0 0 store 7 = sent\nrequest 0 0 = moved\nresponse 0 0 = store 0 7\nask 1 0 load = sent\nrequest 0 0 = moved\nforward 0 0 = moved\nresponse 0 0 = {told}\nresponse 0 0 = moved\nend\n"
-    )
-}
-
 #[test]
-pub fn recordings_are_replayed(rt: HostRuntime) -> Result<(), Fail> {
+fn recordings_are_replayed(rt: HostRuntime) -> Result<(), Fail> {
     let alloc = rt.alloc();
     let same = recording(alloc, "load 1 7")?;
     expect(

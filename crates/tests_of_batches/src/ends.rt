@@ -1,7 +1,8 @@
 //! Ends that fail, words and memory that can't be had, and what is refused before the input is read.
 
-use crate::serving::{OneFile, Served, expect, recording, serve_line};
+use crate::expect;
 use crate::trying::ONE_LOAD;
+use command_lines::{OneFile, Served, recording, serve_line};
 use commands::serve;
 use std::alloc::{AllocError, Global};
 use std::io;

@@ -1,4 +1,5 @@
-use crate::serving::{expect, run, run_over};
+use crate::expect;
+use command_lines::{run, run_over};
 use std::test::Fail;
 
 pub const RACING_PAIR: &str =

@@ -1,8 +1,9 @@
 //! Batches that workers share out, and what is told of their progress.
 
 use crate::ends::Short;
-use crate::serving::{expect, run, run_over, serve_line};
+use crate::expect;
 use crate::trying::{ONE_LOAD, RACING_PAIR};
+use command_lines::{run, run_over, serve_line};
 use std::test::Fail;
 
 #[test]

@@ -1,6 +1,7 @@
 //! Races at a floor.
 
-use crate::serving::{expect, run, run_over};
+use crate::expect;
+use command_lines::{run, run_over};
 use std::test::Fail;
 
 const ASKS: &str =

@@ -1,0 +1,8 @@
+//! Command lines of `msi` over files and streams in memory: what the tests of its commands stand on.
+#![tactic(auto)]
+
+mod lines;
+mod recordings;
+
+pub use lines::{OneFile, Served, run, run_over, serve_line};
+pub use recordings::recording;
