@@ -12,6 +12,17 @@ pub fn read_asks<I: Read + Drop>(
 ) -> Result<Vec<CoreAsk>, Fault> {
     let mut lines = Lines::new(alloc, input)?;
     let mut asks = Vec::new(alloc);
+    match add_all(&mut asks, shape, &mut lines) {
+        Ok(()) => Ok(asks),
+        Err(fault) => Err(fault),
+    }
+}
+
+fn add_all<I: Read + Drop>(
+    asks: &mut Vec<CoreAsk>,
+    shape: Shape,
+    lines: &mut Lines<I>,
+) -> Result<(), Fault> {
     for _ in 0..u64::MAX {
         if !lines.advance()? {
             break;
@@ -22,7 +33,7 @@ pub fn read_asks<I: Read + Drop>(
         let ask = ask_of(lines.line(), shape).ok_or(Fault::NotAnAsk(lines.number()))?;
         asks.push(ask)?;
     }
-    Ok(asks)
+    Ok(())
 }
 
 fn ask_of(line: &[u8], shape: Shape) -> Option<CoreAsk> {

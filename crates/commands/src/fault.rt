@@ -11,7 +11,7 @@ use thiserror::Error;
 use trials::SetupFault;
 
 /// Why a command ends early. Its text is what `msi` prints on standard error.
-#[derive(Debug, Drop, Error)]
+#[derive(Clone, Copy, Debug, Error)]
 pub enum Fault {
     /// A word of the command line isn't UTF-8.
     #[error("msi: a word isn't UTF-8")]

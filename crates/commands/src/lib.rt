@@ -10,6 +10,7 @@ mod lines;
 mod picturing;
 mod play;
 mod players;
+mod printing;
 mod racing;
 mod replay;
 mod reporting;

@@ -1,10 +1,11 @@
 use crate::fault::Fault;
 use crate::finding::Finding;
+use crate::printing::Printer;
 use base::FromRead;
 use charts::chart;
 use record::Recording;
 use std::alloc::Global;
-use std::io::{BufWriter, Read, Write};
+use std::io::{Read, Write};
 use story::{Part, Shown, show};
 
 /// How a recording is shown.
@@ -23,24 +24,34 @@ pub fn print_recording<I: Read + Drop, O: Write + Drop>(
     output: O,
 ) -> Result<Finding, Fault> {
     let recording = Recording::read(alloc, &mut FromRead::new(input))?;
-    let mut output = BufWriter::new(alloc, output)?;
-    let finding = print_part(alloc, form, &recording, part, &mut output)?;
-    output.flush()?;
-    Ok(finding)
+    print_part(alloc, form, &recording, part, output)
 }
 
-fn print_part<W: Write>(
+fn print_part<O: Write + Drop>(
+    alloc: Global,
+    form: Form,
+    recording: &Recording,
+    part: Part,
+    output: O,
+) -> Result<Finding, Fault> {
+    let mut printer = Printer::new(alloc, output)?;
+    match write_part(alloc, form, recording, part, printer.output()) {
+        Ok(shown) => printer.finish(Ok(finding(shown))),
+        Err(fault) => Err(fault),
+    }
+}
+
+fn write_part<W: Write>(
     alloc: Global,
     form: Form,
     recording: &Recording,
     part: Part,
     output: &mut W,
-) -> Result<Finding, Fault> {
-    let shown = match form {
-        Form::Table => show(alloc, recording, part, output)?,
-        Form::Chart => chart(alloc, recording, part, output)?,
-    };
-    Ok(finding(shown))
+) -> Result<Shown, Fault> {
+    match form {
+        Form::Table => Ok(show(alloc, recording, part, output)?),
+        Form::Chart => Ok(chart(alloc, recording, part, output)?),
+    }
 }
 
 fn finding(shown: Shown) -> Finding {

@@ -1,11 +1,12 @@
 use crate::fault::Fault;
 use crate::finding::Finding;
 use crate::lines::{Lines, MOST_BYTES};
-use base::{Shape, Step};
+use crate::printing::Printer;
+use base::{NoMemory, Outcome, Shape, Step};
 use both_tables::Tables;
 use monitor::Watch;
 use std::alloc::Global;
-use std::io::{BufWriter, Read, Write};
+use std::io::{Read, Write};
 use world::{OpenFault, World};
 
 /// Plays the steps of the input in a world that has just been opened with every block at 0,
@@ -20,51 +21,51 @@ pub fn play<I: Read + Drop, O: Write + Drop>(
     output: O,
 ) -> Result<Finding, Fault> {
     let mut lines = Lines::new(alloc, input)?;
-    let mut output = BufWriter::new(alloc, output)?;
-    let played = play_lines(alloc, shape, tables, &mut lines, &mut output);
-    output.flush()?;
-    played
+    let mut printer = Printer::new(alloc, output)?;
+    let played = play_lines(alloc, shape, tables, &mut lines, &mut printer);
+    printer.finish(played)
 }
 
-fn play_lines<I: Read + Drop, O: Write>(
+fn play_lines<I: Read + Drop, O: Write + Drop>(
     alloc: Global,
     shape: Shape,
     tables: Tables,
     lines: &mut Lines<I>,
-    output: &mut O,
+    printer: &mut Printer<O>,
 ) -> Result<Finding, Fault> {
     let (mut world, mut watch) = open(alloc, shape, tables)?;
-    play_all(&mut world, &mut watch, lines, output)
+    play_all(&mut world, &mut watch, lines, printer)
 }
 
-fn open(alloc: Global, shape: Shape, tables: Tables) -> Result<(World, Watch), Fault> {
+fn open(alloc: Global, shape: Shape, tables: Tables) -> Result<(World, Watch), NoMemory> {
     let opening = vec![in alloc; 0; shape.blocks() as usize]?;
     let watch = Watch::open(alloc, opening.as_slice())?;
     match World::open(alloc, shape, tables, opening) {
         Ok(world) => Ok((world, watch)),
-        Err(OpenFault::NoMemory) => Err(Fault::NoMemory),
+        Err(OpenFault::NoMemory) => Err(NoMemory),
         Err(OpenFault::OpeningLength) => unreachable!(),
     }
 }
 
-fn play_all<I: Read + Drop, O: Write>(
+/// Plays as far as there are lines, and nothing is read any more once printing has failed.
+fn play_all<I: Read + Drop, O: Write + Drop>(
     world: &mut World,
     watch: &mut Watch,
     lines: &mut Lines<I>,
-    output: &mut O,
+    printer: &mut Printer<O>,
 ) -> Result<Finding, Fault> {
     for _ in 0..u64::MAX {
         if lines.may_wait() {
-            output.flush()?;
+            printer.flush();
         }
-        if !lines.advance()? {
+        if printer.has_failed() || !lines.advance()? {
             break;
         }
         if lines.line().is_empty() {
             continue;
         }
         let step = step_of(lines.line()).ok_or(Fault::NotAStep(lines.number()))?;
-        if play_one(world, watch, step, output)? == Finding::Violation {
+        if play_one(world, watch, step, printer)? == Finding::Violation {
             return Ok(Finding::Violation);
         }
     }
@@ -72,21 +73,25 @@ fn play_all<I: Read + Drop, O: Write>(
 }
 
 /// Makes a step, and prints its outcome and its violation, if it has one.
-fn play_one<O: Write>(
+fn play_one<O: Write + Drop>(
     world: &mut World,
     watch: &mut Watch,
     step: Step,
-    output: &mut O,
-) -> Result<Finding, Fault> {
+    printer: &mut Printer<O>,
+) -> Result<Finding, NoMemory> {
     let outcome = world.step(step)?;
-    let mut text = outcome.text();
-    text.push(b"\n");
-    output.write_all(text.as_slice())?;
+    print_outcome(outcome, printer);
     let Some(violation) = watch.see(world, step, outcome) else {
         return Ok(Finding::Nothing);
     };
-    writeln!(output, "violation {violation}")?;
+    printer.line(format_args!("violation {violation}"));
     Ok(Finding::Violation)
+}
+
+fn print_outcome<O: Write + Drop>(outcome: Outcome, printer: &mut Printer<O>) {
+    let mut text = outcome.text();
+    text.push(b"\n");
+    printer.bytes(text.as_slice());
 }
 
 fn step_of(line: &[u8]) -> Option<Step> {

@@ -5,11 +5,13 @@ use crate::asks::read_asks;
 use crate::fault::Fault;
 use crate::finding::Finding;
 use crate::players::{Open, Player};
-use base::CoreAsk;
-use floor::{Floor, Ground, Naming, Seat, crew};
+use crate::printing::Printer;
+use base::{CoreAsk, NoMemory};
+use floor::{Floor, Ground, Naming, Seat, TurnFault, crew};
+use monitor::Violation;
 use record::{Recording, replay};
 use std::alloc::Global;
-use std::io::{BufWriter, Read, Write};
+use std::io::{Read, Write};
 use std::marker::Brand;
 use std::sync::Wait;
 use std::thread::Threads;
@@ -29,7 +31,7 @@ pub fn race<R: Threads + Wait + Sync, I: Read + Drop, O: Write + Drop>(
     let asks = read_asks(alloc, setup.shape(), input)?;
     let ground = Ground::new(alloc)?;
     let capacity = seats.saturating_mul(turns);
-    let recording = recorded::<Brand, R>(
+    match recorded::<Brand, R>(
         rt,
         alloc,
         ground,
@@ -38,8 +40,10 @@ pub fn race<R: Threads + Wait + Sync, I: Read + Drop, O: Write + Drop>(
         turns,
         capacity,
         asks.as_slice(),
-    )?;
-    print_replayed(alloc, &recording, output)
+    ) {
+        Ok(recording) => print_replayed(alloc, &recording, output),
+        Err(NoMemory) => Err(Fault::NoMemory),
+    }
 }
 
 /// The recording of a race. What its words say was tested, so only memory can be refused.
@@ -52,27 +56,44 @@ fn recorded<F: Naming + Send + Sync, R: Threads + Wait + Sync>(
     turns: u32,
     capacity: u32,
     asks: &[CoreAsk],
-) -> Result<Recording, Fault>
+) -> Result<Recording, NoMemory>
     requires { F.floor ≡ names ground setup.now seats capacity }
 {
     let Ok((floor, row)) = Floor::<F>::open(ground, alloc, setup, seats, capacity) else {
-        return Err(Fault::NoMemory);
+        return Err(NoMemory);
     };
     let members = cast(alloc, row, asks, seats, setup.seed(), turns)?;
-    let Ok(back) = crew(rt, alloc, &floor, &Open, members) else {
-        return Err(Fault::NoMemory);
-    };
+    match crew(rt, alloc, &floor, &Open, members) {
+        Ok(back) => close(alloc, floor, back),
+        Err(_) => Err(NoMemory),
+    }
+}
+
+/// Closes a floor whose seats have come back.
+fn close<F: Naming>(
+    alloc: Global,
+    floor: Floor<F>,
+    back: Vec<(Seat<F>, Option<TurnFault>)>,
+) -> Result<Recording, NoMemory> {
+    match floor.close(seats_of(alloc, back)?) {
+        Ok(closed) => Ok(closed.recording),
+        Err(_) => Err(NoMemory),
+    }
+}
+
+/// The seats alone, of which each has to have ended without a fault.
+fn seats_of<F: Naming>(
+    alloc: Global,
+    back: Vec<(Seat<F>, Option<TurnFault>)>,
+) -> Result<Vec<Seat<F>>, NoMemory> {
     let mut row = Vec::with_capacity(alloc, back.len())?;
     for (seat, ended) in back {
         if ended.is_some() {
-            return Err(Fault::NoMemory);
+            return Err(NoMemory);
         }
         row.push(seat)?;
     }
-    match floor.close(row) {
-        Ok(closed) => Ok(closed.recording),
-        Err(_) => Err(Fault::NoMemory),
-    }
+    Ok(row)
 }
 
 /// The seats with their players.
@@ -83,7 +104,7 @@ fn cast<F: Naming>(
     seats: u32,
     seed: u64,
     turns: u32,
-) -> Result<Vec<(Seat<F>, Player)>, Fault> {
+) -> Result<Vec<(Seat<F>, Player)>, NoMemory> {
     let mut members = Vec::with_capacity(alloc, row.len())?;
     for seat in row {
         let player = Player::new(alloc, asks, seats, seat.number(), seed, turns)?;
@@ -97,20 +118,27 @@ fn print_replayed<O: Write + Drop>(
     recording: &Recording,
     output: O,
 ) -> Result<Finding, Fault> {
-    let Ok(replayed) = replay(alloc, recording) else {
-        return Err(Fault::NoMemory);
-    };
-    let mut output = BufWriter::new(alloc, output)?;
-    let finding = match replayed.violation {
+    match replay(alloc, recording) {
+        Ok(replayed) => print_violation(alloc, replayed.violation, output),
+        Err(_) => Err(Fault::NoMemory),
+    }
+}
+
+fn print_violation<O: Write + Drop>(
+    alloc: Global,
+    violation: Option<(u64, Violation)>,
+    output: O,
+) -> Result<Finding, Fault> {
+    let mut printer = Printer::new(alloc, output)?;
+    let finding = match violation {
         None => {
-            writeln!(output, "safe")?;
+            printer.line("safe");
             Finding::Nothing
         }
         Some((entry, violation)) => {
-            writeln!(output, "violation {entry} {violation}")?;
+            printer.line(format_args!("violation {entry} {violation}"));
             Finding::Violation
         }
     };
-    output.flush()?;
-    Ok(finding)
+    printer.finish(Ok(finding))
 }

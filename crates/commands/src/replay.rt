@@ -1,9 +1,10 @@
 use crate::fault::Fault;
 use crate::finding::Finding;
+use crate::printing::Printer;
 use base::FromRead;
 use record::{Recording, ReplayFault, Replayed};
 use std::alloc::Global;
-use std::io::{BufWriter, Read, Write};
+use std::io::{Read, Write};
 
 /// Reads a recording from the input, makes its steps again, and prints whether they had the outcomes that it tells, and
 /// the first violation.
@@ -13,31 +14,31 @@ pub fn replay<I: Read + Drop, O: Write + Drop>(
     output: O,
 ) -> Result<Finding, Fault> {
     let recording = Recording::read(alloc, &mut FromRead::new(input))?;
-    let mut output = BufWriter::new(alloc, output)?;
-    let finding = print_replayed(record::replay(alloc, &recording), &mut output)?;
-    output.flush()?;
-    Ok(finding)
+    print_replayed(alloc, record::replay(alloc, &recording), output)
 }
 
-fn print_replayed<W: Write>(
+fn print_replayed<O: Write + Drop>(
+    alloc: Global,
     replayed: Result<Replayed, ReplayFault>,
-    output: &mut W,
+    output: O,
 ) -> Result<Finding, Fault> {
-    match replayed {
-        Ok(replayed) => print_same(&replayed, output),
+    let mut printer = Printer::new(alloc, output)?;
+    let finding = match replayed {
+        Ok(replayed) => print_same(&replayed, &mut printer),
         Err(ReplayFault::Differs { entry, told, found }) => {
-            writeln!(output, "differs {entry} told {told} found {found}")?;
-            Ok(Finding::Difference)
+            printer.line(format_args!("differs {entry} told {told} found {found}"));
+            Finding::Difference
         }
-        Err(ReplayFault::NoMemory) => Err(Fault::NoMemory),
-    }
+        Err(ReplayFault::NoMemory) => return Err(Fault::NoMemory),
+    };
+    printer.finish(Ok(finding))
 }
 
-fn print_same<W: Write>(replayed: &Replayed, output: &mut W) -> Result<Finding, Fault> {
-    writeln!(output, "same {}", replayed.entries.len())?;
+fn print_same<O: Write + Drop>(replayed: &Replayed, printer: &mut Printer<O>) -> Finding {
+    printer.line(format_args!("same {}", replayed.entries.len()));
     let Some((entry, violation)) = replayed.violation else {
-        return Ok(Finding::Nothing);
+        return Finding::Nothing;
     };
-    writeln!(output, "violation {entry} {violation}")?;
-    Ok(Finding::Violation)
+    printer.line(format_args!("violation {entry} {violation}"));
+    Finding::Violation
 }

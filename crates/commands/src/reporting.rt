@@ -1,9 +1,12 @@
 use crate::fault::Fault;
 use crate::finding::Finding;
+use crate::printing::Printer;
 use crate::tasks::BatchPlan;
+use base::NoMemory;
 use indexmap::IndexMap;
 use std::alloc::Global;
-use std::io::{BufWriter, Write};
+use std::io;
+use std::io::Write;
 use trials::{TrialResult, Verdict};
 
 /// In how many parts progress is told.
@@ -15,10 +18,14 @@ const STEPS_A_WRITE: u64 = 100_000;
 
 /// What a batch prints: a line for each trial in order of their numbers, and at the end how many there were of each kind,
 /// in the order in which the kinds came first. Where progress is asked for, it is told on the errors.
+///
+/// Its first fault is noted: no trial is printed any more from then on, and the fault is told at the end.
 #[derive(Drop)]
 pub struct Report<O: Write + Drop, E: Write + Drop> {
-    output: BufWriter<O>,
+    printer: Printer<O>,
     errors: E,
+    // The first fault, if it isn't one of the printer.
+    fault: Option<Fault>,
     // How many steps the trials made whose lines may not be put out yet.
     waiting: u64,
     tally: IndexMap<&'static str, u32>,
@@ -30,10 +37,11 @@ pub struct Report<O: Write + Drop, E: Write + Drop> {
 
 impl<O: Write + Drop, E: Write + Drop> Report<O, E> {
     /// The report of a batch by this plan on these two.
-    pub fn new(alloc: Global, plan: BatchPlan, output: BufWriter<O>, errors: E) -> Report<O, E> {
+    pub fn new(alloc: Global, plan: BatchPlan, printer: Printer<O>, errors: E) -> Report<O, E> {
         Report {
-            output,
+            printer,
             errors,
+            fault: None,
             waiting: 0,
             tally: IndexMap::new(alloc),
             plan,
@@ -58,32 +66,42 @@ impl<O: Write + Drop, E: Write + Drop> Report<O, E> {
         self.done
     }
 
+    /// Whether a fault was noted, so that no trial is printed any more.
+    pub fn has_failed(&self) -> bool {
+        self.fault.is_some() || self.printer.has_failed()
+    }
+
     /// Prints the line of the next trial.
-    pub fn print(&mut self, made: TrialResult) -> Result<(), Fault> {
-        writeln!(self.output, "{} {made}", self.done)?;
+    pub fn print(&mut self, made: TrialResult) {
+        self.print_line(made);
+        if !self.has_failed() {
+            self.count(made);
+        }
+        if self.plan.progress && self.has_another_part() && !self.has_failed() {
+            self.tell();
+        }
+    }
+
+    fn print_line(&mut self, made: TrialResult) {
+        self.printer.line(format_args!("{} {made}", self.done));
         self.waiting = self.waiting.saturating_add(u64::from(made.steps));
         if self.waiting >= STEPS_A_WRITE {
-            self.put_out()?;
+            self.waiting = 0;
+            self.printer.flush();
         }
+    }
+
+    fn count(&mut self, made: TrialResult) {
         let kind = made.verdict.name();
         let before = self.tally.get(&kind).copied().unwrap_or(0);
-        self.tally.insert(kind, before.saturating_add(1))?;
+        if self.tally.insert(kind, before.saturating_add(1)).is_err() {
+            self.fault = Some(Fault::NoMemory);
+        }
         self.done = self.done.saturating_add(1);
         self.steps = self.steps.saturating_add(u64::from(made.steps));
         if let Verdict::Broke(_) = made.verdict {
             self.broke = self.broke.saturating_add(1);
         }
-        if self.plan.progress && self.has_another_part() {
-            self.tell()?;
-        }
-        Ok(())
-    }
-
-    /// Puts out what was printed so far.
-    pub fn put_out(&mut self) -> Result<(), Fault> {
-        self.waiting = 0;
-        self.output.flush()?;
-        Ok(())
     }
 
     /// Whether the last trial has made another hundredth of the batch whole.
@@ -93,25 +111,44 @@ impl<O: Write + Drop, E: Write + Drop> Report<O, E> {
         done * PARTS / trials != done.saturating_sub(1) * PARTS / trials
     }
 
-    fn tell(&mut self) -> Result<(), Fault> {
+    fn tell(&mut self) {
+        if let Err(error) = self.write_progress() {
+            self.fault = Some(Fault::from(error));
+        }
+    }
+
+    fn write_progress(&mut self) -> io::Result<()> {
         writeln!(
             self.errors,
             "msi: {} of {} trials, {} steps, {} broke",
             self.done, self.plan.trials, self.steps, self.broke
         )?;
-        self.errors.flush()?;
-        Ok(())
+        self.errors.flush()
     }
 
-    /// Prints how many trials there were of each kind, and answers what was found.
-    pub fn finish(&mut self) -> Result<Finding, Fault> {
+    /// Ends the report of trials that were made, or refused. It prints how many there were of each kind, and answers what
+    /// was found; where there was a fault it answers that, and what was printed before stands, as far as the device takes
+    /// it.
+    pub fn finish(&mut self, made: Result<(), NoMemory>) -> Result<Finding, Fault> {
+        if self.fault.is_none() && made.is_err() {
+            self.fault = Some(Fault::NoMemory);
+        }
+        match self.fault {
+            None => self.print_totals(),
+            Some(fault) => {
+                self.printer.flush();
+                Err(fault)
+            }
+        }
+    }
+
+    fn print_totals(&mut self) -> Result<Finding, Fault> {
         for (kind, count) in self.tally.iter() {
-            writeln!(self.output, "total {kind} {count}")?;
+            self.printer.line(format_args!("total {kind} {count}"));
         }
-        self.output.flush()?;
         if self.broke > 0 {
-            return Ok(Finding::Violation);
+            return self.printer.finish(Ok(Finding::Violation));
         }
-        Ok(Finding::Nothing)
+        self.printer.finish(Ok(Finding::Nothing))
     }
 }

@@ -4,7 +4,6 @@ ghost use Rattle.std.specs.Prelude.{◌≡◌, All, IfOk};
 ghost use Rattle.desk.specs.Plans.{plan_of};
 ghost use Rattle.trials.specs.Making.{CanGoOn, planned};
 
-use crate::fault::Fault;
 use crate::reporting::Report;
 use base::NoMemory;
 use bumpalo::Bump;
@@ -13,7 +12,7 @@ use std::alloc::Global;
 use std::io::Write;
 use std::thread;
 use std::thread::Threads;
-use trials::Series;
+use trials::{Series, TrialResult};
 
 /// Has so many workers make the trials of a job, each in a thread of its own. This thread is one of them: after each
 /// trial of its own it prints what is there of all the next ones, and when nothing is left to begin, the rest.
@@ -23,16 +22,16 @@ pub fn share<D: Naming + Send + Sync, R: Threads + Sync, O: Write + Drop, E: Wri
     job: &Job,
     workers: u32,
     report: Report<O, E>,
-) -> (Report<O, E>, Result<(), Fault>)
+) -> (Report<O, E>, Result<(), NoMemory>)
     requires { D.plan ≡ plan_of job.now }
 {
     // The options were tested, so only memory can be refused.
     let Ok((desk, mut seats)) = Desk::<D>::new(alloc, job, report.trials(), workers) else {
-        return (report, Err(Fault::NoMemory));
+        return (report, Err(NoMemory));
     };
     match seats.pop() {
         Some(own) => share_out(rt, alloc, job, desk, own, seats, report),
-        None => (report, Err(Fault::NoMemory)),
+        None => (report, Err(NoMemory)),
     }
 }
 
@@ -44,7 +43,7 @@ fn share_out<D: Naming + Send + Sync, R: Threads + Sync, O: Write + Drop, E: Wri
     own: DeskSeat<D>,
     seats: Vec<DeskSeat<D>>,
     report: Report<O, E>,
-) -> (Report<O, E>, Result<(), Fault>)
+) -> (Report<O, E>, Result<(), NoMemory>)
     requires own { own.desk ≡ desk.id }
     requires seats { All (λ seat. seat.desk ≡ desk.id) seats.items }
     requires plan { D.plan ≡ plan_of job.now }
@@ -56,15 +55,15 @@ fn share_out<D: Naming + Send + Sync, R: Threads + Sync, O: Write + Drop, E: Wri
             requires { All (λ seat. seat.desk ≡ shared.now.id) seats.items }
             ensures { IfOk result (λ back. All (λ seat. seat.desk ≡ shared.entry.now.id) back.items) }
         { work_all(rt, shared, seats) },
-        move || -> (DeskSeat<D>, Report<O, E>, Result<(), Fault>)
+        move || -> (DeskSeat<D>, Report<O, E>, Result<(), NoMemory>)
             requires seat { own.desk ≡ shared.now.id }
             requires plan { D.plan ≡ plan_of job.now }
             ensures { result.0.desk ≡ shared.entry.now.id }
         { work_and_print(alloc, shared, own, job, report) },
     );
     let printed = match printed {
-        Ok(()) => print_rest(desk, others, own, &mut report),
-        Err(fault) => Err(fault),
+        Ok(()) if !report.has_failed() => print_rest(desk, others, own, &mut report),
+        printed => printed,
     };
     (report, printed)
 }
@@ -75,20 +74,31 @@ fn print_rest<D: Naming, O: Write + Drop, E: Write + Drop>(
     others: Result<Vec<DeskSeat<D>>, NoMemory>,
     own: DeskSeat<D>,
     report: &mut Report<O, E>,
-) -> Result<(), Fault>
+) -> Result<(), NoMemory>
     requires others { IfOk others (λ seats. All (λ seat. seat.desk ≡ desk.id) seats.items) }
     requires own { own.desk ≡ desk.id }
 {
     let mut seats = others?;
     seats.push(own)?;
-    let Ok(places) = desk.close(seats) else {
-        return Err(Fault::NoMemory);
-    };
+    match desk.close(seats) {
+        Ok(places) => print_places(places.as_slice(), report),
+        Err(_) => Err(NoMemory),
+    }
+}
+
+/// Prints the results that weren't there before, each of which has to be there by now.
+fn print_places<O: Write + Drop, E: Write + Drop>(
+    places: &[Option<TrialResult>],
+    report: &mut Report<O, E>,
+) -> Result<(), NoMemory> {
     for place in places.iter().skip(report.done() as usize) {
         let Some(made) = place else {
-            return Err(Fault::NoMemory);
+            return Err(NoMemory);
         };
-        report.print(*made)?;
+        report.print(*made);
+        if report.has_failed() {
+            break;
+        }
     }
     Ok(())
 }
@@ -136,13 +146,13 @@ fn work_and_print<D: Naming, O: Write + Drop, E: Write + Drop>(
     mut seat: DeskSeat<D>,
     job: &Job,
     mut report: Report<O, E>,
-) -> (DeskSeat<D>, Report<O, E>, Result<(), Fault>)
+) -> (DeskSeat<D>, Report<O, E>, Result<(), NoMemory>)
     requires seat { seat.desk ≡ desk.now.id }
     requires plan { D.plan ≡ plan_of job.now }
     ensures { result.0.desk ≡ desk.now.id }
 {
     let printed = print_as_made(alloc, desk, &mut seat, job, &mut report);
-    if printed.is_err() {
+    if printed.is_err() || report.has_failed() {
         for _ in 0..report.trials() {
             if desk.claim(&mut seat).is_none() {
                 break;
@@ -158,7 +168,7 @@ fn print_as_made<D: Naming, O: Write + Drop, E: Write + Drop>(
     seat: &mut DeskSeat<D>,
     job: &Job,
     report: &mut Report<O, E>,
-) -> Result<(), Fault>
+) -> Result<(), NoMemory>
     requires seat { seat.old.desk ≡ desk.now.id }
     requires plan { D.plan ≡ plan_of job.now }
     ensures { seat.new.desk ≡ desk.now.id }
@@ -174,7 +184,7 @@ fn print_claimed<D: Naming, O: Write + Drop, E: Write + Drop>(
     seat: &mut DeskSeat<D>,
     series: &mut Series<'_, '_, Global>,
     report: &mut Report<O, E>,
-) -> Result<(), Fault>
+) -> Result<(), NoMemory>
     requires seat { seat.old.desk ≡ desk.now.id }
     requires plan { planned series.old ≡ D.plan }
     requires can_go_on { CanGoOn series.old }
@@ -186,9 +196,12 @@ fn print_claimed<D: Naming, O: Write + Drop, E: Write + Drop>(
         };
         let made = series.result(number)?;
         if desk.post(seat, number, made).is_err() {
-            return Err(Fault::NoMemory);
+            return Err(NoMemory);
         }
-        print_ready(desk, seat, report)?;
+        print_ready(desk, seat, report);
+        if report.has_failed() {
+            break;
+        }
     }
     Ok(())
 }
@@ -198,7 +211,7 @@ fn print_ready<D: Naming, O: Write + Drop, E: Write + Drop>(
     desk: &Desk<'_, D>,
     seat: &mut DeskSeat<D>,
     report: &mut Report<O, E>,
-) -> Result<(), Fault>
+)
     requires { seat.old.desk ≡ desk.now.id }
     ensures { seat.new.desk ≡ desk.now.id }
 {
@@ -206,7 +219,9 @@ fn print_ready<D: Naming, O: Write + Drop, E: Write + Drop>(
         let Some(made) = desk.look(seat, number) else {
             break;
         };
-        report.print(made)?;
+        report.print(made);
+        if report.has_failed() {
+            break;
+        }
     }
-    Ok(())
 }

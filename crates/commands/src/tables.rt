@@ -1,11 +1,12 @@
 use crate::fault::Fault;
 use crate::finding::Finding;
+use crate::printing::Printer;
 use base::controller::Side;
 use both_tables::Tables;
 use cache_table::{CacheChange, CacheEvent, CacheState, CacheTable};
 use directory_table::{DirectoryChange, DirectoryEvent, DirectoryState, DirectoryTable};
 use std::alloc::Global;
-use std::io::{BufWriter, Write};
+use std::io::Write;
 
 /// Prints all cells: the cache's before the directory's, by state and then by event.
 pub fn print_tables<O: Write + Drop>(
@@ -13,14 +14,13 @@ pub fn print_tables<O: Write + Drop>(
     tables: &Tables,
     output: O,
 ) -> Result<Finding, Fault> {
-    let mut output = BufWriter::new(alloc, output)?;
-    print_cache_cells(&tables.cache, &mut output)?;
-    print_directory_cells(&tables.directory, &mut output)?;
-    output.flush()?;
-    Ok(Finding::Nothing)
+    let mut printer = Printer::new(alloc, output)?;
+    print_cache_cells(&tables.cache, &mut printer);
+    print_directory_cells(&tables.directory, &mut printer);
+    printer.finish(Ok(Finding::Nothing))
 }
 
-fn print_cache_cells<W: Write>(table: &CacheTable, output: &mut W) -> Result<(), Fault> {
+fn print_cache_cells<O: Write + Drop>(table: &CacheTable, printer: &mut Printer<O>) {
     for state in CacheState::ALL {
         for event in CacheEvent::ALL {
             let cell = CacheChange {
@@ -28,13 +28,12 @@ fn print_cache_cells<W: Write>(table: &CacheTable, output: &mut W) -> Result<(),
                 event,
                 entry: table.entry(state, event),
             };
-            writeln!(output, "{}", cell.text(Side::Cache))?;
+            printer.line(cell.text(Side::Cache));
         }
     }
-    Ok(())
 }
 
-fn print_directory_cells<W: Write>(table: &DirectoryTable, output: &mut W) -> Result<(), Fault> {
+fn print_directory_cells<O: Write + Drop>(table: &DirectoryTable, printer: &mut Printer<O>) {
     for state in DirectoryState::ALL {
         for event in DirectoryEvent::ALL {
             let cell = DirectoryChange {
@@ -42,8 +41,7 @@ fn print_directory_cells<W: Write>(table: &DirectoryTable, output: &mut W) -> Re
                 event,
                 entry: table.entry(state, event),
             };
-            writeln!(output, "{}", cell.text(Side::Directory))?;
+            printer.line(cell.text(Side::Directory));
         }
     }
-    Ok(())
 }

@@ -2,19 +2,19 @@ ghost use Rattle.trials.specs.Making.{CanGoOn};
 
 use crate::fault::Fault;
 use crate::finding::Finding;
+use crate::printing::Printer;
 use crate::reporting::Report;
 use crate::sharing::share;
 use crate::tasks::BatchPlan;
-use base::{Shape, ToWrite};
+use base::{NoMemory, Shape, ToWrite};
 use bumpalo::Bump;
 use desk::Job;
-use record::Recording;
 use scenario::Scenario;
 use std::alloc::Global;
-use std::io::{BufWriter, Read, Write};
+use std::io::{Read, Write};
 use std::marker::Brand;
 use std::thread::Threads;
-use trials::{Series, Setup, TrialResult, Verdict, trial};
+use trials::{Series, Setup, Trial, TrialResult, Verdict, trial};
 
 /// Makes one trial of the scenario that the input is, and writes its recording on the output and its verdict on the
 /// errors.
@@ -27,21 +27,33 @@ pub fn one_trial<I: Read + Drop, O: Write + Drop, E: Write>(
     errors: &mut E,
 ) -> Result<Finding, Fault> {
     let scenario = read_scenario(alloc, input, setup.shape())?;
-    let made = trial(alloc, &scenario, setup, number)?;
-    write_recording(alloc, &made.recording, output)?;
+    match trial(alloc, &scenario, setup, number) {
+        Ok(made) => write_trial(alloc, &made, output, errors),
+        Err(NoMemory) => Err(Fault::NoMemory),
+    }
+}
+
+fn write_trial<O: Write + Drop, E: Write>(
+    alloc: Global,
+    made: &Trial,
+    output: O,
+    errors: &mut E,
+) -> Result<Finding, Fault> {
+    let finding = write_recording(alloc, made, output)?;
     writeln!(errors, "verdict {}", made.result)?;
-    Ok(finding(made.result))
+    Ok(finding)
 }
 
 fn write_recording<O: Write + Drop>(
     alloc: Global,
-    recording: &Recording,
+    made: &Trial,
     output: O,
-) -> Result<(), Fault> {
-    let mut output = BufWriter::new(alloc, output)?;
-    recording.write(&mut ToWrite::new(&mut output))?;
-    output.flush()?;
-    Ok(())
+) -> Result<Finding, Fault> {
+    let mut printer = Printer::new(alloc, output)?;
+    match made.recording.write(&mut ToWrite::new(printer.output())) {
+        Ok(()) => printer.finish(Ok(finding(made.result))),
+        Err(fault) => Err(Fault::from(fault)),
+    }
 }
 
 /// Makes the trials of a batch of the scenario that the input is, and prints a line for each, and then how many there were
@@ -56,8 +68,8 @@ pub fn batch<R: Threads + Sync, I: Read + Drop, O: Write + Drop, E: Write + Drop
     errors: E,
 ) -> (E, Result<Finding, Fault>) {
     match prepare(alloc, setup, input, output) {
-        Ok((job, output)) => {
-            let report = Report::new(alloc, plan, output, errors);
+        Ok((job, printer)) => {
+            let report = Report::new(alloc, plan, printer, errors);
             let (report, found) = make_all(rt, alloc, &job, plan.workers, report);
             (report.into_errors(), found)
         }
@@ -70,10 +82,10 @@ fn prepare<I: Read + Drop, O: Write + Drop>(
     setup: Setup,
     input: I,
     output: O,
-) -> Result<(Job, BufWriter<O>), Fault> {
+) -> Result<(Job, Printer<O>), Fault> {
     let scenario = read_scenario(alloc, input, setup.shape())?;
-    let output = BufWriter::new(alloc, output)?;
-    Ok((Job { scenario, setup }, output))
+    let printer = Printer::new(alloc, output)?;
+    Ok((Job { scenario, setup }, printer))
 }
 
 fn make_all<R: Threads + Sync, O: Write + Drop, E: Write + Drop>(
@@ -88,14 +100,7 @@ fn make_all<R: Threads + Sync, O: Write + Drop, E: Write + Drop>(
     } else {
         make_alone(alloc, job, report)
     };
-    let found = match made {
-        Ok(()) => report.finish(),
-        Err(fault) => {
-            // What was printed before a fault stands, as far as the device takes it.
-            let _ = report.put_out();
-            Err(fault)
-        }
-    };
+    let found = report.finish(made);
     (report, found)
 }
 
@@ -103,7 +108,7 @@ fn make_alone<O: Write + Drop, E: Write + Drop>(
     alloc: Global,
     job: &Job,
     mut report: Report<O, E>,
-) -> (Report<O, E>, Result<(), Fault>) {
+) -> (Report<O, E>, Result<(), NoMemory>) {
     let made = print_each(alloc, job, &mut report);
     (report, made)
 }
@@ -112,7 +117,7 @@ fn print_each<O: Write + Drop, E: Write + Drop>(
     alloc: Global,
     job: &Job,
     report: &mut Report<O, E>,
-) -> Result<(), Fault> {
+) -> Result<(), NoMemory> {
     let arena = Bump::new(alloc);
     let mut series = Series::new(alloc, &arena, &job.scenario, &job.setup);
     print_trials(&mut series, report)
@@ -121,12 +126,15 @@ fn print_each<O: Write + Drop, E: Write + Drop>(
 fn print_trials<O: Write + Drop, E: Write + Drop>(
     series: &mut Series<'_, '_, Global>,
     report: &mut Report<O, E>,
-) -> Result<(), Fault>
+) -> Result<(), NoMemory>
     requires { CanGoOn series.old }
 {
     for number in 0..report.trials() {
         let made = series.result(number)?;
-        report.print(made)?;
+        report.print(made);
+        if report.has_failed() {
+            break;
+        }
     }
     Ok(())
 }
