@@ -110,12 +110,6 @@ seek_in_all-returns-then-further-eq0 g t c = grind (arith, common_steps)
 pub seek_in_all-loop-child-preserved-in-One : goal.seek_in_all-loop-child-preserved-in-One
 seek_in_all-loop-child-preserved-in-One g t c = grind (arith, common_steps)
 
-pub seek_in_tree-returns-else-at-eq0 : goal.seek_in_tree-returns-else-at-eq0
-seek_in_tree-returns-else-at-eq0 g t c = grind (arith, common_steps)
-
-pub seek_in_tree-returns-then-at-eq0 : goal.seek_in_tree-returns-then-at-eq0
-seek_in_tree-returns-then-at-eq0 g t c = grind (arith, common_steps)
-
 pub seek_in_all-bounds-children-child-index : goal.seek_in_all-bounds-children-child-index
 seek_in_all-bounds-children-child-index g t c = grind (arith, common_steps)
 

@@ -245,9 +245,6 @@ start_row-offset_bounds-children-offer g t c = grind (arith, common_steps)
 pub start_row-offset_bounds-children-offer-2 : goal.start_row-offset_bounds-children-offer-2
 start_row-offset_bounds-children-offer-2 g t c = grind (arith, common_steps)
 
-pub start_turn-overflow_sub-turns : goal.start_turn-overflow_sub-turns
-start_turn-overflow_sub-turns g t c = grind (arith, common_steps)
-
 pub start-index-requires : goal.start-index-requires
 start-index-requires g t c = grind (arith, common_steps)
 
