@@ -15,3 +15,27 @@ pub returns-clause-received : goal.returns-clause-received
 returns-clause-received g c =
     all_received g.F.Naming.floor c.end.result.recording.entries c.end.result.owners.items c.args.seats.items
     c.end.ensures.owners (returns-clause-missing g c) c.end.ensures.histories
+
+pub returns-clause-setup : goal.returns-clause-setup
+returns-clause-setup g c = c.end.ensures.setup
+
+pub returns-clause-legal : goal.returns-clause-legal
+returns-clause-legal g c = c.end.ensures.legal
+
+pub returns-clause-owners : goal.returns-clause-owners
+returns-clause-owners g c = c.end.ensures.owners
+
+pub returns-clause-histories : goal.returns-clause-histories
+returns-clause-histories g c = c.end.ensures.histories
+
+pub returns-clause-violation : goal.returns-clause-violation
+returns-clause-violation g c = c.end.ensures.violation
+
+pub returns-clause-clean : goal.returns-clause-clean
+returns-clause-clean g c = c.end.ensures.clean
+
+pub returns-clause-seats : goal.returns-clause-seats
+returns-clause-seats g c = c.end.ensures.seats
+
+pub returns-clause-back : goal.returns-clause-back
+returns-clause-back g c = tt
