@@ -41,7 +41,9 @@ class Refusal:
             return self.file == place.file and place.first <= self.line <= place.last
         start, name = place.proofs
         folder = self.file.split("/")[-2]
-        return self.file.startswith(f"{start}/") and (folder == name or folder.startswith("+") and name in folder.split("-"))
+        # (functions that call each other in turn are proved in one folder, and their goals begin with their names)
+        is_of_cycle = folder.startswith("+") and (name in folder.split("-") or self.goal.startswith(f"{name}-"))
+        return self.file.startswith(f"{start}/") and (folder == name or is_of_cycle)
 
     def __str__(self):
         return f"{self.what} (`{self.goal}`, {self.file}:{self.line})"
@@ -60,7 +62,7 @@ def refusals_in(said):
 
 def subject_of(goal):
     """What a goal is about, by its name."""
-    if goal.startswith("returns"):
+    if re.search(r"(^|-)returns", goal):
         return "what the function ensures"
     if "invariant_of" in goal or goal.endswith(("-preserved", "-start", "-starts")):
         return "an invariant"
