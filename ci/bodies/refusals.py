@@ -12,6 +12,8 @@ CALLS = re.compile(r"^fn (\S+): no proof: it calls ", re.M)
 TACTIC = re.compile(r"^`(omega|grind|search|simp|decide)\b")
 # What is said of an answer that names a goal or a fact that isn't there in the changed body.
 NAMES = re.compile(r"is not in scope|has no field|has no `|was not admitted|is no name")
+# What is said of answers that lean on one of which something else is said.
+LEANS = re.compile(r"^\d+ declarations? that depends? on .* which was rejected")
 
 
 class Kind(Enum):
@@ -53,6 +55,8 @@ def refusals_in(said):
     """All that the check's output says of goals that aren't proved."""
     found = [Refusal(Kind.OPEN, file, int(line), goal, what) for file, line, what, goal in OPEN.findall(said)]
     for file, line, goal, why in ANSWER.findall(said):
+        if LEANS.match(why):
+            continue
         plain = re.sub(r"`[^`]*`", "", why)
         kind = Kind.UNREAD if NAMES.search(plain) or not goal else Kind.OPEN if TACTIC.match(why) else Kind.OTHER
         said_first = " ".join(why.split()).split(". ")[0]
@@ -66,7 +70,7 @@ def subject_of(goal):
         return "what the function ensures"
     if "invariant_of" in goal or goal.endswith(("-preserved", "-start", "-starts")):
         return "an invariant"
-    return "a requirement"
+    return "a requirement" if "requires" in goal or re.search(r"(^|-)(bounds|overflow)", goal) else "a goal on the way"
 
 
 def goal_that_refuses(refusals):
