@@ -35,3 +35,9 @@ def crates_of(rt, top):
 
 def has(module, *names):
     return all(hasattr(module, it) for it in names)
+
+
+def memory():
+    """How much memory is there to be used, in bytes."""
+    with open("/proc/meminfo", encoding="ascii") as it:
+        return next(int(line.split()[1]) << 10 for line in it if line.startswith("MemAvailable:"))
