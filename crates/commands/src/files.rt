@@ -1,3 +1,4 @@
+use playing::Fault;
 use thiserror::Error;
 
 /// Why a file's bytes couldn't be had.
@@ -13,4 +14,13 @@ pub enum LoadFault {
 pub trait Files {
     /// The bytes of a file, or why they couldn't be had.
     fn load(&mut self, name: &str) -> Result<Vec<u8>, LoadFault>;
+}
+
+impl From<LoadFault> for Fault {
+    fn from(fault: LoadFault) -> Fault {
+        match fault {
+            LoadFault::Device => Fault::Device,
+            LoadFault::NoMemory => Fault::NoMemory,
+        }
+    }
 }

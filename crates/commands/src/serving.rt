@@ -1,22 +1,15 @@
-use crate::certificates::print_certificate;
-use crate::fault::Fault;
 use crate::files::Files;
-use crate::finding::Finding;
-use crate::picturing::print_recording;
-use crate::play::play;
-use crate::racing::race;
-use crate::replay::replay;
-use crate::tables::print_tables;
 use crate::tasks::Task;
-use crate::trying::{batch, one_trial};
 use crate::usage;
 use clap::error::ErrorKind;
 use clap::{ArgMatches, Error};
+use playing::{Fault, Finding, play, print_certificate, print_recording, print_tables, replay};
 use std::alloc::Global;
 use std::io;
 use std::io::{Read, Write};
 use std::sync::Wait;
 use std::thread::Threads;
+use trying::{batch, one_trial, race};
 
 /// Serves the words of a command line over these files and streams, and answers the exit status. It may wait where threads
 /// race at a floor. The status is

@@ -1,13 +1,13 @@
-use crate::fault::Fault;
 use crate::files::Files;
-use crate::picturing::Form;
 use base::{BlockId, Shape};
 use both_tables::Tables;
 use clap::ArgMatches;
+use playing::{Fault, Form};
 use record::MOST_ENTRIES;
 use std::alloc::Global;
 use story::Part;
 use trials::Setup;
+use trying::BatchPlan;
 
 /// What a command line asks for, with all that its options and their files say.
 #[derive(Drop)]
@@ -28,16 +28,6 @@ pub enum Task {
     Tables(Tables),
     /// Print whether these tables are proved safe.
     Certify(Tables),
-}
-
-/// How a batch is made.
-#[derive(Clone, Copy, Debug, PartialEq, Eq)]
-pub struct BatchPlan {
-    pub trials: u32,
-    /// Among how many threads the trials are shared out.
-    pub workers: u32,
-    /// Whether it is told how far the batch has come.
-    pub progress: bool,
 }
 
 impl Task {

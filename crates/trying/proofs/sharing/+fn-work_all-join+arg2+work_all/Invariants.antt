@@ -1,5 +1,5 @@
 use Rattle.std.proofs.Common.{◌+◌, ◌*◌, length}
-use Rattle.commands.proofs.sharing.+fn-work_all-join+arg2+work_all.Given as goal
+use Rattle.trying.proofs.sharing.+fn-work_all-join+arg2+work_all.Given as goal
 
 abbrev pub decreases-join+arg2 : goal.decreases-join+arg2
 decreases-join+arg2 g l = 2 * length l.seats.items + 1

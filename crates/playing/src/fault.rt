@@ -1,4 +1,3 @@
-use crate::files::LoadFault;
 use base::{NoMemory, ShapeFault};
 use both_tables::TablesFault;
 use charts::{ChartFault, MOST_ROWS};
@@ -165,15 +164,6 @@ impl From<ScenarioFault> for Fault {
 impl From<WriteFault> for Fault {
     fn from(_fault: WriteFault) -> Fault {
         Fault::Device
-    }
-}
-
-impl From<LoadFault> for Fault {
-    fn from(fault: LoadFault) -> Fault {
-        match fault {
-            LoadFault::Device => Fault::Device,
-            LoadFault::NoMemory => Fault::NoMemory,
-        }
     }
 }
 

@@ -1,9 +1,6 @@
-use crate::fault::Fault;
-use crate::finding::Finding;
-use crate::printing::Printer;
-use crate::tasks::BatchPlan;
 use base::NoMemory;
 use indexmap::IndexMap;
+use playing::{Fault, Finding, Printer};
 use std::alloc::Global;
 use std::io;
 use std::io::Write;
@@ -15,6 +12,17 @@ const PARTS: u64 = 100;
 /// After how many steps the lines of the trials that made them are put out, if they weren't before: about a
 /// tenth of a second of work in most scenarios, so that whoever watches sees them come, and short trials don't cost a write each.
 const STEPS_A_WRITE: u64 = 100_000;
+
+/// How a batch is made.
+#[derive(Clone, Copy, Debug, PartialEq, Eq)]
+pub struct BatchPlan {
+    /// How many trials it has.
+    pub trials: u32,
+    /// Among how many threads the trials are shared out.
+    pub workers: u32,
+    /// Whether it is told how far the batch has come.
+    pub progress: bool,
+}
 
 /// What a batch prints: a line for each trial in order of their numbers, and at the end how many there were of each kind,
 /// in the order in which the kinds came first. Where progress is asked for, it is told on the errors.

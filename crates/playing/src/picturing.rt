@@ -49,8 +49,8 @@ fn write_part<W: Write>(
     output: &mut W,
 ) -> Result<Shown, Fault> {
     match form {
-        Form::Table => Ok(show(alloc, recording, part, output)?),
-        Form::Chart => Ok(chart(alloc, recording, part, output)?),
+        Form::Table => show(alloc, recording, part, output).map_err(Fault::from),
+        Form::Chart => chart(alloc, recording, part, output).map_err(Fault::from),
     }
 }
 

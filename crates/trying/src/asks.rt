@@ -1,6 +1,5 @@
-use crate::fault::Fault;
-use crate::lines::{Lines, MOST_BYTES};
 use base::{CoreAsk, Shape, Step};
+use playing::{Fault, Lines, MOST_BYTES};
 use std::alloc::Global;
 use std::io::Read;
 

@@ -1,14 +1,11 @@
 ghost use Rattle.trials.specs.Making.{CanGoOn};
 
-use crate::fault::Fault;
-use crate::finding::Finding;
-use crate::printing::Printer;
-use crate::reporting::Report;
+use crate::reporting::{BatchPlan, Report};
 use crate::sharing::share;
-use crate::tasks::BatchPlan;
 use base::{NoMemory, Shape, ToWrite};
 use bumpalo::Bump;
 use desk::Job;
+use playing::{Fault, Finding, Printer};
 use scenario::Scenario;
 use std::alloc::Global;
 use std::io::{Read, Write};

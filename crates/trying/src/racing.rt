@@ -2,13 +2,11 @@ ghost use Rattle.std.specs.Prelude.{◌≡◌};
 ghost use Rattle.floor.specs.FloorId.{names};
 
 use crate::asks::read_asks;
-use crate::fault::Fault;
-use crate::finding::Finding;
 use crate::players::{Open, Player};
-use crate::printing::Printer;
 use base::{CoreAsk, NoMemory};
 use floor::{Floor, Ground, Naming, Seat, TurnFault, crew};
 use monitor::Violation;
+use playing::{Fault, Finding, Printer};
 use record::{Recording, replay};
 use std::alloc::Global;
 use std::io::{Read, Write};

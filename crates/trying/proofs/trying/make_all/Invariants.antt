@@ -1,5 +1,5 @@
 use Rattle.desk.specs.Plans.{plan_of}
-use Rattle.commands.proofs.trying.make_all.Given as goal
+use Rattle.trying.proofs.trying.make_all.Given as goal
 
 abbrev pub ghosts-share : goal.ghosts-share
 ghosts-share g a = record { plan = plan_of a.job.now }

@@ -1,0 +1,23 @@
+//! The commands of `msi` that play steps, look at recordings and print tables, over streams that they are given; and what all
+//! commands print on, find, and end early with.
+#![tactic(auto)]
+
+mod certificates;
+mod fault;
+mod finding;
+mod lines;
+mod picturing;
+mod playing;
+mod printing;
+mod replaying;
+mod tables;
+
+pub use certificates::print_certificate;
+pub use fault::{Fault, Refusal};
+pub use finding::Finding;
+pub use lines::{Lines, MOST_BYTES};
+pub use picturing::{Form, print_recording};
+pub use playing::play;
+pub use printing::Printer;
+pub use replaying::replay;
+pub use tables::print_tables;
