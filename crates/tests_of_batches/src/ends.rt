@@ -1,14 +1,14 @@
 //! Ends that fail, words and memory that can't be had, and what is refused before the input is read.
 
-use crate::expect;
+use crate::served_as;
 use crate::trying::ONE_LOAD;
 use command_lines::{OneFile, Served, recording, serve_line};
 use commands::serve;
-use std::alloc::{AllocError, Global};
+use std::alloc::Global;
 use std::io;
 use std::io::{Read, Write};
+use std::process::Abort;
 use std::sync::Wait;
-use std::test::Fail;
 use std::thread::Threads;
 
 const PLAY: &str = "msi play --caches 2";
@@ -49,40 +49,36 @@ impl Write for Short {
 }
 
 /// What a command line comes to over an input that fails, where the file `table.json` has this text.
-fn run_torn<R: Threads + Wait + Sync>(
+fn run_torn<R: Threads + Wait + Abort + Sync>(
     rt: &R,
     alloc: Global,
     line: &str,
     text: &'static str,
-) -> Result<Served, AllocError> {
+) -> Served {
     let mut output = Vec::new(alloc);
-    let (status, errors) = serve_line(rt, alloc, line, text, Torn, &mut output)?;
-    Ok(Served {
+    let (status, errors) = serve_line(rt, alloc, line, text, Torn, &mut output).expect(
+        rt, "served",
+    );
+    Served {
         status,
         output,
         errors,
-    })
+    }
 }
 
 #[test]
-fn an_input_that_fails(rt: HostRuntime) -> Result<(), Fail> {
+fn an_input_that_fails(rt: HostRuntime) {
     let alloc = rt.alloc();
     for line in [PLAY, TRIAL, BATCH, "msi replay"] {
-        expect(
-            &rt,
-            &run_torn(&rt, alloc, line, "{}")?,
-            3,
-            "",
-            "msi: device\n",
-        );
+        let served = run_torn(&rt, alloc, line, "{}");
+        served_as(&rt, &served, 3, "", "msi: device\n");
     }
-    Ok(())
 }
 
 #[test]
-fn an_output_that_fails(rt: HostRuntime) -> Result<(), Fail> {
+fn an_output_that_fails(rt: HostRuntime) {
     let alloc = rt.alloc();
-    let recording = recording(alloc, "load 1 7")?;
+    let recording = recording(alloc, "load 1 7").expect(&rt, "memory");
     for (line, input) in [
         (PLAY, "ask 0 0 load\n"),
         (TRIAL, ONE_LOAD),
@@ -91,18 +87,19 @@ fn an_output_that_fails(rt: HostRuntime) -> Result<(), Fail> {
         ("msi tables", ""),
     ] {
         let output = Short { left: 3 };
-        let (status, errors) = serve_line(&rt, alloc, line, "{}", input.as_bytes(), output)?;
+        let (status, errors) = serve_line(&rt, alloc, line, "{}", input.as_bytes(), output).expect(
+            &rt, "served",
+        );
         assert_eq!(rt;
             (status, errors.as_slice()),
             (3, b"msi: device\n".as_slice()),
             "at {line}"
         );
     }
-    Ok(())
 }
 
 #[test]
-fn tables_come_before_the_input(rt: HostRuntime) -> Result<(), Fail> {
+fn tables_come_before_the_input(rt: HostRuntime) {
     let alloc = rt.alloc();
     for (file, text, status, said) in [
         ("table.json", "[]", 2, "msi: tables refused 2 BadShape\n"),
@@ -110,12 +107,11 @@ fn tables_come_before_the_input(rt: HostRuntime) -> Result<(), Fail> {
         ("huge.json", "{}", 3, "msi: no memory\n"),
     ] {
         for command in [PLAY, TRIAL, BATCH] {
-            let line = format!(in alloc; "{command} --tables {file}")?;
-            let served = run_torn(&rt, alloc, line.as_str(), text)?;
-            expect(&rt, &served, status, "", said);
+            let line = format!(in alloc; "{command} --tables {file}").expect(&rt, "memory");
+            let served = run_torn(&rt, alloc, line.as_str(), text);
+            served_as(&rt, &served, status, "", said);
         }
     }
-    Ok(())
 }
 
 /// What comes of words that couldn't be had.
@@ -145,11 +141,10 @@ fn run_without_words<R: Threads + Wait + Sync>(
 }
 
 #[test]
-fn words_that_cannot_be_had(rt: HostRuntime) -> Result<(), Fail> {
+fn words_that_cannot_be_had(rt: HostRuntime) {
     let alloc = rt.alloc();
     let bad = run_without_words(&rt, alloc, io::ErrorKind::InvalidData);
-    expect(&rt, &bad, 2, "", "msi: a word isn't UTF-8\n");
+    served_as(&rt, &bad, 2, "", "msi: a word isn't UTF-8\n");
     let none = run_without_words(&rt, alloc, io::ErrorKind::OutOfMemory);
-    expect(&rt, &none, 3, "", "msi: no memory\n");
-    Ok(())
+    served_as(&rt, &none, 3, "", "msi: no memory\n");
 }

@@ -1,6 +1,5 @@
-use crate::expect;
+use crate::served_as;
 use command_lines::{run, run_over};
-use std::test::Fail;
 
 pub const RACING_PAIR: &str =
     r#"{"both":[{"op":"load","core":0,"block":0},{"op":"store","core":1,"block":0,"value":9}]}"#;
@@ -11,26 +10,19 @@ const ONE_LOAD_TEXT: &str =
     "msi-recording 1\nshape 1 1\nopening 0\ncells 0\nentries 3\nask 0 0 load = sent\nrequest 0 0 = moved\nresponse 0 0 = load 0 0\nend\n";
 
 #[test]
-fn a_racing_pair(rt: HostRuntime) -> Result<(), Fail> {
+fn a_racing_pair(rt: HostRuntime) {
     let alloc = rt.alloc();
-    let line = "msi trial --caches 2 --seed 42 --number 54 --limit";
+    let six = "msi trial --caches 2 --seed 42 --number 54 --limit 6";
     let recording =
         "msi-recording 1\nshape 2 1\nopening 0\ncells 0\nentries 6\nask 1 0 store 9 = sent\nrequest 0 0 = moved\nask 0 0 load = sent\nresponse 0 0 = store 1 9\nrequest 0 0 = moved\nforward 0 1 = moved\nend\n";
-    let six = format!(in alloc; "{line} 6")?;
-    expect(
-        &rt,
-        &run(&rt, alloc, six.as_str(), RACING_PAIR)?,
-        0,
-        recording,
-        "verdict cut 6\n",
-    );
-    let hundred = format!(in alloc; "{line} 100")?;
-    let served = run(&rt, alloc, hundred.as_str(), RACING_PAIR)?;
+    let served = run(&rt, alloc, six, RACING_PAIR).expect(&rt, "served");
+    served_as(&rt, &served, 0, recording, "verdict cut 6\n");
+    let hundred = "msi trial --caches 2 --seed 42 --number 54 --limit 100";
+    let served = run(&rt, alloc, hundred, RACING_PAIR).expect(&rt, "served");
     assert_eq!(rt;
         (served.status, served.errors.as_slice()),
         (0, b"verdict quiet 8\n".as_slice())
     );
-    Ok(())
 }
 
 /// Trials of one load under a table of changed cells, and what a trial and a batch of three of them print.
@@ -75,66 +67,67 @@ const ONE_LOAD_TRIED: [Tried; 4] = [
 ];
 
 #[test]
-fn one_load(rt: HostRuntime) -> Result<(), Fail> {
+fn one_load(rt: HostRuntime) {
     let alloc = rt.alloc();
     for row in ONE_LOAD_TRIED {
-        let common = format!(in alloc;
-            "--caches 1 --tables table.json --seed 5 --limit {}",
+        let trial = format!(in alloc;
+            "msi trial --caches 1 --tables table.json --seed 5 --limit {} --number 8",
             row.limit
-        )?;
-        let trial = format!(in alloc; "msi trial {common} --number 8")?;
-        let made = run_over(&rt, alloc, trial.as_str(), row.table, ONE_LOAD)?;
+        )
+        .expect(&rt, "memory");
+        let made = run_over(&rt, alloc, trial.as_str(), row.table, ONE_LOAD).expect(&rt, "served");
         assert_eq!(rt; made.status, row.status);
         assert_eq!(rt; made.errors.as_slice(), row.verdict.as_bytes());
-        let batch = format!(in alloc; "msi batch {common} --trials 3")?;
-        let served = run_over(&rt, alloc, batch.as_str(), row.table, ONE_LOAD)?;
-        expect(&rt, &served, row.status, row.lines, "");
+        let batch = format!(in alloc;
+            "msi batch --caches 1 --tables table.json --seed 5 --limit {} --trials 3",
+            row.limit
+        )
+        .expect(&rt, "memory");
+        let served = run_over(&rt, alloc, batch.as_str(), row.table, ONE_LOAD).expect(
+            &rt, "served",
+        );
+        served_as(&rt, &served, row.status, row.lines, "");
     }
     let line = "msi trial --caches 1 --seed 5 --limit 9 --number 8";
-    let made = run(&rt, alloc, line, ONE_LOAD)?;
-    expect(&rt, &made, 0, ONE_LOAD_TEXT, "verdict quiet 3\n");
-    Ok(())
+    let made = run(&rt, alloc, line, ONE_LOAD).expect(&rt, "served");
+    served_as(&rt, &made, 0, ONE_LOAD_TEXT, "verdict quiet 3\n");
 }
 
 #[test]
-fn what_a_trial_recorded_is_replayed(rt: HostRuntime) -> Result<(), Fail> {
+fn what_a_trial_recorded_is_replayed(rt: HostRuntime) {
     let alloc = rt.alloc();
     let early = r#"{"cache":[{"state":"I","event":"Load","entry":{"next":"S","do":[]}}]}"#;
     let batch = "msi batch --caches 2 --tables table.json --seed 1 --limit 100 --trials 20";
-    let served = run_over(&rt, alloc, batch, early, RACING_PAIR)?;
+    let served = run_over(&rt, alloc, batch, early, RACING_PAIR).expect(&rt, "served");
     assert_eq!(rt; served.status, 1);
     let trial = "msi trial --caches 2 --tables table.json --seed 1 --limit 100 --number 0";
-    let served = run_over(&rt, alloc, trial, early, RACING_PAIR)?;
-    let Ok(recording) = str::from_utf8(served.output.as_slice()) else {
-        return Err(Fail::from("the recording isn't text"));
-    };
-    let replayed = run(&rt, alloc, "msi replay", recording)?;
+    let served = run_over(&rt, alloc, trial, early, RACING_PAIR).expect(&rt, "served");
+    let recording = str::from_utf8(served.output.as_slice()).expect(&rt, "a text");
+    let replayed = run(&rt, alloc, "msi replay", recording).expect(&rt, "served");
     assert_eq!(rt;
         (replayed.status, replayed.errors.is_empty()),
         (served.status, true)
     );
-    Ok(())
 }
 
 #[test]
-fn a_scenario_too_deep(rt: HostRuntime) -> Result<(), Fail> {
+fn a_scenario_too_deep(rt: HostRuntime) {
     let alloc = rt.alloc();
-    let mut text = String::from_str(alloc, "")?;
+    let mut text = String::new(alloc);
     for _ in 0..48 {
-        text.push_str(r#"{"seq":["#)?;
+        text.push_str(r#"{"seq":["#).expect(&rt, "memory");
     }
-    text.push_str(r#"{"seq":[]}"#)?;
+    text.push_str(r#"{"seq":[]}"#).expect(&rt, "memory");
     for _ in 0..48 {
-        text.push_str("]}")?;
+        text.push_str("]}").expect(&rt, "memory");
     }
     let line = "msi trial --caches 2 --seed 1 --number 0 --limit 9";
-    let served = run(&rt, alloc, line, text.as_str())?;
-    expect(&rt, &served, 2, "", "msi: scenario refused 4 TooDeep\n");
-    Ok(())
+    let served = run(&rt, alloc, line, text.as_str()).expect(&rt, "served");
+    served_as(&rt, &served, 2, "", "msi: scenario refused 4 TooDeep\n");
 }
 
 #[test]
-fn refused_scenarios(rt: HostRuntime) -> Result<(), Fail> {
+fn refused_scenarios(rt: HostRuntime) {
     let alloc = rt.alloc();
     let none = r#"{"times":0,"of":{"op":"load","core":0,"block":0}}"#;
     for (text, status, output, errors) in [
@@ -156,10 +149,12 @@ fn refused_scenarios(rt: HostRuntime) -> Result<(), Fail> {
         (none, 0, "0 quiet 0\n1 quiet 0\ntotal quiet 2\n", ""),
     ] {
         let line = "msi batch --caches 2 --seed 1 --trials 2 --limit 9";
-        expect(&rt, &run(&rt, alloc, line, text)?, status, output, errors);
+        let served = run(&rt, alloc, line, text).expect(&rt, "served");
+        served_as(&rt, &served, status, output, errors);
     }
     let nothing = "msi batch --caches 2 --seed 1 --trials 0 --limit 9";
-    expect(&rt, &run(&rt, alloc, nothing, none)?, 0, "", "");
+    let served = run(&rt, alloc, nothing, none).expect(&rt, "served");
+    served_as(&rt, &served, 0, "", "");
     for words in [
         "--seed 1 --limit 9",
         "--seed 1 --trials 1",
@@ -170,13 +165,12 @@ fn refused_scenarios(rt: HostRuntime) -> Result<(), Fail> {
         "--seed 1 --trials 1 --limit 9 --workers 0",
         "--seed 1 --trials 1 --limit 9 --workers 65",
     ] {
-        let line = format!(in alloc; "msi batch --caches 2 {words}")?;
-        let served = run(&rt, alloc, line.as_str(), none)?;
+        let line = format!(in alloc; "msi batch --caches 2 {words}").expect(&rt, "memory");
+        let served = run(&rt, alloc, line.as_str(), none).expect(&rt, "served");
         assert_eq!(rt;
             (served.status, served.output.is_empty()),
             (2, true),
             "at {words}"
         );
     }
-    Ok(())
 }

@@ -1,9 +1,9 @@
 use crate::broken::BROKEN;
-use crate::expect;
+use crate::served_as;
 use command_lines::run_over;
 use std::alloc::Global;
+use std::process::Abort;
 use std::sync::Wait;
-use std::test::Fail;
 use std::thread::Threads;
 
 /// Tables that are proved safe, and what is printed of them.
@@ -33,59 +33,39 @@ const FIRST: &str =
 const LINE: &str = "msi certify --tables table.json";
 
 #[test]
-fn tables_that_are_proved(rt: HostRuntime) -> Result<(), Fail> {
+fn tables_that_are_proved(rt: HostRuntime) {
     for (tables, text) in SAFE {
-        expect(
-            &rt,
-            &run_over(&rt, rt.alloc(), LINE, tables, "")?,
-            0,
-            text,
-            "",
-        );
+        let served = run_over(&rt, rt.alloc(), LINE, tables, "").expect(&rt, "served");
+        served_as(&rt, &served, 0, text, "");
     }
-    Ok(())
 }
 
 /// How many lines are printed of tables, and whether the first two say that a cell isn't proved.
-fn lines_of<R: Threads + Wait + Sync>(
+fn lines_of<R: Threads + Wait + Abort + Sync>(
     rt: &R,
     alloc: Global,
     tables: &'static str,
-) -> Result<(u8, usize, bool), Fail> {
-    let served = run_over(rt, alloc, LINE, tables, "")?;
-    let Ok(text) = str::from_utf8(served.output.as_slice()) else {
-        return Err(Fail::from("the certificate isn't text"));
-    };
+) -> (u8, usize, bool) {
+    let served = run_over(rt, alloc, LINE, tables, "").expect(rt, "served");
+    let text = str::from_utf8(served.output.as_slice()).expect(rt, "a text");
     let is_named = text.starts_with("unknown\nnot proved: cell ");
-    Ok((served.status, text.lines().count(), is_named))
+    (served.status, text.lines().count(), is_named)
 }
 
 #[test]
-fn broken_tables_are_not_proved(rt: HostRuntime) -> Result<(), Fail> {
+fn broken_tables_are_not_proved(rt: HostRuntime) {
     for broken in BROKEN {
-        let found = lines_of(&rt, rt.alloc(), broken.table)?;
+        let found = lines_of(&rt, rt.alloc(), broken.table);
         assert_eq!(rt; found, (1, 3, true), "at {}", broken.table);
     }
-    Ok(())
 }
 
 #[test]
-fn the_first_cell_that_is_not_proved(rt: HostRuntime) -> Result<(), Fail> {
-    expect(
-        &rt,
-        &run_over(&rt, rt.alloc(), LINE, THREE, "")?,
-        1,
-        FIRST,
-        "",
-    );
+fn the_first_cell_that_is_not_proved(rt: HostRuntime) {
+    let served = run_over(&rt, rt.alloc(), LINE, THREE, "").expect(&rt, "served");
+    served_as(&rt, &served, 1, FIRST, "");
     let refused = r#"{"cache":[{"state":"Z","event":"Inv","entry":"stall"}]}"#;
     let said = "msi: tables refused 3 UnknownState\n";
-    expect(
-        &rt,
-        &run_over(&rt, rt.alloc(), LINE, refused, "")?,
-        2,
-        "",
-        said,
-    );
-    Ok(())
+    let served = run_over(&rt, rt.alloc(), LINE, refused, "").expect(&rt, "served");
+    served_as(&rt, &served, 2, "", said);
 }

@@ -25,7 +25,7 @@ use std::process::Abort;
 
 /// What a command line came to has to be this.
 #[cfg(test)]
-fn expect(rt: &impl Abort, served: &Served, status: u8, output: &str, errors: &str) {
+fn served_as(rt: &impl Abort, served: &Served, status: u8, output: &str, errors: &str) {
     assert_eq!(rt;
         served.all(),
         (status, output.as_bytes(), errors.as_bytes())

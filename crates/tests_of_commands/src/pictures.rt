@@ -1,8 +1,8 @@
 use crate::charted::FROM_OWNER_CHART;
-use crate::expect;
+use crate::served_as;
 use command_lines::run;
-use std::alloc::{AllocError, Global};
-use std::test::Fail;
+use std::alloc::Global;
+use std::process::Abort;
 
 /// A load that gets the value from the owner.
 const FROM_OWNER: &str = r#"msi-recording 1
@@ -79,7 +79,7 @@ block 0 home: I, owner none, sharers none, memory 0
 "#;
 
 #[test]
-fn recordings_are_shown(rt: HostRuntime) -> Result<(), Fail> {
+fn recordings_are_shown(rt: HostRuntime) {
     let alloc = rt.alloc();
     for (line, recording, status, output) in [
         ("msi show", FROM_OWNER, 0, FROM_OWNER_TABLE),
@@ -92,26 +92,28 @@ fn recordings_are_shown(rt: HostRuntime) -> Result<(), Fail> {
         ("msi show", STALE, 1, STALE_TABLE),
         ("msi chart", FROM_OWNER, 0, FROM_OWNER_CHART),
     ] {
-        expect(&rt, &run(&rt, alloc, line, recording)?, status, output, "");
+        let served = run(&rt, alloc, line, recording).expect(&rt, "served");
+        served_as(&rt, &served, status, output, "");
     }
-    Ok(())
 }
 
 /// A recording of so many steps that do nothing.
-fn idle(alloc: Global, steps: u32) -> Result<String, AllocError> {
-    let head = "msi-recording 1\nshape 1 1\nopening 0\ncells 0\n";
-    let mut text = format!(in alloc; "{head}entries {steps}\n")?;
+fn idle(rt: &impl Abort, alloc: Global, steps: u32) -> String {
+    let mut text = format!(in alloc;
+        "msi-recording 1\nshape 1 1\nopening 0\ncells 0\nentries {steps}\n"
+    ).expect(rt, "memory");
     for _ in 0..steps {
-        text.push_str("ask 0 0 replace = idle\n")?;
+        text.push_str("ask 0 0 replace = idle\n")
+            .expect(rt, "memory");
     }
-    text.push_str("end\n")?;
-    Ok(text)
+    text.push_str("end\n").expect(rt, "memory");
+    text
 }
 
 #[test]
-fn refused_pictures(rt: HostRuntime) -> Result<(), Fail> {
+fn refused_pictures(rt: HostRuntime) {
     let alloc = rt.alloc();
-    let recording = idle(alloc, 2001)?;
+    let recording = idle(&rt, alloc, 2001);
     let many =
         "msi: 2001 steps, and a picture has room for 2000: choose fewer, by --from and --steps or by --block\n";
     let header = "msi: recording line 1 refused 1 BadHeader\n";
@@ -120,9 +122,10 @@ fn refused_pictures(rt: HostRuntime) -> Result<(), Fail> {
         ("msi chart", "msi-recording 9\n", header),
         ("msi show", "msi-recording 9\n", header),
     ] {
-        expect(&rt, &run(&rt, alloc, line, text)?, 2, "", errors);
+        let served = run(&rt, alloc, line, text).expect(&rt, "served");
+        served_as(&rt, &served, 2, "", errors);
     }
-    let served = run(&rt, alloc, "msi chart --steps 2000", recording.as_str())?;
+    let line = "msi chart --steps 2000";
+    let served = run(&rt, alloc, line, recording.as_str()).expect(&rt, "served");
     assert_eq!(rt; served.status, 0);
-    Ok(())
 }

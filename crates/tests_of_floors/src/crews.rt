@@ -3,7 +3,7 @@ ghost use Rattle.floor.specs.FloorId.{names};
 
 use crate::asserting::same;
 use crate::setups::setup;
-use base::{Ask, BlockId, CacheId, Step};
+use base::{Ask, BlockId, CacheId, NoMemory, Step};
 use floor::{Chooser, Closed, Floor, Gate, Ground, Naming, Receipt, Seat, TurnFault, Wish, crew};
 use record::replay;
 use std::alloc::Global;
@@ -11,7 +11,6 @@ use std::marker::Brand;
 use std::process::Abort;
 use std::sync::Wait;
 use std::sync::atomic::{AtomicBool, AtomicU32, Ordering};
-use std::test::Fail;
 use std::thread::Threads;
 use trials::Setup;
 
@@ -128,7 +127,7 @@ pub fn cast<'a, F: Naming>(
     alloc: Global,
     seats: Vec<Seat<F>>,
     mistaken: &'a AtomicBool,
-) -> Result<Vec<(Seat<F>, Script<'a>)>, Fail> {
+) -> Result<Vec<(Seat<F>, Script<'a>)>, NoMemory> {
     let mut members = Vec::new(alloc);
     for seat in seats {
         let script = Script {
@@ -154,18 +153,12 @@ fn compare<F: Naming, R: Abort>(rt: &R, seat: &Seat<F>, ended: &Option<TurnFault
     receipts.len()
 }
 
-fn compare_closed<F: Naming, R: Abort>(
-    rt: &R,
-    alloc: Global,
-    closed: &Closed<F>,
-    made: usize,
-) -> Result<(), Fail> {
+fn compare_closed<F: Naming, R: Abort>(rt: &R, alloc: Global, closed: &Closed<F>, made: usize) {
     same(rt, &closed.recording.entries().len(), &made);
     same(rt, &closed.owners.len(), &made);
-    let replayed = replay(alloc, &closed.recording)?;
+    let replayed = replay(alloc, &closed.recording).expect(rt, "a replay");
     same(rt, &replayed.entries.len(), &made);
     same(rt, &closed.violation, &replayed.violation);
-    Ok(())
 }
 
 /// Has the seats play their scripts, once so many have come, and hands them back.
@@ -175,16 +168,16 @@ fn played<F: Naming + Send + Sync, R: Threads + Wait + Abort + Sync>(
     floor: &Floor<F>,
     seats: Vec<Seat<F>>,
     awaited: u32,
-) -> Result<Vec<(Seat<F>, Option<TurnFault>)>, Fail> {
+) -> Vec<(Seat<F>, Option<TurnFault>)> {
     let mistaken = AtomicBool::new(false);
     let gate = Meeting::of(awaited);
-    let members = cast(alloc, seats, &mistaken)?;
+    let members = cast(alloc, seats, &mistaken).expect(rt, "memory");
     let back = crew(rt, alloc, floor, &gate, members)
         .ok()
-        .ok_or("no crew")?;
+        .expect(rt, "a crew");
     same(rt, &mistaken.load(Ordering::SeqCst), &false);
     same(rt, &gate.mistaken.load(Ordering::SeqCst), &false);
-    Ok(back)
+    back
 }
 
 /// Compares the seats that came back with what they wished, and answers how many receipts they have.
@@ -192,14 +185,14 @@ fn compare_all<F: Naming, R: Abort>(
     rt: &R,
     alloc: Global,
     back: Vec<(Seat<F>, Option<TurnFault>)>,
-) -> Result<(Vec<Seat<F>>, usize), Fail> {
+) -> (Vec<Seat<F>>, usize) {
     let mut made = 0usize;
     let mut seats = Vec::new(alloc);
     for (seat, ended) in back {
         made = made.saturating_add(compare(rt, &seat, &ended));
-        seats.push(seat)?;
+        seats.push(seat).expect(rt, "memory");
     }
-    Ok((seats, made))
+    (seats, made)
 }
 
 fn closes<F: Naming, R: Abort>(
@@ -208,8 +201,8 @@ fn closes<F: Naming, R: Abort>(
     floor: Floor<F>,
     seats: Vec<Seat<F>>,
     made: usize,
-) -> Result<(), Fail> {
-    let closed = floor.close(seats).ok().ok_or("not closed")?;
+) {
+    let closed = floor.close(seats).ok().expect(rt, "closed");
     compare_closed(rt, alloc, &closed, made)
 }
 
@@ -219,25 +212,27 @@ fn race<F: Naming + Send + Sync, R: Threads + Wait + Abort + Sync>(
     ground: Ground,
     setup: &Setup,
     count: u32,
-) -> Result<(), Fail>
+)
     requires { F.floor ≡ names ground setup.now count 600 }
 {
-    let (floor, seats) = Floor::<F>::open(ground, alloc, setup, count, 600)?;
-    let back = played(rt, alloc, &floor, seats, count)?;
-    let (seats, made) = compare_all(rt, alloc, back)?;
+    let (floor, seats) = Floor::<F>::open(ground, alloc, setup, count, 600).expect(rt, "a floor");
+    let back = played(rt, alloc, &floor, seats, count);
+    let (seats, made) = compare_all(rt, alloc, back);
     closes(rt, alloc, floor, seats, made)
 }
 
 #[test]
-fn three_seats_over_two_caches(rt: HostRuntime) -> Result<(), Fail> {
-    let setup = setup(rt.alloc(), 2)?;
-    race::<Brand, _>(&rt, rt.alloc(), Ground::new(rt.alloc())?, &setup, 3)
+fn three_seats_over_two_caches(rt: HostRuntime) {
+    let setup = setup(&rt, rt.alloc(), 2);
+    let ground = Ground::new(rt.alloc()).expect(&rt, "memory");
+    race::<Brand, _>(&rt, rt.alloc(), ground, &setup, 3)
 }
 
 #[test]
-fn two_seats_that_meet(rt: HostRuntime) -> Result<(), Fail> {
-    let setup = setup(rt.alloc(), 2)?;
-    race::<Brand, _>(&rt, rt.alloc(), Ground::new(rt.alloc())?, &setup, 2)
+fn two_seats_that_meet(rt: HostRuntime) {
+    let setup = setup(&rt, rt.alloc(), 2);
+    let ground = Ground::new(rt.alloc()).expect(&rt, "memory");
+    race::<Brand, _>(&rt, rt.alloc(), ground, &setup, 2)
 }
 
 /// A crew of no seats ends at once, with nothing.
@@ -246,17 +241,18 @@ fn nobody<F: Naming + Send + Sync, R: Threads + Wait + Abort + Sync>(
     alloc: Global,
     ground: Ground,
     setup: &Setup,
-) -> Result<(), Fail>
+)
     requires { F.floor ≡ names ground setup.now 2 600 }
 {
-    let (floor, seats) = Floor::<F>::open(ground, alloc, setup, 2, 600)?;
-    let back = played(rt, alloc, &floor, Vec::new(alloc), 0)?;
+    let (floor, seats) = Floor::<F>::open(ground, alloc, setup, 2, 600).expect(rt, "a floor");
+    let back = played(rt, alloc, &floor, Vec::new(alloc), 0);
     same(rt, &back.is_empty(), &true);
     closes(rt, alloc, floor, seats, 0)
 }
 
 #[test]
-fn a_crew_of_no_seats(rt: HostRuntime) -> Result<(), Fail> {
-    let setup = setup(rt.alloc(), 2)?;
-    nobody::<Brand, _>(&rt, rt.alloc(), Ground::new(rt.alloc())?, &setup)
+fn a_crew_of_no_seats(rt: HostRuntime) {
+    let setup = setup(&rt, rt.alloc(), 2);
+    let ground = Ground::new(rt.alloc()).expect(&rt, "memory");
+    nobody::<Brand, _>(&rt, rt.alloc(), ground, &setup)
 }

@@ -1,4 +1,4 @@
-ghost use Rattle.std.specs.Prelude.{◌≡◌, All, IfOk};
+ghost use Rattle.std.specs.Prelude.{◌≡◌, All};
 ghost use Rattle.desk.specs.Plans.{IsResultOf, plan_of};
 
 use crate::asserting::same;
@@ -8,7 +8,6 @@ use desk::{CloseFault, Desk, DeskFault, DeskSeat, Job, Naming, PostFault, work};
 use std::alloc::Global;
 use std::marker::Brand;
 use std::process::Abort;
-use std::test::Fail;
 use std::thread;
 use std::thread::Threads;
 use trials::{TrialResult, trial};
@@ -57,47 +56,45 @@ fn posts<D: Naming, R: Abort>(
 }
 
 /// Two seats, three numbers, and one post: the other places stay empty.
-fn two_seats<D: Naming, R: Abort>(rt: &R, alloc: Global, job: &Job) -> Result<(), Fail>
+fn two_seats<D: Naming, R: Abort>(rt: &R, alloc: Global, job: &Job)
     requires { D.plan ≡ plan_of job.now }
 {
-    let (desk, mut seats) = Desk::<D>::new(alloc, job, 3, 2)?;
-    let mut one = seats.pop().ok_or("no seat")?;
-    let mut zero = seats.pop().ok_or("no seat")?;
+    let (desk, mut seats) = Desk::<D>::new(alloc, job, 3, 2).expect(rt, "a desk");
+    let mut one = seats.pop().expect(rt, "a seat");
+    let mut zero = seats.pop().expect(rt, "a seat");
     claims(rt, &desk, &mut zero, &mut one);
-    let two = trial(alloc, &job.scenario, &job.setup, 2)?.result;
+    let two = trial(alloc, &job.scenario, &job.setup, 2)
+        .expect(rt, "memory")
+        .result;
     posts(rt, &desk, &mut zero, &mut one, two);
-    seats.push(zero)?;
-    seats.push(one)?;
-    let places = desk.close(seats).ok().ok_or("not closed")?;
+    seats.push(zero).expect(rt, "memory");
+    seats.push(one).expect(rt, "memory");
+    let places = desk.close(seats).ok().expect(rt, "closed");
     same(rt, &places.as_slice(), &[None, None, Some(two)].as_slice());
-    Ok(())
 }
 
 #[test]
-fn three_numbers_and_two_seats(rt: HostRuntime) -> Result<(), Fail> {
-    let job = racing_pair(rt.alloc())?;
+fn three_numbers_and_two_seats(rt: HostRuntime) {
+    let job = racing_pair(&rt, rt.alloc());
     two_seats::<Brand, _>(&rt, rt.alloc(), &job)
 }
 
 /// Without one of its seats a desk isn't closed, and comes back with the seats that were handed in.
-fn without_a_seat<D: Naming, R: Abort>(rt: &R, alloc: Global, job: &Job) -> Result<(), Fail>
+fn without_a_seat<D: Naming, R: Abort>(rt: &R, alloc: Global, job: &Job)
     requires { D.plan ≡ plan_of job.now }
 {
-    let (desk, mut seats) = Desk::<D>::new(alloc, job, 3, 2)?;
-    let one = seats.pop().ok_or("no seat")?;
-    let Err((fault, desk, mut seats)) = desk.close(seats) else {
-        return Err(Fail::from("closed without a seat"));
-    };
+    let (desk, mut seats) = Desk::<D>::new(alloc, job, 3, 2).expect(rt, "a desk");
+    let one = seats.pop().expect(rt, "a seat");
+    let (fault, desk, mut seats) = desk.close(seats).expect_err(rt, "a seat is missing");
     same(rt, &fault, &CloseFault::SeatMissing);
-    seats.push(one)?;
-    let places = desk.close(seats).ok().ok_or("not closed")?;
+    seats.push(one).expect(rt, "memory");
+    let places = desk.close(seats).ok().expect(rt, "closed");
     same(rt, &places.as_slice(), &[None, None, None].as_slice());
-    Ok(())
 }
 
 #[test]
-fn a_seat_that_is_missing(rt: HostRuntime) -> Result<(), Fail> {
-    let job = racing_pair(rt.alloc())?;
+fn a_seat_that_is_missing(rt: HostRuntime) {
+    let job = racing_pair(&rt, rt.alloc());
     without_a_seat::<Brand, _>(&rt, rt.alloc(), &job)
 }
 
@@ -108,8 +105,8 @@ fn refusal<D: Naming>(alloc: Global, job: &Job, n: u32, seats: u32) -> Option<De
 }
 
 #[test]
-fn desks_that_are_not_made(rt: HostRuntime) -> Result<(), Fail> {
-    let job = racing_pair(rt.alloc())?;
+fn desks_that_are_not_made(rt: HostRuntime) {
+    let job = racing_pair(&rt, rt.alloc());
     for (n, seats, fault) in &[
         (1_000_001, 0, Some(DeskFault::TooMany)),
         (1_000_000, 0, Some(DeskFault::NoSeats)),
@@ -119,7 +116,6 @@ fn desks_that_are_not_made(rt: HostRuntime) -> Result<(), Fail> {
     ] {
         same(&rt, &refusal::<Brand>(rt.alloc(), &job, *n, *seats), fault);
     }
-    Ok(())
 }
 
 /// Works off what there is for a seat, and hands the seat back.
@@ -141,9 +137,9 @@ fn work_in_turn<D: Naming, R: Abort>(
     desk: &Desk<'_, D>,
     mut seats: Vec<DeskSeat<D>>,
     n: u32,
-) -> Result<Vec<DeskSeat<D>>, Fail>
+) -> Vec<DeskSeat<D>>
     requires { All (λ seat. seat.desk ≡ desk.now.id) seats.items }
-    ensures { IfOk result (λ back. All (λ seat. seat.desk ≡ desk.now.id) back.items) }
+    ensures { All (λ seat. seat.desk ≡ desk.now.id) result.items }
 {
     let mut back = Vec::new(alloc);
     let mut left = n;
@@ -151,52 +147,47 @@ fn work_in_turn<D: Naming, R: Abort>(
         let (seat, made) = worked(desk, seat);
         same(rt, &made, &Ok(left));
         left = 0;
-        back.push(seat)?;
+        back.push(seat).expect(rt, "memory");
     }
-    Ok(back)
+    back
 }
 
-fn one_after_the_other<D: Naming, R: Abort>(
-    rt: &R,
-    alloc: Global,
-    job: &Job,
-    n: u32,
-    count: u32,
-) -> Result<(), Fail>
+fn one_after_the_other<D: Naming, R: Abort>(rt: &R, alloc: Global, job: &Job, n: u32, count: u32)
     requires { D.plan ≡ plan_of job.now }
 {
-    let (desk, seats) = Desk::<D>::new(alloc, job, n, count)?;
-    let seats = work_in_turn(rt, alloc, &desk, seats, n)?;
-    let places = desk.close(seats).ok().ok_or("not closed")?;
+    let (desk, seats) = Desk::<D>::new(alloc, job, n, count).expect(rt, "a desk");
+    let seats = work_in_turn(rt, alloc, &desk, seats, n);
+    let places = desk.close(seats).ok().expect(rt, "closed");
     compare_with_batch(rt, alloc, job, n, &places)
 }
 
 #[test]
-fn a_seat_that_works_alone(rt: HostRuntime) -> Result<(), Fail> {
-    let job = racing_pair(rt.alloc())?;
+fn a_seat_that_works_alone(rt: HostRuntime) {
+    let job = racing_pair(&rt, rt.alloc());
     one_after_the_other::<Brand, _>(&rt, rt.alloc(), &job, 50, 1)
 }
 
 #[test]
-fn three_numbers_and_64_seats(rt: HostRuntime) -> Result<(), Fail> {
-    let job = racing_pair(rt.alloc())?;
+fn three_numbers_and_64_seats(rt: HostRuntime) {
+    let job = racing_pair(&rt, rt.alloc());
     one_after_the_other::<Brand, _>(&rt, rt.alloc(), &job, 3, 64)
 }
 
 /// A row of seats with two more.
-fn with_both<D: Naming>(
+fn with_both<D: Naming, R: Abort>(
+    rt: &R,
     desk: &Desk<'_, D>,
     mut seats: Vec<DeskSeat<D>>,
     one: DeskSeat<D>,
     other: DeskSeat<D>,
-) -> Result<Vec<DeskSeat<D>>, Fail>
+) -> Vec<DeskSeat<D>>
     requires seats { All (λ seat. seat.desk ≡ desk.now.id) seats.items }
     requires both { (one.desk ≡ desk.now.id) × (other.desk ≡ desk.now.id) }
-    ensures { IfOk result (λ all. All (λ seat. seat.desk ≡ desk.now.id) all.items) }
+    ensures { All (λ seat. seat.desk ≡ desk.now.id) result.items }
 {
-    seats.push(one)?;
-    seats.push(other)?;
-    Ok(seats)
+    seats.push(one).expect(rt, "memory");
+    seats.push(other).expect(rt, "memory");
+    seats
 }
 
 /// Two seats that work in two threads, and how much they did.
@@ -228,27 +219,23 @@ fn two_work<D: Naming + Send + Sync, R: Threads + Sync>(
 }
 
 /// Two threads work off a batch.
-fn two_threads<D: Naming + Send + Sync, R: Threads + Abort + Sync>(
-    rt: &R,
-    alloc: Global,
-    job: &Job,
-) -> Result<(), Fail>
+fn two_threads<D: Naming + Send + Sync, R: Threads + Abort + Sync>(rt: &R, alloc: Global, job: &Job)
     requires { D.plan ≡ plan_of job.now }
 {
-    let (desk, mut seats) = Desk::<D>::new(alloc, job, 200, 2)?;
-    let one = seats.pop().ok_or("no seat")?;
-    let zero = seats.pop().ok_or("no seat")?;
+    let (desk, mut seats) = Desk::<D>::new(alloc, job, 200, 2).expect(rt, "a desk");
+    let one = seats.pop().expect(rt, "a seat");
+    let zero = seats.pop().expect(rt, "a seat");
     let (zero, one, made) = two_work(rt, &desk, zero, one);
     same(rt, &made, &Some(200));
-    seats.push(zero)?;
-    seats.push(one)?;
-    let places = desk.close(seats).ok().ok_or("not closed")?;
+    seats.push(zero).expect(rt, "memory");
+    seats.push(one).expect(rt, "memory");
+    let places = desk.close(seats).ok().expect(rt, "closed");
     compare_with_batch(rt, alloc, job, 200, &places)
 }
 
 #[test]
-fn two_threads_that_work(rt: HostRuntime) -> Result<(), Fail> {
-    let job = racing_pair(rt.alloc())?;
+fn two_threads_that_work(rt: HostRuntime) {
+    let job = racing_pair(&rt, rt.alloc());
     two_threads::<Brand, _>(&rt, rt.alloc(), &job)
 }
 
@@ -257,14 +244,14 @@ fn four_threads<D: Naming + Send + Sync, R: Threads + Abort + Sync>(
     rt: &R,
     alloc: Global,
     job: &Job,
-) -> Result<(), Fail>
+)
     requires { D.plan ≡ plan_of job.now }
 {
-    let (desk, mut seats) = Desk::<D>::new(alloc, job, 400, 4)?;
-    let three = seats.pop().ok_or("no seat")?;
-    let two = seats.pop().ok_or("no seat")?;
-    let one = seats.pop().ok_or("no seat")?;
-    let zero = seats.pop().ok_or("no seat")?;
+    let (desk, mut seats) = Desk::<D>::new(alloc, job, 400, 4).expect(rt, "a desk");
+    let three = seats.pop().expect(rt, "a seat");
+    let two = seats.pop().expect(rt, "a seat");
+    let one = seats.pop().expect(rt, "a seat");
+    let zero = seats.pop().expect(rt, "a seat");
     let shared = &desk;
     let ((zero, one, front), (two, three, back)) = thread::join(
         rt,
@@ -282,15 +269,15 @@ fn four_threads<D: Naming + Send + Sync, R: Threads + Abort + Sync>(
         _ => None,
     };
     same(rt, &made, &Some(400));
-    let seats = with_both(&desk, seats, zero, one)?;
-    let seats = with_both(&desk, seats, two, three)?;
-    let places = desk.close(seats).ok().ok_or("not closed")?;
+    let seats = with_both(rt, &desk, seats, zero, one);
+    let seats = with_both(rt, &desk, seats, two, three);
+    let places = desk.close(seats).ok().expect(rt, "closed");
     compare_with_batch(rt, alloc, job, 400, &places)
 }
 
 #[test]
-fn four_threads_that_work(rt: HostRuntime) -> Result<(), Fail> {
-    let job = racing_pair(rt.alloc())?;
+fn four_threads_that_work(rt: HostRuntime) {
+    let job = racing_pair(&rt, rt.alloc());
     four_threads::<Brand, _>(&rt, rt.alloc(), &job)
 }
 
@@ -334,16 +321,12 @@ fn find_other<D: Naming>(
 }
 
 /// Two threads, of which each finds what the other posted.
-fn two_find<D: Naming + Send + Sync, R: Threads + Abort + Sync>(
-    rt: &R,
-    alloc: Global,
-    job: &Job,
-) -> Result<(), Fail>
+fn two_find<D: Naming + Send + Sync, R: Threads + Abort + Sync>(rt: &R, alloc: Global, job: &Job)
     requires { D.plan ≡ plan_of job.now }
 {
-    let (desk, mut seats) = Desk::<D>::new(alloc, job, 2, 2)?;
-    let one = seats.pop().ok_or("no seat")?;
-    let zero = seats.pop().ok_or("no seat")?;
+    let (desk, mut seats) = Desk::<D>::new(alloc, job, 2, 2).expect(rt, "a desk");
+    let one = seats.pop().expect(rt, "a seat");
+    let zero = seats.pop().expect(rt, "a seat");
     let shared = &desk;
     let ((zero, first), (one, second)) = thread::join(
         rt,
@@ -359,16 +342,16 @@ fn two_find<D: Naming + Send + Sync, R: Threads + Abort + Sync>(
         { post_and_find(alloc, shared, one, job) },
     );
     assert!(rt; first.is_some() && second.is_some());
-    seats.push(zero)?;
-    seats.push(one)?;
-    let places = desk.close(seats).ok().ok_or("not closed")?;
+    seats.push(zero).expect(rt, "memory");
+    seats.push(one).expect(rt, "memory");
+    let places = desk.close(seats).ok().expect(rt, "closed");
     // Which seat has which number is up to the threads.
     assert!(rt; places.contains(&first) && places.contains(&second) && first != second);
     compare_with_batch(rt, alloc, job, 2, &places)
 }
 
 #[test]
-fn two_threads_that_find(rt: HostRuntime) -> Result<(), Fail> {
-    let job = racing_pair(rt.alloc())?;
+fn two_threads_that_find(rt: HostRuntime) {
+    let job = racing_pair(&rt, rt.alloc());
     two_find::<Brand, _>(&rt, rt.alloc(), &job)
 }

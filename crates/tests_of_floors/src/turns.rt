@@ -11,7 +11,6 @@ use std::alloc::Global;
 use std::marker::Brand;
 use std::process::Abort;
 use std::sync::Wait;
-use std::test::Fail;
 use trials::Setup;
 
 const ONE_LOAD: [&str; 2] = ["ask 0 0 load = sent", "request 0 0 = moved"];
@@ -35,29 +34,18 @@ const RESPONSE: Step = Step::Response {
 };
 
 /// Makes the steps of entries by a floor's only seat, and compares their receipts.
-fn make<F: Naming, R: Wait + Abort>(
-    rt: &R,
-    floor: &Floor<F>,
-    seat: &mut Seat<F>,
-    lines: &[&str],
-) -> Result<(), Fail> {
+fn make<F: Naming, R: Wait + Abort>(rt: &R, floor: &Floor<F>, seat: &mut Seat<F>, lines: &[&str]) {
     for (number, line) in lines.iter().enumerate() {
-        let entry = entry_of(line).ok_or("not an entry")?;
-        let receipt = floor.turn(rt, seat, entry.step)?;
+        let entry = entry_of(line).expect(rt, "an entry");
+        let receipt = floor.turn(rt, seat, entry.step).expect(rt, "a turn");
         same(rt, &receipt.number(), &(number as u64));
         same(rt, &receipt.entry(), &entry);
     }
     same(rt, &seat.made(), &lines.len());
-    Ok(())
 }
 
 /// Compares what is closed with the entries of a floor's only seat.
-pub fn compare<F: Naming, R: Abort>(
-    rt: &R,
-    alloc: Global,
-    closed: &Closed<F>,
-    lines: &[&str],
-) -> Result<(), Fail> {
+pub fn compare<F: Naming, R: Abort>(rt: &R, closed: &Closed<F>, lines: &[&str]) {
     let entries = closed.recording.entries();
     same(rt, &entries.len(), &lines.len());
     same(rt, &closed.owners.len(), &lines.len());
@@ -66,9 +54,18 @@ pub fn compare<F: Naming, R: Abort>(
         same(rt, owner, &0);
     }
     same(rt, &closed.violation, &None);
-    let replayed = replay(alloc, &closed.recording)?;
+}
+
+/// The same, and how many entries the recording has when it is replayed.
+fn compare_replayed<F: Naming, R: Abort>(
+    rt: &R,
+    alloc: Global,
+    closed: &Closed<F>,
+    lines: &[&str],
+) {
+    compare(rt, closed, lines);
+    let replayed = replay(alloc, &closed.recording).expect(rt, "a replay");
     same(rt, &replayed.entries.len(), &lines.len());
-    Ok(())
 }
 
 fn closes<F: Naming, R: Wait + Abort>(
@@ -77,112 +74,86 @@ fn closes<F: Naming, R: Wait + Abort>(
     floor: Floor<F>,
     seat: Seat<F>,
     lines: &[&str],
-) -> Result<(), Fail> {
+) {
     let mut seats = Vec::new(alloc);
-    let Err((fault, floor, _)) = floor.close(Vec::new(alloc)) else {
-        return Err(Fail::from("closed without its seat"));
-    };
+    let refused = floor.close(Vec::new(alloc)).err();
+    let (fault, floor, _) = refused.expect(rt, "a seat is missing");
     same(rt, &fault, &CloseFault::SeatMissing);
-    seats.push(seat)?;
-    let closed = floor.close(seats).ok().ok_or("not closed")?;
-    compare(rt, alloc, &closed, lines)
+    seats.push(seat).expect(rt, "memory");
+    let closed = floor.close(seats).ok().expect(rt, "closed");
+    compare_replayed(rt, alloc, &closed, lines)
 }
 
 /// Makes as many steps as a floor takes, and compares what it answers to more.
-fn fills<F: Naming, R: Wait + Abort>(
-    rt: &R,
-    floor: &Floor<F>,
-    seat: &mut Seat<F>,
-) -> Result<(), Fail> {
-    make(rt, floor, seat, &ONE_LOAD)?;
+fn fills<F: Naming, R: Wait + Abort>(rt: &R, floor: &Floor<F>, seat: &mut Seat<F>) {
+    make(rt, floor, seat, &ONE_LOAD);
     let refused = floor.turn(rt, seat, RESPONSE).err();
     same(rt, &refused, &Some(TurnFault::Full));
     let refused = floor.turn_any(rt, seat, 0).err();
     same(rt, &refused, &Some(TurnFault::Full));
-    Ok(())
 }
 
-fn one_load<F: Naming, R: Wait + Abort>(
-    rt: &R,
-    alloc: Global,
-    ground: Ground,
-    setup: &Setup,
-) -> Result<(), Fail>
+fn one_load<F: Naming, R: Wait + Abort>(rt: &R, alloc: Global, ground: Ground, setup: &Setup)
     requires { F.floor ≡ names ground setup.now 1 2 }
 {
-    let (floor, mut seats) = Floor::<F>::open(ground, alloc, setup, 1, 2)?;
-    let mut seat = seats.pop().ok_or("no seat")?;
-    fills(rt, &floor, &mut seat)?;
+    let (floor, mut seats) = Floor::<F>::open(ground, alloc, setup, 1, 2).expect(rt, "a floor");
+    let mut seat = seats.pop().expect(rt, "a seat");
+    fills(rt, &floor, &mut seat);
     closes(rt, alloc, floor, seat, &ONE_LOAD)
 }
 
 #[test]
-fn a_floor_that_is_full(rt: HostRuntime) -> Result<(), Fail> {
-    let setup = setup(rt.alloc(), 2)?;
-    one_load::<Brand, _>(&rt, rt.alloc(), Ground::new(rt.alloc())?, &setup)
+fn a_floor_that_is_full(rt: HostRuntime) {
+    let setup = setup(&rt, rt.alloc(), 2);
+    let ground = Ground::new(rt.alloc()).expect(&rt, "memory");
+    one_load::<Brand, _>(&rt, rt.alloc(), ground, &setup)
 }
 
-fn store_and_load<F: Naming, R: Wait + Abort>(
-    rt: &R,
-    alloc: Global,
-    ground: Ground,
-    setup: &Setup,
-) -> Result<(), Fail>
+fn store_and_load<F: Naming, R: Wait + Abort>(rt: &R, alloc: Global, ground: Ground, setup: &Setup)
     requires { F.floor ≡ names ground setup.now 1 9 }
 {
-    let (floor, mut seats) = Floor::<F>::open(ground, alloc, setup, 1, 9)?;
-    let mut seat = seats.pop().ok_or("no seat")?;
-    make(rt, &floor, &mut seat, &STORE_AND_LOAD)?;
+    let (floor, mut seats) = Floor::<F>::open(ground, alloc, setup, 1, 9).expect(rt, "a floor");
+    let mut seat = seats.pop().expect(rt, "a seat");
+    make(rt, &floor, &mut seat, &STORE_AND_LOAD);
     closes(rt, alloc, floor, seat, &STORE_AND_LOAD)
 }
 
 #[test]
-fn a_store_and_a_load(rt: HostRuntime) -> Result<(), Fail> {
-    let setup = setup(rt.alloc(), 1)?;
-    store_and_load::<Brand, _>(&rt, rt.alloc(), Ground::new(rt.alloc())?, &setup)
+fn a_store_and_a_load(rt: HostRuntime) {
+    let setup = setup(&rt, rt.alloc(), 1);
+    let ground = Ground::new(rt.alloc()).expect(&rt, "memory");
+    store_and_load::<Brand, _>(&rt, rt.alloc(), ground, &setup)
 }
 
 /// Draws where nothing can be delivered, and then behind an ask.
-fn asks_and_draws<F: Naming, R: Wait + Abort>(
-    rt: &R,
-    floor: &Floor<F>,
-    seat: &mut Seat<F>,
-) -> Result<(), Fail> {
-    let none = floor.turn_any(rt, seat, 5)?.is_none();
+fn asks_and_draws<F: Naming, R: Wait + Abort>(rt: &R, floor: &Floor<F>, seat: &mut Seat<F>) {
+    let none = floor.turn_any(rt, seat, 5).expect(rt, "a turn").is_none();
     same(rt, &none, &true);
-    make(rt, floor, seat, &["ask 0 0 load = sent"])?;
-    let receipt = floor.turn_any(rt, seat, 5)?.ok_or("nothing is drawn")?;
+    make(rt, floor, seat, &["ask 0 0 load = sent"]);
+    let drawn = floor.turn_any(rt, seat, 5).expect(rt, "a turn");
+    let receipt = drawn.expect(rt, "a draw");
     same(rt, &receipt.number(), &1);
     same(rt, &Some(receipt.entry()), &entry_of("request 0 0 = moved"));
-    Ok(())
 }
 
-fn draws<F: Naming, R: Wait + Abort>(
-    rt: &R,
-    alloc: Global,
-    ground: Ground,
-    setup: &Setup,
-) -> Result<(), Fail>
+fn draws<F: Naming, R: Wait + Abort>(rt: &R, alloc: Global, ground: Ground, setup: &Setup)
     requires { F.floor ≡ names ground setup.now 1 4 }
 {
-    let (floor, mut seats) = Floor::<F>::open(ground, alloc, setup, 1, 4)?;
-    let mut seat = seats.pop().ok_or("no seat")?;
-    asks_and_draws(rt, &floor, &mut seat)?;
+    let (floor, mut seats) = Floor::<F>::open(ground, alloc, setup, 1, 4).expect(rt, "a floor");
+    let mut seat = seats.pop().expect(rt, "a seat");
+    asks_and_draws(rt, &floor, &mut seat);
     closes(rt, alloc, floor, seat, &ONE_LOAD)
 }
 
 #[test]
-fn a_drawn_delivery(rt: HostRuntime) -> Result<(), Fail> {
-    let setup = setup(rt.alloc(), 2)?;
-    draws::<Brand, _>(&rt, rt.alloc(), Ground::new(rt.alloc())?, &setup)
+fn a_drawn_delivery(rt: HostRuntime) {
+    let setup = setup(&rt, rt.alloc(), 2);
+    let ground = Ground::new(rt.alloc()).expect(&rt, "memory");
+    draws::<Brand, _>(&rt, rt.alloc(), ground, &setup)
 }
 
 /// Asks by a seat for the first cache, and then makes what is everybody's: there is no such response yet.
-fn asks_and_responds<F: Naming, R: Wait + Abort>(
-    rt: &R,
-    floor: &Floor<F>,
-    seat: &mut Seat<F>,
-) -> Result<(), Fail> {
+fn asks_and_responds<F: Naming, R: Wait + Abort>(rt: &R, floor: &Floor<F>, seat: &mut Seat<F>) {
     let refused = if seat.number() == 0 {
         None
     } else {
@@ -190,33 +161,27 @@ fn asks_and_responds<F: Naming, R: Wait + Abort>(
     };
     let answer = floor.turn(rt, seat, LOAD).err();
     same(rt, &answer, &refused);
-    let receipt = floor.turn(rt, seat, RESPONSE)?;
+    let receipt = floor.turn(rt, seat, RESPONSE).expect(rt, "a turn");
     let absent = entry_of("response 0 0 = absent");
     same(rt, &Some(receipt.entry()), &absent);
-    Ok(())
 }
 
-fn foreign_steps<F: Naming, R: Wait + Abort>(
-    rt: &R,
-    alloc: Global,
-    ground: Ground,
-    setup: &Setup,
-) -> Result<(), Fail>
+fn foreign_steps<F: Naming, R: Wait + Abort>(rt: &R, alloc: Global, ground: Ground, setup: &Setup)
     requires { F.floor ≡ names ground setup.now 3 4 }
 {
-    let (floor, mut seats) = Floor::<F>::open(ground, alloc, setup, 3, 4)?;
+    let (floor, mut seats) = Floor::<F>::open(ground, alloc, setup, 3, 4).expect(rt, "a floor");
     for seat in seats.iter_mut() {
-        asks_and_responds(rt, &floor, seat)?;
+        asks_and_responds(rt, &floor, seat);
     }
-    let closed = floor.close(seats).ok().ok_or("not closed")?;
+    let closed = floor.close(seats).ok().expect(rt, "closed");
     same(rt, &closed.owners.as_slice(), &[0u32, 0, 1, 2].as_slice());
-    Ok(())
 }
 
 #[test]
-fn steps_of_other_seats(rt: HostRuntime) -> Result<(), Fail> {
-    let setup = setup(rt.alloc(), 2)?;
-    foreign_steps::<Brand, _>(&rt, rt.alloc(), Ground::new(rt.alloc())?, &setup)
+fn steps_of_other_seats(rt: HostRuntime) {
+    let setup = setup(&rt, rt.alloc(), 2);
+    let ground = Ground::new(rt.alloc()).expect(&rt, "memory");
+    foreign_steps::<Brand, _>(&rt, rt.alloc(), ground, &setup)
 }
 
 fn refusal<F: Naming>(
@@ -232,9 +197,9 @@ fn refusal<F: Naming>(
 }
 
 #[test]
-fn floors_that_are_not_opened(rt: HostRuntime) -> Result<(), Fail> {
+fn floors_that_are_not_opened(rt: HostRuntime) {
     let alloc = rt.alloc();
-    let setup = setup(alloc, 1)?;
+    let setup = setup(&rt, alloc, 1);
     let rows = [
         (0, 1_000_001, Some(FloorFault::NoSeats)),
         (65, 1_000_001, Some(FloorFault::TooManySeats)),
@@ -242,8 +207,8 @@ fn floors_that_are_not_opened(rt: HostRuntime) -> Result<(), Fail> {
         (64, 1_000_000, None),
     ];
     for (seats, capacity, fault) in &rows {
-        let found = refusal::<Brand>(alloc, Ground::new(alloc)?, &setup, *seats, *capacity);
+        let ground = Ground::new(alloc).expect(&rt, "memory");
+        let found = refusal::<Brand>(alloc, ground, &setup, *seats, *capacity);
         same(&rt, &found, fault);
     }
-    Ok(())
 }

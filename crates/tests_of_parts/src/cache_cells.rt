@@ -1,7 +1,6 @@
 use crate::asserting::{same, same_at};
 use cache_table::{CacheAction, CacheActions, CacheEntry, CacheEvent, CacheState, CacheTable};
 use std::process::Abort;
-use std::test::Fail;
 
 const HELD: [(CacheState, CacheEvent, CacheEntry); 4] = [
     (CacheState::I, CacheEvent::Inv, CacheEntry::Blank),
@@ -95,12 +94,11 @@ fn one_cell_is_replaced(rt: HostRuntime) {
 
 fn are_eight(rt: &impl Abort, found: &CacheActions, wanted: &[CacheAction]) {
     same(rt, &found.as_slice(), &wanted);
-    same(rt, &found.len(), &8);
-    same(rt, &found.is_empty(), &false);
+    same(rt, &(found.len(), found.is_empty()), &(8, false));
 }
 
 #[test]
-fn at_most_eight_actions(rt: HostRuntime) -> Result<(), Fail> {
+fn at_most_eight_actions(rt: HostRuntime) {
     let nine = [
         CacheAction::GetS,
         CacheAction::GetM,
@@ -113,8 +111,7 @@ fn at_most_eight_actions(rt: HostRuntime) -> Result<(), Fail> {
         CacheAction::GetS,
     ];
     same(&rt, &CacheActions::of(&nine), &None);
-    let eight = CacheActions::of(&nine[..8]).ok_or("eight actions are refused")?;
+    let eight = CacheActions::of(&nine[..8]).expect(&rt, "eight actions");
     are_eight(&rt, &eight, &nine[..8]);
     same(&rt, &CacheActions::none().is_empty(), &true);
-    Ok(())
 }

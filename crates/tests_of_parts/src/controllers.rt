@@ -1,8 +1,8 @@
-ghost use Rattle.std.specs.Prelude.{◌≡◌, OnOk, length};
+ghost use Rattle.std.specs.Prelude.{◌≡◌, length};
 ghost use Rattle.control.specs.HomeEffect.{sender_of, IsBelow, NamesBelow};
 
 use crate::asserting::{same, same_at};
-use base::{Ask, CacheId, NoMemory, Place};
+use base::{Ask, CacheId, Place};
 use cache_table::{CacheAction, CacheActions, CacheEvent, CacheState};
 use control::{
     Home, HomeInput, Line, LineCompletion, LineInput, Needs, home_act, home_event, home_needs,
@@ -12,7 +12,6 @@ use directory_table::{DirectoryAction, DirectoryActions, DirectoryEvent, Directo
 use network::{Forward, ForwardKind, Request, RequestKind, Response, Wires};
 use std::alloc::Global;
 use std::process::Abort;
-use std::test::Fail;
 
 const FIRST: CacheId = CacheId(0);
 
@@ -35,45 +34,50 @@ fn request(kind: RequestKind, from: CacheId) -> HomeInput
 
 /// Reserves what an act at a line needs, and acts. By the contracts of the calls the act can't fail.
 fn line_act_as_needed(
+    rt: &impl Abort,
     line: &mut Line,
     input: LineInput,
     next: CacheState,
     actions: CacheActions,
     wires: &mut Wires,
-) -> Result<Option<LineCompletion>, NoMemory> {
+) -> Option<LineCompletion> {
     let needs = line_needs(input, actions);
-    wires.reserve(needs.requests, &[], needs.responses)?;
+    wires
+        .reserve(needs.requests, &[], needs.responses)
+        .expect(rt, "memory");
     match line_act(line, FIRST, input, next, actions, wires) {
-        Ok(done) => Ok(done),
+        Ok(done) => done,
         Err(_) => unreachable!(),
     }
 }
 
 /// The same at a home.
 fn home_act_as_needed(
+    rt: &impl Abort,
     alloc: Global,
     home: &mut Home,
     input: HomeInput,
     next: DirectoryState,
     actions: DirectoryActions,
     wires: &mut Wires,
-) -> Result<(), NoMemory>
+)
     requires flags { NamesBelow (length home.old.sharers) home.old }
     requires links { NamesBelow (length wires.old.traffic.links) home.old }
     requires sender_flag { IsBelow (sender_of input) (length home.old.sharers) }
     requires sender_link { IsBelow (sender_of input) (length wires.old.traffic.links) }
-    ensures flags { OnOk result (NamesBelow (length home.new.sharers) home.new) }
-    ensures links { OnOk result (NamesBelow (length wires.new.traffic.links) home.new) }
-    ensures flag_count { OnOk result (length home.new.sharers ≡ length home.old.sharers) }
-    ensures link_count { OnOk result (length wires.new.traffic.links ≡ length wires.old.traffic.links) }
+    ensures flags { NamesBelow (length home.new.sharers) home.new }
+    ensures links { NamesBelow (length wires.new.traffic.links) home.new }
+    ensures flag_count { length home.new.sharers ≡ length home.old.sharers }
+    ensures link_count { length wires.new.traffic.links ≡ length wires.old.traffic.links }
 {
     let mut links = Vec::new(alloc);
-    let needs = home_needs(home, input, actions, &mut links)?;
-    wires.reserve(needs.requests, links.as_slice(), needs.responses)?;
+    let needs = home_needs(home, input, actions, &mut links).expect(rt, "memory");
+    wires
+        .reserve(needs.requests, links.as_slice(), needs.responses)
+        .expect(rt, "memory");
     if let Err(_) = home_act(home, input, next, actions, wires) {
         unreachable!();
     }
-    Ok(())
 }
 
 /// Compares the event of what comes to a line that has got so many acks.
@@ -112,7 +116,7 @@ fn events_at_a_line(rt: HostRuntime) {
 }
 
 /// Compares what a store needs, and sends its request.
-fn asks(rt: &impl Abort, line: &mut Line, wires: &mut Wires) -> Result<(), Fail> {
+fn asks(rt: &impl Abort, line: &mut Line, wires: &mut Wires) {
     let ask = LineInput::Ask(Ask::Store(7));
     let getm = CacheActions::none().with(CacheAction::GetM);
     let needs = Needs {
@@ -120,26 +124,24 @@ fn asks(rt: &impl Abort, line: &mut Line, wires: &mut Wires) -> Result<(), Fail>
         responses: 0,
     };
     same(rt, &line_needs(ask, getm), &needs);
-    line_reserve(ask, getm, wires)?;
-    let sent = line_act_as_needed(line, ask, CacheState::ImAd, getm, wires)?;
-    same(rt, &sent, &None);
-    same(rt, &line.pending, &Some(Ask::Store(7)));
+    line_reserve(ask, getm, wires).expect(rt, "memory");
+    let sent = line_act_as_needed(rt, line, ask, CacheState::ImAd, getm, wires);
+    same(rt, &(sent, line.pending), &(None, Some(Ask::Store(7))));
     let request = Request {
         kind: RequestKind::GetM,
         from: FIRST,
     };
     same(rt, &wires.request(0), &Some(request));
-    Ok(())
 }
 
 /// Hands the data to the line that waits for it.
-fn stores(rt: &impl Abort, line: &mut Line, wires: &mut Wires) -> Result<(), Fail> {
+fn stores(rt: &impl Abort, line: &mut Line, wires: &mut Wires) {
     let came = data(Place::Dir, 0);
     let done = Some(LineCompletion::Store(7));
     same(rt, &line_completion(line, came, CacheState::M), &done);
     let quiet = CacheActions::none();
-    let made = line_act(line, FIRST, came, CacheState::M, quiet, wires)?;
-    same(rt, &made, &done);
+    let made = line_act(line, FIRST, came, CacheState::M, quiet, wires);
+    same(rt, &made, &Ok(done));
     let stored = Line {
         state: CacheState::M,
         value: 7,
@@ -147,19 +149,18 @@ fn stores(rt: &impl Abort, line: &mut Line, wires: &mut Wires) -> Result<(), Fai
         pending: None,
     };
     same(rt, line, &stored);
-    Ok(())
 }
 
-fn asks_and_stores(rt: &impl Abort, wires: &mut Wires) -> Result<(), Fail> {
+fn asks_and_stores(rt: &impl Abort, wires: &mut Wires) {
     let mut line = Line::opened();
-    asks(rt, &mut line, wires)?;
-    stores(rt, &mut line, wires)
+    asks(rt, &mut line, wires);
+    stores(rt, &mut line, wires);
 }
 
 #[test]
-fn a_store_waits_for_its_data(rt: HostRuntime) -> Result<(), Fail> {
-    let mut wires = Wires::open(rt.alloc(), 2)?;
-    asks_and_stores(&rt, &mut wires)
+fn a_store_waits_for_its_data(rt: HostRuntime) {
+    let mut wires = Wires::open(rt.alloc(), 2).expect(&rt, "memory");
+    asks_and_stores(&rt, &mut wires);
 }
 
 /// Compares the event of a request that comes to a home.
@@ -209,8 +210,8 @@ fn share(rt: &impl Abort, home: &mut Home)
 }
 
 #[test]
-fn events_at_a_home(rt: HostRuntime) -> Result<(), Fail> {
-    let mut home = Home::open(rt.alloc(), 2, 5)?;
+fn events_at_a_home(rt: HostRuntime) {
+    let mut home = Home::open(rt.alloc(), 2, 5).expect(&rt, "memory");
     home.owner = Some(SECOND);
     share(&rt, &mut home);
     meets_each(&rt, &home);
@@ -222,31 +223,29 @@ fn events_at_a_home(rt: HostRuntime) -> Result<(), Fail> {
         FIRST,
         DirectoryEvent::PutSNotLast,
     );
-    Ok(())
 }
 
 /// Makes the first cache a sharer.
-fn reads(rt: &impl Abort, alloc: Global, home: &mut Home, wires: &mut Wires) -> Result<(), Fail>
+fn reads(rt: &impl Abort, alloc: Global, home: &mut Home, wires: &mut Wires)
     requires flags { NamesBelow (length home.old.sharers) home.old }
     requires links { NamesBelow (length wires.old.traffic.links) home.old }
     requires flag_count { length home.old.sharers ≡ 2 }
     requires link_count { length wires.old.traffic.links ≡ 2 }
-    ensures flags { OnOk result (NamesBelow (length home.new.sharers) home.new) }
-    ensures links { OnOk result (NamesBelow (length wires.new.traffic.links) home.new) }
-    ensures flag_count { OnOk result (length home.new.sharers ≡ 2) }
-    ensures link_count { OnOk result (length wires.new.traffic.links ≡ 2) }
+    ensures flags { NamesBelow (length home.new.sharers) home.new }
+    ensures links { NamesBelow (length wires.new.traffic.links) home.new }
+    ensures flag_count { length home.new.sharers ≡ 2 }
+    ensures link_count { length wires.new.traffic.links ≡ 2 }
 {
     let gets = request(RequestKind::GetS, FIRST);
     let shares = DirectoryActions::none()
         .with(DirectoryAction::DataReq)
         .with(DirectoryAction::AddReq);
-    home_act_as_needed(alloc, home, gets, DirectoryState::S, shares, wires)?;
+    home_act_as_needed(rt, alloc, home, gets, DirectoryState::S, shares, wires);
     same(rt, &home.sharers.contains(FIRST), &true);
-    Ok(())
 }
 
 /// Makes the second cache the owner.
-fn owns(rt: &impl Abort, home: &mut Home, wires: &mut Wires) -> Result<(), Fail>
+fn owns(rt: &impl Abort, home: &mut Home, wires: &mut Wires)
     requires flags { NamesBelow (length home.old.sharers) home.old }
     requires links { NamesBelow (length wires.old.traffic.links) home.old }
     requires flag_count { length home.old.sharers ≡ 2 }
@@ -258,11 +257,10 @@ fn owns(rt: &impl Abort, home: &mut Home, wires: &mut Wires) -> Result<(), Fail>
         .with(DirectoryAction::InvSharers)
         .with(DirectoryAction::ClearSharers)
         .with(DirectoryAction::SetOwner);
-    home_reserve(home, getm, owns, wires)?;
-    home_act(home, getm, DirectoryState::M, owns, wires)?;
+    home_reserve(home, getm, owns, wires).expect(rt, "memory");
+    home_act(home, getm, DirectoryState::M, owns, wires).expect(rt, "memory");
     same(rt, &home.owner, &Some(SECOND));
     same(rt, &home.sharers.contains(FIRST), &false);
-    Ok(())
 }
 
 /// Compares what went to the sharer and to the owner.
@@ -281,57 +279,50 @@ fn has_sent(rt: &impl Abort, wires: &Wires) {
     same(rt, &wires.response(1), &Some(data));
 }
 
-fn is_invalidated(
-    rt: &impl Abort,
-    alloc: Global,
-    home: &mut Home,
-    wires: &mut Wires,
-) -> Result<(), Fail>
+fn is_invalidated(rt: &impl Abort, alloc: Global, home: &mut Home, wires: &mut Wires)
     requires flags { NamesBelow (length home.old.sharers) home.old }
     requires links { NamesBelow (length wires.old.traffic.links) home.old }
     requires flag_count { length home.old.sharers ≡ 2 }
     requires link_count { length wires.old.traffic.links ≡ 2 }
 {
-    reads(rt, alloc, home, wires)?;
-    owns(rt, home, wires)?;
+    reads(rt, alloc, home, wires);
+    owns(rt, home, wires);
     has_sent(rt, wires);
-    Ok(())
 }
 
-fn home_invalidates(rt: &impl Abort, alloc: Global, wires: &mut Wires) -> Result<(), Fail>
+fn home_invalidates(rt: &impl Abort, alloc: Global, wires: &mut Wires)
     requires { length wires.old.traffic.links ≡ 2 }
 {
-    let mut home = Home::open(alloc, 2, 5)?;
-    is_invalidated(rt, alloc, &mut home, wires)
+    let mut home = Home::open(alloc, 2, 5).expect(rt, "memory");
+    is_invalidated(rt, alloc, &mut home, wires);
 }
 
 #[test]
-fn a_sharer_is_invalidated(rt: HostRuntime) -> Result<(), Fail> {
-    let mut wires = Wires::open(rt.alloc(), 2)?;
-    home_invalidates(&rt, rt.alloc(), &mut wires)
+fn a_sharer_is_invalidated(rt: HostRuntime) {
+    let mut wires = Wires::open(rt.alloc(), 2).expect(&rt, "memory");
+    home_invalidates(&rt, rt.alloc(), &mut wires);
 }
 
 /// Compares what an act needs that answers a cache twice which isn't a sharer.
-fn needs_links(rt: &impl Abort, home: &Home, links: &mut Vec<CacheId>) -> Result<(), Fail> {
+fn needs_links(rt: &impl Abort, home: &Home, links: &mut Vec<CacheId>) {
     let unflagged = CacheId(7);
     let put = request(RequestKind::PutS, unflagged);
     let twice = DirectoryActions::none()
         .with(DirectoryAction::PutAck)
         .with(DirectoryAction::DataReq)
         .with(DirectoryAction::PutAck);
-    let needs = home_needs(home, put, twice, links)?;
+    let needs = home_needs(home, put, twice, links);
     let wanted = Needs {
         requests: 0,
         responses: 1,
     };
-    same(rt, &needs, &wanted);
+    same(rt, &needs, &Ok(wanted));
     same(rt, &links.as_slice(), &[unflagged, unflagged].as_slice());
-    Ok(())
 }
 
 #[test]
-fn links_that_an_act_needs(rt: HostRuntime) -> Result<(), Fail> {
-    let home = Home::open(rt.alloc(), 2, 5)?;
+fn links_that_an_act_needs(rt: HostRuntime) {
+    let home = Home::open(rt.alloc(), 2, 5).expect(&rt, "memory");
     let mut links = Vec::new(rt.alloc());
-    needs_links(&rt, &home, &mut links)
+    needs_links(&rt, &home, &mut links);
 }

@@ -5,31 +5,24 @@ use bumpalo::Bump;
 use scenario::{Cursor, Rest, Scenario};
 use std::alloc::Global;
 use std::process::Abort;
-use std::test::Fail;
 
 type InArena<'t, 'b> = Cursor<'t, Global, &'b Bump>;
 
 /// The offers as letters.
-fn letters(rt: &impl Abort, heap: Global, cursor: &InArena<'_, '_>) -> Result<String, Fail> {
+fn letters(rt: &impl Abort, heap: Global, cursor: &InArena<'_, '_>) -> String {
     offered(rt, heap, cursor)
 }
 
 /// Compares the offers.
-fn offers(
-    rt: &impl Abort,
-    heap: Global,
-    cursor: &InArena<'_, '_>,
-    wanted: &str,
-) -> Result<(), Fail> {
-    let found = letters(rt, heap, cursor)?;
+fn offers(rt: &impl Abort, heap: Global, cursor: &InArena<'_, '_>, wanted: &str) {
+    let found = letters(rt, heap, cursor);
     same(rt, &found.as_str(), &wanted);
-    Ok(())
 }
 
 /// Compares what is left where nothing is.
-fn has_ended(rt: &impl Abort, heap: Global, cursor: &InArena<'_, '_>) -> Result<(), Fail> {
+fn has_ended(rt: &impl Abort, heap: Global, cursor: &InArena<'_, '_>) {
     same(rt, &cursor.may_end(), &true);
-    offers(rt, heap, cursor, "")
+    offers(rt, heap, cursor, "");
 }
 
 /// Takes an offer, and compares its ask.
@@ -39,117 +32,90 @@ fn takes<'b>(
     bump: &'b Bump,
     at: usize,
     wanted: Option<char>,
-) -> Result<(), Fail> {
-    let taken = cursor.take(bump, at)?;
+) {
+    let taken = cursor.take(bump, at).expect(rt, "memory");
     same(rt, &taken.and_then(letter), &wanted);
-    Ok(())
 }
 
 /// Takes two turns so many times: first one of the row, and then one of the children that go on at once.
-fn take_turns<'b>(
-    rt: &impl Abort,
-    cursor: &mut InArena<'_, 'b>,
-    bump: &'b Bump,
-    count: u32,
-) -> Result<(), Fail> {
+fn take_turns<'b>(rt: &impl Abort, cursor: &mut InArena<'_, 'b>, bump: &'b Bump, count: u32) {
     for _ in 0..count {
         for (at, ask) in &[(0, 'L'), (0, 'S'), (2, 'S'), (0, 'L')] {
-            takes(rt, cursor, bump, *at, Some(*ask))?;
+            takes(rt, cursor, bump, *at, Some(*ask));
         }
     }
-    Ok(())
 }
 
 /// Takes 50,000 turns, behind which nothing is left, and compares how much memory they took.
-fn take_all_turns<'b>(
-    rt: &impl Abort,
-    heap: Global,
-    cursor: &mut InArena<'_, 'b>,
-    bump: &'b Bump,
-) -> Result<(), Fail> {
+fn take_all_turns<'b>(rt: &impl Abort, heap: Global, cursor: &mut InArena<'_, 'b>, bump: &'b Bump) {
     same(rt, &bump.allocated_bytes(), &0);
-    take_turns(rt, cursor, bump, 25_000)?;
-    has_ended(rt, heap, cursor)?;
+    take_turns(rt, cursor, bump, 25_000);
+    has_ended(rt, heap, cursor);
     same(rt, &(bump.allocated_bytes() < 4096), &true);
-    Ok(())
 }
 
-fn many_turns(heap: Global) -> Result<Scenario<Global>, Fail> {
-    let text = format!(in heap;
-        r#"{{"times":50000,"of":{{"any":[{{"seq":[{LOAD},{STORE}]}},{{"both":[{LOAD},{STORE}]}}]}}}}"#
-    )?;
-    read(heap, text.as_str())
-}
+const MANY_TURNS: &str =
+    r#"{"times":50000,"of":{"any":[{"seq":[{"op":"load","core":0,"block":0},{"op":"store","core":0,"block":0,"value":5}]},{"both":[{"op":"load","core":0,"block":0},{"op":"store","core":0,"block":0,"value":5}]}]}}"#;
 
 #[test]
-fn many_turns_take_little_memory(rt: HostRuntime) -> Result<(), Fail> {
-    let source = many_turns(rt.alloc())?;
+fn many_turns_take_little_memory(rt: HostRuntime) {
+    let source = read(&rt, rt.alloc(), MANY_TURNS);
     let bump = Bump::new(rt.alloc());
     let mut cursor: InArena<'_, '_> = Cursor::open(&source);
-    take_all_turns(&rt, rt.alloc(), &mut cursor, &bump)
+    take_all_turns(&rt, rt.alloc(), &mut cursor, &bump);
 }
 
 /// A load at the deepest level.
-fn deep_load(heap: Global) -> Result<Scenario<Global>, Fail> {
+fn deep_load(rt: &impl Abort, heap: Global) -> Scenario<Global> {
     let mut text = String::new(heap);
     for _ in 0..47 {
-        text.push_str(r#"{"seq":["#)?;
+        text.push_str(r#"{"seq":["#).expect(rt, "memory");
     }
-    text.push_str(LOAD)?;
+    text.push_str(LOAD).expect(rt, "memory");
     for _ in 0..47 {
-        text.push_str("]}")?;
+        text.push_str("]}").expect(rt, "memory");
     }
-    read(heap, text.as_str())
+    read(rt, heap, text.as_str())
 }
 
 /// Takes the only offer.
-fn take_only_load<'b>(
-    rt: &impl Abort,
-    heap: Global,
-    cursor: &mut InArena<'_, 'b>,
-    bump: &'b Bump,
-) -> Result<(), Fail> {
-    offers(rt, heap, cursor, "L")?;
-    takes(rt, cursor, bump, 1, None)?;
-    takes(rt, cursor, bump, 0, Some('L'))?;
-    has_ended(rt, heap, cursor)
+fn take_only_load<'b>(rt: &impl Abort, heap: Global, cursor: &mut InArena<'_, 'b>, bump: &'b Bump) {
+    offers(rt, heap, cursor, "L");
+    takes(rt, cursor, bump, 1, None);
+    takes(rt, cursor, bump, 0, Some('L'));
+    has_ended(rt, heap, cursor);
 }
 
 #[test]
-fn a_deep_scenario_has_its_one_offer(rt: HostRuntime) -> Result<(), Fail> {
-    let source = deep_load(rt.alloc())?;
+fn a_deep_scenario_has_its_one_offer(rt: HostRuntime) {
+    let source = deep_load(&rt, rt.alloc());
     let bump = Bump::new(rt.alloc());
     let mut cursor: InArena<'_, '_> = Cursor::open(&source);
-    take_only_load(&rt, rt.alloc(), &mut cursor, &bump)
+    take_only_load(&rt, rt.alloc(), &mut cursor, &bump);
 }
 
 /// Takes three loads, behind which there are more.
-fn take_loads<'b>(
-    rt: &impl Abort,
-    heap: Global,
-    cursor: &mut InArena<'_, 'b>,
-    bump: &'b Bump,
-) -> Result<(), Fail> {
+fn take_loads<'b>(rt: &impl Abort, heap: Global, cursor: &mut InArena<'_, 'b>, bump: &'b Bump) {
     for _ in 0..3 {
-        offers(rt, heap, cursor, "L")?;
-        takes(rt, cursor, bump, 0, Some('L'))?;
+        offers(rt, heap, cursor, "L");
+        takes(rt, cursor, bump, 0, Some('L'));
     }
     same(rt, &cursor.may_end(), &false);
-    Ok(())
 }
 
 #[test]
-fn the_most_turns_are_counted(rt: HostRuntime) -> Result<(), Fail> {
+fn the_most_turns_are_counted(rt: HostRuntime) {
     let heap = rt.alloc();
     let load = CoreAsk {
         core: CacheId(0),
         block: BlockId(0),
         ask: Ask::Load,
     };
-    let source = Scenario::Times(4_294_967_295, Box::new(heap, Scenario::One(load))?);
+    let one = Box::new(heap, Scenario::One(load)).expect(&rt, "memory");
+    let source = Scenario::Times(4_294_967_295, one);
     let bump = Bump::new(heap);
     let mut cursor: InArena<'_, '_> = Cursor::open(&source);
-    take_loads(&rt, heap, &mut cursor, &bump)
+    take_loads(&rt, heap, &mut cursor, &bump);
 }
 
 /// Takes offer 0 with ever more memory, until it isn't refused, and answers how often it was. A refusal changes nothing.
@@ -159,65 +125,59 @@ fn take_at_last<'b>(
     cursor: &mut InArena<'_, 'b>,
     bump: &'b Bump,
     wanted: char,
-) -> Result<usize, Fail> {
-    let before = letters(rt, heap, cursor)?;
+) -> usize {
+    let before = letters(rt, heap, cursor);
     for refused in 0..64_usize {
         bump.set_allocation_limit(Some(refused.saturating_mul(256)));
         if let Ok(taken) = cursor.take(bump, 0) {
             same(rt, &taken.and_then(letter), &Some(wanted));
-            return Ok(refused);
+            return refused;
         }
-        offers(rt, heap, cursor, before.as_str())?;
+        offers(rt, heap, cursor, before.as_str());
     }
-    Err(Fail::from("NoMemory"))
+    panic!(rt; "no memory")
 }
 
 /// Takes four turns of six asks and a last one, of which some are refused at first, and behind which nothing is left.
-fn take_all<'b>(
-    rt: &impl Abort,
-    heap: Global,
-    cursor: &mut InArena<'_, 'b>,
-    bump: &'b Bump,
-) -> Result<(), Fail> {
+fn take_all<'b>(rt: &impl Abort, heap: Global, cursor: &mut InArena<'_, 'b>, bump: &'b Bump) {
     let mut refusals = 0_usize;
     for _ in 0..4 {
         for wanted in &['L', 'S', 'L', 'S', 'L', 'S'] {
-            let refused = take_at_last(rt, heap, cursor, bump, *wanted)?;
+            let refused = take_at_last(rt, heap, cursor, bump, *wanted);
             refusals = refusals.saturating_add(refused);
         }
     }
-    take_at_last(rt, heap, cursor, bump, 'S')?;
+    take_at_last(rt, heap, cursor, bump, 'S');
     same(rt, &cursor.may_end(), &true);
     same(rt, &(refusals > 1), &true);
-    Ok(())
 }
 
 /// Two rows that go on at once.
-fn two_rows(heap: Global) -> Result<String, Fail> {
-    Ok(format!(in heap;
+fn two_rows(rt: &impl Abort, heap: Global) -> String {
+    format!(in heap;
         r#"{{"both":[{{"times":2,"of":{{"seq":[{LOAD},{STORE}]}}}},{{"seq":[{LOAD},{STORE}]}}]}}"#
-    )?)
+    ).expect(rt, "memory")
 }
 
 /// This text twice one behind the other, again twice, and a store behind them.
-fn four_times(heap: Global, turn: &str) -> Result<Scenario<Global>, Fail> {
+fn four_times(rt: &impl Abort, heap: Global, turn: &str) -> Scenario<Global> {
     let text = format!(in heap;
         r#"{{"seq":[{{"times":2,"of":{{"seq":[{turn},{turn}]}}}},{STORE}]}}"#
-    )?;
-    read(heap, text.as_str())
+    ).expect(rt, "memory");
+    read(rt, heap, text.as_str())
 }
 
-fn four_turns(heap: Global) -> Result<Scenario<Global>, Fail> {
-    let turn = two_rows(heap)?;
-    four_times(heap, turn.as_str())
+fn four_turns(rt: &impl Abort, heap: Global) -> Scenario<Global> {
+    let turn = two_rows(rt, heap);
+    four_times(rt, heap, turn.as_str())
 }
 
 #[test]
-fn a_refused_take_leaves_a_cursor_as_it_was(rt: HostRuntime) -> Result<(), Fail> {
-    let source = four_turns(rt.alloc())?;
+fn a_refused_take_leaves_a_cursor_as_it_was(rt: HostRuntime) {
+    let source = four_turns(&rt, rt.alloc());
     let bump = Bump::new(rt.alloc());
     let mut cursor: InArena<'_, '_> = Cursor::open(&source);
-    take_all(&rt, rt.alloc(), &mut cursor, &bump)
+    take_all(&rt, rt.alloc(), &mut cursor, &bump);
 }
 
 /// Takes the first offer again and again, and compares before each whether the same is offered behind it.
@@ -226,36 +186,36 @@ fn compare_repeats<'b>(
     cursor: &mut InArena<'_, 'b>,
     bump: &'b Bump,
     wanted: &[bool],
-) -> Result<(), Fail> {
+) {
     for repeats in wanted {
         same(rt, &cursor.repeats(), repeats);
-        let _taken = cursor.take(bump, 0)?;
+        let _taken = cursor.take(bump, 0).expect(rt, "memory");
     }
-    Ok(())
 }
 
 /// The same of a scenario in JSON.
-fn compare_repeats_of(
-    rt: &impl Abort,
-    heap: Global,
-    text: &str,
-    wanted: &[bool],
-) -> Result<(), Fail> {
-    let source = read(heap, text)?;
+fn compare_repeats_of(rt: &impl Abort, heap: Global, text: &str, wanted: &[bool]) {
+    let source = read(rt, heap, text);
     let bump = Bump::new(heap);
     let mut cursor: InArena<'_, '_> = Cursor::open(&source);
-    compare_repeats(rt, &mut cursor, &bump, wanted)
+    compare_repeats(rt, &mut cursor, &bump, wanted);
 }
 
+const CHOICE: &str =
+    r#"{"any":[{"op":"load","core":0,"block":0},{"op":"store","core":0,"block":0,"value":5}]}"#;
+
+const THREE_CHOICES: &str =
+    r#"{"times":3,"of":{"any":[{"op":"load","core":0,"block":0},{"op":"store","core":0,"block":0,"value":5}]}}"#;
+
+const CHOICES_AND_ONE: &str =
+    r#"{"both":[{"times":3,"of":{"any":[{"op":"load","core":0,"block":0},{"op":"store","core":0,"block":0,"value":5}]}},{"any":[{"op":"load","core":0,"block":0},{"op":"store","core":0,"block":0,"value":5}]}]}"#;
+
 #[test]
-fn turns_of_a_choice_offer_the_same_up_to_the_last(rt: HostRuntime) -> Result<(), Fail> {
+fn turns_of_a_choice_offer_the_same_up_to_the_last(rt: HostRuntime) {
     let heap = rt.alloc();
-    let choice = format!(in heap; r#"{{"any":[{LOAD},{STORE}]}}"#)?;
-    let turns = format!(in heap; r#"{{"times":3,"of":{choice}}}"#)?;
-    let both = format!(in heap; r#"{{"both":[{turns},{choice}]}}"#)?;
-    compare_repeats_of(&rt, heap, turns.as_str(), &[true, true, false, false])?;
-    compare_repeats_of(&rt, heap, choice.as_str(), &[false])?;
-    compare_repeats_of(&rt, heap, both.as_str(), &[false, false])
+    compare_repeats_of(&rt, heap, THREE_CHOICES, &[true, true, false, false]);
+    compare_repeats_of(&rt, heap, CHOICE, &[false]);
+    compare_repeats_of(&rt, heap, CHOICES_AND_ONE, &[false, false]);
 }
 
 /// Takes the last offer of one cursor and passes the same of another, until nothing is offered, and compares what they offer.
@@ -265,27 +225,26 @@ fn pass_what_is_taken<'b>(
     taken: &mut InArena<'_, 'b>,
     passed: &mut InArena<'_, 'b>,
     bump: &'b Bump,
-) -> Result<u32, Fail> {
+) -> u32 {
     for count in 0..64 {
         let many = passed.offer_count();
         if many == 0 {
-            return Ok(count);
+            return count;
         }
-        passed.pass(bump, many - 1)?;
-        let _taken = taken.take(bump, many - 1)?;
-        let wanted = letters(rt, heap, taken)?;
-        offers(rt, heap, passed, wanted.as_str())?;
+        passed.pass(bump, many - 1).expect(rt, "memory");
+        let _taken = taken.take(bump, many - 1).expect(rt, "memory");
+        let wanted = letters(rt, heap, taken);
+        offers(rt, heap, passed, wanted.as_str());
     }
-    Ok(64)
+    64
 }
 
 #[test]
-fn an_offer_is_passed_as_it_is_taken(rt: HostRuntime) -> Result<(), Fail> {
-    let source = four_turns(rt.alloc())?;
+fn an_offer_is_passed_as_it_is_taken(rt: HostRuntime) {
+    let source = four_turns(&rt, rt.alloc());
     let bump = Bump::new(rt.alloc());
     let mut taken: InArena<'_, '_> = Cursor::open(&source);
     let mut passed: InArena<'_, '_> = Cursor::open(&source);
-    let count = pass_what_is_taken(&rt, rt.alloc(), &mut taken, &mut passed, &bump)?;
+    let count = pass_what_is_taken(&rt, rt.alloc(), &mut taken, &mut passed, &bump);
     same(&rt, &count, &25);
-    Ok(())
 }

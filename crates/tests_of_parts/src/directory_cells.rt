@@ -4,7 +4,6 @@ use directory_table::{
     DirectoryTable,
 };
 use std::process::Abort;
-use std::test::Fail;
 
 const HELD: [(DirectoryState, DirectoryEvent, DirectoryEntry); 3] = [
     (
@@ -146,12 +145,11 @@ fn one_cell_is_replaced(rt: HostRuntime) {
 
 fn are_eight(rt: &impl Abort, found: &DirectoryActions, wanted: &[DirectoryAction]) {
     same(rt, &found.as_slice(), &wanted);
-    same(rt, &found.len(), &8);
-    same(rt, &found.is_empty(), &false);
+    same(rt, &(found.len(), found.is_empty()), &(8, false));
 }
 
 #[test]
-fn at_most_eight_actions(rt: HostRuntime) -> Result<(), Fail> {
+fn at_most_eight_actions(rt: HostRuntime) {
     let nine = [
         DirectoryAction::DataReq,
         DirectoryAction::DataAcks,
@@ -164,8 +162,7 @@ fn at_most_eight_actions(rt: HostRuntime) -> Result<(), Fail> {
         DirectoryAction::CopyData,
     ];
     same(&rt, &DirectoryActions::of(&nine), &None);
-    let eight = DirectoryActions::of(&nine[..8]).ok_or("eight actions are refused")?;
+    let eight = DirectoryActions::of(&nine[..8]).expect(&rt, "eight actions");
     are_eight(&rt, &eight, &nine[..8]);
     same(&rt, &DirectoryActions::none().is_empty(), &true);
-    Ok(())
 }

@@ -4,7 +4,6 @@ use crate::asserting::same;
 use base::{Ask, CacheId};
 use cores::Cores;
 use std::process::Abort;
-use std::test::Fail;
 
 /// Compares whether a core is free, and how much it was issued and has finished.
 fn has_counts(rt: &impl Abort, cores: &Cores, core: u32, free: bool, issued: u64, finished: u64) {
@@ -18,8 +17,7 @@ fn issue_and_finish(rt: &impl Abort, cores: &mut Cores, ask: Ask, before: u64, i
     requires { Completes ask }
 {
     let first = CacheId(0);
-    same(rt, &cores.free(first), &true);
-    same(rt, &cores.all_free(), &true);
+    same(rt, &(cores.free(first), cores.all_free()), &(true, true));
     if cores.free(first) {
         cores.issue(first, ask);
     }
@@ -33,8 +31,8 @@ fn issue_and_finish(rt: &impl Abort, cores: &mut Cores, ask: Ask, before: u64, i
 }
 
 #[test]
-fn one_core_among_others(rt: HostRuntime) -> Result<(), Fail> {
-    let mut cores = Cores::open(rt.alloc(), 2)?;
+fn one_core_among_others(rt: HostRuntime) {
+    let mut cores = Cores::open(rt.alloc(), 2).expect(&rt, "memory");
     issue_and_finish(&rt, &mut cores, Ask::Load, 0, 1);
     issue_and_finish(&rt, &mut cores, Ask::Store(7), 1, 2);
     let absent = CacheId(2);
@@ -42,5 +40,4 @@ fn one_core_among_others(rt: HostRuntime) -> Result<(), Fail> {
         cores.issue(absent, Ask::Load);
     }
     has_counts(&rt, &cores, 2, true, 0, 0);
-    Ok(())
 }

@@ -2,8 +2,8 @@
 //! nothing is refused they are plain calls.
 
 use crate::asserting::same;
-use crate::scenario_taking::{has_ended, letter, offered, offers};
-use base::{Buffer, Shape};
+use crate::scenario_taking::letter;
+use base::{Buffer, CoreAsk, Shape};
 use scenario::{Cursor, Rest, SaveFault, Scenario, ScenarioFault};
 use std::alloc::Global;
 use std::process::Abort;
@@ -78,6 +78,37 @@ fn is_written(
     Ok(())
 }
 
+/// The letters of a list of offers: each stands at its place, and there are no more than are counted.
+fn letters_of<R: Rest>(
+    rt: &impl Abort,
+    alloc: Global,
+    rest: &R,
+    asks: &[CoreAsk],
+) -> Result<String, Fail> {
+    same(rt, &rest.offer_count(), &asks.len());
+    same(rt, &rest.offer_at(asks.len()), &None);
+    let mut letters = String::new(alloc);
+    for (at, ask) in asks.iter().enumerate() {
+        same(rt, &rest.offer_at(at), &Some(*ask));
+        letters.push(letter(*ask).unwrap_or('?'))?;
+    }
+    Ok(letters)
+}
+
+/// The offers as letters.
+fn offered<R: Rest>(rt: &impl Abort, alloc: Global, rest: &R) -> Result<String, Fail> {
+    let mut asks = Vec::new(alloc);
+    rest.offers(&mut asks)?;
+    letters_of(rt, alloc, rest, asks.as_slice())
+}
+
+/// Compares the offers.
+fn offers<R: Rest>(rt: &impl Abort, alloc: Global, rest: &R, wanted: &str) -> Result<(), Fail> {
+    let found = offered(rt, alloc, rest)?;
+    same(rt, &found.as_str(), &wanted);
+    Ok(())
+}
+
 /// Takes the first offer, at the second call where the first one is refused memory and changes nothing.
 fn take_at_last<R: Rest<Alloc = Global>>(
     rt: &impl Abort,
@@ -107,7 +138,8 @@ fn take_all<R: Rest<Alloc = Global>>(
     for wanted in letters.chars() {
         take_at_last(rt, alloc, rest, wanted)?;
     }
-    has_ended(rt, alloc, rest)
+    same(rt, &rest.may_end(), &true);
+    offers(rt, alloc, rest, "")
 }
 
 fn copy_at_last(alloc: Global, tree: &Scenario<Global>) -> Result<Scenario<Global>, Fail> {

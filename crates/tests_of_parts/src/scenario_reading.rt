@@ -3,54 +3,37 @@ use base::{Buffer, Faltering, Shape};
 use scenario::{SaveFault, Scenario, ScenarioFault};
 use std::alloc::Global;
 use std::process::Abort;
-use std::test::Fail;
 
 /// The numbers are of two caches and three blocks.
-fn read(alloc: Global, text: &[u8]) -> Result<Scenario<Global>, ScenarioFault> {
-    let Ok(shape) = Shape::new(2, 3) else {
-        return Err(ScenarioFault::NoMemory);
-    };
+fn read(rt: &impl Abort, alloc: Global, text: &[u8]) -> Result<Scenario<Global>, ScenarioFault> {
+    let shape = Shape::new(2, 3).expect(rt, "a shape");
     Scenario::read(alloc, alloc, text, shape)
 }
 
-/// Why the text is refused, if it is, but for want of memory.
-fn fault_of(alloc: Global, text: &[u8]) -> Result<Option<ScenarioFault>, Fail> {
-    match read(alloc, text) {
-        Ok(_) => Ok(None),
-        Err(ScenarioFault::NoMemory) => Err(Fail::from("NoMemory")),
-        Err(fault) => Ok(Some(fault)),
-    }
-}
-
-/// Compares the fault of a text.
-fn has_fault(
-    rt: &impl Abort,
-    alloc: Global,
-    text: &str,
-    fault: Option<ScenarioFault>,
-) -> Result<(), Fail> {
-    let found = fault_of(alloc, text.as_bytes())?;
+/// Compares why a text is refused, if it is.
+fn has_fault(rt: &impl Abort, alloc: Global, text: &str, fault: Option<ScenarioFault>) {
+    let found = read(rt, alloc, text.as_bytes()).err();
     same_at(rt, &found, &fault, &text);
-    Ok(())
 }
 
 /// What comes before so many times, then the inner text, and then what comes behind so many times.
 fn nested(
+    rt: &impl Abort,
     alloc: Global,
     before: &str,
     inner: &str,
     behind: &str,
     times: u32,
-) -> Result<String, Fail> {
+) -> String {
     let mut text = String::new(alloc);
     for _ in 0..times {
-        text.push_str(before)?;
+        text.push_str(before).expect(rt, "memory");
     }
-    text.push_str(inner)?;
+    text.push_str(inner).expect(rt, "memory");
     for _ in 0..times {
-        text.push_str(behind)?;
+        text.push_str(behind).expect(rt, "memory");
     }
-    Ok(text)
+    text
 }
 
 const LOAD: &str = r#"{"block":0,"core":0,"op":"load"}"#;
@@ -140,13 +123,12 @@ const REFUSED: [(&str, ScenarioFault); 33] = [
 ];
 
 #[test]
-fn texts_that_are_refused(rt: HostRuntime) -> Result<(), Fail> {
+fn texts_that_are_refused(rt: HostRuntime) {
     for (text, fault) in &REFUSED {
-        has_fault(&rt, rt.alloc(), text, Some(*fault))?;
+        has_fault(&rt, rt.alloc(), text, Some(*fault));
     }
-    let found = fault_of(rt.alloc(), b"{\"\xff\":[]}")?;
+    let found = read(&rt, rt.alloc(), b"{\"\xff\":[]}").err();
     same_at(&rt, &found, &Some(ScenarioFault::NotJson), &"no UTF-8");
-    Ok(())
 }
 
 /// What is refused as any number of a scenario.
@@ -161,41 +143,38 @@ const NO_NUMBERS: [&str; 7] = [
 ];
 
 /// Holds that no number of a scenario is spelled in one of these ways.
-fn are_no_numbers(rt: &impl Abort, alloc: Global, before: &str, behind: &str) -> Result<(), Fail> {
+fn are_no_numbers(rt: &impl Abort, alloc: Global, before: &str, behind: &str) {
     for number in &NO_NUMBERS {
-        let text = format!(in alloc; "{before}{number}{behind}")?;
-        has_fault(rt, alloc, text.as_str(), Some(ScenarioFault::BadShape))?;
+        let text = format!(in alloc; "{before}{number}{behind}").expect(rt, "memory");
+        has_fault(rt, alloc, text.as_str(), Some(ScenarioFault::BadShape));
     }
-    Ok(())
 }
 
 #[test]
-fn numbers_that_are_refused(rt: HostRuntime) -> Result<(), Fail> {
+fn numbers_that_are_refused(rt: HostRuntime) {
     for (before, behind) in &[
         (r#"{"op":"load","core":"#, r#","block":0}"#),
         (r#"{"op":"load","core":0,"block":"#, "}"),
         (r#"{"times":"#, r#","of":{"seq":[]}}"#),
         (r#"{"op":"store","core":0,"block":0,"value":"#, "}"),
     ] {
-        are_no_numbers(&rt, rt.alloc(), before, behind)?;
+        are_no_numbers(&rt, rt.alloc(), before, behind);
     }
-    Ok(())
 }
 
 #[test]
-fn small_numbers_that_are_refused(rt: HostRuntime) -> Result<(), Fail> {
+fn small_numbers_that_are_refused(rt: HostRuntime) {
     for text in &[
         r#"{"op":"load","core":4294967296,"block":0}"#,
         r#"{"op":"load","core":0,"block":4294967296}"#,
         r#"{"times":4294967296,"of":{"seq":[]}}"#,
     ] {
-        has_fault(&rt, rt.alloc(), text, Some(ScenarioFault::BadShape))?;
+        has_fault(&rt, rt.alloc(), text, Some(ScenarioFault::BadShape));
     }
-    Ok(())
 }
 
 #[test]
-fn the_first_fault_of_a_text(rt: HostRuntime) -> Result<(), Fail> {
+fn the_first_fault_of_a_text(rt: HostRuntime) {
     let refused = [
         (
             r#"{"seq":[{"op":"load","core":2,"block":0},{"any":[]}]}"#,
@@ -220,13 +199,12 @@ fn the_first_fault_of_a_text(rt: HostRuntime) -> Result<(), Fail> {
         ),
     ];
     for (text, fault) in &refused {
-        has_fault(&rt, rt.alloc(), text, Some(*fault))?;
+        has_fault(&rt, rt.alloc(), text, Some(*fault));
     }
-    Ok(())
 }
 
 #[test]
-fn levels_and_lengths(rt: HostRuntime) -> Result<(), Fail> {
+fn levels_and_lengths(rt: HostRuntime) {
     let alloc = rt.alloc();
     let seq = r#"{"seq":["#;
     let most = r#"{"times":4294967295,"of":"#;
@@ -252,10 +230,9 @@ fn levels_and_lengths(rt: HostRuntime) -> Result<(), Fail> {
         (one_million, LOAD, "}", 1, None),
         (one_more, LOAD, "}", 1, long),
     ] {
-        let text = nested(alloc, before, inner, behind, *times)?;
-        has_fault(&rt, alloc, text.as_str(), *fault)?;
+        let text = nested(&rt, alloc, before, inner, behind, *times);
+        has_fault(&rt, alloc, text.as_str(), *fault);
     }
-    Ok(())
 }
 
 /// Texts as they are written.
@@ -272,29 +249,22 @@ const TEXTS: [&str; 9] = [
 ];
 
 /// Compares what a scenario is written as.
-fn writes(
-    rt: &impl Abort,
-    alloc: Global,
-    scenario: &Scenario<Global>,
-    wanted: &str,
-) -> Result<(), Fail> {
+fn writes(rt: &impl Abort, alloc: Global, scenario: &Scenario<Global>, wanted: &str) {
     let mut sink = Buffer::open(alloc);
-    scenario.write(alloc, &mut sink)?;
+    scenario.write(alloc, &mut sink).expect(rt, "memory");
     same_at(rt, &sink.bytes(), &wanted.as_bytes(), &wanted);
-    Ok(())
 }
 
 #[test]
-fn texts_read_and_written(rt: HostRuntime) -> Result<(), Fail> {
+fn texts_read_and_written(rt: HostRuntime) {
     for text in &TEXTS {
-        let scenario = read(rt.alloc(), text.as_bytes())?;
-        writes(&rt, rt.alloc(), &scenario, text)?;
+        let scenario = read(&rt, rt.alloc(), text.as_bytes()).expect(&rt, "a scenario");
+        writes(&rt, rt.alloc(), &scenario, text);
     }
-    Ok(())
 }
 
 #[test]
-fn other_spellings_of_a_text(rt: HostRuntime) -> Result<(), Fail> {
+fn other_spellings_of_a_text(rt: HostRuntime) {
     let spelled = [
         r#"{"op":"store","core":1,"block":2,"value":7}"#,
         " { \"core\" : 1 , \"value\" : 7 ,\n\"op\" : \"store\" , \"block\" : 2 } ",
@@ -302,10 +272,9 @@ fn other_spellings_of_a_text(rt: HostRuntime) -> Result<(), Fail> {
     ];
     let wanted = r#"{"block":2,"core":1,"op":"store","value":7}"#;
     for text in &spelled {
-        let scenario = read(rt.alloc(), text.as_bytes())?;
-        writes(&rt, rt.alloc(), &scenario, wanted)?;
+        let scenario = read(&rt, rt.alloc(), text.as_bytes()).expect(&rt, "a scenario");
+        writes(&rt, rt.alloc(), &scenario, wanted);
     }
-    Ok(())
 }
 
 /// Compares what comes through a sink that fails behind so many calls, of which so many are enough.
@@ -316,14 +285,11 @@ fn comes_through(
     most: usize,
     calls: u64,
     enough: u64,
-) -> Result<(), Fail> {
+) {
     let at = (most, calls);
     let text = TEXTS[6].as_bytes();
     let mut sink = Faltering::over(Buffer::open(alloc), most, calls);
     let written = scenario.write(alloc, &mut sink);
-    if written == Err(SaveFault::NoMemory) {
-        return Err(Fail::from("NoMemory"));
-    }
     let out = sink.end().bytes();
     let count = out.len() as u64;
     let fault = SaveFault::Device { written: count };
@@ -332,16 +298,14 @@ fn comes_through(
     same_at(rt, &text.starts_with(out), &true, &at);
     let is_whole = count == text.len() as u64;
     same_at(rt, &is_whole, &(calls == enough), &at);
-    Ok(())
 }
 
 #[test]
-fn sinks_that_fail_on_the_way(rt: HostRuntime) -> Result<(), Fail> {
-    let scenario = read(rt.alloc(), TEXTS[6].as_bytes())?;
+fn sinks_that_fail_on_the_way(rt: HostRuntime) {
+    let scenario = read(&rt, rt.alloc(), TEXTS[6].as_bytes()).expect(&rt, "a scenario");
     for (most, enough) in &[(1, 133), (7, 19), (200, 1)] {
         for calls in 0..=*enough {
-            comes_through(&rt, rt.alloc(), &scenario, *most, calls, *enough)?;
+            comes_through(&rt, rt.alloc(), &scenario, *most, calls, *enough);
         }
     }
-    Ok(())
 }

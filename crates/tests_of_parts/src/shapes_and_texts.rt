@@ -7,16 +7,13 @@ use base::{
 use std::alloc::Global;
 use std::fmt::Display;
 use std::process::Abort;
-use std::test::Fail;
 
 #[test]
-fn shapes_within_the_limits(rt: HostRuntime) -> Result<(), Fail> {
+fn shapes_within_the_limits(rt: HostRuntime) {
     for (caches, blocks) in &[(1, 1), (1024, 4096)] {
-        let shape = Shape::new(*caches, *blocks)?;
-        same(&rt, &shape.caches(), caches);
-        same(&rt, &shape.blocks(), blocks);
+        let shape = Shape::new(*caches, *blocks).expect(&rt, "a shape");
+        same(&rt, &(shape.caches(), shape.blocks()), &(*caches, *blocks));
     }
-    Ok(())
 }
 
 #[test]
@@ -34,19 +31,13 @@ fn the_first_fault_of_a_shape(rt: HostRuntime) {
 }
 
 /// Compares what a value is shown as.
-fn is_shown<T: Display>(
-    rt: &impl Abort,
-    alloc: Global,
-    value: &T,
-    wanted: &str,
-) -> Result<(), Fail> {
-    let shown = format!(in alloc; "{value}")?;
+fn is_shown<T: Display>(rt: &impl Abort, alloc: Global, value: &T, wanted: &str) {
+    let shown = format!(in alloc; "{value}").expect(rt, "memory");
     same(rt, &shown.as_str(), &wanted);
-    Ok(())
 }
 
 #[test]
-fn steps_read_and_shown(rt: HostRuntime) -> Result<(), Fail> {
+fn steps_read_and_shown(rt: HostRuntime) {
     let lines = [
         "ask 0 4294967295 load",
         "ask 4294967295 0 load",
@@ -61,10 +52,9 @@ fn steps_read_and_shown(rt: HostRuntime) -> Result<(), Fail> {
         "response 4294967295 10",
     ];
     for line in &lines {
-        let step = Step::read(line.as_bytes()).ok_or("the text of a step isn't read")?;
-        is_shown(&rt, rt.alloc(), &step, line)?;
+        let step = Step::read(line.as_bytes()).expect(&rt, "a step");
+        is_shown(&rt, rt.alloc(), &step, line);
     }
-    Ok(())
 }
 
 #[test]
@@ -148,7 +138,7 @@ fn lines_that_are_no_step(rt: HostRuntime) {
 }
 
 #[test]
-fn outcomes_read_and_shown(rt: HostRuntime) -> Result<(), Fail> {
+fn outcomes_read_and_shown(rt: HostRuntime) {
     let outcomes = [
         (Outcome::Sent, "sent"),
         (Outcome::Moved, "moved"),
@@ -175,9 +165,8 @@ fn outcomes_read_and_shown(rt: HostRuntime) -> Result<(), Fail> {
     for (outcome, line) in &outcomes {
         let found = Outcome::read(line.as_bytes());
         same_at(&rt, &found, &Some(*outcome), line);
-        is_shown(&rt, rt.alloc(), outcome, line)?;
+        is_shown(&rt, rt.alloc(), outcome, line);
     }
-    Ok(())
 }
 
 const NO_OUTCOMES: [&str; 10] = [
@@ -234,17 +223,17 @@ fn blocks_of_steps(rt: HostRuntime) {
 }
 
 /// Pulls until nothing is left, three bytes a call at most. It answers what came, and whether the source failed.
-fn pull_all<S: Source>(alloc: Global, source: &mut S) -> Result<(Vec<u8>, bool), Fail> {
+fn pull_all<S: Source>(rt: &impl Abort, alloc: Global, source: &mut S) -> (Vec<u8>, bool) {
     let mut found = Vec::new(alloc);
     let mut buffer = [0u8; 3];
     for _ in 0..100 {
         match source.pull(&mut buffer) {
-            Ok(0) => return Ok((found, false)),
-            Ok(n) => found.extend_from_slice(&buffer[..n])?,
-            Err(Failed) => return Ok((found, true)),
+            Ok(0) => return (found, false),
+            Ok(n) => found.extend_from_slice(&buffer[..n]).expect(rt, "memory"),
+            Err(Failed) => return (found, true),
         }
     }
-    Err(Fail::from("a source doesn't end"))
+    panic!(rt; "a source doesn't end")
 }
 
 const TEXT: &[u8] = b"steps and outcomes";
@@ -256,17 +245,16 @@ fn is_pulled<S: Source>(
     source: &mut S,
     wanted: &[u8],
     failed: bool,
-) -> Result<(), Fail> {
-    let (found, fails) = pull_all(alloc, source)?;
+) {
+    let (found, fails) = pull_all(rt, alloc, source);
     let at = (wanted, failed);
     same_at(rt, &(found.as_slice(), fails), &at, &at);
-    Ok(())
 }
 
 #[test]
-fn sources_of_bytes(rt: HostRuntime) -> Result<(), Fail> {
-    is_pulled(&rt, rt.alloc(), &mut { TEXT }, TEXT, false)?;
-    is_pulled(&rt, rt.alloc(), &mut FromRead::new(TEXT), TEXT, false)?;
+fn sources_of_bytes(rt: HostRuntime) {
+    is_pulled(&rt, rt.alloc(), &mut { TEXT }, TEXT, false);
+    is_pulled(&rt, rt.alloc(), &mut FromRead::new(TEXT), TEXT, false);
     for (most, calls, whole, failed) in &[
         (1, 100, 18, false),
         (2, 4, 8, true),
@@ -274,9 +262,8 @@ fn sources_of_bytes(rt: HostRuntime) -> Result<(), Fail> {
         (1, 0, 0, true),
     ] {
         let mut source = Faltering::over(TEXT, *most, *calls);
-        is_pulled(&rt, rt.alloc(), &mut source, &TEXT[..*whole], *failed)?;
+        is_pulled(&rt, rt.alloc(), &mut source, &TEXT[..*whole], *failed);
     }
-    Ok(())
 }
 
 /// Compares what comes through a sink that fails behind so many calls, and what the fault says of it.

@@ -6,7 +6,6 @@ use scenario::Scenario;
 use schedule::{Choice, Dice, choices};
 use std::alloc::Global;
 use std::process::Abort;
-use std::test::Fail;
 use world::World;
 
 const BLOCK: BlockId = BlockId(0);
@@ -24,10 +23,10 @@ const STORE: CoreAsk = CoreAsk {
 };
 
 /// A world of two caches and one block that opens at 0.
-fn opened(alloc: Global) -> Result<World, Fail> {
-    let shape = Shape::new(2, 1)?;
-    let opening = vec![in alloc; 0; 1]?;
-    Ok(World::open(alloc, shape, Tables::baseline(), opening)?)
+fn opened(rt: &impl Abort, alloc: Global) -> World {
+    let shape = Shape::new(2, 1).expect(rt, "a shape");
+    let opening = vec![in alloc; 0; 1].expect(rt, "memory");
+    World::open(alloc, shape, Tables::baseline(), opening).expect(rt, "a world")
 }
 
 fn occupy(cores: &mut Cores, core: CacheId) {
@@ -38,24 +37,24 @@ fn occupy(cores: &mut Cores, core: CacheId) {
 
 /// What can happen next, where these cores are busy.
 fn listed(
+    rt: &impl Abort,
     alloc: Global,
     world: &World,
     busy: &[u32],
     scenario: &Scenario<Global>,
-) -> Result<Vec<Choice>, Fail> {
-    let mut cores = Cores::open(alloc, 2)?;
+) -> Vec<Choice> {
+    let mut cores = Cores::open(alloc, 2).expect(rt, "memory");
     for core in busy {
         occupy(&mut cores, CacheId(*core));
     }
-    Ok(choices(alloc, world, &cores, scenario)?)
+    choices(alloc, world, &cores, scenario).expect(rt, "memory")
 }
 
-fn play(world: &mut World, steps: &[&str]) -> Result<(), Fail> {
+fn play(rt: &impl Abort, world: &mut World, steps: &[&str]) {
     for line in steps {
-        let step = Step::read(line.as_bytes()).ok_or("the text of a step isn't read")?;
-        world.step(step)?;
+        let step = Step::read(line.as_bytes()).expect(rt, "a step");
+        world.step(step).expect(rt, "memory");
     }
-    Ok(())
 }
 
 const WORDS: [u32; 6] = [
@@ -79,11 +78,11 @@ fn the_first_choices(rt: HostRuntime) {
 }
 
 /// One of a load of core 0 and a store of core 1.
-fn load_or_store(alloc: Global) -> Result<Scenario<Global>, Fail> {
+fn load_or_store(rt: &impl Abort, alloc: Global) -> Scenario<Global> {
     let mut children = Vec::new(alloc);
-    children.push(Scenario::One(LOAD))?;
-    children.push(Scenario::One(STORE))?;
-    Ok(Scenario::Any(children))
+    children.push(Scenario::One(LOAD)).expect(rt, "memory");
+    children.push(Scenario::One(STORE)).expect(rt, "memory");
+    Scenario::Any(children)
 }
 
 /// Compares what can happen next, where these cores are busy.
@@ -94,68 +93,53 @@ fn expect(
     busy: &[u32],
     scenario: &Scenario<Global>,
     wanted: &[Choice],
-) -> Result<(), Fail> {
-    let found = listed(alloc, world, busy, scenario)?;
+) {
+    let found = listed(rt, alloc, world, busy, scenario);
     same(rt, &found.as_slice(), &wanted);
-    Ok(())
 }
 
 /// Compares the choices before and behind the store's ask.
-fn offers_first(
-    rt: &impl Abort,
-    alloc: Global,
-    world: &mut World,
-    scenario: &Scenario<Global>,
-) -> Result<(), Fail> {
+fn offers_first(rt: &impl Abort, alloc: Global, world: &mut World, scenario: &Scenario<Global>) {
     let (load, store) = (Choice::Offer(0, LOAD), Choice::Offer(1, STORE));
     let request = Choice::Deliver(Step::Request {
         block: BLOCK,
         index: 0,
     });
-    expect(rt, alloc, world, &[], scenario, &[load, store])?;
-    play(world, &["ask 1 0 store 9"])?;
-    expect(rt, alloc, world, &[1], scenario, &[load, request])?;
-    expect(rt, alloc, world, &[0, 1], scenario, &[request])
+    expect(rt, alloc, world, &[], scenario, &[load, store]);
+    play(rt, world, &["ask 1 0 store 9"]);
+    expect(rt, alloc, world, &[1], scenario, &[load, request]);
+    expect(rt, alloc, world, &[0, 1], scenario, &[request]);
 }
 
-fn offers_first_in_new(
-    rt: &impl Abort,
-    alloc: Global,
-    scenario: &Scenario<Global>,
-) -> Result<(), Fail> {
-    let mut world = opened(alloc)?;
-    offers_first(rt, alloc, &mut world, scenario)
+fn offers_first_in_new(rt: &impl Abort, alloc: Global, scenario: &Scenario<Global>) {
+    let mut world = opened(rt, alloc);
+    offers_first(rt, alloc, &mut world, scenario);
 }
 
 #[test]
-fn offers_before_deliveries(rt: HostRuntime) -> Result<(), Fail> {
-    let scenario = load_or_store(rt.alloc())?;
-    offers_first_in_new(&rt, rt.alloc(), &scenario)
+fn offers_before_deliveries(rt: HostRuntime) {
+    let scenario = load_or_store(&rt, rt.alloc());
+    offers_first_in_new(&rt, rt.alloc(), &scenario);
 }
 
 /// Compares the choices where a forward is held behind the Data.
-fn offers_no_held(
-    rt: &impl Abort,
-    alloc: Global,
-    world: &mut World,
-    scenario: &Scenario<Global>,
-) -> Result<(), Fail> {
+fn offers_no_held(rt: &impl Abort, alloc: Global, world: &mut World, scenario: &Scenario<Global>) {
     let steps = [
         "ask 0 0 store 7",
         "request 0 0",
         "ask 1 0 load",
         "request 0 0",
     ];
-    play(world, &steps)?;
+    play(rt, world, &steps);
     let response = Choice::Deliver(Step::Response {
         block: BLOCK,
         index: 0,
     });
-    expect(rt, alloc, world, &[], scenario, &[response])
+    expect(rt, alloc, world, &[], scenario, &[response]);
 }
 
 #[test]
-fn what_is_held_is_no_choice(rt: HostRuntime) -> Result<(), Fail> {
-    let mut world = opened(rt.alloc())?;
-    offers_no_held(&rt, rt.alloc(), &mut world, &Scenario::One(LOAD))
+fn what_is_held_is_no_choice(rt: HostRuntime) {
+    let mut world = opened(&rt, rt.alloc());
+    offers_no_held(&rt, rt.alloc(), &mut world, &Scenario::One(LOAD));
 }

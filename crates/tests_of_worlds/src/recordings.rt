@@ -9,24 +9,29 @@ use record::{
 };
 use std::alloc::Global;
 use std::process::Abort;
-use std::test::Fail;
 use world::OpenFault;
 
 /// A recording of one block that opens at 0. Each line is a step and an outcome, with ` = ` between them.
-fn recorded(alloc: Global, caches: u32, tables: Tables, lines: &[&str]) -> Result<Recording, Fail> {
-    let shape = Shape::new(caches, 1)?;
-    let opening = vec![in alloc; 0]?;
-    let mut recording = Recording::open(alloc, shape, tables, opening)?;
-    push_all(&mut recording, lines)?;
-    Ok(recording)
+fn recorded(
+    rt: &impl Abort,
+    alloc: Global,
+    caches: u32,
+    tables: Tables,
+    lines: &[&str],
+) -> Recording {
+    let shape = Shape::new(caches, 1).expect(rt, "a shape");
+    let opening = vec![in alloc; 0].expect(rt, "memory");
+    let opened = Recording::open(alloc, shape, tables, opening);
+    let mut recording = opened.expect(rt, "a recording");
+    push_all(rt, &mut recording, lines);
+    recording
 }
 
-fn push_all(recording: &mut Recording, lines: &[&str]) -> Result<(), Fail> {
+fn push_all(rt: &impl Abort, recording: &mut Recording, lines: &[&str]) {
     for line in lines {
-        let entry = entry_of(line).ok_or("not an entry")?;
-        recording.push(entry)?;
+        let entry = entry_of(line).expect(rt, "an entry");
+        recording.push(entry).expect(rt, "memory");
     }
-    Ok(())
 }
 
 const ONE_LOAD: [&str; 3] = [
@@ -50,23 +55,21 @@ const LOAD_FROM_OWNER: [&str; 8] = [
 ];
 
 /// Compares the text of a recording.
-fn writes(rt: &impl Abort, alloc: Global, recording: &Recording, text: &str) -> Result<(), Fail> {
+fn writes(rt: &impl Abort, alloc: Global, recording: &Recording, text: &str) {
     let mut sink = Buffer::open(alloc);
-    recording.write(&mut sink)?;
+    recording.write(&mut sink).expect(rt, "memory");
     same(rt, &sink.bytes(), &text.as_bytes());
-    Ok(())
 }
 
 #[test]
-fn the_text_of_one_load(rt: HostRuntime) -> Result<(), Fail> {
-    let recording = recorded(rt.alloc(), 1, Tables::baseline(), &ONE_LOAD)?;
-    writes(&rt, rt.alloc(), &recording, ONE_LOAD_TEXT)?;
+fn the_text_of_one_load(rt: HostRuntime) {
+    let recording = recorded(&rt, rt.alloc(), 1, Tables::baseline(), &ONE_LOAD);
+    writes(&rt, rt.alloc(), &recording, ONE_LOAD_TEXT);
     same(&rt, &ONE_LOAD_TEXT.len(), &122);
-    Ok(())
 }
 
 #[test]
-fn the_text_of_changed_tables(rt: HostRuntime) -> Result<(), Fail> {
+fn the_text_of_changed_tables(rt: HostRuntime) {
     let mut tables = Tables::baseline();
     tables.cache = tables
         .cache
@@ -82,8 +85,8 @@ cell cache S Inv stall
 entries 0
 end
 ";
-    let recording = recorded(rt.alloc(), 2, tables, &[])?;
-    writes(&rt, rt.alloc(), &recording, changed)
+    let recording = recorded(&rt, rt.alloc(), 2, tables, &[]);
+    writes(&rt, rt.alloc(), &recording, changed);
 }
 
 /// Compares what comes through a sink that fails behind so many calls, and what the fault says of it.
@@ -100,14 +103,13 @@ fn comes_through(rt: &impl Abort, alloc: Global, recording: &Recording, most: us
 }
 
 #[test]
-fn sinks_that_fail(rt: HostRuntime) -> Result<(), Fail> {
-    let recording = recorded(rt.alloc(), 1, Tables::baseline(), &ONE_LOAD)?;
+fn sinks_that_fail(rt: HostRuntime) {
+    let recording = recorded(&rt, rt.alloc(), 1, Tables::baseline(), &ONE_LOAD);
     for most in &[1, 7, 200] {
         for calls in 0..=122 {
             comes_through(&rt, rt.alloc(), &recording, *most, calls);
         }
     }
-    Ok(())
 }
 
 /// Compares what a recording of one load holds.
@@ -122,19 +124,17 @@ fn holds(rt: &impl Abort, recording: &Recording) {
 }
 
 #[test]
-fn what_a_recording_holds(rt: HostRuntime) -> Result<(), Fail> {
-    let recording = recorded(rt.alloc(), 1, Tables::baseline(), &ONE_LOAD)?;
+fn what_a_recording_holds(rt: HostRuntime) {
+    let recording = recorded(&rt, rt.alloc(), 1, Tables::baseline(), &ONE_LOAD);
     holds(&rt, &recording);
-    Ok(())
 }
 
 #[test]
-fn a_recording_of_no_values(rt: HostRuntime) -> Result<(), Fail> {
-    let shape = Shape::new(1, 1)?;
+fn a_recording_of_no_values(rt: HostRuntime) {
+    let shape = Shape::new(1, 1).expect(&rt, "a shape");
     let none = Vec::new(rt.alloc());
     let refused = Recording::open(rt.alloc(), shape, Tables::baseline(), none).err();
     same(&rt, &refused, &Some(OpenFault::OpeningLength));
-    Ok(())
 }
 
 /// What a replay found: how many entries, and the violation; or the fault.
@@ -149,17 +149,16 @@ fn replayed(
 }
 
 #[test]
-fn a_replay_to_the_end(rt: HostRuntime) -> Result<(), Fail> {
-    let recording = recorded(rt.alloc(), 2, Tables::baseline(), &LOAD_FROM_OWNER)?;
+fn a_replay_to_the_end(rt: HostRuntime) {
+    let recording = recorded(&rt, rt.alloc(), 2, Tables::baseline(), &LOAD_FROM_OWNER);
     same(&rt, &replayed(rt.alloc(), &recording), &Ok((8, None)));
-    Ok(())
 }
 
 #[test]
-fn a_replay_that_differs(rt: HostRuntime) -> Result<(), Fail> {
+fn a_replay_that_differs(rt: HostRuntime) {
     let mut lines = LOAD_FROM_OWNER;
     lines[6] = "response 0 0 = load 1 6";
-    let recording = recorded(rt.alloc(), 2, Tables::baseline(), &lines)?;
+    let recording = recorded(&rt, rt.alloc(), 2, Tables::baseline(), &lines);
     let cache = CacheId(1);
     let differs = ReplayFault::Differs {
         entry: 6,
@@ -167,45 +166,42 @@ fn a_replay_that_differs(rt: HostRuntime) -> Result<(), Fail> {
         found: Outcome::Load { cache, value: 7 },
     };
     same(&rt, &replayed(rt.alloc(), &recording), &Err(differs));
-    Ok(())
 }
 
 #[test]
-fn a_replay_that_breaks(rt: HostRuntime) -> Result<(), Fail> {
+fn a_replay_that_breaks(rt: HostRuntime) {
     let mut tables = Tables::baseline();
     tables.cache = tables
         .cache
         .with(CacheState::M, CacheEvent::FwdGetS, CacheEntry::Blank);
     let mut lines = LOAD_FROM_OWNER;
     lines[5] = "forward 0 0 = blank";
-    let recording = recorded(rt.alloc(), 2, tables, &lines[..6])?;
+    let recording = recorded(&rt, rt.alloc(), 2, tables, &lines[..6]);
     let found = matches!(
         replayed(rt.alloc(), &recording),
         Ok((6, Some((5, Violation::Blank { .. }))))
     );
     same(&rt, &found, &true);
-    Ok(())
 }
 
 /// Pushes as many entries as a recording takes, and compares what it answers to one more.
-fn fill(rt: &impl Abort, recording: &mut Recording) -> Result<(), Fail> {
+fn fill(rt: &impl Abort, recording: &mut Recording) {
     let block = BlockId(0);
     let entry = Entry {
         step: Step::Request { block, index: 0 },
         outcome: Outcome::Absent,
     };
     for _ in 0..MOST_ENTRIES {
-        recording.push(entry)?;
+        recording.push(entry).expect(rt, "memory");
     }
     same(rt, &recording.push(entry), &Err(PushFault::Full));
     same(rt, &recording.entries().len(), &MOST_ENTRIES);
-    Ok(())
 }
 
 #[test]
-fn entries_up_to_the_most(rt: HostRuntime) -> Result<(), Fail> {
-    let mut recording = recorded(rt.alloc(), 1, Tables::baseline(), &[])?;
-    fill(&rt, &mut recording)
+fn entries_up_to_the_most(rt: HostRuntime) {
+    let mut recording = recorded(&rt, rt.alloc(), 1, Tables::baseline(), &[]);
+    fill(&rt, &mut recording);
 }
 
 /// What reading these bytes is refused with, if it is.
@@ -215,14 +211,14 @@ fn fault_of(alloc: Global, bytes: &[u8]) -> Option<ReadFault> {
 }
 
 /// Compares a text with what it is written as where it is read, so many bytes at a time.
-fn is_written_back(rt: &impl Abort, alloc: Global, text: &str, most: usize) -> Result<(), Fail> {
+fn is_written_back(rt: &impl Abort, alloc: Global, text: &str, most: usize) {
     let mut source = Faltering::over(text.as_bytes(), most, 1000);
-    let recording = Recording::read(alloc, &mut source)?;
-    writes(rt, alloc, &recording, text)
+    let recording = Recording::read(alloc, &mut source).expect(rt, "a recording");
+    writes(rt, alloc, &recording, text);
 }
 
 #[test]
-fn texts_read_and_written_back(rt: HostRuntime) -> Result<(), Fail> {
+fn texts_read_and_written_back(rt: HostRuntime) {
     let changed = "msi-recording 1
 shape 2 1
 opening 7
@@ -235,10 +231,9 @@ ask 9 9 store 18446744073709551615 = broken
 end
 ";
     for most in &[1, 7, 200] {
-        is_written_back(&rt, rt.alloc(), ONE_LOAD_TEXT, *most)?;
-        is_written_back(&rt, rt.alloc(), changed, *most)?;
+        is_written_back(&rt, rt.alloc(), ONE_LOAD_TEXT, *most);
+        is_written_back(&rt, rt.alloc(), changed, *most);
     }
-    Ok(())
 }
 
 /// Compares what reading these bytes is refused with.
@@ -249,7 +244,7 @@ fn is_refused(rt: &impl Abort, alloc: Global, bytes: &[u8], line: u64, kind: Rea
 }
 
 #[test]
-fn beginnings_of_a_text(rt: HostRuntime) -> Result<(), Fail> {
+fn beginnings_of_a_text(rt: HostRuntime) {
     let text = ONE_LOAD_TEXT.as_bytes();
     let mut line = 1;
     for cut in 0..text.len() {
@@ -259,13 +254,12 @@ fn beginnings_of_a_text(rt: HostRuntime) -> Result<(), Fail> {
         }
     }
     same(&rt, &line, &10);
-    Ok(())
 }
 
 /// The text of one load, with another part in place of this one.
-fn one_load_with(alloc: Global, old: &str, new: &str) -> Result<String, Fail> {
-    let (front, rest) = ONE_LOAD_TEXT.split_once(old).ok_or("no such part")?;
-    Ok(format!(in alloc; "{front}{new}{rest}")?)
+fn one_load_with(rt: &impl Abort, alloc: Global, old: &str, new: &str) -> String {
+    let (front, rest) = ONE_LOAD_TEXT.split_once(old).expect(rt, "such a part");
+    format!(in alloc; "{front}{new}{rest}").expect(rt, "memory")
 }
 
 const REFUSED: [(&str, &str, ReadKind, u64); 15] = [
@@ -304,35 +298,33 @@ fn is_refused_with(
     new: &str,
     kind: ReadKind,
     line: u64,
-) -> Result<(), Fail> {
-    let text = one_load_with(alloc, old, new)?;
+) {
+    let text = one_load_with(rt, alloc, old, new);
     let fault = fault_of(alloc, text.as_bytes());
     same_at(rt, &fault, &Some(ReadFault { line, kind }), &new);
-    Ok(())
 }
 
 #[test]
-fn texts_that_are_refused(rt: HostRuntime) -> Result<(), Fail> {
+fn texts_that_are_refused(rt: HostRuntime) {
     for (old, new, kind, line) in &REFUSED {
-        is_refused_with(&rt, rt.alloc(), old, new, *kind, *line)?;
+        is_refused_with(&rt, rt.alloc(), old, new, *kind, *line);
     }
-    Ok(())
 }
 
 /// Two lines and the beginning of a third one.
-fn long_line(alloc: Global) -> Result<Vec<u8>, Fail> {
-    let mut long = Vec::from_slice(alloc, b"msi-recording 1\nshape 1 1\n")?;
+fn long_line(rt: &impl Abort, alloc: Global) -> Vec<u8> {
+    let begun = Vec::from_slice(alloc, b"msi-recording 1\nshape 1 1\n");
+    let mut long = begun.expect(rt, "memory");
     for _ in 0..90_001 {
-        long.push(b'x')?;
+        long.push(b'x').expect(rt, "memory");
     }
-    Ok(long)
+    long
 }
 
 #[test]
-fn a_line_that_is_too_long(rt: HostRuntime) -> Result<(), Fail> {
-    let long = long_line(rt.alloc())?;
+fn a_line_that_is_too_long(rt: HostRuntime) {
+    let long = long_line(&rt, rt.alloc());
     is_refused(&rt, rt.alloc(), long.as_slice(), 3, ReadKind::OverLimit);
-    Ok(())
 }
 
 /// Compares what reading is refused with where the source fails behind so many bytes.
@@ -345,7 +337,7 @@ fn fails_behind(rt: &impl Abort, alloc: Global, calls: u64, line: u64) {
 
 /// The line that isn't whole yet is named, and the line behind the last one where all lines are whole.
 #[test]
-fn sources_that_fail(rt: HostRuntime) -> Result<(), Fail> {
+fn sources_that_fail(rt: HostRuntime) {
     let text = ONE_LOAD_TEXT.as_bytes();
     let mut line = 1;
     for calls in 0..=122 {
@@ -355,5 +347,4 @@ fn sources_that_fail(rt: HostRuntime) -> Result<(), Fail> {
         }
     }
     same(&rt, &line, &10);
-    Ok(())
 }

@@ -8,7 +8,6 @@ use monitor::Violation;
 use scenario::Scenario;
 use std::alloc::Global;
 use std::process::Abort;
-use std::test::Fail;
 use trials::{BatchFault, Setup, SetupFault, Trial, TrialResult, Verdict, batch, trial};
 
 const RACING_PAIR: &str =
@@ -17,27 +16,35 @@ const RACING_PAIR: &str =
 const ONE_LOAD: &str = r#"{"op":"load","core":0,"block":0}"#;
 
 /// So many caches and one block that opens at 0.
-fn setup(alloc: Global, caches: u32, tables: Tables, seed: u64, limit: u32) -> Result<Setup, Fail> {
-    let shape = Shape::new(caches, 1)?;
-    let opening = vec![in alloc; 0; 1]?;
-    Ok(Setup::new(shape, tables, opening, seed, limit)?)
+fn setup(
+    rt: &impl Abort,
+    alloc: Global,
+    caches: u32,
+    tables: Tables,
+    seed: u64,
+    limit: u32,
+) -> Setup {
+    let shape = Shape::new(caches, 1).expect(rt, "a shape");
+    let opening = vec![in alloc; 0; 1].expect(rt, "memory");
+    Setup::new(shape, tables, opening, seed, limit).expect(rt, "a setup")
 }
 
-fn scenario(alloc: Global, text: &str, caches: u32) -> Result<Scenario<Global>, Fail> {
-    let shape = Shape::new(caches, 1)?;
-    Ok(Scenario::read(alloc, alloc, text.as_bytes(), shape)?)
+fn scenario(rt: &impl Abort, alloc: Global, text: &str, caches: u32) -> Scenario<Global> {
+    let shape = Shape::new(caches, 1).expect(rt, "a shape");
+    Scenario::read(alloc, alloc, text.as_bytes(), shape).expect(rt, "a scenario")
 }
 
 /// The trial, which a second call makes where a growth was refused.
 fn made_at_last(
+    rt: &impl Abort,
     alloc: Global,
     scenario: &Scenario<Global>,
     setup: &Setup,
     number: u32,
-) -> Result<Trial, Fail> {
+) -> Trial {
     match trial(alloc, scenario, setup, number) {
-        Ok(made) => Ok(made),
-        Err(_) => Ok(trial(alloc, scenario, setup, number)?),
+        Ok(made) => made,
+        Err(_) => trial(alloc, scenario, setup, number).expect(rt, "memory"),
     }
 }
 
@@ -65,24 +72,22 @@ fn is_cut(rt: &impl Abort, cut: &Trial) {
 }
 
 /// Trial 54 of two cores that race for one block, in so many steps at most.
-fn racing_pair(alloc: Global, limit: u32) -> Result<Trial, Fail> {
-    let pair = scenario(alloc, RACING_PAIR, 2)?;
-    let setup = setup(alloc, 2, Tables::baseline(), 42, limit)?;
-    made_at_last(alloc, &pair, &setup, 54)
+fn racing_pair(rt: &impl Abort, alloc: Global, limit: u32) -> Trial {
+    let pair = scenario(rt, alloc, RACING_PAIR, 2);
+    let setup = setup(rt, alloc, 2, Tables::baseline(), 42, limit);
+    made_at_last(rt, alloc, &pair, &setup, 54)
 }
 
 #[test]
-fn a_racing_pair(rt: HostRuntime) -> Result<(), Fail> {
-    let cut = racing_pair(rt.alloc(), 6)?;
+fn a_racing_pair(rt: HostRuntime) {
+    let cut = racing_pair(&rt, rt.alloc(), 6);
     is_cut(&rt, &cut);
-    Ok(())
 }
 
 #[test]
-fn a_racing_pair_to_its_end(rt: HostRuntime) -> Result<(), Fail> {
-    let quiet = racing_pair(rt.alloc(), 100)?.result;
+fn a_racing_pair_to_its_end(rt: HostRuntime) {
+    let quiet = racing_pair(&rt, rt.alloc(), 100).result;
     same(&rt, &(quiet.verdict, quiet.steps), &(Verdict::Quiet, 8));
-    Ok(())
 }
 
 /// Compares what comes of one load.
@@ -93,8 +98,8 @@ fn comes(
     setup: &Setup,
     verdict: Verdict,
     steps: u32,
-) -> Result<(), Fail> {
-    let made = trial(alloc, load, setup, 3)?;
+) {
+    let made = trial(alloc, load, setup, 3).expect(rt, "memory");
     let result = TrialResult {
         number: 3,
         verdict,
@@ -102,7 +107,6 @@ fn comes(
     };
     same(rt, &made.result, &result);
     same(rt, &made.recording.entries().len(), &(steps as usize));
-    Ok(())
 }
 
 /// Compares what comes of one load over these tables in so many steps at most.
@@ -113,14 +117,14 @@ fn one_load_comes(
     limit: u32,
     verdict: Verdict,
     steps: u32,
-) -> Result<(), Fail> {
-    let load = scenario(alloc, ONE_LOAD, 1)?;
-    let setup = setup(alloc, 1, tables, 7, limit)?;
-    comes(rt, alloc, &load, &setup, verdict, steps)
+) {
+    let load = scenario(rt, alloc, ONE_LOAD, 1);
+    let setup = setup(rt, alloc, 1, tables, 7, limit);
+    comes(rt, alloc, &load, &setup, verdict, steps);
 }
 
 #[test]
-fn one_load(rt: HostRuntime) -> Result<(), Fail> {
+fn one_load(rt: HostRuntime) {
     for (limit, verdict, steps) in &[
         (9, Verdict::Quiet, 3),
         (3, Verdict::Quiet, 3),
@@ -128,24 +132,23 @@ fn one_load(rt: HostRuntime) -> Result<(), Fail> {
         (0, Verdict::Cut, 0),
     ] {
         let own = Tables::baseline();
-        one_load_comes(&rt, rt.alloc(), own, *limit, *verdict, *steps)?;
+        one_load_comes(&rt, rt.alloc(), own, *limit, *verdict, *steps);
     }
-    Ok(())
 }
 
 #[test]
-fn one_load_that_is_stalled(rt: HostRuntime) -> Result<(), Fail> {
+fn one_load_that_is_stalled(rt: HostRuntime) {
     let mut stalled = Tables::baseline();
     stalled.directory = stalled.directory.with(
         DirectoryState::I,
         DirectoryEvent::GetS,
         DirectoryEntry::Stall,
     );
-    one_load_comes(&rt, rt.alloc(), stalled, 9, Verdict::Stuck, 1)
+    one_load_comes(&rt, rt.alloc(), stalled, 9, Verdict::Stuck, 1);
 }
 
 #[test]
-fn one_load_that_meets_a_blank(rt: HostRuntime) -> Result<(), Fail> {
+fn one_load_that_meets_a_blank(rt: HostRuntime) {
     let mut blank = Tables::baseline();
     blank.cache = blank
         .cache
@@ -154,35 +157,29 @@ fn one_load_that_meets_a_blank(rt: HostRuntime) -> Result<(), Fail> {
         at: Place::Cache(CacheId(0)),
         block: BlockId(0),
     };
-    one_load_comes(&rt, rt.alloc(), blank, 9, Verdict::Broke(violation), 1)
+    one_load_comes(&rt, rt.alloc(), blank, 9, Verdict::Broke(violation), 1);
 }
 
 /// Compares the text of the recording of a trial of one load.
-fn writes(
-    rt: &impl Abort,
-    alloc: Global,
-    load: &Scenario<Global>,
-    setup: &Setup,
-) -> Result<(), Fail> {
-    let made = trial(alloc, load, setup, 8)?;
-    is_written(rt, alloc, &made)
+fn writes(rt: &impl Abort, alloc: Global, load: &Scenario<Global>, setup: &Setup) {
+    let made = trial(alloc, load, setup, 8).expect(rt, "memory");
+    is_written(rt, alloc, &made);
 }
 
-fn is_written(rt: &impl Abort, alloc: Global, made: &Trial) -> Result<(), Fail> {
+fn is_written(rt: &impl Abort, alloc: Global, made: &Trial) {
     let mut sink = Buffer::open(alloc);
-    made.recording.write(&mut sink)?;
+    made.recording.write(&mut sink).expect(rt, "memory");
     let text =
         "msi-recording 1\nshape 1 1\nopening 0\ncells 0\nentries 3\nask 0 0 load = sent\nrequest 0 0 = moved\nresponse 0 0 = load 0 0\nend\n";
     same(rt, &sink.bytes(), &text.as_bytes());
     same(rt, &text.len(), &122);
-    Ok(())
 }
 
 #[test]
-fn the_text_of_a_trial(rt: HostRuntime) -> Result<(), Fail> {
-    let load = scenario(rt.alloc(), ONE_LOAD, 1)?;
-    let setup = setup(rt.alloc(), 1, Tables::baseline(), 5, 9)?;
-    writes(&rt, rt.alloc(), &load, &setup)
+fn the_text_of_a_trial(rt: HostRuntime) {
+    let load = scenario(&rt, rt.alloc(), ONE_LOAD, 1);
+    let setup = setup(&rt, rt.alloc(), 1, Tables::baseline(), 5, 9);
+    writes(&rt, rt.alloc(), &load, &setup);
 }
 
 const NONE: &str = r#"{"times":0,"of":{"op":"load","core":0,"block":0}}"#;
@@ -204,14 +201,15 @@ fn are_results(rt: &impl Abort, results: &[TrialResult], count: u32, verdict: Ve
 
 /// The batch, which a second call makes where a growth was refused.
 fn batch_at_last(
+    rt: &impl Abort,
     alloc: Global,
     tree: &Scenario<Global>,
     setup: &Setup,
     count: u32,
-) -> Result<Vec<TrialResult>, BatchFault> {
+) -> Vec<TrialResult> {
     match batch(alloc, tree, setup, count) {
-        Ok(results) => Ok(results),
-        Err(_) => batch(alloc, tree, setup, count),
+        Ok(results) => results,
+        Err(_) => batch(alloc, tree, setup, count).expect(rt, "a batch"),
     }
 }
 
@@ -223,10 +221,9 @@ fn results_come(
     count: u32,
     verdict: Verdict,
     steps: u32,
-) -> Result<(), Fail> {
-    let results = batch_at_last(alloc, tree, setup, count)?;
+) {
+    let results = batch_at_last(rt, alloc, tree, setup, count);
     are_results(rt, results.as_slice(), count, verdict, steps);
-    Ok(())
 }
 
 /// Compares the batch of a scenario for one cache, in so many steps at most.
@@ -238,14 +235,14 @@ fn batch_comes(
     count: u32,
     verdict: Verdict,
     steps: u32,
-) -> Result<(), Fail> {
-    let tree = scenario(alloc, text, 1)?;
-    let setup = setup(alloc, 1, Tables::baseline(), 1, limit)?;
-    results_come(rt, alloc, &tree, &setup, count, verdict, steps)
+) {
+    let tree = scenario(rt, alloc, text, 1);
+    let setup = setup(rt, alloc, 1, Tables::baseline(), 1, limit);
+    results_come(rt, alloc, &tree, &setup, count, verdict, steps);
 }
 
 #[test]
-fn batches_of_trials(rt: HostRuntime) -> Result<(), Fail> {
+fn batches_of_trials(rt: HostRuntime) {
     for (text, limit, n, verdict, steps) in &[
         (ONE_LOAD, 9, 3, Verdict::Quiet, 3),
         (ONE_LOAD, 2, 3, Verdict::Cut, 2),
@@ -253,53 +250,50 @@ fn batches_of_trials(rt: HostRuntime) -> Result<(), Fail> {
         (ENDLESS, 9, 1, Verdict::Quiet, 0),
         (NONE, 9, 0, Verdict::Quiet, 0),
     ] {
-        batch_comes(&rt, rt.alloc(), text, *limit, *n, *verdict, *steps)?;
+        batch_comes(&rt, rt.alloc(), text, *limit, *n, *verdict, *steps);
     }
-    Ok(())
 }
 
 /// Why a setup of one cache and two blocks that open at so many values isn't made.
-fn refusal(alloc: Global, values: usize, limit: u32) -> Result<Option<SetupFault>, Fail> {
-    let shape = Shape::new(1, 2)?;
-    let opening = vec![in alloc; 0; values]?;
-    Ok(Setup::new(shape, Tables::baseline(), opening, 0, limit).err())
+fn refusal(rt: &impl Abort, alloc: Global, values: usize, limit: u32) -> Option<SetupFault> {
+    let shape = Shape::new(1, 2).expect(rt, "a shape");
+    let opening = vec![in alloc; 0; values].expect(rt, "memory");
+    Setup::new(shape, Tables::baseline(), opening, 0, limit).err()
 }
 
 #[test]
-fn setups_that_are_refused(rt: HostRuntime) -> Result<(), Fail> {
+fn setups_that_are_refused(rt: HostRuntime) {
     for (values, limit, fault) in &[
         (1, 1, SetupFault::OpeningLength),
         (3, 1_000_001, SetupFault::OpeningLength),
         (2, 1_000_001, SetupFault::OverLimit),
     ] {
-        let refused = refusal(rt.alloc(), *values, *limit)?;
+        let refused = refusal(&rt, rt.alloc(), *values, *limit);
         same(&rt, &refused, &Some(*fault));
     }
-    Ok(())
 }
 
 /// The setup of one cache and two blocks with the highest limit.
-fn widest(alloc: Global) -> Result<Setup, Fail> {
-    let shape = Shape::new(1, 2)?;
-    let opening = vec![in alloc; 0; 2]?;
-    Ok(Setup::new(shape, Tables::baseline(), opening, 0, 1_000_000)?)
+fn widest(rt: &impl Abort, alloc: Global) -> Setup {
+    let shape = Shape::new(1, 2).expect(rt, "a shape");
+    let opening = vec![in alloc; 0; 2].expect(rt, "memory");
+    Setup::new(shape, Tables::baseline(), opening, 0, 1_000_000).expect(rt, "a setup")
 }
 
 /// Compares what the widest setup holds, and how it refuses a batch.
-fn refuses(rt: &impl Abort, alloc: Global, widest: &Setup) -> Result<(), Fail> {
+fn refuses(rt: &impl Abort, alloc: Global, widest: &Setup) {
     same(rt, &(widest.seed(), widest.limit()), &(0, 1_000_000));
     same(rt, &Ok(widest.shape()), &Shape::new(1, 2));
     let is_own = widest.tables() == Tables::baseline();
     same(rt, &is_own, &true);
     same(rt, &widest.opening(), &[0, 0].as_slice());
-    let load = scenario(alloc, ONE_LOAD, 1)?;
+    let load = scenario(rt, alloc, ONE_LOAD, 1);
     let refused = batch(alloc, &load, widest, 1_000_001).err();
     same(rt, &refused, &Some(BatchFault::TooMany));
-    Ok(())
 }
 
 #[test]
-fn a_batch_that_is_refused(rt: HostRuntime) -> Result<(), Fail> {
-    let widest = widest(rt.alloc())?;
-    refuses(&rt, rt.alloc(), &widest)
+fn a_batch_that_is_refused(rt: HostRuntime) {
+    let widest = widest(&rt, rt.alloc());
+    refuses(&rt, rt.alloc(), &widest);
 }

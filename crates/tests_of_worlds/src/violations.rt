@@ -1,91 +1,84 @@
-use crate::asserting::same;
+use crate::asserting::{same, same_at};
 use base::{BlockId, CacheId, Outcome, Place, Shape, Step};
 use both_tables::Tables;
 use cache_table::{CacheAction, CacheActions, CacheEntry, CacheEvent, CacheState, CacheTable};
 use monitor::{Violation, Watch};
 use std::alloc::Global;
 use std::process::Abort;
-use std::test::Fail;
 use world::World;
 
 /// The protocol's own table, where one cell acts in another way.
 fn acting(
+    rt: &impl Abort,
     state: CacheState,
     event: CacheEvent,
     next: CacheState,
     actions: &[CacheAction],
-) -> Result<CacheTable, Fail> {
-    let actions = CacheActions::of(actions).ok_or("too many actions")?;
-    Ok(CacheTable::baseline().with(state, event, CacheEntry::Act { next, actions }))
+) -> CacheTable {
+    let actions = CacheActions::of(actions).expect(rt, "few actions");
+    CacheTable::baseline().with(state, event, CacheEntry::Act { next, actions })
 }
 
 /// Makes a step that has this outcome, and answers what is wrong then.
 fn see(
+    rt: &impl Abort,
     world: &mut World,
     watch: &mut Watch,
     made: &str,
     came: &str,
-) -> Result<Option<Violation>, Fail> {
-    let step = Step::read(made.as_bytes()).ok_or("not a step")?;
-    let outcome = world.step(step)?;
-    if Outcome::read(came.as_bytes()) != Some(outcome) {
-        return Err(Fail::from("another outcome"));
-    }
-    Ok(watch.see(world, step, outcome))
+) -> Option<Violation> {
+    let step = Step::read(made.as_bytes()).expect(rt, "a step");
+    let outcome = world.step(step).expect(rt, "memory");
+    same_at(rt, &Some(outcome), &Outcome::read(came.as_bytes()), &made);
+    watch.see(world, step, outcome)
 }
 
 /// Makes these steps, and answers what is wrong after the last one. Nothing may be wrong before it.
 fn see_all(
+    rt: &impl Abort,
     world: &mut World,
     watch: &mut Watch,
     made: &str,
     came: &str,
-) -> Result<Option<Violation>, Fail> {
+) -> Option<Violation> {
     let mut last = None;
     let mut outcomes = came.split(',');
     for line in made.split(',') {
-        if last.is_some() {
-            return Err(Fail::from("something is wrong before the last step"));
-        }
-        let wanted = outcomes.next().ok_or("no outcome")?;
-        last = see(world, watch, line, wanted)?;
+        same_at(rt, &last, &None, &line);
+        let wanted = outcomes.next().expect(rt, "an outcome");
+        last = see(rt, world, watch, line, wanted);
     }
-    Ok(last)
+    last
 }
 
 /// A world of two caches and one block at 0.
-fn opened(alloc: Global, cache: CacheTable) -> Result<World, Fail> {
-    let shape = Shape::new(2, 1)?;
+fn opened(rt: &impl Abort, alloc: Global, cache: CacheTable) -> World {
+    let shape = Shape::new(2, 1).expect(rt, "a shape");
     let mut tables = Tables::baseline();
     tables.cache = cache;
-    let opening = vec![in alloc; 0]?;
-    Ok(World::open(alloc, shape, tables, opening)?)
+    let opening = vec![in alloc; 0].expect(rt, "memory");
+    World::open(alloc, shape, tables, opening).expect(rt, "a world")
 }
 
 /// Makes these steps in a world of two caches and one block at 0, and answers what is wrong after the last one.
 ///
 /// Nothing may be wrong before it.
 fn last_violation(
+    rt: &impl Abort,
     alloc: Global,
     cache: CacheTable,
     made: &str,
     came: &str,
-) -> Result<Option<Violation>, Fail> {
-    let mut watch = Watch::open(alloc, &[0])?;
-    let mut world = opened(alloc, cache)?;
-    see_all(&mut world, &mut watch, made, came)
+) -> Option<Violation> {
+    let mut watch = Watch::open(alloc, &[0]).expect(rt, "memory");
+    let mut world = opened(rt, alloc, cache);
+    see_all(rt, &mut world, &mut watch, made, came)
 }
 
 /// Compares what a violation is shown as.
-fn is_shown(
-    rt: &impl Abort,
-    alloc: Global,
-    violation: Violation,
-    wanted: &str,
-) -> Result<(), Fail> {
-    let shown = format!(in alloc; "{violation}")?;
+fn is_shown(rt: &impl Abort, alloc: Global, violation: Violation, wanted: &str) {
+    let shown = format!(in alloc; "{violation}").expect(rt, "memory");
     same(rt, &shown.as_str(), &wanted);
-    Ok(())
 }
 
 /// Holds that these steps end in what is wrong here.
@@ -96,81 +89,83 @@ fn is_wrong(
     made: &str,
     came: &str,
     wrong: &str,
-) -> Result<(), Fail> {
-    let found = last_violation(alloc, cache, made, came)?;
-    let violation = found.ok_or("nothing is wrong")?;
-    is_shown(rt, alloc, violation, wrong)
+) {
+    let found = last_violation(rt, alloc, cache, made, came);
+    let violation = found.expect(rt, "a violation");
+    is_shown(rt, alloc, violation, wrong);
 }
 
 #[test]
-fn nothing_is_wrong(rt: HostRuntime) -> Result<(), Fail> {
+fn nothing_is_wrong(rt: HostRuntime) {
     let made =
         "ask 0 0 store 7,request 0 0,response 0 0,ask 1 0 load,request 0 0,forward 0 0,response 0 0,response 0 0";
     let came = "sent,moved,store 0 7,sent,moved,moved,load 1 7,moved";
-    let found = last_violation(rt.alloc(), CacheTable::baseline(), made, came)?;
+    let found = last_violation(&rt, rt.alloc(), CacheTable::baseline(), made, came);
     same(&rt, &found, &None);
-    Ok(())
 }
 
 #[test]
-fn an_inv_that_is_answered_at_once(rt: HostRuntime) -> Result<(), Fail> {
+fn an_inv_that_is_answered_at_once(rt: HostRuntime) {
     let table = acting(
+        &rt,
         CacheState::IsD,
         CacheEvent::Inv,
         CacheState::IsD,
         &[CacheAction::InvAck],
-    )?;
+    );
     let made =
         "ask 0 0 load,request 0 0,ask 1 0 store 5,request 0 0,forward 0 0,response 0 2,response 0 1,ask 1 0 replace,response 0 0";
     let came = "sent,moved,sent,moved,moved,moved,store 1 5,sent,load 0 0";
     let wrong = "stale load got 0 due 5 block 0";
-    is_wrong(&rt, rt.alloc(), table, made, came, wrong)?;
+    is_wrong(&rt, rt.alloc(), table, made, came, wrong);
     let made =
         "ask 0 0 load,request 0 0,ask 1 0 store 5,request 0 0,forward 0 0,response 0 2,response 0 1,response 0 0";
     let came = "sent,moved,sent,moved,moved,moved,store 1 5,load 0 0";
     let wrong = "writer 1 beside reader 0 block 0";
-    is_wrong(&rt, rt.alloc(), table, made, came, wrong)
+    is_wrong(&rt, rt.alloc(), table, made, came, wrong);
 }
 
 #[test]
-fn a_forward_that_has_no_answer(rt: HostRuntime) -> Result<(), Fail> {
+fn a_forward_that_has_no_answer(rt: HostRuntime) {
     let table = CacheTable::baseline().with(CacheState::M, CacheEvent::FwdGetS, CacheEntry::Blank);
     let made = "ask 0 0 store 7,request 0 0,response 0 0,ask 1 0 load,request 0 0,forward 0 0";
     let came = "sent,moved,store 0 7,sent,moved,blank";
-    is_wrong(&rt, rt.alloc(), table, made, came, "blank cache 0 block 0")
+    is_wrong(&rt, rt.alloc(), table, made, came, "blank cache 0 block 0");
 }
 
 #[test]
-fn a_store_that_waits_for_no_ack(rt: HostRuntime) -> Result<(), Fail> {
+fn a_store_that_waits_for_no_ack(rt: HostRuntime) {
     let table = acting(
+        &rt,
         CacheState::ImAd,
         CacheEvent::DataDirMore,
         CacheState::M,
         &[],
-    )?;
+    );
     let made = "ask 0 0 load,request 0 0,response 0 0,ask 1 0 store 5,request 0 0,response 0 0";
     let came = "sent,moved,load 0 0,sent,moved,store 1 5";
     let wrong = "writer 1 beside reader 0 block 0";
-    is_wrong(&rt, rt.alloc(), table, made, came, wrong)
+    is_wrong(&rt, rt.alloc(), table, made, came, wrong);
 }
 
 #[test]
-fn an_owner_that_stays_a_writer(rt: HostRuntime) -> Result<(), Fail> {
+fn an_owner_that_stays_a_writer(rt: HostRuntime) {
     let table = acting(
+        &rt,
         CacheState::M,
         CacheEvent::FwdGetM,
         CacheState::M,
         &[CacheAction::DataReq],
-    )?;
+    );
     let made =
         "ask 0 0 store 7,request 0 0,response 0 0,ask 1 0 store 8,request 0 0,forward 0 0,response 0 0";
     let came = "sent,moved,store 0 7,sent,moved,moved,store 1 8";
     let wrong = "second writer 0 1 block 0";
-    is_wrong(&rt, rt.alloc(), table, made, came, wrong)
+    is_wrong(&rt, rt.alloc(), table, made, came, wrong);
 }
 
 #[test]
-fn spellings(rt: HostRuntime) -> Result<(), Fail> {
+fn spellings(rt: HostRuntime) {
     let block = BlockId(4095);
     let rows = [
         (
@@ -213,7 +208,6 @@ fn spellings(rt: HostRuntime) -> Result<(), Fail> {
         ),
     ];
     for (violation, text) in &rows {
-        is_shown(&rt, rt.alloc(), *violation, text)?;
+        is_shown(&rt, rt.alloc(), *violation, text);
     }
-    Ok(())
 }

@@ -2,13 +2,24 @@ ghost use Rattle.std.specs.Prelude.{◌≡◌, All};
 ghost use Rattle.desk.specs.Plans.{IsResultOf, plan_of};
 
 use crate::asserting::same;
-use crate::jobs::racing_pair;
+use crate::jobs::RACING_PAIR;
+use base::Shape;
+use both_tables::Tables;
 use desk::{CloseFault, Desk, DeskFault, DeskSeat, Job, Naming, PostFault};
+use scenario::Scenario;
 use std::alloc::Global;
 use std::marker::Brand;
 use std::process::Abort;
 use std::test::Fail;
-use trials::{TrialResult, trial};
+use trials::{Setup, TrialResult, trial};
+
+/// Two cores that race for one block.
+fn racing_pair(alloc: Global) -> Result<Job, Fail> {
+    let shape = Shape::new(2, 1)?;
+    let scenario = Scenario::read(alloc, alloc, RACING_PAIR.as_bytes(), shape)?;
+    let setup = Setup::new(shape, Tables::baseline(), vec![in alloc; 0; 1]?, 42, 100)?;
+    Ok(Job { scenario, setup })
+}
 
 fn posted<D: Naming, R: Abort>(
     rt: &R,

@@ -4,9 +4,9 @@ ghost use Rattle.floor.specs.FloorId.{names};
 use crate::asserting::same;
 use crate::crews::{Meeting, cast};
 use crate::entries::entry_of;
-use crate::setups::setup;
 use crate::turns::compare;
-use base::Step;
+use base::{Shape, Step};
+use both_tables::Tables;
 use floor::{Closed, CrewFault, Floor, FloorFault, Ground, Naming, Receipt, Seat, TurnFault, crew};
 use record::replay;
 use std::alloc::Global;
@@ -24,6 +24,12 @@ const LOAD: [&str; 3] = [
     "request 0 0 = moved",
     "response 0 0 = load 0 0",
 ];
+
+/// So many caches and one block that opens at 0.
+fn setup(alloc: Global, caches: u32) -> Result<Setup, Fail> {
+    let shape = Shape::new(caches, 1)?;
+    Ok(Setup::new(shape, Tables::baseline(), vec![in alloc; 0]?, 0, 0)?)
+}
 
 fn ground(alloc: Global) -> Result<Ground, Fail> {
     match Ground::new(alloc) {
@@ -96,7 +102,8 @@ fn loads<F: Naming, R: Wait + Abort>(
         make(rt, &floor, seat)?;
     }
     let closed = floor.close(seats).ok().ok_or("not closed")?;
-    compare(rt, alloc, &closed, &LOAD)
+    compare(rt, &closed, &LOAD);
+    is_legal(rt, alloc, &closed, LOAD.len())
 }
 
 /// Whether a floor was opened, at which a load is made then.
