@@ -46,7 +46,9 @@ fn work_off<D: Naming>(
     let _ = &desk.cells;
     let mut count = 0u32;
     while let Some(number) = desk.claim(seat) {
-        let made = series.result(number)?;
+        let Ok(made) = series.result(number) else {
+            return Err(NoMemory);
+        };
         if desk.post(seat, number, made).is_err() {
             return Err(NoMemory);
         }

@@ -1,4 +1,5 @@
 use Rattle.std.proofs.Common.{arith}
+use Rattle.std.proofs.lemmas.Grind.{common_steps}
 use Rattle.std.proofs.lemmas.Result.{on_ok_weaker}
 use Rattle.control.proofs.HomeCounts.{room-on_links}
 use Rattle.control.proofs.home_room.reserve_for.Goals as goal
@@ -26,3 +27,39 @@ returns-clause-ok c =
           (λ k owner. omega (arith, c.in_ok-reserve_for_owner.ensures.ok k owner, c.reserve_for_sharers.ensures.room.links k)) sharers;
     })
     c.reserve_for_sharers.ensures.ok
+
+pub returns-in_err-reserve_ends-clause-traffic : goal.returns-in_err-reserve_ends-clause-traffic
+returns-in_err-reserve_ends-clause-traffic c = grind (arith, common_steps)
+
+pub returns-in_err-reserve_ends-clause-marks : goal.returns-in_err-reserve_ends-clause-marks
+returns-in_err-reserve_ends-clause-marks c = grind (arith, common_steps)
+
+pub returns-in_err-reserve_ends-clause-ok : goal.returns-in_err-reserve_ends-clause-ok
+returns-in_err-reserve_ends-clause-ok c = grind (arith, common_steps)
+
+pub returns-in_err-reserve_ends-clause-succeeds : goal.returns-in_err-reserve_ends-clause-succeeds
+returns-in_err-reserve_ends-clause-succeeds c = grind (arith, common_steps)
+
+pub returns-in_err-reserve_link-clause-traffic : goal.returns-in_err-reserve_link-clause-traffic
+returns-in_err-reserve_link-clause-traffic c = grind (arith, common_steps)
+
+pub returns-in_err-reserve_link-clause-marks : goal.returns-in_err-reserve_link-clause-marks
+returns-in_err-reserve_link-clause-marks c = grind (arith, common_steps)
+
+pub returns-in_err-reserve_link-clause-ok : goal.returns-in_err-reserve_link-clause-ok
+returns-in_err-reserve_link-clause-ok c = grind (arith, common_steps)
+
+pub returns-in_err-reserve_link-clause-succeeds : goal.returns-in_err-reserve_link-clause-succeeds
+returns-in_err-reserve_link-clause-succeeds c = grind (arith, common_steps)
+
+pub returns-in_err-reserve_for_owner-clause-ok : goal.returns-in_err-reserve_for_owner-clause-ok
+returns-in_err-reserve_for_owner-clause-ok c = grind (arith, common_steps)
+
+pub returns-clause-traffic : goal.returns-clause-traffic
+returns-clause-traffic c = grind (arith, common_steps)
+
+pub returns-clause-marks : goal.returns-clause-marks
+returns-clause-marks c = grind (arith, common_steps)
+
+pub returns-clause-succeeds : goal.returns-clause-succeeds
+returns-clause-succeeds c = grind (arith, common_steps)

@@ -1,4 +1,5 @@
 use Rattle.std.proofs.Common.{◌<◌, ◌∙◌, arith, inl, inr, length, sym, true≢false}
+use Rattle.std.proofs.lemmas.Grind.{common_steps}
 use Rattle.std.proofs.lemmas.Bool.{cases_eq, cases_lt}
 use Rattle.control.proofs.HomeCounts.{room-unsent}
 use Rattle.control.proofs.HomeSends.{flag-within}
@@ -30,3 +31,66 @@ loop-next-preserved c =
 pub returns-then-not-invalidates-clause-ok : goal.returns-then-not-invalidates-clause-ok
 returns-then-not-invalidates-clause-ok c =
     room-unsent c.args.from c.args.actions.now c.args.home.now c.args.wires.now.room (sym c.invalidates.ensures ∙ c.if-not-invalidates.true)
+
+pub returns-then-not-invalidates-clause-traffic : goal.returns-then-not-invalidates-clause-traffic
+returns-then-not-invalidates-clause-traffic c = grind (arith, common_steps)
+
+pub returns-then-not-invalidates-clause-marks : goal.returns-then-not-invalidates-clause-marks
+returns-then-not-invalidates-clause-marks c = grind (arith, common_steps)
+
+pub returns-then-not-invalidates-clause-room : goal.returns-then-not-invalidates-clause-room
+returns-then-not-invalidates-clause-room c = grind (arith, common_steps)
+
+pub loop-next-init : goal.loop-next-init
+loop-next-init c = grind (arith, common_steps)
+
+pub returns-in_default-clause-traffic : goal.returns-in_default-clause-traffic
+returns-in_default-clause-traffic c = grind (arith, common_steps)
+
+pub returns-in_default-clause-marks : goal.returns-in_default-clause-marks
+returns-in_default-clause-marks c = grind (arith, common_steps)
+
+pub returns-in_default-clause-ok : goal.returns-in_default-clause-ok
+returns-in_default-clause-ok c = grind (arith, common_steps)
+
+pub returns-in_default-clause-succeeds : goal.returns-in_default-clause-succeeds
+returns-in_default-clause-succeeds c = grind (arith, common_steps)
+
+pub returns-in_default-clause-room : goal.returns-in_default-clause-room
+returns-in_default-clause-room c = grind (arith, common_steps)
+
+pub returns-in_err-reserve_link-clause-traffic : goal.returns-in_err-reserve_link-clause-traffic
+returns-in_err-reserve_link-clause-traffic c = grind (arith, common_steps)
+
+pub returns-in_err-reserve_link-clause-marks : goal.returns-in_err-reserve_link-clause-marks
+returns-in_err-reserve_link-clause-marks c = grind (arith, common_steps)
+
+pub returns-in_err-reserve_link-clause-ok : goal.returns-in_err-reserve_link-clause-ok
+returns-in_err-reserve_link-clause-ok c = grind (arith, common_steps)
+
+pub returns-in_err-reserve_link-clause-succeeds : goal.returns-in_err-reserve_link-clause-succeeds
+returns-in_err-reserve_link-clause-succeeds c = grind (arith, common_steps)
+
+pub returns-in_err-reserve_link-clause-room : goal.returns-in_err-reserve_link-clause-room
+returns-in_err-reserve_link-clause-room c = grind (arith, common_steps)
+
+pub overflow_add-next : goal.overflow_add-next
+overflow_add-next c = grind (arith, common_steps)
+
+pub loop-next-smaller : goal.loop-next-smaller
+loop-next-smaller c = grind (arith, common_steps)
+
+pub returns-clause-traffic : goal.returns-clause-traffic
+returns-clause-traffic c = grind (arith, common_steps)
+
+pub returns-clause-marks : goal.returns-clause-marks
+returns-clause-marks c = grind (arith, common_steps)
+
+pub returns-clause-ok : goal.returns-clause-ok
+returns-clause-ok c = grind (arith, common_steps)
+
+pub returns-clause-succeeds : goal.returns-clause-succeeds
+returns-clause-succeeds c = grind (arith, common_steps)
+
+pub returns-clause-room : goal.returns-clause-room
+returns-clause-room c = grind (arith, common_steps)

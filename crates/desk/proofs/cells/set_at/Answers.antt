@@ -1,4 +1,5 @@
 use Rattle.std.proofs.Common.{◌<◌, ap, sym, ◌∙◌, arith, length, map, None, slice_set}
+use Rattle.std.proofs.lemmas.Grind.{common_steps}
 use Rattle.once_cell.specs.Once.{cell_name}
 use Rattle.std.proofs.lemmas.List.{map-set, set-set}
 use Rattle.desk.proofs.Lists.{cells_meet, seen_at, map_set_same, as_long, ok_of}
@@ -32,3 +33,18 @@ returns-clause-first g c = λ _.
     let was = seen_at (λ n. n.known) c.args.notes.now.items c.args.place c.index_mut.result.now None within c.index_mut.ensures.value in
     let done = (ok_of _ _ c.set_as.result (sym c.is_err.ensures.value ∙ c.if-is_err.false) c.set_as.ensures.value).1 in was ∙
     (sym (ap (λ n. n.known) c.again-note.ensures.1) ∙ done.1)
+
+pub returns-then-is_err-clause-cells : goal.returns-then-is_err-clause-cells
+returns-then-is_err-clause-cells g c = grind (arith, common_steps)
+
+pub returns-then-is_err-clause-set : goal.returns-then-is_err-clause-set
+returns-then-is_err-clause-set g c = grind (arith, common_steps)
+
+pub returns-then-is_err-clause-first : goal.returns-then-is_err-clause-first
+returns-then-is_err-clause-first g c = grind (arith, common_steps)
+
+pub returns-then-is_err-clause-not_set : goal.returns-then-is_err-clause-not_set
+returns-then-is_err-clause-not_set g c = grind (arith, common_steps)
+
+pub returns-clause-not_set : goal.returns-clause-not_set
+returns-clause-not_set g c = grind (arith, common_steps)

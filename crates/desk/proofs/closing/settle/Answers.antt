@@ -1,4 +1,5 @@
 use Rattle.std.proofs.Common.{◌≡◌, ◌||◌, ◌∷◌, [], ap, sym, ◌∙◌, arith, false, Some, length, length-append}
+use Rattle.std.proofs.lemmas.Grind.{common_steps}
 use Rattle.std.proofs.lemmas.List.Elements.{All-pop}
 use Rattle.desk.specs.Counting.{times}
 use Rattle.desk.specs.Seats.{SeatView}
@@ -59,3 +60,12 @@ loop-seat-preserved g c =
           ∙ (ap (λ x. (old.over || x.0.over) || any_told rest) t.me ∙ (sym (told_moves old.over rest s) ∙ (ap (λ l. old.over || any_told l) (sym e) ∙ i.told)));
       these = p.0;
     }
+
+pub returns-in_default : goal.returns-in_default
+returns-in_default g c = grind (arith, common_steps)
+
+pub loop-seat-smaller : goal.loop-seat-smaller
+loop-seat-smaller g c = grind (arith, common_steps)
+
+pub returns : goal.returns
+returns g c = grind (arith, common_steps)

@@ -24,7 +24,7 @@ pub loop-number-smaller : goal.loop-number-smaller
 loop-number-smaller g c =
     let at = (goal.at.loop-number-smaller g c).In-Some in
     let p = on_ok _ c.post.result (sym c.is_err.ensures.value ∙ c.if-is_err.false) c.post.ensures.ok in
-    let l = ap (λ s. length s.claimed) (p ∙ ap (λ s. with_post s c.in-Some.number c.in_ok-made.made) c.in-Some.ensures.some) in
+    let l = ap (λ s. length s.claimed) (p ∙ ap (λ s. with_post s c.in-Some.number c.in-Ok.made) c.in-Some.ensures.some) in
     omega (arith, room g at, l, length-append c.loop-number.seat.claimed (c.in-Some.number ∷ []))
 
 pub loop-number-preserved : goal.loop-number-preserved
@@ -33,7 +33,7 @@ loop-number-preserved g c =
     let w = i.works in
     let ok = sym c.is_err.ensures.value ∙ c.if-is_err.false in
     let claimed = c.in-Some.ensures.some in
-    let p = on_ok _ c.post.result ok c.post.ensures.ok ∙ ap (λ s. with_post s c.in-Some.number c.in_ok-made.made) claimed in
+    let p = on_ok _ c.post.result ok c.post.ensures.ok ∙ ap (λ s. with_post s c.in-Some.number c.in-Ok.made) claimed in
     let here = on_ok _ c.post.result ok c.post.ensures.posted in
     let first = on_ok _ c.post.result ok c.post.ensures.first in
     record {
@@ -43,7 +43,7 @@ loop-number-preserved g c =
       works = (
         w.0 ++ c.in-Some.number ∷ [],
         omega (arith, w.1, length-append w.0 (c.in-Some.number ∷ [])),
-        works_more c.args.seat.now c.loop-number.seat c.post.new.seat w.0 c.in-Some.number c.in_ok-made.made w.2 p here
+        works_more c.args.seat.now c.loop-number.seat c.post.new.seat w.0 c.in-Some.number c.in-Ok.made w.2 p here
             (λ q k. first q (subst (λ v. Knows v c.in-Some.number q) (sym claimed) k)),
       );
     }

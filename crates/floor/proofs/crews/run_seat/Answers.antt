@@ -16,3 +16,6 @@ returns-then-load g c = grind (arith, common_steps)
 
 pub returns-in-Err : goal.returns-in-Err
 returns-in-Err g c = grind (arith, common_steps)
+
+pub loop-smaller : goal.loop-smaller
+loop-smaller g c = grind (arith, common_steps)

@@ -1,4 +1,5 @@
 use Rattle.std.proofs.Common.{◌≡◌, ◌++◌, ◌∷◌, ◌+◌, [], ℕ, List, map, arith, ap, sym, ◌∙◌}
+use Rattle.std.proofs.lemmas.Grind.{common_steps}
 use Rattle.std.specs.List.{range_with_len}
 use Rattle.std.proofs.lemmas.List.FromFn.{map-range_with_len_more}
 use Rattle.record.specs.declared.recording.Entry.{Entry}
@@ -22,3 +23,30 @@ loop-number-preserved g c =
       table = c.deal_seat-dealt.ensures.hall.1 ∙ i.table;
       dealt = c.deal_seat-dealt.ensures.hall.0 ∙ ap (λ k. (keeper [] [] (k + 1), [])) (ap (λ m. m.0.next) i.dealt);
     }
+
+pub returns-in_err-row-clause-row : goal.returns-in_err-row-clause-row
+returns-in_err-row-clause-row g c = grind (arith, common_steps)
+
+pub returns-in_err-row-clause-dealt : goal.returns-in_err-row-clause-dealt
+returns-in_err-row-clause-dealt g c = grind (arith, common_steps)
+
+pub returns-in_err-row-clause-same : goal.returns-in_err-row-clause-same
+returns-in_err-row-clause-same g c = grind (arith, common_steps)
+
+pub loop-number-init : goal.loop-number-init
+loop-number-init g c = grind (arith, common_steps)
+
+pub invariant_of-push_reserved : goal.invariant_of-push_reserved
+invariant_of-push_reserved g c = grind (arith, common_steps)
+
+pub loop-number-smaller : goal.loop-number-smaller
+loop-number-smaller g c = grind (arith, common_steps)
+
+pub returns-clause-row : goal.returns-clause-row
+returns-clause-row g c = grind (arith, common_steps)
+
+pub returns-clause-dealt : goal.returns-clause-dealt
+returns-clause-dealt g c = grind (arith, common_steps)
+
+pub returns-clause-same : goal.returns-clause-same
+returns-clause-same g c = grind (arith, common_steps)

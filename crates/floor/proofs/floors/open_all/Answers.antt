@@ -1,4 +1,5 @@
-use Rattle.std.proofs.Common.{◌≡◌, ap, sym, subst, rules, [], ℕ, List, None}
+use Rattle.std.proofs.Common.{◌≡◌, ap, sym, subst, rules, [], ℕ, List, None, arith}
+use Rattle.std.proofs.lemmas.Grind.{common_steps}
 use Rattle.monitor.specs.Watching.{HasSeen}
 use Rattle.record.specs.Kept.{opened_recording}
 use Rattle.trials.specs.Terms.{Terms}
@@ -28,3 +29,12 @@ invariant_of-hall g c =
         keeps = search rules;
       },
     )
+
+pub returns-in_err-world : goal.returns-in_err-world
+returns-in_err-world g c = grind (arith, common_steps)
+
+pub invariant_of-result : goal.invariant_of-result
+invariant_of-result g c = grind (arith, common_steps)
+
+pub returns : goal.returns
+returns g c = grind (arith, common_steps)

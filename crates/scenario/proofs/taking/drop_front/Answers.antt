@@ -7,3 +7,9 @@ loop-preserved g c = grind (arith, common_steps)
 
 pub returns : goal.returns
 returns g c = grind (arith, common_steps)
+
+pub loop-init : goal.loop-init
+loop-init g c = grind (arith, common_steps)
+
+pub loop-smaller : goal.loop-smaller
+loop-smaller g c = grind (arith, common_steps)

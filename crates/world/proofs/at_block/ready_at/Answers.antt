@@ -1,4 +1,5 @@
 use Rattle.std.proofs.Common.{◌∙◌, Some, ap, arith, inl, inr, length, subst, sym, true≢false}
+use Rattle.std.proofs.lemmas.Grind.{common_steps}
 use Rattle.world.specs.inner.Held.{kept_at}
 use Rattle.std.proofs.lemmas.List.{length-set}
 use Rattle.blocks.specs.Marking.{marks_of}
@@ -25,3 +26,60 @@ returns-clause-marked c m =
     let long = ap length c.touch.ensures.others.items ∙ length-set c.args.blocks.now.items c.args.number _ in
     marked-put tables c.touch.new.blocks.items c.args.number c.ready.new.self (omega (arith, long, c.requires))
     (c.ready.ensures.marks ∙ before ∙ ap (marks_of tables) (sym c.ready.ensures.state))
+
+pub returns-in_err-outcome-clause-others : goal.returns-in_err-outcome-clause-others
+returns-in_err-outcome-clause-others c = grind (arith, common_steps)
+
+pub returns-in_err-outcome-clause-marked : goal.returns-in_err-outcome-clause-marked
+returns-in_err-outcome-clause-marked c = grind (arith, common_steps)
+
+pub returns-in_err-outcome-clause-state : goal.returns-in_err-outcome-clause-state
+returns-in_err-outcome-clause-state c = grind (arith, common_steps)
+
+pub returns-in_err-outcome-clause-outcome : goal.returns-in_err-outcome-clause-outcome
+returns-in_err-outcome-clause-outcome c = grind (arith, common_steps)
+
+pub returns-in_err-outcome-clause-room : goal.returns-in_err-outcome-clause-room
+returns-in_err-outcome-clause-room c = grind (arith, common_steps)
+
+pub returns-in_err-outcome-clause-succeeds : goal.returns-in_err-outcome-clause-succeeds
+returns-in_err-outcome-clause-succeeds c = grind (arith, common_steps)
+
+pub returns-in-Some-clause-others : goal.returns-in-Some-clause-others
+returns-in-Some-clause-others c = grind (arith, common_steps)
+
+pub returns-in-Some-clause-marked : goal.returns-in-Some-clause-marked
+returns-in-Some-clause-marked c = grind (arith, common_steps)
+
+pub returns-in-Some-clause-state : goal.returns-in-Some-clause-state
+returns-in-Some-clause-state c = grind (arith, common_steps)
+
+pub returns-in-Some-clause-outcome : goal.returns-in-Some-clause-outcome
+returns-in-Some-clause-outcome c = grind (arith, common_steps)
+
+pub returns-in-Some-clause-room : goal.returns-in-Some-clause-room
+returns-in-Some-clause-room c = grind (arith, common_steps)
+
+pub returns-in-Some-clause-succeeds : goal.returns-in-Some-clause-succeeds
+returns-in-Some-clause-succeeds c = grind (arith, common_steps)
+
+pub returns-in-Some-clause-light : goal.returns-in-Some-clause-light
+returns-in-Some-clause-light c = grind (arith, common_steps)
+
+pub unreachable-unreachable : goal.unreachable-unreachable
+unreachable-unreachable c = grind (arith, common_steps)
+
+pub returns-clause-state : goal.returns-clause-state
+returns-clause-state c = grind (arith, common_steps)
+
+pub returns-clause-outcome : goal.returns-clause-outcome
+returns-clause-outcome c = grind (arith, common_steps)
+
+pub returns-clause-room : goal.returns-clause-room
+returns-clause-room c = grind (arith, common_steps)
+
+pub returns-clause-succeeds : goal.returns-clause-succeeds
+returns-clause-succeeds c = grind (arith, common_steps)
+
+pub returns-clause-light : goal.returns-clause-light
+returns-clause-light c = grind (arith, common_steps)

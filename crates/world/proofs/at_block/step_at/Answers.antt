@@ -1,4 +1,5 @@
-use Rattle.std.proofs.Common.{Some, inl, inr, sym, true≢false}
+use Rattle.std.proofs.Common.{Some, inl, inr, sym, true≢false, arith}
+use Rattle.std.proofs.lemmas.Grind.{common_steps}
 use Rattle.world.specs.inner.Held.{kept_at}
 use Rattle.world.proofs.Touching.{light-at, others-set}
 use Rattle.world.proofs.at_block.step_at.Goals as goal
@@ -13,3 +14,72 @@ returns-in_err-outcome-clause-light c h =
 pub returns-clause-others : goal.returns-clause-others
 returns-clause-others c =
     others-set c.args.blocks.now.items c.touch.new.blocks.items c.args.number (Some c.step.new.self) c.requires.below c.touch.ensures.others
+
+pub returns-in_err-outcome-clause-others : goal.returns-in_err-outcome-clause-others
+returns-in_err-outcome-clause-others c = grind (arith, common_steps)
+
+pub returns-in_err-outcome-clause-marked : goal.returns-in_err-outcome-clause-marked
+returns-in_err-outcome-clause-marked c = grind (arith, common_steps)
+
+pub returns-in_err-outcome-clause-ok : goal.returns-in_err-outcome-clause-ok
+returns-in_err-outcome-clause-ok c = grind (arith, common_steps)
+
+pub returns-in_err-outcome-clause-tested : goal.returns-in_err-outcome-clause-tested
+returns-in_err-outcome-clause-tested c = grind (arith, common_steps)
+
+pub returns-in_err-outcome-clause-sent : goal.returns-in_err-outcome-clause-sent
+returns-in_err-outcome-clause-sent c = grind (arith, common_steps)
+
+pub returns-in_err-outcome-clause-err : goal.returns-in_err-outcome-clause-err
+returns-in_err-outcome-clause-err c = grind (arith, common_steps)
+
+pub returns-in_err-outcome-clause-succeeds : goal.returns-in_err-outcome-clause-succeeds
+returns-in_err-outcome-clause-succeeds c = grind (arith, common_steps)
+
+pub returns-in-Some-clause-others : goal.returns-in-Some-clause-others
+returns-in-Some-clause-others c = grind (arith, common_steps)
+
+pub returns-in-Some-clause-marked : goal.returns-in-Some-clause-marked
+returns-in-Some-clause-marked c = grind (arith, common_steps)
+
+pub returns-in-Some-clause-ok : goal.returns-in-Some-clause-ok
+returns-in-Some-clause-ok c = grind (arith, common_steps)
+
+pub returns-in-Some-clause-tested : goal.returns-in-Some-clause-tested
+returns-in-Some-clause-tested c = grind (arith, common_steps)
+
+pub returns-in-Some-clause-sent : goal.returns-in-Some-clause-sent
+returns-in-Some-clause-sent c = grind (arith, common_steps)
+
+pub returns-in-Some-clause-err : goal.returns-in-Some-clause-err
+returns-in-Some-clause-err c = grind (arith, common_steps)
+
+pub returns-in-Some-clause-succeeds : goal.returns-in-Some-clause-succeeds
+returns-in-Some-clause-succeeds c = grind (arith, common_steps)
+
+pub returns-in-Some-clause-light : goal.returns-in-Some-clause-light
+returns-in-Some-clause-light c = grind (arith, common_steps)
+
+pub unreachable-unreachable : goal.unreachable-unreachable
+unreachable-unreachable c = grind (arith, common_steps)
+
+pub returns-clause-marked : goal.returns-clause-marked
+returns-clause-marked c = grind (arith, common_steps)
+
+pub returns-clause-ok : goal.returns-clause-ok
+returns-clause-ok c = grind (arith, common_steps)
+
+pub returns-clause-tested : goal.returns-clause-tested
+returns-clause-tested c = grind (arith, common_steps)
+
+pub returns-clause-sent : goal.returns-clause-sent
+returns-clause-sent c = grind (arith, common_steps)
+
+pub returns-clause-err : goal.returns-clause-err
+returns-clause-err c = grind (arith, common_steps)
+
+pub returns-clause-succeeds : goal.returns-clause-succeeds
+returns-clause-succeeds c = grind (arith, common_steps)
+
+pub returns-clause-light : goal.returns-clause-light
+returns-clause-light c = grind (arith, common_steps)

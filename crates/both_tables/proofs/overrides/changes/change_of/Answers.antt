@@ -1,4 +1,5 @@
-use Rattle.std.proofs.Common.{◌≡◌, ◌∙◌, ℕ, List, sym, ap}
+use Rattle.std.proofs.Common.{◌≡◌, ◌∙◌, ℕ, List, sym, ap, arith}
+use Rattle.std.proofs.lemmas.Grind.{common_steps}
 use Rattle.std.specs.Prelude.{Option, Ok, Some, None, Err}
 use Rattle.std.specs.Option.{option_map}
 use Rattle.base.specs.Spelling.{named_in}
@@ -38,3 +39,30 @@ returns-in_default-named-clause-change g c =
     (ap state_named (sym c.as_bytes.ensures.value) ∙ sym c.named.ensures.named ∙ c.in-Some.is)
     (sym c.known_next.ensures.next ∙ ap (option_map (seen_entry (λ s. s))) c.in-Some-known_next.is)
     (ap event_named (sym c.as_bytes-2.ensures.value) ∙ sym c.named-2.ensures.named ∙ c.in_default-named.is))
+
+pub returns-in_default-clause-change : goal.returns-in_default-clause-change
+returns-in_default-clause-change g c = grind (arith, common_steps)
+
+pub returns-in_default-clause-json : goal.returns-in_default-clause-json
+returns-in_default-clause-json g c = grind (arith, common_steps)
+
+pub returns-in_default-known_next-clause-change : goal.returns-in_default-known_next-clause-change
+returns-in_default-known_next-clause-change g c = grind (arith, common_steps)
+
+pub returns-in_default-known_next-clause-json : goal.returns-in_default-known_next-clause-json
+returns-in_default-known_next-clause-json g c = grind (arith, common_steps)
+
+pub returns-in_default-named-clause-json : goal.returns-in_default-named-clause-json
+returns-in_default-named-clause-json g c = grind (arith, common_steps)
+
+pub returns-in_default-entry_of-clause-change : goal.returns-in_default-entry_of-clause-change
+returns-in_default-entry_of-clause-change g c = grind (arith, common_steps)
+
+pub returns-in_default-entry_of-clause-json : goal.returns-in_default-entry_of-clause-json
+returns-in_default-entry_of-clause-json g c = grind (arith, common_steps)
+
+pub returns-clause-change : goal.returns-clause-change
+returns-clause-change g c = grind (arith, common_steps)
+
+pub returns-clause-json : goal.returns-clause-json
+returns-clause-json g c = grind (arith, common_steps)

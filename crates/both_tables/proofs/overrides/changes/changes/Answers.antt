@@ -64,3 +64,27 @@ returns-in_err-push-clause-changes g c =
 
 pub returns-clause-changes : goal.returns-clause-changes
 returns-clause-changes g c = grind (arith, common_steps)
+
+pub offset_bounds-values-value-index : goal.offset_bounds-values-value-index
+offset_bounds-values-value-index g c = grind (arith, common_steps)
+
+pub bounds-values-value-index : goal.bounds-values-value-index
+bounds-values-value-index g c = grind (arith, common_steps)
+
+pub returns-in_default-clause-json : goal.returns-in_default-clause-json
+returns-in_default-clause-json g c = grind (arith, common_steps)
+
+pub returns-in_err-change-clause-json : goal.returns-in_err-change-clause-json
+returns-in_err-change-clause-json g c = grind (arith, common_steps)
+
+pub returns-then-is_changed-clause-json : goal.returns-then-is_changed-clause-json
+returns-then-is_changed-clause-json g c = grind (arith, common_steps)
+
+pub returns-in_err-push-clause-json : goal.returns-in_err-push-clause-json
+returns-in_err-push-clause-json g c = grind (arith, common_steps)
+
+pub loop-value-smaller : goal.loop-value-smaller
+loop-value-smaller g c = grind (arith, common_steps)
+
+pub returns-clause-json : goal.returns-clause-json
+returns-clause-json g c = grind (arith, common_steps)

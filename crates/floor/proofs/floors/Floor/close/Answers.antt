@@ -1,4 +1,5 @@
-use Rattle.std.proofs.Common.{subst}
+use Rattle.std.proofs.Common.{subst, arith}
+use Rattle.std.proofs.lemmas.Grind.{common_steps}
 use Rattle.floor.specs.Closing.{AllThere}
 use Rattle.floor.proofs.Owned.{all_stand, all_received}
 use Rattle.floor.proofs.floors.Floor.close.Goals as goal
@@ -39,3 +40,33 @@ returns-clause-seats g c = c.end.ensures.seats
 
 pub returns-clause-back : goal.returns-clause-back
 returns-clause-back g c = tt
+
+pub returns-then-not-all_there-clause-back : goal.returns-then-not-all_there-clause-back
+returns-then-not-all_there-clause-back g c = grind (arith, common_steps)
+
+pub returns-then-not-all_there-clause-setup : goal.returns-then-not-all_there-clause-setup
+returns-then-not-all_there-clause-setup g c = grind (arith, common_steps)
+
+pub returns-then-not-all_there-clause-legal : goal.returns-then-not-all_there-clause-legal
+returns-then-not-all_there-clause-legal g c = grind (arith, common_steps)
+
+pub returns-then-not-all_there-clause-owners : goal.returns-then-not-all_there-clause-owners
+returns-then-not-all_there-clause-owners g c = grind (arith, common_steps)
+
+pub returns-then-not-all_there-clause-histories : goal.returns-then-not-all_there-clause-histories
+returns-then-not-all_there-clause-histories g c = grind (arith, common_steps)
+
+pub returns-then-not-all_there-clause-stand : goal.returns-then-not-all_there-clause-stand
+returns-then-not-all_there-clause-stand g c = grind (arith, common_steps)
+
+pub returns-then-not-all_there-clause-received : goal.returns-then-not-all_there-clause-received
+returns-then-not-all_there-clause-received g c = grind (arith, common_steps)
+
+pub returns-then-not-all_there-clause-violation : goal.returns-then-not-all_there-clause-violation
+returns-then-not-all_there-clause-violation g c = grind (arith, common_steps)
+
+pub returns-then-not-all_there-clause-clean : goal.returns-then-not-all_there-clause-clean
+returns-then-not-all_there-clause-clean g c = grind (arith, common_steps)
+
+pub returns-then-not-all_there-clause-seats : goal.returns-then-not-all_there-clause-seats
+returns-then-not-all_there-clause-seats g c = grind (arith, common_steps)

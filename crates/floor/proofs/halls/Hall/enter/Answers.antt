@@ -1,4 +1,5 @@
-use Rattle.std.proofs.Common.{rules, ap, length}
+use Rattle.std.proofs.Common.{rules, ap, length, arith}
+use Rattle.std.proofs.lemmas.Grind.{common_steps}
 use Rattle.floor.specs.inner.Keeping.{IsKeptUp}
 use Rattle.floor.proofs.Entering.{kept_more, fits_more}
 use Rattle.floor.proofs.halls.Hall.enter.Goals as goal
@@ -49,3 +50,42 @@ returns-clause-ok g c = record {
   violation = (kept g (goal.at.returns-clause-ok g c).After-push_reserved).first;
   added = search rules;
 }
+
+pub invariant_of-self : goal.invariant_of-self
+invariant_of-self g c = grind (arith, common_steps)
+
+pub invariant_of-seat : goal.invariant_of-seat
+invariant_of-seat g c = grind (arith, common_steps)
+
+pub returns-in-Err-clause-room : goal.returns-in-Err-clause-room
+returns-in-Err-clause-room g c = grind (arith, common_steps)
+
+pub returns-in-Err-clause-ok : goal.returns-in-Err-clause-ok
+returns-in-Err-clause-ok g c = grind (arith, common_steps)
+
+pub returns-in-Err-clause-err : goal.returns-in-Err-clause-err
+returns-in-Err-clause-err g c = grind (arith, common_steps)
+
+pub invariant_of-self-in_default-advance : goal.invariant_of-self-in_default-advance
+invariant_of-self-in_default-advance g c = grind (arith, common_steps)
+
+pub invariant_of-seat-in_default-advance : goal.invariant_of-seat-in_default-advance
+invariant_of-seat-in_default-advance g c = grind (arith, common_steps)
+
+pub returns-in_default-advance-clause-room : goal.returns-in_default-advance-clause-room
+returns-in_default-advance-clause-room g c = grind (arith, common_steps)
+
+pub returns-in_default-advance-clause-ok : goal.returns-in_default-advance-clause-ok
+returns-in_default-advance-clause-ok g c = grind (arith, common_steps)
+
+pub returns-in_default-advance-clause-err : goal.returns-in_default-advance-clause-err
+returns-in_default-advance-clause-err g c = grind (arith, common_steps)
+
+pub invariant_of-seat-2 : goal.invariant_of-seat-2
+invariant_of-seat-2 g c = grind (arith, common_steps)
+
+pub returns-clause-room : goal.returns-clause-room
+returns-clause-room g c = grind (arith, common_steps)
+
+pub returns-clause-err : goal.returns-clause-err
+returns-clause-err g c = grind (arith, common_steps)

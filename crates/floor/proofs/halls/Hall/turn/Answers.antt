@@ -25,3 +25,39 @@ enter-requires-clause-yours g c = grind (arith, common_steps)
 
 pub enter-requires-clause-room : goal.enter-requires-clause-room
 enter-requires-clause-room g c = grind (arith, common_steps)
+
+pub returns-then-not-is_of-clause-not_yours : goal.returns-then-not-is_of-clause-not_yours
+returns-then-not-is_of-clause-not_yours g c = grind (arith, common_steps)
+
+pub returns-then-not-is_of-clause-full : goal.returns-then-not-is_of-clause-full
+returns-then-not-is_of-clause-full g c = grind (arith, common_steps)
+
+pub returns-then-not-is_of-clause-room : goal.returns-then-not-is_of-clause-room
+returns-then-not-is_of-clause-room g c = grind (arith, common_steps)
+
+pub returns-then-not-is_of-clause-within : goal.returns-then-not-is_of-clause-within
+returns-then-not-is_of-clause-within g c = grind (arith, common_steps)
+
+pub returns-then-not-is_of-clause-ok : goal.returns-then-not-is_of-clause-ok
+returns-then-not-is_of-clause-ok g c = grind (arith, common_steps)
+
+pub returns-then-not-is_of-clause-err : goal.returns-then-not-is_of-clause-err
+returns-then-not-is_of-clause-err g c = grind (arith, common_steps)
+
+pub returns-then-entries-self-clause-not_yours : goal.returns-then-entries-self-clause-not_yours
+returns-then-entries-self-clause-not_yours g c = grind (arith, common_steps)
+
+pub returns-then-entries-self-clause-full : goal.returns-then-entries-self-clause-full
+returns-then-entries-self-clause-full g c = grind (arith, common_steps)
+
+pub returns-then-entries-self-clause-room : goal.returns-then-entries-self-clause-room
+returns-then-entries-self-clause-room g c = grind (arith, common_steps)
+
+pub returns-then-entries-self-clause-within : goal.returns-then-entries-self-clause-within
+returns-then-entries-self-clause-within g c = grind (arith, common_steps)
+
+pub returns-then-entries-self-clause-ok : goal.returns-then-entries-self-clause-ok
+returns-then-entries-self-clause-ok g c = grind (arith, common_steps)
+
+pub returns-then-entries-self-clause-err : goal.returns-then-entries-self-clause-err
+returns-then-entries-self-clause-err g c = grind (arith, common_steps)

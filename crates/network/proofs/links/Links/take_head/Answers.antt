@@ -1,4 +1,5 @@
 use Rattle.std.proofs.Common.{Some, ap, arith, map, not, remove, set, sym, ◌==◌, ◌∙◌}
+use Rattle.std.proofs.lemmas.Grind.{common_steps}
 use Rattle.std.proofs.lemmas.List.{map-set}
 use Rattle.network.specs.Links.{marks_on, on_link, waiting_of}
 use Rattle.network.proofs.Linked.{marked-set, parts-set, parts-set_same, room-kept, used-below, waiting-left}
@@ -62,3 +63,42 @@ returns-clause-room c =
     (room-kept c.self.inside.links.items c.args.cache.0 (Some c.in_ok-link.link.now) c.take.new.self
     (used-below c.self.inside.links.items c.args.cache.0 c.in_ok-link.link.now c.in_ok-link.ensures.item)
     c.in_ok-link.ensures.item (omega (arith, c.take.ensures.room)))
+
+pub invariant_of-self : goal.invariant_of-self
+invariant_of-self c = grind (arith, common_steps)
+
+pub returns-in_err-link-clause-taken : goal.returns-in_err-link-clause-taken
+returns-in_err-link-clause-taken c = grind (arith, common_steps)
+
+pub returns-in_err-link-clause-some : goal.returns-in_err-link-clause-some
+returns-in_err-link-clause-some c = grind (arith, common_steps)
+
+pub returns-in_err-link-clause-some_marks : goal.returns-in_err-link-clause-some_marks
+returns-in_err-link-clause-some_marks c = grind (arith, common_steps)
+
+pub returns-in_err-link-clause-none : goal.returns-in_err-link-clause-none
+returns-in_err-link-clause-none c = grind (arith, common_steps)
+
+pub returns-in_err-link-clause-none_marks : goal.returns-in_err-link-clause-none_marks
+returns-in_err-link-clause-none_marks c = grind (arith, common_steps)
+
+pub returns-in_err-link-clause-room : goal.returns-in_err-link-clause-room
+returns-in_err-link-clause-room c = grind (arith, common_steps)
+
+pub returns-in_err-forward-clause-taken : goal.returns-in_err-forward-clause-taken
+returns-in_err-forward-clause-taken c = grind (arith, common_steps)
+
+pub returns-in_err-forward-clause-some : goal.returns-in_err-forward-clause-some
+returns-in_err-forward-clause-some c = grind (arith, common_steps)
+
+pub returns-in_err-forward-clause-some_marks : goal.returns-in_err-forward-clause-some_marks
+returns-in_err-forward-clause-some_marks c = grind (arith, common_steps)
+
+pub returns-clause-taken : goal.returns-clause-taken
+returns-clause-taken c = grind (arith, common_steps)
+
+pub returns-clause-none : goal.returns-clause-none
+returns-clause-none c = grind (arith, common_steps)
+
+pub returns-clause-none_marks : goal.returns-clause-none_marks
+returns-clause-none_marks c = grind (arith, common_steps)

@@ -1,4 +1,5 @@
-use Rattle.std.proofs.Common.{ap, inl, inr, length, map, sym, true≢false, ◌∙◌}
+use Rattle.std.proofs.Common.{ap, inl, inr, length, map, sym, true≢false, ◌∙◌, arith}
+use Rattle.std.proofs.lemmas.Grind.{common_steps}
 use Rattle.std.proofs.lemmas.Bool.{cases_lt}
 use Rattle.std.proofs.Math.Seq.{map-set_same}
 use Rattle.std.proofs.lemmas.List.{map-set}
@@ -28,3 +29,12 @@ returns-clause-marks g c =
             | inr h ↦ h
           ])
     ])
+
+pub invariant_of-self : goal.invariant_of-self
+invariant_of-self g c = grind (arith, common_steps)
+
+pub returns-clause-room : goal.returns-clause-room
+returns-clause-room g c = grind (arith, common_steps)
+
+pub returns-clause-as_many : goal.returns-clause-as_many
+returns-clause-as_many g c = grind (arith, common_steps)

@@ -1,4 +1,5 @@
 use Rattle.std.proofs.Common.{◌++◌, ◌<◌, get_or, length, ap, sym, subst, ◌∙◌, refl, arith, rules}
+use Rattle.std.proofs.lemmas.Grind.{common_steps}
 use Rattle.std.proofs.lemmas.List.{length_push}
 use Rattle.record.specs.Refused.{HasNoEnd, IsTooLong}
 use Rattle.record.proofs.Streams.{byte-moved, first-held, held-ends, more-open, too-long}
@@ -39,3 +40,78 @@ loop-self-preserved c =
       end = c.loop-self.invariant.end;
       number = c.loop-self.invariant.number;
     }
+
+pub loop-self-init : goal.loop-self-init
+loop-self-init c = grind (arith, common_steps)
+
+pub invariant_of-self : goal.invariant_of-self
+invariant_of-self c = grind (arith, common_steps)
+
+pub bounds-self-inside-self-inside : goal.bounds-self-inside-self-inside
+bounds-self-inside-self-inside c = grind (arith, common_steps)
+
+pub invariant_of-self-then-byte-eq10 : goal.invariant_of-self-then-byte-eq10
+invariant_of-self-then-byte-eq10 c = grind (arith, common_steps)
+
+pub returns-then-byte-eq10-clause-err : goal.returns-then-byte-eq10-clause-err
+returns-then-byte-eq10-clause-err c = grind (arith, common_steps)
+
+pub returns-then-byte-eq10-clause-kept : goal.returns-then-byte-eq10-clause-kept
+returns-then-byte-eq10-clause-kept c = grind (arith, common_steps)
+
+pub returns-then-byte-eq10-clause-ahead : goal.returns-then-byte-eq10-clause-ahead
+returns-then-byte-eq10-clause-ahead c = grind (arith, common_steps)
+
+pub returns-then-byte-eq10-clause-number : goal.returns-then-byte-eq10-clause-number
+returns-then-byte-eq10-clause-number c = grind (arith, common_steps)
+
+pub returns-then-byte-eq10-clause-open : goal.returns-then-byte-eq10-clause-open
+returns-then-byte-eq10-clause-open c = grind (arith, common_steps)
+
+pub returns-then-byte-eq10-clause-short : goal.returns-then-byte-eq10-clause-short
+returns-then-byte-eq10-clause-short c = grind (arith, common_steps)
+
+pub invariant_of-self-then-len-ge-MOST_BYTES : goal.invariant_of-self-then-len-ge-MOST_BYTES
+invariant_of-self-then-len-ge-MOST_BYTES c = grind (arith, common_steps)
+
+pub returns-then-len-ge-MOST_BYTES-clause-ok : goal.returns-then-len-ge-MOST_BYTES-clause-ok
+returns-then-len-ge-MOST_BYTES-clause-ok c = grind (arith, common_steps)
+
+pub returns-then-len-ge-MOST_BYTES-clause-kept : goal.returns-then-len-ge-MOST_BYTES-clause-kept
+returns-then-len-ge-MOST_BYTES-clause-kept c = grind (arith, common_steps)
+
+pub returns-then-len-ge-MOST_BYTES-clause-ahead : goal.returns-then-len-ge-MOST_BYTES-clause-ahead
+returns-then-len-ge-MOST_BYTES-clause-ahead c = grind (arith, common_steps)
+
+pub returns-then-len-ge-MOST_BYTES-clause-open : goal.returns-then-len-ge-MOST_BYTES-clause-open
+returns-then-len-ge-MOST_BYTES-clause-open c = grind (arith, common_steps)
+
+pub returns-then-len-ge-MOST_BYTES-clause-short : goal.returns-then-len-ge-MOST_BYTES-clause-short
+returns-then-len-ge-MOST_BYTES-clause-short c = grind (arith, common_steps)
+
+pub overflow_add-self : goal.overflow_add-self
+overflow_add-self c = grind (arith, common_steps)
+
+pub loop-self-smaller : goal.loop-self-smaller
+loop-self-smaller c = grind (arith, common_steps)
+
+pub returns-clause-ok : goal.returns-clause-ok
+returns-clause-ok c = grind (arith, common_steps)
+
+pub returns-clause-err : goal.returns-clause-err
+returns-clause-err c = grind (arith, common_steps)
+
+pub returns-clause-kept : goal.returns-clause-kept
+returns-clause-kept c = grind (arith, common_steps)
+
+pub returns-clause-ahead : goal.returns-clause-ahead
+returns-clause-ahead c = grind (arith, common_steps)
+
+pub returns-clause-number : goal.returns-clause-number
+returns-clause-number c = grind (arith, common_steps)
+
+pub returns-clause-open : goal.returns-clause-open
+returns-clause-open c = grind (arith, common_steps)
+
+pub returns-clause-short : goal.returns-clause-short
+returns-clause-short c = grind (arith, common_steps)

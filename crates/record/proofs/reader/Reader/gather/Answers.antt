@@ -1,4 +1,5 @@
 use Rattle.std.proofs.Common.{◌≢◌, sym, ◌∙◌, refl, rules, arith}
+use Rattle.std.proofs.lemmas.Grind.{common_steps}
 use Rattle.record.specs.declared.due.Due.TheVariants.{Nothing}
 use Rattle.record.specs.declared.fault.ReadKind.TheVariants.{Device, NoMemory}
 use Rattle.record.proofs.Drafting.{less-room, ready-gathered}
@@ -68,3 +69,57 @@ loop-self-preserved g c =
           pulled-more _ (g.S.Source.left c.loop-self.source) _ c.args.self.now c.loop-self.self _ c.gather.new.self c.loop-self.invariant.pulled
           c.gather.ensures.kept none c.pull.ensures.line c.pull.ensures.bytes number refl c.reserve.ensures.kept;
     }
+
+pub loop-self-init : goal.loop-self-init
+loop-self-init g c = grind (arith, common_steps)
+
+pub returns-in_err-gather-clause-ok : goal.returns-in_err-gather-clause-ok
+returns-in_err-gather-clause-ok g c = grind (arith, common_steps)
+
+pub returns-in_err-gather-clause-err : goal.returns-in_err-gather-clause-err
+returns-in_err-gather-clause-err g c = grind (arith, common_steps)
+
+pub returns-in_err-gather-clause-ready : goal.returns-in_err-gather-clause-ready
+returns-in_err-gather-clause-ready g c = grind (arith, common_steps)
+
+pub returns-in_err-gather-clause-device : goal.returns-in_err-gather-clause-device
+returns-in_err-gather-clause-device g c = grind (arith, common_steps)
+
+pub returns-in_err-reserve-clause-ok : goal.returns-in_err-reserve-clause-ok
+returns-in_err-reserve-clause-ok g c = grind (arith, common_steps)
+
+pub returns-in_err-reserve-clause-ready : goal.returns-in_err-reserve-clause-ready
+returns-in_err-reserve-clause-ready g c = grind (arith, common_steps)
+
+pub returns-in_err-reserve-clause-device : goal.returns-in_err-reserve-clause-device
+returns-in_err-reserve-clause-device g c = grind (arith, common_steps)
+
+pub returns-in_err-pull-clause-ok : goal.returns-in_err-pull-clause-ok
+returns-in_err-pull-clause-ok g c = grind (arith, common_steps)
+
+pub returns-in_err-pull-clause-ready : goal.returns-in_err-pull-clause-ready
+returns-in_err-pull-clause-ready g c = grind (arith, common_steps)
+
+pub returns-in_err-pull-clause-device : goal.returns-in_err-pull-clause-device
+returns-in_err-pull-clause-device g c = grind (arith, common_steps)
+
+pub returns-then-not-branch-2-clause-ok : goal.returns-then-not-branch-2-clause-ok
+returns-then-not-branch-2-clause-ok g c = grind (arith, common_steps)
+
+pub returns-then-not-branch-2-clause-ready : goal.returns-then-not-branch-2-clause-ready
+returns-then-not-branch-2-clause-ready g c = grind (arith, common_steps)
+
+pub returns-then-not-branch-2-clause-device : goal.returns-then-not-branch-2-clause-device
+returns-then-not-branch-2-clause-device g c = grind (arith, common_steps)
+
+pub returns-clause-ok : goal.returns-clause-ok
+returns-clause-ok g c = grind (arith, common_steps)
+
+pub returns-clause-err : goal.returns-clause-err
+returns-clause-err g c = grind (arith, common_steps)
+
+pub returns-clause-ready : goal.returns-clause-ready
+returns-clause-ready g c = grind (arith, common_steps)
+
+pub returns-clause-device : goal.returns-clause-device
+returns-clause-device g c = grind (arith, common_steps)

@@ -1,4 +1,5 @@
-use Rattle.std.proofs.Common.{◌≡◌, ◌<◌, ◌+◌, rules, subst, sym, ◌∙◌}
+use Rattle.std.proofs.Common.{◌≡◌, ◌<◌, ◌+◌, rules, subst, sym, ◌∙◌, arith}
+use Rattle.std.proofs.lemmas.Grind.{common_steps}
 use Rattle.std.proofs.lemmas.Result.{IfErr-weaker, on_ok_weaker}
 use Rattle.record.specs.declared.due.Due.TheVariants.{Header, Nothing}
 use Rattle.record.specs.Refused.{IsFaultOfRest, IsRefused}
@@ -75,3 +76,42 @@ returns-clause-fault g c =
     let taken = then-gathered _ _ left c.loop-self.self new c.loop-self.invariant.taken c.end.ensures.pulled in
     IfErr-weaker c.end.result _ _
     (λ kind fault. then-refused _ left new kind taken (subst (λ d. IsFaultOfRest d (pending new.lines) left kind) (sym done) fault)) c.end.ensures.err
+
+pub loop-self-init : goal.loop-self-init
+loop-self-init g c = grind (arith, common_steps)
+
+pub returns-in_err-gather-clause-text : goal.returns-in_err-gather-clause-text
+returns-in_err-gather-clause-text g c = grind (arith, common_steps)
+
+pub returns-in_err-gather-clause-whole : goal.returns-in_err-gather-clause-whole
+returns-in_err-gather-clause-whole g c = grind (arith, common_steps)
+
+pub returns-in_err-gather-clause-read : goal.returns-in_err-gather-clause-read
+returns-in_err-gather-clause-read g c = grind (arith, common_steps)
+
+pub returns-in_err-gather-clause-device : goal.returns-in_err-gather-clause-device
+returns-in_err-gather-clause-device g c = grind (arith, common_steps)
+
+pub returns-in_err-gather-clause-few : goal.returns-in_err-gather-clause-few
+returns-in_err-gather-clause-few g c = grind (arith, common_steps)
+
+pub returns-in_err-accept-clause-text : goal.returns-in_err-accept-clause-text
+returns-in_err-accept-clause-text g c = grind (arith, common_steps)
+
+pub returns-in_err-accept-clause-whole : goal.returns-in_err-accept-clause-whole
+returns-in_err-accept-clause-whole g c = grind (arith, common_steps)
+
+pub returns-in_err-accept-clause-read : goal.returns-in_err-accept-clause-read
+returns-in_err-accept-clause-read g c = grind (arith, common_steps)
+
+pub returns-in_err-accept-clause-device : goal.returns-in_err-accept-clause-device
+returns-in_err-accept-clause-device g c = grind (arith, common_steps)
+
+pub returns-in_err-accept-clause-few : goal.returns-in_err-accept-clause-few
+returns-in_err-accept-clause-few g c = grind (arith, common_steps)
+
+pub returns-clause-device : goal.returns-clause-device
+returns-clause-device g c = grind (arith, common_steps)
+
+pub returns-clause-few : goal.returns-clause-few
+returns-clause-few g c = grind (arith, common_steps)

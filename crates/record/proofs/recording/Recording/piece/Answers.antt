@@ -1,4 +1,5 @@
 use Rattle.std.proofs.Common.{◌-◌, ◌+◌, ℕ, List, get_or, length, ap, sym, ◌∙◌, arith}
+use Rattle.std.proofs.lemmas.Grind.{common_steps}
 use Rattle.record.specs.inner.Pieces.{value_piece, cells_piece, cell_piece, entries_piece, entry_piece}
 use Rattle.record.proofs.PieceAt.{value-at, cells-at, cell-at, entries-at, entry-at, end-at, fits-at}
 use Rattle.record.proofs.Whole.{pieces-count}
@@ -67,3 +68,75 @@ returns-then-number-count-3-clause-fits c =
           λ k d is low. fits-at r.entries c.entries-entries.result.now i k d c.entries-entries.ensures.value
           (omega (arith, is, values)) low c.entry_line.ensures.fits;
     }
+
+pub overflow_add-cells : goal.overflow_add-cells
+overflow_add-cells c = grind (arith, common_steps)
+
+pub overflow_add-count : goal.overflow_add-count
+overflow_add-count c = grind (arith, common_steps)
+
+pub overflow_add-count-2 : goal.overflow_add-count-2
+overflow_add-count-2 c = grind (arith, common_steps)
+
+pub overflow_sub-number : goal.overflow_sub-number
+overflow_sub-number c = grind (arith, common_steps)
+
+pub offset_bounds-opening-number : goal.offset_bounds-opening-number
+offset_bounds-opening-number c = grind (arith, common_steps)
+
+pub bounds-opening-number : goal.bounds-opening-number
+bounds-opening-number c = grind (arith, common_steps)
+
+pub overflow_sub-number-then-number-count-2 : goal.overflow_sub-number-then-number-count-2
+overflow_sub-number-then-number-count-2 c = grind (arith, common_steps)
+
+pub overflow_add-count-else-number-count-2 : goal.overflow_add-count-else-number-count-2
+overflow_add-count-else-number-count-2 c = grind (arith, common_steps)
+
+pub overflow_add-count-else-number-count-2-2 : goal.overflow_add-count-else-number-count-2-2
+overflow_add-count-else-number-count-2-2 c = grind (arith, common_steps)
+
+pub overflow_sub-number-then-number-count-3-2 : goal.overflow_sub-number-then-number-count-3-2
+overflow_sub-number-then-number-count-3-2 c = grind (arith, common_steps)
+
+pub offset_bounds-entries-number : goal.offset_bounds-entries-number
+offset_bounds-entries-number c = grind (arith, common_steps)
+
+pub bounds-entries-number : goal.bounds-entries-number
+bounds-entries-number c = grind (arith, common_steps)
+
+pub returns-then-number-eq0-clause-piece : goal.returns-then-number-eq0-clause-piece
+returns-then-number-eq0-clause-piece c = grind (arith, common_steps)
+
+pub returns-then-number-eq0-clause-short : goal.returns-then-number-eq0-clause-short
+returns-then-number-eq0-clause-short c = grind (arith, common_steps)
+
+pub returns-then-number-eq0-clause-fits : goal.returns-then-number-eq0-clause-fits
+returns-then-number-eq0-clause-fits c = grind (arith, common_steps)
+
+pub returns-then-number-cells-clause-short : goal.returns-then-number-cells-clause-short
+returns-then-number-cells-clause-short c = grind (arith, common_steps)
+
+pub returns-then-number-cells-2-clause-short : goal.returns-then-number-cells-2-clause-short
+returns-then-number-cells-2-clause-short c = grind (arith, common_steps)
+
+pub returns-then-number-cells-2-clause-fits : goal.returns-then-number-cells-2-clause-fits
+returns-then-number-cells-2-clause-fits c = grind (arith, common_steps)
+
+pub returns-then-number-count-clause-short : goal.returns-then-number-count-clause-short
+returns-then-number-count-clause-short c = grind (arith, common_steps)
+
+pub returns-then-number-count-2-clause-short : goal.returns-then-number-count-2-clause-short
+returns-then-number-count-2-clause-short c = grind (arith, common_steps)
+
+pub returns-then-number-count-2-clause-fits : goal.returns-then-number-count-2-clause-fits
+returns-then-number-count-2-clause-fits c = grind (arith, common_steps)
+
+pub returns-then-number-count-3-clause-short : goal.returns-then-number-count-3-clause-short
+returns-then-number-count-3-clause-short c = grind (arith, common_steps)
+
+pub returns-else-number-count-3-clause-short : goal.returns-else-number-count-3-clause-short
+returns-else-number-count-3-clause-short c = grind (arith, common_steps)
+
+pub returns-else-number-count-3-clause-fits : goal.returns-else-number-count-3-clause-fits
+returns-else-number-count-3-clause-fits c = grind (arith, common_steps)

@@ -1,4 +1,5 @@
-use Rattle.std.proofs.Common.{◌+◌, subst, sym}
+use Rattle.std.proofs.Common.{◌+◌, subst, sym, arith}
+use Rattle.std.proofs.lemmas.Grind.{common_steps}
 use Rattle.std.specs.Io.KnownBytes.{Consumes}
 use Rattle.record.specs.declared.due.Due.TheVariants.{Header}
 use Rattle.record.specs.Kept.{Kept}
@@ -29,3 +30,45 @@ returns-in-Ok-read_all-clause-back g c r h is =
 
 pub returns-in-Err-clause-back : goal.returns-in-Err-clause-back
 returns-in-Err-clause-back g c r h is = refused-outside _ _ _ c.in-Err.kind r h is c.in-Err.ensures.fault
+
+pub returns-in_default-clause-text : goal.returns-in_default-clause-text
+returns-in_default-clause-text g c = grind (arith, common_steps)
+
+pub returns-in_default-clause-whole : goal.returns-in_default-clause-whole
+returns-in_default-clause-whole g c = grind (arith, common_steps)
+
+pub returns-in_default-clause-device : goal.returns-in_default-clause-device
+returns-in_default-clause-device g c = grind (arith, common_steps)
+
+pub returns-in_default-clause-recordable : goal.returns-in_default-clause-recordable
+returns-in_default-clause-recordable g c = grind (arith, common_steps)
+
+pub returns-in_default-clause-back : goal.returns-in_default-clause-back
+returns-in_default-clause-back g c = grind (arith, common_steps)
+
+pub overflow_add-result : goal.overflow_add-result
+overflow_add-result g c = grind (arith, common_steps)
+
+pub returns-in-Ok-read_all-clause-whole : goal.returns-in-Ok-read_all-clause-whole
+returns-in-Ok-read_all-clause-whole g c = grind (arith, common_steps)
+
+pub returns-in-Ok-read_all-clause-fault : goal.returns-in-Ok-read_all-clause-fault
+returns-in-Ok-read_all-clause-fault g c = grind (arith, common_steps)
+
+pub returns-in-Ok-read_all-clause-device : goal.returns-in-Ok-read_all-clause-device
+returns-in-Ok-read_all-clause-device g c = grind (arith, common_steps)
+
+pub returns-in-Ok-read_all-clause-recordable : goal.returns-in-Ok-read_all-clause-recordable
+returns-in-Ok-read_all-clause-recordable g c = grind (arith, common_steps)
+
+pub returns-in-Err-clause-text : goal.returns-in-Err-clause-text
+returns-in-Err-clause-text g c = grind (arith, common_steps)
+
+pub returns-in-Err-clause-whole : goal.returns-in-Err-clause-whole
+returns-in-Err-clause-whole g c = grind (arith, common_steps)
+
+pub returns-in-Err-clause-device : goal.returns-in-Err-clause-device
+returns-in-Err-clause-device g c = grind (arith, common_steps)
+
+pub returns-in-Err-clause-recordable : goal.returns-in-Err-clause-recordable
+returns-in-Err-clause-recordable g c = grind (arith, common_steps)

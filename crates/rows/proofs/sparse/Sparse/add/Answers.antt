@@ -1,4 +1,5 @@
 use Rattle.std.proofs.Common.{◌≡◌, ◌<◌, [], ◌∷◌, None, arith, ap, length, nat_eq, sym, ◌∙◌}
+use Rattle.std.proofs.lemmas.Grind.{common_steps}
 use Rattle.std.specs.Map.{keys_of, lookup}
 use Rattle.std.proofs.lemmas.List.{map-append}
 use Rattle.indexmap.proofs.CallerLemmas.{insert_entry-new}
@@ -28,3 +29,42 @@ returns-in-Ok-clause-order g c =
     rw (← c.self.view_is)
     (ap keys_of (c.in-Ok.ensures.entries ∙ insert_entry-new nat_eq c.self.inside.held c.args.at c.args.value none)
     ∙ map-append (λ e. e.0) held ((c.args.at, c.args.value) ∷ []))
+
+pub returns-in-Ok-clause-err : goal.returns-in-Ok-clause-err
+returns-in-Ok-clause-err g c = grind (arith, common_steps)
+
+pub returns-in-Ok-clause-err_order : goal.returns-in-Ok-clause-err_order
+returns-in-Ok-clause-err_order g c = grind (arith, common_steps)
+
+pub returns-in-Ok-clause-back : goal.returns-in-Ok-clause-back
+returns-in-Ok-clause-back g c = grind (arith, common_steps)
+
+pub returns-in-Ok-clause-succeeds : goal.returns-in-Ok-clause-succeeds
+returns-in-Ok-clause-succeeds g c = grind (arith, common_steps)
+
+pub returns-in-Ok-clause-room : goal.returns-in-Ok-clause-room
+returns-in-Ok-clause-room g c = grind (arith, common_steps)
+
+pub invariant_of-self-in-Err : goal.invariant_of-self-in-Err
+invariant_of-self-in-Err g c = grind (arith, common_steps)
+
+pub returns-clause-ok : goal.returns-clause-ok
+returns-clause-ok g c = grind (arith, common_steps)
+
+pub returns-clause-order : goal.returns-clause-order
+returns-clause-order g c = grind (arith, common_steps)
+
+pub returns-clause-err : goal.returns-clause-err
+returns-clause-err g c = grind (arith, common_steps)
+
+pub returns-clause-err_order : goal.returns-clause-err_order
+returns-clause-err_order g c = grind (arith, common_steps)
+
+pub returns-clause-back : goal.returns-clause-back
+returns-clause-back g c = grind (arith, common_steps)
+
+pub returns-clause-succeeds : goal.returns-clause-succeeds
+returns-clause-succeeds g c = grind (arith, common_steps)
+
+pub returns-clause-room : goal.returns-clause-room
+returns-clause-room g c = grind (arith, common_steps)

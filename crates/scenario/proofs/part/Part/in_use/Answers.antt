@@ -1,4 +1,5 @@
-use Rattle.std.proofs.Common.{map, take, ap, ◌∙◌}
+use Rattle.std.proofs.Common.{map, take, ap, ◌∙◌, arith}
+use Rattle.std.proofs.lemmas.Grind.{common_steps}
 use Rattle.scenario.specs.Cursors.{progress}
 use Rattle.scenario.specs.Parts.{count_at, parts_of, place_of}
 use Rattle.scenario.proofs.Cursors.{parts-lower, progress-is, take-cut}
@@ -15,3 +16,6 @@ returns-clause-parts g c =
 pub returns-clause-lower : goal.returns-clause-lower
 returns-clause-lower g c =
     rw (returns-clause-parts g c, progress-is c.args.self.now) (parts-lower (place_of c.args.self.now) (parts_of c.args.self.now))
+
+pub slice_bounds-result-end : goal.slice_bounds-result-end
+slice_bounds-result-end g c = grind (arith, common_steps)

@@ -1,4 +1,5 @@
-use Rattle.std.proofs.Common.{◌<◌, length, sym, subst, ◌∙◌}
+use Rattle.std.proofs.Common.{◌<◌, length, sym, subst, ◌∙◌, arith}
+use Rattle.std.proofs.lemmas.Grind.{common_steps}
 use Rattle.scenario.specs.Cursors.{progress}
 use Rattle.scenario.specs.Parts.{Leads, behind, most_behind, place_of}
 use Rattle.scenario.specs.Taking.{offers}
@@ -37,3 +38,18 @@ returns-in-InSeq-clause-ok g c =
     let is = sym (sym c.place.ensures ∙ c.in-InSeq.is) in
     let new = progress c.start_row.new.part in
     on_ok-map c.start_row.result _ _ (λ h. subst (λ at. Leads (behind at) c.args.at (most_behind at) new) is h) c.start_row.ensures.ok
+
+pub unreachable-unreachable : goal.unreachable-unreachable
+unreachable-unreachable g c = grind (arith, common_steps)
+
+pub returns-in-Whole-clause-err : goal.returns-in-Whole-clause-err
+returns-in-Whole-clause-err g c = grind (arith, common_steps)
+
+pub returns-in-InSeq-clause-err : goal.returns-in-InSeq-clause-err
+returns-in-InSeq-clause-err g c = grind (arith, common_steps)
+
+pub returns-in-InTimes-clause-ok : goal.returns-in-InTimes-clause-ok
+returns-in-InTimes-clause-ok g c = grind (arith, common_steps)
+
+pub returns-in-InTimes-clause-err : goal.returns-in-InTimes-clause-err
+returns-in-InTimes-clause-err g c = grind (arith, common_steps)

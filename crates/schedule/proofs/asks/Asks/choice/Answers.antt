@@ -1,4 +1,5 @@
-use Rattle.std.proofs.Common.{Some, ◌+◌, ◌∙◌, ap, slice_get, sym}
+use Rattle.std.proofs.Common.{Some, ◌+◌, ◌∙◌, ap, slice_get, sym, arith}
+use Rattle.std.proofs.lemmas.Grind.{common_steps}
 use Rattle.rows.specs.Flags.{set_count}
 use Rattle.schedule.specs.declared.choosing.Choice.TheVariants.{Offer}
 use Rattle.schedule.proofs.Marking.{kth-of-free, none-of-busy, not-below, past-free}
@@ -23,3 +24,12 @@ returns-in_ok-at-in-Some c =
     (ap (λ ask. Some (Offer (c.args.first + c.in_ok-at-in-Some.field-0) ask)) c.index.ensures
     ∙ kth-of-free c.args.cores.now c.in-Some.core c.self.inside.core c.args.first c.args.k c.in_ok-at-in-Some.field-0 c.self.inside.asks.items
     c.self.inside.unheld c.index.result.now c.self.invariant c.in-Some.is (sym c.free.ensures ∙ c.if-not-free.false) c.in_ok-at-in-Some.ensures.place)
+
+pub overflow_cast-at : goal.overflow_cast-at
+overflow_cast-at c = grind (arith, common_steps)
+
+pub overflow_add-result : goal.overflow_add-result
+overflow_add-result c = grind (arith, common_steps)
+
+pub returns-in-None : goal.returns-in-None
+returns-in-None c = grind (arith, common_steps)

@@ -1,4 +1,5 @@
 use Rattle.std.proofs.Common.{◌≡◌, ◌∙◌, ◌<◌, ◌+◌, ◌^◌, ap, sym, subst, arith, length, slice_get}
+use Rattle.std.proofs.lemmas.Grind.{common_steps}
 use Rattle.std.proofs.lemmas.List.{length-map}
 use Rattle.std.specs.Option.{option_map}
 use Rattle.schedule.specs.declared.choosing.Choice.TheVariants.{Deliver}
@@ -51,3 +52,6 @@ returns g c =
     ap (option_map Deliver) c.in_ok-step.ensures
     ∙ choice-delivered c.args.world.now.tables c.args.world.now.state c.args.cores.now (laned c.args.self.now) c.args.k c.total-offers.result
     c.requires.kept c.requires.ready (sym c.broken.ensures ∙ c.if-broken.false) c.total-offers.ensures.total c.if-k-offers.false
+
+pub returns-then-broken : goal.returns-then-broken
+returns-then-broken g c = grind (arith, common_steps)

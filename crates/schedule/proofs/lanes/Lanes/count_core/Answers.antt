@@ -1,4 +1,5 @@
 use Rattle.std.proofs.Common.{◌≡◌, ◌∙◌, ◌<◌, List, sym, subst, arith, length, map}
+use Rattle.std.proofs.lemmas.Grind.{common_steps}
 use Rattle.std.proofs.lemmas.List.{length-map}
 use Rattle.schedule.specs.declared.lanes.Lane.{Lane}
 use Rattle.schedule.specs.Lanes.{laned, lanes_of}
@@ -20,3 +21,6 @@ returns-clause-each g c lane low =
     c.args.self.now.ready c.count_each.new.ready lane) c.as_slice.ensures.value
     (c.count_each.ensures.each lane (subst (λ (ls : List (Lane g.row.A.Denot g.row.B.Denot)). lane < length ls) (sym c.as_slice.ensures.value)
     (lane-low c.args.self.now lane low))))
+
+pub returns-clause-counts : goal.returns-clause-counts
+returns-clause-counts g c = grind (arith, common_steps)

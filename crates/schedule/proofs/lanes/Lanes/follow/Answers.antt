@@ -1,4 +1,5 @@
-use Rattle.std.proofs.Common.{ℕ, ◌∙◌, ap, subst, sym}
+use Rattle.std.proofs.Common.{ℕ, ◌∙◌, ap, subst, sym, arith}
+use Rattle.std.proofs.lemmas.Grind.{common_steps}
 use Rattle.base.specs.Steps.{block_of}
 use Rattle.schedule.specs.Lanes.{AgreeBut, laned}
 use Rattle.schedule.proofs.Counting.{all-counted}
@@ -14,3 +15,18 @@ returns-clause-ready g c before cb sound ready agree =
     (laned c.mark_again.new.self) (laned c.count_at.new.self) (laned c.count_taken.new.self) c.in_ok-taken.ensures.kept sound were c.mark_again.ensures.same
     (λ sn. c.mark_again.ensures.marked before cb c.args.cores.now c.in_ok-taken.taken sound sn were there) c.count_at.ensures.counts
     c.count_at.ensures.each c.count_taken.ensures.counts c.count_taken.ensures.each there
+
+pub returns-in_err-taken-clause-rest : goal.returns-in_err-taken-clause-rest
+returns-in_err-taken-clause-rest g c = grind (arith, common_steps)
+
+pub returns-in_err-taken-clause-kept : goal.returns-in_err-taken-clause-kept
+returns-in_err-taken-clause-kept g c = grind (arith, common_steps)
+
+pub returns-in_err-taken-clause-ready : goal.returns-in_err-taken-clause-ready
+returns-in_err-taken-clause-ready g c = grind (arith, common_steps)
+
+pub returns-clause-rest : goal.returns-clause-rest
+returns-clause-rest g c = grind (arith, common_steps)
+
+pub returns-clause-kept : goal.returns-clause-kept
+returns-clause-kept g c = grind (arith, common_steps)

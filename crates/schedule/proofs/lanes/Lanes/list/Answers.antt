@@ -1,4 +1,5 @@
-use Rattle.std.proofs.Common.{◌≡◌, ◌∙◌, ◌<◌, ℕ, Some, ap, sym, refl, subst, length, slice_get}
+use Rattle.std.proofs.Common.{◌≡◌, ◌∙◌, ◌<◌, ℕ, Some, ap, sym, refl, subst, length, slice_get, arith}
+use Rattle.std.proofs.lemmas.Grind.{common_steps}
 use Rattle.std.specs.List.{Contains}
 use Rattle.std.specs.Vec.{with_item}
 use Rattle.std.proofs.lemmas.Result.{on_ok_weaker}
@@ -60,3 +61,39 @@ returns-clause-marks g c =
     (λ h. subst (λ (l : Listed). IsMarkedOrSame c.args.world.now.tables c.args.world.now.state l (listed_at (laned (made g c)) c.args.lane)) before
     (subst (IsMarkedOrSame c.args.world.now.tables c.args.world.now.state c.index_mut.result.now.asks) (sym behind) c.in_ok-list.ensures.marks))
     c.reach.ensures.ok
+
+pub returns-in_err-list-clause-trees : goal.returns-in_err-list-clause-trees
+returns-in_err-list-clause-trees g c = grind (arith, common_steps)
+
+pub returns-in_err-list-clause-level : goal.returns-in_err-list-clause-level
+returns-in_err-list-clause-level g c = grind (arith, common_steps)
+
+pub returns-in_err-list-clause-listed : goal.returns-in_err-list-clause-listed
+returns-in_err-list-clause-listed g c = grind (arith, common_steps)
+
+pub returns-in_err-list-clause-others : goal.returns-in_err-list-clause-others
+returns-in_err-list-clause-others g c = grind (arith, common_steps)
+
+pub returns-in_err-list-clause-marks : goal.returns-in_err-list-clause-marks
+returns-in_err-list-clause-marks g c = grind (arith, common_steps)
+
+pub returns-in_default-clause-trees : goal.returns-in_default-clause-trees
+returns-in_default-clause-trees g c = grind (arith, common_steps)
+
+pub returns-in_default-clause-level : goal.returns-in_default-clause-level
+returns-in_default-clause-level g c = grind (arith, common_steps)
+
+pub returns-in_default-clause-listed : goal.returns-in_default-clause-listed
+returns-in_default-clause-listed g c = grind (arith, common_steps)
+
+pub returns-in_default-clause-others : goal.returns-in_default-clause-others
+returns-in_default-clause-others g c = grind (arith, common_steps)
+
+pub returns-in_default-clause-marks : goal.returns-in_default-clause-marks
+returns-in_default-clause-marks g c = grind (arith, common_steps)
+
+pub overflow_cast-lane : goal.overflow_cast-lane
+overflow_cast-lane g c = grind (arith, common_steps)
+
+pub returns-clause-level : goal.returns-clause-level
+returns-clause-level g c = grind (arith, common_steps)

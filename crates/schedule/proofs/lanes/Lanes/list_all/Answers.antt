@@ -1,4 +1,5 @@
 use Rattle.std.proofs.Common.{◌≡◌, ◌∙◌, ap, arith, length}
+use Rattle.std.proofs.lemmas.Grind.{common_steps}
 use Rattle.std.proofs.lemmas.List.{length-map}
 use Rattle.scenario.specs.Cursors.{remaining}
 use Rattle.schedule.specs.declared.lanes.Lane.{Lane}
@@ -58,3 +59,21 @@ returns-clause-ready g c =
       marked = λ sound lane low. (before.4 lane (omega (arith, low, many, all, end))).marked;
       counted = λ sound lane low. (before.4 lane (omega (arith, low, many, all, end))).counted;
     }
+
+pub loop-lane-init : goal.loop-lane-init
+loop-lane-init g c = grind (arith, common_steps)
+
+pub returns-in_err-list-clause-trees : goal.returns-in_err-list-clause-trees
+returns-in_err-list-clause-trees g c = grind (arith, common_steps)
+
+pub returns-in_err-list-clause-kept : goal.returns-in_err-list-clause-kept
+returns-in_err-list-clause-kept g c = grind (arith, common_steps)
+
+pub returns-in_err-list-clause-ready : goal.returns-in_err-list-clause-ready
+returns-in_err-list-clause-ready g c = grind (arith, common_steps)
+
+pub loop-lane-smaller : goal.loop-lane-smaller
+loop-lane-smaller g c = grind (arith, common_steps)
+
+pub returns-clause-trees : goal.returns-clause-trees
+returns-clause-trees g c = grind (arith, common_steps)

@@ -1,4 +1,5 @@
-use Rattle.std.proofs.Common.{subst, sym}
+use Rattle.std.proofs.Common.{subst, sym, arith}
+use Rattle.std.proofs.lemmas.Grind.{common_steps}
 use Rattle.scenario.specs.Alike.{Alike}
 use Rattle.scenario.specs.Tree.{Both, plain, trees_of}
 use Rattle.schedule.proofs.lanes.Lanes.open.Goals as goal
@@ -6,3 +7,18 @@ use Rattle.schedule.proofs.lanes.Lanes.open.Goals as goal
 pub returns-clause-rest : goal.returns-clause-rest
 returns-clause-rest g c =
     subst (λ ts. Alike (Both (trees_of ts)) (plain c.args.scenario.now)) (sym c.in_ok-list_all.ensures.trees) c.in_ok-lanes.ensures.rest
+
+pub returns-in_err-lanes-clause-rest : goal.returns-in_err-lanes-clause-rest
+returns-in_err-lanes-clause-rest g c = grind (arith, common_steps)
+
+pub returns-in_err-lanes-clause-kept : goal.returns-in_err-lanes-clause-kept
+returns-in_err-lanes-clause-kept g c = grind (arith, common_steps)
+
+pub returns-in_err-lanes-clause-ready : goal.returns-in_err-lanes-clause-ready
+returns-in_err-lanes-clause-ready g c = grind (arith, common_steps)
+
+pub returns-clause-kept : goal.returns-clause-kept
+returns-clause-kept g c = grind (arith, common_steps)
+
+pub returns-clause-ready : goal.returns-clause-ready
+returns-clause-ready g c = grind (arith, common_steps)

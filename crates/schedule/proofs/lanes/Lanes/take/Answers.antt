@@ -1,4 +1,5 @@
 use Rattle.std.proofs.Common.{◌<◌, inr, ap, get_or, length, refl, subst, sym, arith}
+use Rattle.std.proofs.lemmas.Grind.{common_steps}
 use Rattle.std.specs.Vec.{with_item}
 use Rattle.scenario.specs.Alike.{Alike}
 use Rattle.scenario.specs.Cursors.{remaining}
@@ -95,3 +96,18 @@ pub returns-clause-marks : goal.returns-clause-marks
 returns-clause-marks g c =
     subst (λ (l : Listed). IsMarkedOrSame c.args.world.now.tables c.args.world.now.state l (listed_at (laned c.list.new.self) c.find-found.result.place))
     (ap (λ ls. get_or ls c.find-found.result.place nothing_listed) (steps g c).listed) c.in_ok-list.ensures.marks
+
+pub overflow_cast-found : goal.overflow_cast-found
+overflow_cast-found g c = grind (arith, common_steps)
+
+pub returns-in_err-pass-clause-takes : goal.returns-in_err-pass-clause-takes
+returns-in_err-pass-clause-takes g c = grind (arith, common_steps)
+
+pub returns-in_err-pass-clause-marks : goal.returns-in_err-pass-clause-marks
+returns-in_err-pass-clause-marks g c = grind (arith, common_steps)
+
+pub returns-in_err-list-clause-takes : goal.returns-in_err-list-clause-takes
+returns-in_err-list-clause-takes g c = grind (arith, common_steps)
+
+pub returns-in_err-list-clause-marks : goal.returns-in_err-list-clause-marks
+returns-in_err-list-clause-marks g c = grind (arith, common_steps)

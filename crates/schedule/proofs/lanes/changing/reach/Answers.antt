@@ -1,4 +1,5 @@
 use Rattle.std.proofs.Common.{◌<◌, ◌∙◌, arith, length, length-set}
+use Rattle.std.proofs.lemmas.Grind.{common_steps}
 use Rattle.std.proofs.lemmas.Option.{slice_get_within}
 use Rattle.schedule.proofs.Reached.{grown-vec, now-in-vec, one-more}
 use Rattle.schedule.proofs.lanes.changing.reach.Goals as goal
@@ -35,3 +36,30 @@ returns-clause-ok c at ask e =
     let low = slice_get_within c.args.offers.now at ask e in
     let end = c.loop-ask-test.false in
     c.loop-ask.invariant.2 at ask (omega (arith, low, end)) e
+
+pub loop-ask-init : goal.loop-ask-init
+loop-ask-init c = grind (arith, common_steps)
+
+pub offset_bounds-offers-ask-index : goal.offset_bounds-offers-ask-index
+offset_bounds-offers-ask-index c = grind (arith, common_steps)
+
+pub bounds-offers-ask-index : goal.bounds-offers-ask-index
+bounds-offers-ask-index c = grind (arith, common_steps)
+
+pub loop-ask-smaller-then-is_of : goal.loop-ask-smaller-then-is_of
+loop-ask-smaller-then-is_of c = grind (arith, common_steps)
+
+pub returns-in_err-add-clause-count : goal.returns-in_err-add-clause-count
+returns-in_err-add-clause-count c = grind (arith, common_steps)
+
+pub returns-in_err-add-clause-ok : goal.returns-in_err-add-clause-ok
+returns-in_err-add-clause-ok c = grind (arith, common_steps)
+
+pub loop-ask-smaller : goal.loop-ask-smaller
+loop-ask-smaller c = grind (arith, common_steps)
+
+pub returns-clause-count : goal.returns-clause-count
+returns-clause-count c = grind (arith, common_steps)
+
+pub returns-clause-more : goal.returns-clause-more
+returns-clause-more c = grind (arith, common_steps)

@@ -1,4 +1,5 @@
-use Rattle.std.proofs.Common.{◌≡◌, ◌∙◌, List, [], ◌∷◌, ◌++◌, ap, sym, subst, map}
+use Rattle.std.proofs.Common.{◌≡◌, ◌∙◌, List, [], ◌∷◌, ◌++◌, ap, sym, subst, map, arith}
+use Rattle.std.proofs.lemmas.Grind.{common_steps}
 use Rattle.std.proofs.lemmas.Result.{IfOk-weaker}
 use Rattle.scenario.specs.Tree.{Tree, Both, plain, plain_all, trees_of}
 use Rattle.scenario.specs.Alike.{Alike}
@@ -20,3 +21,21 @@ returns-in_ok-push-in_default-clause-rest g c =
     let trees : map (λ (lane : Lane g.row.A.Denot g.row.B.Denot). remaining lane.rest) c.push.new.self.items ≡ plain c.args.scenario.now ∷ [] =
     ap (map (λ (lane : Lane g.row.A.Denot g.row.B.Denot). remaining lane.rest)) items ∙ ap (λ t. t ∷ []) c.in_ok-lane-in_default.ensures in
     subst (λ (ts : List Tree). Alike (Both (trees_of ts)) (plain c.args.scenario.now)) (sym trees) (alone (plain c.args.scenario.now))
+
+pub returns-in_err-lane-in_default-clause-few : goal.returns-in_err-lane-in_default-clause-few
+returns-in_err-lane-in_default-clause-few g c = grind (arith, common_steps)
+
+pub returns-in_err-lane-in_default-clause-rest : goal.returns-in_err-lane-in_default-clause-rest
+returns-in_err-lane-in_default-clause-rest g c = grind (arith, common_steps)
+
+pub returns-in_err-push-in_default-clause-few : goal.returns-in_err-push-in_default-clause-few
+returns-in_err-push-in_default-clause-few g c = grind (arith, common_steps)
+
+pub returns-in_err-push-in_default-clause-rest : goal.returns-in_err-push-in_default-clause-rest
+returns-in_err-push-in_default-clause-rest g c = grind (arith, common_steps)
+
+pub returns-in-Both-clause-few : goal.returns-in-Both-clause-few
+returns-in-Both-clause-few g c = grind (arith, common_steps)
+
+pub returns-in_ok-push-in_default-clause-few : goal.returns-in_ok-push-in_default-clause-few
+returns-in_ok-push-in_default-clause-few g c = grind (arith, common_steps)

@@ -1,4 +1,5 @@
-use Rattle.std.proofs.Common.{◌<◌, length, ◌≡◌, Some, ap, sym, slice_get, true≢false, List}
+use Rattle.std.proofs.Common.{◌<◌, length, ◌≡◌, Some, ap, sym, slice_get, true≢false, List, arith}
+use Rattle.std.proofs.lemmas.Grind.{common_steps}
 use Rattle.base.specs.Steps.{block_of}
 use Rattle.machine.specs.Block.{BlockState}
 use Rattle.network.proofs.Waits.{on_err}
@@ -88,3 +89,93 @@ returns-clause-tests_its_block c =
     (tests-block c.self.inside.shape c.self.inside.tables c.self.inside.opening.items c.step_at.new.blocks.items c.breaks-self-inside.result
     (block_of c.args.step) c.in-Some.value c.self.inside.tested _ c.in_ok-made.made.tested (at-2 c)
     (rw (c.block-number.ensures, c.caches.ensures.value) at c.in_ok-made.ensures.tested))
+
+pub returns-then-self-clause-within : goal.returns-then-self-clause-within
+returns-then-self-clause-within c = grind (arith, common_steps)
+
+pub returns-then-self-clause-ok : goal.returns-then-self-clause-ok
+returns-then-self-clause-ok c = grind (arith, common_steps)
+
+pub returns-then-self-clause-shape : goal.returns-then-self-clause-shape
+returns-then-self-clause-shape c = grind (arith, common_steps)
+
+pub returns-then-self-clause-tables : goal.returns-then-self-clause-tables
+returns-then-self-clause-tables c = grind (arith, common_steps)
+
+pub returns-then-self-clause-err : goal.returns-then-self-clause-err
+returns-then-self-clause-err c = grind (arith, common_steps)
+
+pub returns-then-self-clause-tests_its_block : goal.returns-then-self-clause-tests_its_block
+returns-then-self-clause-tests_its_block c = grind (arith, common_steps)
+
+pub returns-then-self-clause-err_tested : goal.returns-then-self-clause-err_tested
+returns-then-self-clause-err_tested c = grind (arith, common_steps)
+
+pub returns-then-self-clause-succeeds : goal.returns-then-self-clause-succeeds
+returns-then-self-clause-succeeds c = grind (arith, common_steps)
+
+pub returns-then-self-clause-sends_nothing : goal.returns-then-self-clause-sends_nothing
+returns-then-self-clause-sends_nothing c = grind (arith, common_steps)
+
+pub returns-in_default-clause-within : goal.returns-in_default-clause-within
+returns-in_default-clause-within c = grind (arith, common_steps)
+
+pub returns-in_default-clause-shape : goal.returns-in_default-clause-shape
+returns-in_default-clause-shape c = grind (arith, common_steps)
+
+pub returns-in_default-clause-tables : goal.returns-in_default-clause-tables
+returns-in_default-clause-tables c = grind (arith, common_steps)
+
+pub returns-in_default-clause-err : goal.returns-in_default-clause-err
+returns-in_default-clause-err c = grind (arith, common_steps)
+
+pub returns-in_default-clause-tests_its_block : goal.returns-in_default-clause-tests_its_block
+returns-in_default-clause-tests_its_block c = grind (arith, common_steps)
+
+pub returns-in_default-clause-err_tested : goal.returns-in_default-clause-err_tested
+returns-in_default-clause-err_tested c = grind (arith, common_steps)
+
+pub returns-in_default-clause-succeeds : goal.returns-in_default-clause-succeeds
+returns-in_default-clause-succeeds c = grind (arith, common_steps)
+
+pub returns-in_default-clause-sends_nothing : goal.returns-in_default-clause-sends_nothing
+returns-in_default-clause-sends_nothing c = grind (arith, common_steps)
+
+pub returns-in_err-made-clause-within : goal.returns-in_err-made-clause-within
+returns-in_err-made-clause-within c = grind (arith, common_steps)
+
+pub returns-in_err-made-clause-ok : goal.returns-in_err-made-clause-ok
+returns-in_err-made-clause-ok c = grind (arith, common_steps)
+
+pub returns-in_err-made-clause-shape : goal.returns-in_err-made-clause-shape
+returns-in_err-made-clause-shape c = grind (arith, common_steps)
+
+pub returns-in_err-made-clause-tables : goal.returns-in_err-made-clause-tables
+returns-in_err-made-clause-tables c = grind (arith, common_steps)
+
+pub returns-in_err-made-clause-tests_its_block : goal.returns-in_err-made-clause-tests_its_block
+returns-in_err-made-clause-tests_its_block c = grind (arith, common_steps)
+
+pub returns-in_err-made-clause-err_tested : goal.returns-in_err-made-clause-err_tested
+returns-in_err-made-clause-err_tested c = grind (arith, common_steps)
+
+pub returns-clause-within : goal.returns-clause-within
+returns-clause-within c = grind (arith, common_steps)
+
+pub returns-clause-shape : goal.returns-clause-shape
+returns-clause-shape c = grind (arith, common_steps)
+
+pub returns-clause-tables : goal.returns-clause-tables
+returns-clause-tables c = grind (arith, common_steps)
+
+pub returns-clause-err : goal.returns-clause-err
+returns-clause-err c = grind (arith, common_steps)
+
+pub returns-clause-err_tested : goal.returns-clause-err_tested
+returns-clause-err_tested c = grind (arith, common_steps)
+
+pub returns-clause-succeeds : goal.returns-clause-succeeds
+returns-clause-succeeds c = grind (arith, common_steps)
+
+pub returns-clause-sends_nothing : goal.returns-clause-sends_nothing
+returns-clause-sends_nothing c = grind (arith, common_steps)

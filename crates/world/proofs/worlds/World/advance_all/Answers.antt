@@ -1,4 +1,5 @@
 use Rattle.std.proofs.Common.{◌++◌, ◌∷◌, [], ◌∙◌, ap, arith, refl}
+use Rattle.std.proofs.lemmas.Grind.{common_steps}
 use Rattle.world.proofs.Running.{run-more}
 use Rattle.world.proofs.worlds.World.advance_all.Goals as goal
 
@@ -7,3 +8,51 @@ loop-i-preserved c =
     run-more c.args.self.now c.loop-i.self c.advance.new.self c.args.steps.now c.loop-i.i _ _ c.args.outcomes.now.items c.loop-i.outcomes.items c.push_reserved.new.self.items c.in-Ok.outcome
     (omega arith) refl c.loop-i.invariant c.in-Ok.ensures.ok c.in-Ok.ensures.shape c.in-Ok.ensures.tables
     (c.push_reserved.ensures.items ∙ ap (λ xs. xs ++ c.in-Ok.outcome ∷ []) c.reserve.ensures.items)
+
+pub loop-i-init : goal.loop-i-init
+loop-i-init c = grind (arith, common_steps)
+
+pub offset_bounds-steps-i : goal.offset_bounds-steps-i
+offset_bounds-steps-i c = grind (arith, common_steps)
+
+pub bounds-steps-i : goal.bounds-steps-i
+bounds-steps-i c = grind (arith, common_steps)
+
+pub returns-in-Err-clause-ok : goal.returns-in-Err-clause-ok
+returns-in-Err-clause-ok c = grind (arith, common_steps)
+
+pub returns-in-Err-clause-err : goal.returns-in-Err-clause-err
+returns-in-Err-clause-err c = grind (arith, common_steps)
+
+pub returns-in-Err-clause-done : goal.returns-in-Err-clause-done
+returns-in-Err-clause-done c = grind (arith, common_steps)
+
+pub returns-in-Err-clause-shape : goal.returns-in-Err-clause-shape
+returns-in-Err-clause-shape c = grind (arith, common_steps)
+
+pub returns-in_default-advance-clause-ok : goal.returns-in_default-advance-clause-ok
+returns-in_default-advance-clause-ok c = grind (arith, common_steps)
+
+pub returns-in_default-advance-clause-err : goal.returns-in_default-advance-clause-err
+returns-in_default-advance-clause-err c = grind (arith, common_steps)
+
+pub returns-in_default-advance-clause-done : goal.returns-in_default-advance-clause-done
+returns-in_default-advance-clause-done c = grind (arith, common_steps)
+
+pub returns-in_default-advance-clause-shape : goal.returns-in_default-advance-clause-shape
+returns-in_default-advance-clause-shape c = grind (arith, common_steps)
+
+pub loop-i-smaller : goal.loop-i-smaller
+loop-i-smaller c = grind (arith, common_steps)
+
+pub returns-clause-ok : goal.returns-clause-ok
+returns-clause-ok c = grind (arith, common_steps)
+
+pub returns-clause-err : goal.returns-clause-err
+returns-clause-err c = grind (arith, common_steps)
+
+pub returns-clause-done : goal.returns-clause-done
+returns-clause-done c = grind (arith, common_steps)
+
+pub returns-clause-shape : goal.returns-clause-shape
+returns-clause-shape c = grind (arith, common_steps)

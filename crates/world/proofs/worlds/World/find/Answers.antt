@@ -1,4 +1,5 @@
 use Rattle.std.proofs.Common.{◌≡◌, ◌∙◌, Some, ap, sym, arith, slice_get, refl, ◌<◌}
+use Rattle.std.proofs.lemmas.Grind.{common_steps}
 use Rattle.std.proofs.lemmas.Option.{slice_get_within}
 use Rattle.world.proofs.Keeping.{found-kept, found-opened}
 use Rattle.world.proofs.worlds.World.find.Goals as goal
@@ -26,3 +27,6 @@ returns-in-None-clause-there c =
     let below : c.args.number < c.self.inside.shape.blocks =
     omega (arith, c.self.invariant.opening, slice_get_within c.self.inside.opening.items c.args.number c.in_ok-value.value (sym (at-2 c))) in
     rw (← c.self.view_is) ((λ e. below), (λ lt. refl))
+
+pub returns-in-Some-clause-there : goal.returns-in-Some-clause-there
+returns-in-Some-clause-there c = grind (arith, common_steps)

@@ -1,4 +1,5 @@
 use Rattle.std.proofs.Common.{◌∙◌, arith}
+use Rattle.std.proofs.lemmas.Grind.{common_steps}
 use Rattle.std.proofs.lemmas.List.{take_all}
 use Rattle.world.specs.Enabled.{enabled_steps}
 use Rattle.world.proofs.Delivering.{taken-more}
@@ -13,3 +14,21 @@ pub returns-clause-ok : goal.returns-clause-ok
 returns-clause-ok c =
     c.loop-k.invariant
     ∙ take_all c.loop-k.k (enabled_steps c.args.self.now.tables c.args.self.now.state) (omega (arith, c.loop-k-test.false, c.enabled_count-k-end.ensures.count))
+
+pub loop-k-init : goal.loop-k-init
+loop-k-init c = grind (arith, common_steps)
+
+pub unreachable-unreachable : goal.unreachable-unreachable
+unreachable-unreachable c = grind (arith, common_steps)
+
+pub returns-in-Err-clause-ok : goal.returns-in-Err-clause-ok
+returns-in-Err-clause-ok c = grind (arith, common_steps)
+
+pub returns-in-Err-clause-err : goal.returns-in-Err-clause-err
+returns-in-Err-clause-err c = grind (arith, common_steps)
+
+pub loop-k-smaller : goal.loop-k-smaller
+loop-k-smaller c = grind (arith, common_steps)
+
+pub returns-clause-err : goal.returns-clause-err
+returns-clause-err c = grind (arith, common_steps)

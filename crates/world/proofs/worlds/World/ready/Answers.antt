@@ -1,4 +1,5 @@
-use Rattle.std.proofs.Common.{◌<◌, length, ◌≡◌, ◌∙◌, List, Some, ap, sym, slice_get}
+use Rattle.std.proofs.Common.{◌<◌, length, ◌≡◌, ◌∙◌, List, Some, ap, sym, slice_get, arith}
+use Rattle.std.proofs.lemmas.Grind.{common_steps}
 use Rattle.std.proofs.lemmas.Result.{IfOk-weaker, on_ok_weaker}
 use Rattle.base.specs.Steps.{block_of}
 use Rattle.machine.specs.Block.{BlockState}
@@ -64,3 +65,54 @@ returns-clause-sends_nothing c s w =
     (light-in c.self.inside.shape c.self.inside.tables c.self.inside.opening.items c.self.inside.blocks.items c.self.inside.tested
     c.args.step c.in-Some.value (at c)
     (rw (← c.self.view_is, c.if-self.false) at s) (rw (← c.self.view_is) at w))
+
+pub returns-then-self-clause-outcome : goal.returns-then-self-clause-outcome
+returns-then-self-clause-outcome c = grind (arith, common_steps)
+
+pub returns-then-self-clause-room : goal.returns-then-self-clause-room
+returns-then-self-clause-room c = grind (arith, common_steps)
+
+pub returns-then-self-clause-shape : goal.returns-then-self-clause-shape
+returns-then-self-clause-shape c = grind (arith, common_steps)
+
+pub returns-then-self-clause-tables : goal.returns-then-self-clause-tables
+returns-then-self-clause-tables c = grind (arith, common_steps)
+
+pub returns-then-self-clause-state : goal.returns-then-self-clause-state
+returns-then-self-clause-state c = grind (arith, common_steps)
+
+pub returns-then-self-clause-tested : goal.returns-then-self-clause-tested
+returns-then-self-clause-tested c = grind (arith, common_steps)
+
+pub returns-then-self-clause-succeeds : goal.returns-then-self-clause-succeeds
+returns-then-self-clause-succeeds c = grind (arith, common_steps)
+
+pub returns-then-self-clause-sends_nothing : goal.returns-then-self-clause-sends_nothing
+returns-then-self-clause-sends_nothing c = grind (arith, common_steps)
+
+pub returns-in_default-clause-shape : goal.returns-in_default-clause-shape
+returns-in_default-clause-shape c = grind (arith, common_steps)
+
+pub returns-in_default-clause-tables : goal.returns-in_default-clause-tables
+returns-in_default-clause-tables c = grind (arith, common_steps)
+
+pub returns-in_default-clause-state : goal.returns-in_default-clause-state
+returns-in_default-clause-state c = grind (arith, common_steps)
+
+pub returns-in_default-clause-tested : goal.returns-in_default-clause-tested
+returns-in_default-clause-tested c = grind (arith, common_steps)
+
+pub returns-in_default-clause-succeeds : goal.returns-in_default-clause-succeeds
+returns-in_default-clause-succeeds c = grind (arith, common_steps)
+
+pub returns-in_default-clause-sends_nothing : goal.returns-in_default-clause-sends_nothing
+returns-in_default-clause-sends_nothing c = grind (arith, common_steps)
+
+pub returns-clause-shape : goal.returns-clause-shape
+returns-clause-shape c = grind (arith, common_steps)
+
+pub returns-clause-tables : goal.returns-clause-tables
+returns-clause-tables c = grind (arith, common_steps)
+
+pub returns-clause-tested : goal.returns-clause-tested
+returns-clause-tested c = grind (arith, common_steps)

@@ -1,4 +1,5 @@
-use Rattle.std.proofs.Common.{[], ◌∷◌, ap, sym}
+use Rattle.std.proofs.Common.{[], ◌∷◌, ap, sym, arith}
+use Rattle.std.proofs.lemmas.Grind.{common_steps}
 use Rattle.machine.specs.Machine.{Next}
 use Rattle.world.proofs.Histories.{history-append}
 use Rattle.world.proofs.Coherence.{been-safe, not-stuck}
@@ -20,3 +21,54 @@ returns-clause-unstuck c = not-stuck _ _ _ c.advance.ensures.within
 
 pub returns-in_err-outcome-clause-unstuck : goal.returns-in_err-outcome-clause-unstuck
 returns-in_err-outcome-clause-unstuck c = not-stuck _ _ _ c.advance.ensures.within
+
+pub returns-in_err-outcome-clause-ok : goal.returns-in_err-outcome-clause-ok
+returns-in_err-outcome-clause-ok c = grind (arith, common_steps)
+
+pub returns-in_err-outcome-clause-history : goal.returns-in_err-outcome-clause-history
+returns-in_err-outcome-clause-history c = grind (arith, common_steps)
+
+pub returns-in_err-outcome-clause-shape : goal.returns-in_err-outcome-clause-shape
+returns-in_err-outcome-clause-shape c = grind (arith, common_steps)
+
+pub returns-in_err-outcome-clause-tables : goal.returns-in_err-outcome-clause-tables
+returns-in_err-outcome-clause-tables c = grind (arith, common_steps)
+
+pub returns-in_err-outcome-clause-err : goal.returns-in_err-outcome-clause-err
+returns-in_err-outcome-clause-err c = grind (arith, common_steps)
+
+pub returns-in_err-outcome-clause-err_tested : goal.returns-in_err-outcome-clause-err_tested
+returns-in_err-outcome-clause-err_tested c = grind (arith, common_steps)
+
+pub returns-in_err-outcome-clause-succeeds : goal.returns-in_err-outcome-clause-succeeds
+returns-in_err-outcome-clause-succeeds c = grind (arith, common_steps)
+
+pub returns-in_err-outcome-clause-sends_nothing : goal.returns-in_err-outcome-clause-sends_nothing
+returns-in_err-outcome-clause-sends_nothing c = grind (arith, common_steps)
+
+pub returns-clause-ok : goal.returns-clause-ok
+returns-clause-ok c = grind (arith, common_steps)
+
+pub returns-clause-shape : goal.returns-clause-shape
+returns-clause-shape c = grind (arith, common_steps)
+
+pub returns-clause-tables : goal.returns-clause-tables
+returns-clause-tables c = grind (arith, common_steps)
+
+pub returns-clause-err : goal.returns-clause-err
+returns-clause-err c = grind (arith, common_steps)
+
+pub returns-clause-tests_what_it_sends : goal.returns-clause-tests_what_it_sends
+returns-clause-tests_what_it_sends c = grind (arith, common_steps)
+
+pub returns-clause-tests_its_block : goal.returns-clause-tests_its_block
+returns-clause-tests_its_block c = grind (arith, common_steps)
+
+pub returns-clause-err_tested : goal.returns-clause-err_tested
+returns-clause-err_tested c = grind (arith, common_steps)
+
+pub returns-clause-succeeds : goal.returns-clause-succeeds
+returns-clause-succeeds c = grind (arith, common_steps)
+
+pub returns-clause-sends_nothing : goal.returns-clause-sends_nothing
+returns-clause-sends_nothing c = grind (arith, common_steps)

@@ -1,4 +1,5 @@
-use Rattle.std.proofs.Common.{◌≡◌, ◌∙◌, List, Option, ap, sym, ℕ, refl, length, map}
+use Rattle.std.proofs.Common.{◌≡◌, ◌∙◌, List, Option, ap, sym, ℕ, refl, length, map, arith}
+use Rattle.std.proofs.lemmas.Grind.{common_steps}
 use Rattle.world.specs.View.{states}
 use Rattle.world.proofs.Copying.{Seen, marked-copied, seen, states-copied}
 use Rattle.std.specs.Option.{option_map}
@@ -31,3 +32,48 @@ invariant_of-result c =
 
 pub returns-clause-state : goal.returns-clause-state
 returns-clause-state c = rw (← c.self.view_is, blocks c) refl
+
+pub returns-in_err-opening-clause-shape : goal.returns-in_err-opening-clause-shape
+returns-in_err-opening-clause-shape c = grind (arith, common_steps)
+
+pub returns-in_err-opening-clause-tables : goal.returns-in_err-opening-clause-tables
+returns-in_err-opening-clause-tables c = grind (arith, common_steps)
+
+pub returns-in_err-opening-clause-state : goal.returns-in_err-opening-clause-state
+returns-in_err-opening-clause-state c = grind (arith, common_steps)
+
+pub returns-in_err-opening-clause-tested : goal.returns-in_err-opening-clause-tested
+returns-in_err-opening-clause-tested c = grind (arith, common_steps)
+
+pub returns-in_err-blocks-clause-shape : goal.returns-in_err-blocks-clause-shape
+returns-in_err-blocks-clause-shape c = grind (arith, common_steps)
+
+pub returns-in_err-blocks-clause-tables : goal.returns-in_err-blocks-clause-tables
+returns-in_err-blocks-clause-tables c = grind (arith, common_steps)
+
+pub returns-in_err-blocks-clause-state : goal.returns-in_err-blocks-clause-state
+returns-in_err-blocks-clause-state c = grind (arith, common_steps)
+
+pub returns-in_err-blocks-clause-tested : goal.returns-in_err-blocks-clause-tested
+returns-in_err-blocks-clause-tested c = grind (arith, common_steps)
+
+pub returns-in_err-counts-clause-shape : goal.returns-in_err-counts-clause-shape
+returns-in_err-counts-clause-shape c = grind (arith, common_steps)
+
+pub returns-in_err-counts-clause-tables : goal.returns-in_err-counts-clause-tables
+returns-in_err-counts-clause-tables c = grind (arith, common_steps)
+
+pub returns-in_err-counts-clause-state : goal.returns-in_err-counts-clause-state
+returns-in_err-counts-clause-state c = grind (arith, common_steps)
+
+pub returns-in_err-counts-clause-tested : goal.returns-in_err-counts-clause-tested
+returns-in_err-counts-clause-tested c = grind (arith, common_steps)
+
+pub returns-clause-shape : goal.returns-clause-shape
+returns-clause-shape c = grind (arith, common_steps)
+
+pub returns-clause-tables : goal.returns-clause-tables
+returns-clause-tables c = grind (arith, common_steps)
+
+pub returns-clause-tested : goal.returns-clause-tested
+returns-clause-tested c = grind (arith, common_steps)

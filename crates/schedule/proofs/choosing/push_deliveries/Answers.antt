@@ -1,0 +1,24 @@
+use Rattle.std.proofs.Common.{arith}
+use Rattle.std.proofs.lemmas.Grind.{common_steps}
+use Rattle.schedule.proofs.choosing.push_deliveries.Goals as goal
+
+pub loop-step-init : goal.loop-step-init
+loop-step-init c = grind (arith, common_steps)
+
+pub offset_bounds-steps-step-index : goal.offset_bounds-steps-step-index
+offset_bounds-steps-step-index c = grind (arith, common_steps)
+
+pub bounds-steps-step-index : goal.bounds-steps-step-index
+bounds-steps-step-index c = grind (arith, common_steps)
+
+pub returns-in_err-push : goal.returns-in_err-push
+returns-in_err-push c = grind (arith, common_steps)
+
+pub loop-step-smaller : goal.loop-step-smaller
+loop-step-smaller c = grind (arith, common_steps)
+
+pub loop-step-preserved : goal.loop-step-preserved
+loop-step-preserved c = grind (arith, common_steps)
+
+pub returns : goal.returns
+returns c = grind (arith, common_steps)
