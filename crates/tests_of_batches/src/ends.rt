@@ -1,7 +1,7 @@
 //! Ends that fail, words and memory that can't be had, and what is refused before the input is read.
 
+use crate::batches::ONE_LOAD;
 use crate::served_as;
-use crate::trying::ONE_LOAD;
 use command_lines::{OneFile, Served, recording, serve_line};
 use commands::serve;
 use std::alloc::Global;

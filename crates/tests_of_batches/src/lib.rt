@@ -3,13 +3,13 @@
 #![tactic(auto)]
 
 #[cfg(test)]
+mod batches;
+#[cfg(test)]
 mod ends;
 #[cfg(test)]
 mod racing;
 #[cfg(test)]
 mod sharing;
-#[cfg(test)]
-mod trying;
 
 #[cfg(test)]
 use command_lines::Served;

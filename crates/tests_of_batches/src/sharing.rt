@@ -1,8 +1,8 @@
 //! Batches that workers share out, and what is told of their progress.
 
+use crate::batches::{ONE_LOAD, RACING_PAIR};
 use crate::ends::Short;
 use crate::served_as;
-use crate::trying::{ONE_LOAD, RACING_PAIR};
 use command_lines::{run, run_over, serve_line};
 
 #[test]
