@@ -13,3 +13,4 @@ pub mod Sends
 pub mod Writes
 pub mod TestedMarks
 pub mod Holding
+pub mod Passing

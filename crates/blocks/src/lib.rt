@@ -4,5 +4,6 @@
 mod block;
 
 pub use block::{
-    Block, Made, Tested, decide_opened, foreseen, is_held_opened, is_stall, opened_line,
+    Block, Made, Tested, Visit, decide_opened, foreseen, is_held_opened, is_stall, opened_line,
+    responses_pass,
 };

@@ -1,3 +1,4 @@
+pub mod Counted
 pub mod Linked
 pub mod Listed
 pub mod Marked

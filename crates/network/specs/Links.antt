@@ -1,12 +1,22 @@
-use Rattle.std.specs.Prelude.{◌≡◌, ◌≢◌, ℕ, ◌+◌, ◌≤◌, List, [], Option, None, Some, Bool, not, length, map, slice_index, slice_index_or}
+use Rattle.std.specs.Prelude.{◌≡◌, ◌≢◌, ℕ, ◌+◌, ◌^◌, ◌<◌, ◌≤◌, List, [], Option, None, Some, Bool, if◌then◌else◌, not, length, map, slice_index, slice_index_or}
 use Rattle.network.specs.declared.message.Forward.{Forward}
 use Rattle.network.specs.Traffic.{is_nil}
+use Rattle.rows.specs.Flags.{set_count}
 
 -- a wire, as contracts see it: its messages with their marks, and how many more it takes without asking for memory
 pub record Wired (M : Type 0) : Type 0 where
   pub messages : List M
   pub marks : List Bool
   pub room : ℕ
+
+-- a `u32` counts the messages of a wire, and so many of their marks are set
+pub record IsCounted (marks : List Bool) (held : ℕ) : Type 0 where
+  pub few : length marks < 2 ^ 32
+  pub count : held ≡ set_count marks
+
+-- a mark as a number: 1 where it is set
+abbrev pub one : Bool → ℕ
+one held = if held then 1 else 0
 
 -- the links of a block, as contracts see them: what is on each, and how many more it takes without asking for memory
 pub record Linked : Type 0 where

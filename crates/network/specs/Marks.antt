@@ -1,5 +1,5 @@
 -- Marks beside messages: a mark for each message of a wire, in the same order.
-use Rattle.std.specs.Prelude.{ℕ, Bool, false, List, [], ◌∷◌, ◌++◌, remove, replicate, slice_index_or, slice_set}
+use Rattle.std.specs.Prelude.{ℕ, Bool, false, List, [], ◌∷◌, ◌++◌, map, remove, replicate, slice_index_or, slice_set}
 use Rattle.network.specs.declared.message.Message.{Message}
 use Rattle.network.specs.declared.message.Message.TheVariants as message
 
@@ -62,3 +62,15 @@ forward_marked cache i held m = record m { links = slice_set m.links cache (slic
 -- after a response was marked
 abbrev pub response_marked : ℕ → Bool → Marks → Marks
 response_marked i held m = record m { responses = slice_set m.responses i held }
+
+-- after all these marks were taken back
+abbrev pub unset : List Bool → List Bool
+unset marks = map (λ held. false) marks
+
+-- after all requests' marks were taken back
+abbrev pub requests_unmarked : Marks → Marks
+requests_unmarked m = record m { requests = unset m.requests }
+
+-- after all responses' marks were
+abbrev pub responses_unmarked : Marks → Marks
+responses_unmarked m = record m { responses = unset m.responses }

@@ -1,6 +1,9 @@
 ghost use Rattle.std.specs.Prelude.{◌≡◌, ◌+◌, ◌<◌, ◌≤◌, ◌^◌, ◌∷◌, ◌++◌, [], IsOk, OnOk, OnErr, IfOk, IfErr, IfNone, OnSome};
 ghost use Rattle.std.specs.Prelude.{length, remove, slice_get, slice_set, false};
-ghost use Rattle.network.specs.Marks.{mark_at};
+ghost use Rattle.std.specs.Prelude.{map, vec_len};
+ghost use Rattle.std.specs.Vec.{vec_capacity};
+ghost use Rattle.network.specs.Marks.{mark_at, unset};
+ghost use Rattle.network.specs.Links.{one};
 
 use base::NoMemory;
 use rows::TryClone;
@@ -21,12 +24,14 @@ struct Marked<M> {
 #[derive(Drop)]
 pub struct Wire<M> {
     marked: Vec<Marked<M>>,
+    // How many of the marks are set.
+    held: u32,
 }
 
 impl<M> Model for Wire<M> {
-    ghost use Rattle.std.specs.Prelude.{◌-◌, ◌<◌, ◌^◌, map, min, vec_len};
+    ghost use Rattle.std.specs.Prelude.{◌-◌, ◌^◌, map, min, vec_len};
     ghost use Rattle.std.specs.Vec.{vec_capacity};
-    ghost use Rattle.network.specs.Links.{Wired};
+    ghost use Rattle.network.specs.Links.{IsCounted, Wired};
 
     ghost Value = { Wired M };
 
@@ -36,7 +41,7 @@ impl<M> Model for Wire<M> {
       room = min (vec_capacity w.marked) (2 ^ 32 - 1) - vec_len w.marked;
     } };
 
-    ghost invariant = { λ w. vec_len w.marked < 2 ^ 32 };
+    ghost invariant = { λ w. IsCounted (map (λ m. m.held) w.marked.items) w.held };
 }
 
 impl<M: Copy> Wire<M> {
@@ -47,6 +52,7 @@ impl<M: Copy> Wire<M> {
     {
         Wire {
             marked: Vec::new(alloc),
+            held: 0,
         }
     }
 
@@ -60,7 +66,7 @@ impl<M: Copy> Wire<M> {
             return Err(NoMemory);
         }
         let marked = Vec::with_capacity(alloc, count)?;
-        Ok(Wire { marked })
+        Ok(Wire { marked, held: 0 })
     }
 
     /// Takes off all messages, and keeps the memory for as many.
@@ -69,6 +75,7 @@ impl<M: Copy> Wire<M> {
         ensures marks { self.new.marks ≡ [] }
     {
         self.marked.clear();
+        self.held = 0;
     }
 
     /// How many messages there are.
@@ -106,8 +113,23 @@ impl<M: Copy> Wire<M> {
         ensures as_many { length self.new.marks ≡ length self.new.messages }
     {
         if let Some(marked) = self.marked.get_mut(index as usize) {
+            self.held = recounted(self.held, marked.held, held);
             marked.held = held;
         }
+    }
+
+    /// Takes all marks back. Where none is set it looks at no message.
+    pub fn unmark(&mut self)
+        ensures messages { self.new.messages ≡ self.old.messages }
+        ensures marks { self.new.marks ≡ unset self.old.marks }
+        ensures room { self.new.room ≡ self.old.room }
+        ensures as_many { length self.new.marks ≡ length self.new.messages }
+    {
+        if self.held == 0 {
+            return;
+        }
+        unmark_each(&mut self.marked);
+        self.held = 0;
     }
 
     /// Sends a message, or gives it back where there is no memory for it or the wire is full.
@@ -147,7 +169,9 @@ impl<M: Copy> Wire<M> {
         if index >= self.marked.len() as u64 {
             return None;
         }
-        Some(self.marked.remove(index as usize).message)
+        let taken = self.marked.remove(index as usize);
+        self.held = recounted(self.held, taken.held, false);
+        Some(taken.message)
     }
 
     /// Room for so many more messages. More than the wire still holds are refused.
@@ -167,6 +191,27 @@ impl<M: Copy> Wire<M> {
     }
 }
 
+/// How many marks are set once one of them was made another.
+fn recounted(held: u32, before: bool, after: bool) -> u32
+    requires there { one before ≤ held }
+    requires fits { held + one after < 2 ^ 32 + one before }
+    ensures { result + one before ≡ held + one after }
+{
+    held - u32::from(before) + u32::from(after)
+}
+
+/// Takes these marks back.
+fn unmark_each<M: Copy>(marked: &mut Vec<Marked<M>>)
+    ensures messages { map (λ m. m.message) marked.new.items ≡ map (λ m. m.message) marked.old.items }
+    ensures marks { map (λ m. m.held) marked.new.items ≡ unset (map (λ m. m.held) marked.old.items) }
+    ensures room { vec_capacity marked.new ≡ vec_capacity marked.old }
+    ensures count { vec_len marked.new ≡ vec_len marked.old }
+{
+    for one in marked.iter_mut() {
+        one.held = false;
+    }
+}
+
 impl<M: Copy> TryClone for Wire<M> {
     ghost use Rattle.std.specs.Prelude.{Bool, List};
 
@@ -177,6 +222,9 @@ impl<M: Copy> TryClone for Wire<M> {
     /// The same messages, with the same marks.
     fn try_clone(&self, alloc: Global) -> Result<Wire<M>, NoMemory> {
         let marked = Vec::from_slice(alloc, self.marked.as_slice())?;
-        Ok(Wire { marked })
+        Ok(Wire {
+            marked,
+            held: self.held,
+        })
     }
 }

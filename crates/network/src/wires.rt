@@ -2,7 +2,7 @@ ghost use Rattle.std.specs.Prelude.{◌≡◌, ◌<◌, ◌≤◌, ◌∷◌, []
 ghost use Rattle.std.specs.Prelude.{ℕ, length, slice_get, slice_index};
 ghost use Rattle.network.specs.Marks.{no_marks, link_marks, mark_at, mark_added, request_mark_added, forward_mark_added, response_mark_added};
 ghost use Rattle.network.specs.Marks.{request_mark_taken, head_mark_taken, response_mark_taken};
-ghost use Rattle.network.specs.Marks.{request_marked, forward_marked, response_marked};
+ghost use Rattle.network.specs.Marks.{request_marked, forward_marked, response_marked, requests_unmarked, responses_unmarked};
 ghost use Rattle.network.specs.Traffic.{IsNextWaiting, NoneWaits};
 ghost use Rattle.network.specs.Traffic.{quiet, is_quiet, link, sent, request_sent, forward_sent, response_sent, request_taken, head_taken, response_taken};
 ghost use Rattle.network.specs.Room.{HasRoomFor, UsesRoomFor, HasPlaces, AllBelow, times, HasLinkFor};
@@ -328,6 +328,24 @@ impl Wires {
         ensures room { self.new.room ≡ self.old.room }
     {
         self.responses.mark(index, held);
+    }
+
+    /// Takes the marks of all requests back. Where none is set it looks at no message.
+    pub fn unmark_requests(&mut self)
+        ensures marks { self.new.marks ≡ requests_unmarked self.old.marks }
+        ensures traffic { self.new.traffic ≡ self.old.traffic }
+        ensures room { self.new.room ≡ self.old.room }
+    {
+        self.requests.unmark();
+    }
+
+    /// Takes the marks of all responses back. Where none is set it looks at no message.
+    pub fn unmark_responses(&mut self)
+        ensures marks { self.new.marks ≡ responses_unmarked self.old.marks }
+        ensures traffic { self.new.traffic ≡ self.old.traffic }
+        ensures room { self.new.room ≡ self.old.room }
+    {
+        self.responses.unmark();
     }
 }
 

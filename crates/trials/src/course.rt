@@ -139,8 +139,8 @@ impl<'s, 'b, A: Allocator, N: Notes> Course<'s, 'b, A, N> {
         ensures alike { IsLike self.old.world self.new.world }
     {
         let step = choice.step();
-        let at = self.world.at(step);
-        let outcome = self.world.step(step)?;
+        let went = self.world.go(step)?;
+        let (outcome, at) = (went.outcome, went.at);
         note(&mut self.cores, step, outcome);
         let (world, cores) = (&self.world, &self.cores);
         self.lanes.follow(arena, choice, at, world, cores)?;

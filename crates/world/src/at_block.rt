@@ -1,14 +1,17 @@
-ghost use Rattle.std.specs.Prelude.{◌≡◌, ◌<◌, ◌≤◌, IfNone, IfOk, IfSome, IsOk, IsSome, OnErr, OnOk, Some, false, length, slice_set};
+ghost use Rattle.std.specs.Prelude.{◌≡◌, ◌<◌, ◌≤◌, IfNone, IfOk, IfSome, IsOk, IsSome, None, OnErr, OnOk, Some, false, true, length, slice_set};
 ghost use Rattle.machine.specs.Transition.{decision_of, messages_of, transition};
 ghost use Rattle.machine.specs.declared.decision.Decision.TheVariants.{Refused};
 ghost use Rattle.blocks.specs.Kept.{acts, moved_to};
+ghost use Rattle.blocks.specs.Looks.{place_in};
+ghost use Rattle.blocks.specs.Passing.{ResponsesPass};
 ghost use Rattle.world.specs.View.{HasSpaceAt, space_of, state_or};
 ghost use Rattle.world.specs.inner.Held.{kept_at, IsLight, OthersStay};
 ghost use Rattle.world.specs.inner.Tests.{IsMarked};
 ghost use Rattle.blocks.specs.Tests.{IsTested, tested_in};
 
+use crate::looks::place_opened;
 use base::{NoMemory, Outcome, Step};
-use blocks::{Block, Made, decide_opened};
+use blocks::{Block, Made, Visit, decide_opened};
 use both_tables::Tables;
 use machine::Decision;
 use rows::Sparse;
@@ -32,6 +35,7 @@ fn touch(
     ensures marked { IsMarked tables.now (kept_at blocks.old.items number) → IsMarked tables.now (kept_at blocks.new.items number) }
     ensures refused { IfOk result (λ done. IfSome done (λ what.
         decision_of tables.now step (state_or caches value (kept_at blocks.old.items number)) ≡ Refused what)) }
+    ensures opened { IfOk result (λ done. IfSome done (λ what. kept_at blocks.old.items number ≡ None)) }
     ensures kept { IfOk result (λ done. IfNone done (IsSome (kept_at blocks.new.items number))) }
     ensures stays { IsSome (kept_at blocks.old.items number) → kept_at blocks.new.items number ≡ kept_at blocks.old.items number }
     ensures there { IsSome (kept_at blocks.old.items number) → IsOk result }
@@ -69,33 +73,38 @@ pub fn step_at(
     value: u64,
     number: u32,
     tables: &Tables,
+    pass: bool,
     step: Step,
-) -> Result<Made, NoMemory>
+) -> Result<Visit, NoMemory>
     requires below { number < length blocks.old.items }
+    requires pass { pass ≡ true → ResponsesPass tables.now }
     requires marked { IsMarked tables.now (kept_at blocks.old.items number) }
     ensures others { OthersStay number blocks.old.items blocks.new.items }
     ensures marked { IsMarked tables.now (kept_at blocks.new.items number) }
-    ensures ok { IfOk result (λ made. transition tables.now step (state_or caches value (kept_at blocks.old.items number))
-        ≡ moved_to (state_or caches value (kept_at blocks.new.items number)) made.outcome) }
-    ensures tested { IfOk result (λ made. IsTested tables.now (state_or caches value (kept_at blocks.old.items number))
-        (state_or caches value (kept_at blocks.new.items number)) made.tested) }
-    ensures sent { IfOk result (λ made. (length (messages_of (decision_of tables.now step (state_or caches value (kept_at blocks.old.items number)))
-        (state_or caches value (kept_at blocks.old.items number))) ≤ tested_in made.tested)) }
+    ensures ok { IfOk result (λ visit. transition tables.now step (state_or caches value (kept_at blocks.old.items number))
+        ≡ moved_to (state_or caches value (kept_at blocks.new.items number)) visit.made.outcome) }
+    ensures at { IfOk result (λ visit. visit.at ≡ place_in step (state_or caches value (kept_at blocks.old.items number))) }
+    ensures tested { IfOk result (λ visit. IsTested tables.now (state_or caches value (kept_at blocks.old.items number))
+        (state_or caches value (kept_at blocks.new.items number)) visit.made.tested) }
+    ensures sent { IfOk result (λ visit. (length (messages_of (decision_of tables.now step (state_or caches value (kept_at blocks.old.items number)))
+        (state_or caches value (kept_at blocks.old.items number))) ≤ tested_in visit.made.tested)) }
     ensures err { OnErr result (state_or caches value (kept_at blocks.new.items number) ≡ state_or caches value (kept_at blocks.old.items number)) }
     ensures succeeds { HasSpaceAt (decision_of tables.now step (state_or caches value (kept_at blocks.old.items number)))
         (state_or caches value (kept_at blocks.old.items number)) (space_of (kept_at blocks.old.items number)) → IsOk result }
     ensures light { IsLight tables.now step (state_or caches value (kept_at blocks.old.items number)) → IsOk result }
 {
     if let Some(outcome) = touch(alloc, blocks, caches, value, number, tables, step)? {
-        return Ok(Made {
+        let made = Made {
             outcome,
             tested: None,
-        });
+        };
+        let at = place_opened(caches, step);
+        return Ok(Visit { made, at });
     }
     let Some(block) = blocks.get_mut(number) else {
         unreachable!();
     };
-    block.step(tables, step)
+    block.visit(tables, pass, step)
 }
 
 /// Makes the room that a step at one of the blocks wants.

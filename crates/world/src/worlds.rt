@@ -6,8 +6,8 @@ ghost use Rattle.blocks.specs.Tests.{tested_in};
 
 use crate::at_block::{ready_at, step_at};
 use crate::counts::Counts;
-use base::{NoMemory, Outcome, Shape, Step};
-use blocks::{Block, Made};
+use base::{NoMemory, Outcome, Place, Shape, Step};
+use blocks::{Block, Made, responses_pass};
 use both_tables::Tables;
 use rows::{Sparse, TryClone};
 use std::alloc::Global;
@@ -36,6 +36,14 @@ impl From<NoMemory> for OpenFault {
     }
 }
 
+/// What a step came to.
+#[derive(Clone, Copy, Debug, PartialEq, Eq)]
+pub struct Went {
+    pub outcome: Outcome,
+    /// The controller that it went to. There is none where cache, block or message wasn't there.
+    pub at: Option<Place>,
+}
+
 /// A world of caches and blocks, with the tables of its controllers.
 ///
 /// Only blocks that a cell has acted at, or that [`ready`](World::ready) has made room for such an act at, are kept; the
@@ -45,6 +53,8 @@ pub struct World {
     alloc: Global,
     pub(crate) shape: Shape,
     pub(crate) tables: Tables,
+    // Whether it is known that no response is ever held under the tables.
+    pass: bool,
     pub(crate) opening: Vec<u64>,
     pub(crate) blocks: Sparse<Block>,
     pub(crate) counts: Counts,
@@ -53,6 +63,8 @@ pub struct World {
 }
 
 impl Model for World {
+    ghost use Rattle.std.specs.Prelude.{◌≡◌, true};
+    ghost use Rattle.blocks.specs.Passing.{ResponsesPass};
     ghost use Rattle.world.specs.View.{View, spaces_of, states};
     ghost use Rattle.world.specs.inner.Held.{IsWorld};
 
@@ -69,7 +81,7 @@ impl Model for World {
     ghost invariant = { λ w. IsWorld w.shape w.tables w.opening.items w.blocks.items w.counts (record {
       blocks = states w.shape.caches w.opening.items w.blocks.items;
       broken = w.met_blank;
-    }) };
+    }) × (w.pass ≡ true → ResponsesPass w.tables) };
 }
 
 impl World {
@@ -78,6 +90,7 @@ impl World {
     ghost use Rattle.base.specs.Steps.{block_of};
     ghost use Rattle.machine.specs.Machine.{IsHistory, next, opened, sent_by};
     ghost use Rattle.world.specs.Coherent.{HasBeenSafe, IsUnstuck};
+    ghost use Rattle.world.specs.Looks.{place_at};
     ghost use Rattle.world.specs.Messages.{messages_at, raised};
     ghost use Rattle.world.specs.View.{HasRoomToStep, LeadsOn, stepped, wakes};
     ghost use Rattle.world.specs.declared.worlds.OpenFault.TheVariants as fault;
@@ -111,6 +124,7 @@ impl World {
             alloc,
             shape,
             tables,
+            pass: responses_pass(&tables),
             opening,
             blocks: Sparse::open(alloc, shape.blocks()),
             counts,
@@ -142,6 +156,26 @@ impl World {
     {
         let outcome = self.advance(step)?;
         Ok(outcome)
+    }
+
+    /// Makes one step as [`step`](World::step) does, and answers where it went too. Where memory is refused nothing has changed.
+    pub fn go(&mut self, step: Step) -> Result<Went, NoMemory>
+        ensures ok { IfOk result (λ went. next self.old.tables self.old.state step ≡ stepped self.new.state went.outcome) }
+        ensures at { IfOk result (λ went. went.at ≡ place_at self.old.state step) }
+        ensures history { OnOk result (LeadsOn self.old (step ∷ []) self.new) }
+        ensures safe { HasBeenSafe self.new }
+        ensures unstuck { IsUnstuck self.new }
+        ensures shape { self.new.shape ≡ self.old.shape }
+        ensures tables { self.new.tables ≡ self.old.tables }
+        ensures err { OnErr result (self.new.state ≡ self.old.state) }
+        ensures tests_what_it_sends { OnOk result (raised self.old.tested (length (sent_by self.old.tables self.old.state step)) ≤ self.new.tested) }
+        ensures tests_its_block { OnOk result (self.new.tested ≤ raised self.old.tested (messages_at self.new.state (block_of step))) }
+        ensures err_tested { OnErr result (self.new.tested ≡ self.old.tested) }
+        ensures succeeds { HasRoomToStep self.old step → IsOk result }
+        ensures sends_nothing { sent_by self.old.tables self.old.state step ≡ [] → wakes self.old step ≡ false → IsOk result }
+    {
+        let went = self.go_on(step)?;
+        Ok(went)
     }
 
     /// Makes the room that a step wants, changes nothing else, and answers the outcome that the step will have.
@@ -189,6 +223,7 @@ impl World {
             alloc,
             shape: self.shape,
             tables: self.tables,
+            pass: self.pass,
             opening,
             blocks,
             counts,
@@ -209,25 +244,52 @@ impl World {
         ensures succeeds { HasRoomToStep self.old step → IsOk result }
         ensures sends_nothing { sent_by self.old.tables self.old.state step ≡ [] → wakes self.old step ≡ false → IsOk result }
     {
+        let went = self.go_on(step)?;
+        Ok(went.outcome)
+    }
+
+    fn go_on(&mut self, step: Step) -> Result<Went, NoMemory>
+        ensures within { IsWithinLimits self.new.shape }
+        ensures ok { IfOk result (λ went. next self.old.tables self.old.state step ≡ stepped self.new.state went.outcome) }
+        ensures at { IfOk result (λ went. went.at ≡ place_at self.old.state step) }
+        ensures shape { self.new.shape ≡ self.old.shape }
+        ensures tables { self.new.tables ≡ self.old.tables }
+        ensures err { OnErr result (self.new.state ≡ self.old.state) }
+        ensures tests_what_it_sends { OnOk result (raised self.old.tested (length (sent_by self.old.tables self.old.state step)) ≤ self.new.tested) }
+        ensures tests_its_block { OnOk result (self.new.tested ≤ raised self.old.tested (messages_at self.new.state (block_of step))) }
+        ensures err_tested { OnErr result (self.new.tested ≡ self.old.tested) }
+        ensures succeeds { HasRoomToStep self.old step → IsOk result }
+        ensures sends_nothing { sent_by self.old.tables self.old.state step ≡ [] → wakes self.old step ≡ false → IsOk result }
+    {
         if self.met_blank {
-            return Ok(Outcome::Broken);
+            return Ok(Went {
+                outcome: Outcome::Broken,
+                at: self.at(step),
+            });
         }
         let number = step.block().0;
         let Some(value) = opening_value(self.opening.as_slice(), number) else {
-            return Ok(Outcome::Absent);
+            return Ok(Went {
+                outcome: Outcome::Absent,
+                at: None,
+            });
         };
-        let made = step_at(
+        let visit = step_at(
             self.alloc,
             &mut self.blocks,
             self.shape.caches(),
             value,
             number,
             &self.tables,
+            self.pass,
             step,
         )?;
-        self.tested = note(&mut self.counts, self.tested, number, &made);
-        self.met_blank = breaks(made.outcome);
-        Ok(made.outcome)
+        self.tested = note(&mut self.counts, self.tested, number, &visit.made);
+        self.met_blank = breaks(visit.made.outcome);
+        Ok(Went {
+            outcome: visit.made.outcome,
+            at: visit.at,
+        })
     }
 }
 

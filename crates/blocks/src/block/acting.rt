@@ -5,9 +5,10 @@ ghost use Rattle.control.specs.LineEffect.{line_after, line_completes, line_send
 ghost use Rattle.machine.specs.Transition.{outcome_of, plain_outcome, latest_after, without, IsThere};
 ghost use Rattle.rows.specs.Flags.{is_set};
 ghost use Rattle.blocks.specs.inner.Held.{kept_lines, lines_of};
+ghost use Rattle.blocks.specs.inner.Placed.{decided_place};
 
 use crate::block::{Block, Tested, foreseen};
-use base::{CacheId, NoMemory, Outcome, Step};
+use base::{CacheId, NoMemory, Outcome, Place, Step};
 use both_tables::Tables;
 use control::{
     Line, LineCompletion, home_perform, home_reserve, line_perform, line_reserve, may_read,
@@ -25,8 +26,17 @@ pub struct Made {
     pub tested: Option<Tested>,
 }
 
+/// What a step came to at its block, and the controller that it went to, if cache and message were there.
+#[derive(Clone, Copy)]
+pub struct Visit {
+    pub made: Made,
+    pub at: Option<Place>,
+}
+
 impl Block {
-    ghost use Rattle.std.specs.Prelude.{◌≡◌, ◌≤◌, [], IfOk, IsOk, OnOk, OnErr, false, length};
+    ghost use Rattle.std.specs.Prelude.{◌≡◌, ◌≤◌, [], IfOk, IsOk, OnOk, OnErr, false, true, length};
+    ghost use Rattle.blocks.specs.Looks.{place_in};
+    ghost use Rattle.blocks.specs.Passing.{ResponsesPass};
     ghost use Rattle.machine.specs.Transition.{Fits, Transition, carried_out, decision_of, messages_of, transition};
     ghost use Rattle.blocks.specs.Kept.{moved_to, wakes_line, HasSpaceFor};
     ghost use Rattle.blocks.specs.Marking.{marks_of};
@@ -137,20 +147,56 @@ impl Block {
         ensures sends_nothing { messages_of (decision_of tables.now step self.old.state) self.old.state ≡ [] →
             wakes_line (decision_of tables.now step self.old.state) ≡ false → IsOk result }
     {
+        let visit = self.visit(tables, false, step)?;
+        Ok(visit.made)
+    }
+
+    /// Makes a step as [`step`](Block::step) does, under tables of which it may be known that no response is ever held, and
+    /// answers where it went too. Where memory is refused nothing has changed.
+    pub fn visit(&mut self, tables: &Tables, pass: bool, step: Step) -> Result<Visit, NoMemory>
+        requires marks { self.old.marks ≡ marks_of tables.now self.old.state }
+        requires pass { pass ≡ true → ResponsesPass tables.now }
+        ensures ok { IfOk result (λ visit. transition tables.now step self.old.state ≡ moved_to self.new.state visit.made.outcome) }
+        ensures at { IfOk result (λ visit. visit.at ≡ place_in step self.old.state) }
+        ensures marks { self.new.marks ≡ marks_of tables.now self.new.state }
+        ensures tested { IfOk result (λ visit. IsTested tables.now self.old.state self.new.state visit.made.tested) }
+        ensures sent { IfOk result (λ visit. (length (messages_of (decision_of tables.now step self.old.state) self.old.state) ≤ tested_in visit.made.tested)) }
+        ensures err { OnErr result (self.new.state ≡ self.old.state) }
+        ensures succeeds { HasSpaceFor (decision_of tables.now step self.old.state) self.old.state self.old.space → IsOk result }
+        ensures sends_nothing { messages_of (decision_of tables.now step self.old.state) self.old.state ≡ [] →
+            wakes_line (decision_of tables.now step self.old.state) ≡ false → IsOk result }
+    {
         let decision = self.decide(tables, step);
         if let Decision::Refused(outcome) = decision {
-            return Ok(Made {
+            let made = Made {
                 outcome,
                 tested: None,
-            });
+            };
+            let at = self.place(step);
+            return Ok(Visit { made, at });
         }
-        self.prepare(&decision)?;
+        let at = decided_place(&decision);
+        if let Err(refused) = self.prepare(&decision) {
+            return Err(refused);
+        }
         let outcome = self.carry_out(&decision);
-        let tested = self.test(tables);
-        Ok(Made {
+        let tested = self.test_where(tables, pass);
+        let made = Made {
             outcome,
             tested: Some(tested),
-        })
+        };
+        Ok(Visit { made, at })
+    }
+}
+
+/// The controller at which a cell acts.
+fn decided_place(decision: &Decision) -> Option<Place>
+    ensures { result ≡ decided_place decision.now }
+{
+    match *decision {
+        Decision::Refused(_) => None,
+        Decision::AtLine { cache, .. } => Some(Place::Cache(cache)),
+        Decision::AtHome { .. } => Some(Place::Dir),
     }
 }
 

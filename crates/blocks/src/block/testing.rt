@@ -1,5 +1,6 @@
 //! Tests of messages. A message is tested when it is asked whether the cell that it goes to is a stall.
-ghost use Rattle.std.specs.Prelude.{◌≡◌, ◌≤◌, ◌*◌, ◌-◌, ◌^◌, length, slice_get, slice_set};
+ghost use Rattle.std.specs.Prelude.{◌≡◌, ◌≤◌, ◌*◌, ◌-◌, ◌^◌, true, length, slice_get, slice_set};
+ghost use Rattle.blocks.specs.Passing.{ResponsesPass};
 ghost use Rattle.std.specs.List.{sum_by};
 ghost use Rattle.std.specs.Option.{option_map};
 ghost use Rattle.network.specs.Traffic.{Traffic, link};
@@ -8,6 +9,7 @@ ghost use Rattle.blocks.specs.Marking.{free_responses, unmarked_count, unmarked_
 ghost use Rattle.blocks.specs.inner.Held.{lines_of};
 ghost use Rattle.blocks.specs.inner.Tested.{block_of, forwards_stall, requests_stall};
 
+use crate::block::passing::is_clear;
 use crate::block::{Block, opened_line};
 use base::{CacheId, Place};
 use both_tables::Tables;
@@ -31,8 +33,9 @@ pub struct Tested {
 }
 
 impl Block {
-    ghost use Rattle.std.specs.Prelude.{◌≡◌, slice_get};
+    ghost use Rattle.std.specs.Prelude.{◌≡◌, true, slice_get};
     ghost use Rattle.std.specs.Option.{option_map};
+    ghost use Rattle.blocks.specs.Passing.{ResponsesPass};
     ghost use Rattle.blocks.specs.Marking.{free_requests, free_heads, free_responses, marks_of, unmarked, unmarked_heads};
     ghost use Rattle.blocks.specs.Messages.{message_count};
 
@@ -46,9 +49,23 @@ impl Block {
         ensures responses { result.responses ≡ free_responses tables.now self.old.state }
         ensures messages { result.messages ≡ message_count self.old.state.traffic }
     {
-        let requests = test_requests(tables, &self.home, &mut self.wires);
+        self.test_where(tables, false)
+    }
+
+    /// Tests all messages, and marks those that would be held: where no response ever is, no response is looked at.
+    pub(crate) fn test_where(&mut self, tables: &Tables, pass: bool) -> Tested
+        requires { pass ≡ true → ResponsesPass tables.now }
+        ensures state { self.new.state ≡ self.old.state }
+        ensures space { self.new.space ≡ self.old.space }
+        ensures marks { self.new.marks ≡ marks_of tables.now self.old.state }
+        ensures requests { result.requests ≡ free_requests tables.now self.old.state }
+        ensures heads { result.heads ≡ free_heads tables.now self.old.state }
+        ensures responses { result.responses ≡ free_responses tables.now self.old.state }
+        ensures messages { result.messages ≡ message_count self.old.state.traffic }
+    {
+        let requests = mark_requests(tables, &self.home, &mut self.wires);
         let (heads, forwards) = test_links(tables, &self.lines, &mut self.wires);
-        let responses = test_responses(tables, &self.home, &self.lines, &mut self.wires);
+        let responses = mark_responses(tables, pass, &self.home, &self.lines, &mut self.wires);
         let ends = self.wires.request_count() as u64 + self.wires.response_count() as u64;
         Tested {
             requests,
@@ -134,6 +151,45 @@ fn stalls_response(tables: &Tables, home: &Home, lines: &Sparse<Line>, response:
             stalls_line(tables, line_of(lines, to), LineInput::Response(response))
         }
     }
+}
+
+/// Marks all requests, and answers how many wouldn't be held. Where none would be, they aren't looked at one by one.
+fn mark_requests(tables: &Tables, home: &Home, wires: &mut Wires) -> u32
+    ensures traffic { wires.new.traffic ≡ wires.old.traffic }
+    ensures room { wires.new.room ≡ wires.old.room }
+    ensures marks { wires.new.marks ≡ record wires.old.marks {
+      requests = requests_stall tables.now.directory home.now wires.old.traffic.requests;
+    } }
+    ensures count { result ≡ unmarked_count (requests_stall tables.now.directory home.now wires.old.traffic.requests) }
+{
+    if wires.request_count() > 1 && is_clear(tables, home.state) {
+        wires.unmark_requests();
+        return wires.request_count();
+    }
+    test_requests(tables, home, wires)
+}
+
+/// Marks all responses, and answers how many wouldn't be held. Where none ever is, they aren't looked at.
+fn mark_responses(
+    tables: &Tables,
+    pass: bool,
+    home: &Home,
+    lines: &Sparse<Line>,
+    wires: &mut Wires,
+) -> u32
+    requires { pass ≡ true → ResponsesPass tables.now }
+    ensures traffic { wires.new.traffic ≡ wires.old.traffic }
+    ensures room { wires.new.room ≡ wires.old.room }
+    ensures marks { wires.new.marks ≡ record wires.old.marks {
+      responses = (marks_of tables.now (block_of lines.now.items home.now wires.old.traffic)).responses;
+    } }
+    ensures count { result ≡ free_responses tables.now (block_of lines.now.items home.now wires.old.traffic) }
+{
+    if pass {
+        wires.unmark_responses();
+        return wires.response_count();
+    }
+    test_responses(tables, home, lines, wires)
 }
 
 /// Tests all requests, and answers how many wouldn't be held.

@@ -13,7 +13,7 @@ returns-in_err-outcome-clause-light c h =
 
 pub returns-clause-others : goal.returns-clause-others
 returns-clause-others c =
-    others-set c.args.blocks.now.items c.touch.new.blocks.items c.args.number (Some c.step.new.self) c.requires.below c.touch.ensures.others
+    others-set c.args.blocks.now.items c.touch.new.blocks.items c.args.number (Some c.visit.new.self) c.requires.below c.touch.ensures.others
 
 pub returns-in_err-outcome-clause-others : goal.returns-in_err-outcome-clause-others
 returns-in_err-outcome-clause-others c = grind (arith, common_steps)

@@ -13,34 +13,34 @@ use Rattle.trials.proofs.course.Course.make.Goals as goal
 pub returns-clause-makes : goal.returns-clause-makes
 returns-clause-makes g c r told =
     let is = c.step-step.ensures in (
-      with_entry r (record { step = c.step-step.result; outcome = c.in_ok-outcome.outcome }),
+      with_entry r (record { step = c.step-step.result; outcome = c.in_ok-went.went.outcome }),
       c.in_ok-add.ensures r told,
       record {
-        outcome = c.in_ok-outcome.outcome;
-        made = ap (next c.args.self.now.world.tables c.args.self.now.world.state) (sym is) ∙ c.in_ok-outcome.ensures.ok;
-        shape = c.in_ok-outcome.ensures.shape;
-        tables = c.in_ok-outcome.ensures.tables;
-        cores = c.note.ensures ∙ ap (λ s. cores_after s c.in_ok-outcome.outcome c.args.self.now.cores) is;
+        outcome = c.in_ok-went.went.outcome;
+        made = ap (next c.args.self.now.world.tables c.args.self.now.world.state) (sym is) ∙ c.in_ok-went.ensures.ok;
+        shape = c.in_ok-went.ensures.shape;
+        tables = c.in_ok-went.ensures.tables;
+        cores = c.note.ensures ∙ ap (λ s. cores_after s c.in_ok-went.went.outcome c.args.self.now.cores) is;
         rest = c.in_ok-follow.ensures.rest;
         dice = refl;
-        recorded = ap (λ (s : Step). with_entry r (record { step = s; outcome = c.in_ok-outcome.outcome })) is;
+        recorded = ap (λ (s : Step). with_entry r (record { step = s; outcome = c.in_ok-went.went.outcome })) is;
         answer =
-            subst (λ (s : Step). AnswersHistory c.step.new.self c.args.self.now.watch s c.in_ok-outcome.outcome c.see.result) is c.see.ensures.history;
-        seen = subst (λ (s : Step). SeesNext c.step.new.self c.args.self.now.watch s c.in_ok-outcome.outcome c.see.new.self) is c.see.ensures.seen;
+            subst (λ (s : Step). AnswersHistory c.go.new.self c.args.self.now.watch s c.in_ok-went.went.outcome c.see.result) is c.see.ensures.history;
+        seen = subst (λ (s : Step). SeesNext c.go.new.self c.args.self.now.watch s c.in_ok-went.went.outcome c.see.new.self) is c.see.ensures.seen;
       },
     )
 
 pub returns-clause-counted : goal.returns-clause-counted
 returns-clause-counted g c = record {
   kept = c.in_ok-follow.ensures.kept;
-  ready = where-sound c.step.new.self.tables c.step.new.self.state c.note.new.cores (laned c.follow.new.self) (λ sound.
-      let tables = c.in_ok-outcome.ensures.tables in
-      let made = c.in_ok-outcome.ensures.ok in
-      let before = sound-before c.args.self.now.world.tables c.args.self.now.world.state c.step.new.self.state c.step-step.result c.in_ok-outcome.outcome made sound in
+  ready = where-sound c.go.new.self.tables c.go.new.self.state c.note.new.cores (laned c.follow.new.self) (λ sound.
+      let tables = c.in_ok-went.ensures.tables in
+      let made = c.in_ok-went.ensures.ok in
+      let before = sound-before c.args.self.now.world.tables c.args.self.now.world.state c.go.new.self.state c.step-step.result c.in_ok-went.went.outcome made sound in
       c.in_ok-follow.ensures.ready c.args.self.now.world.state c.args.self.now.cores before
       (subst (λ (t : Tables). AreReady t c.args.self.now.world.state c.args.self.now.cores (laned c.args.self.now.lanes)) (sym tables) c.requires.counted.ready)
-      (subst (λ (s : Step). AgreeBut c.at-at.result (block_of s) c.args.self.now.world.state c.step.new.self.state c.args.self.now.cores c.note.new.cores)
+      (subst (λ (s : Step). AgreeBut c.in_ok-went.went.at (block_of s) c.args.self.now.world.state c.go.new.self.state c.args.self.now.cores c.note.new.cores)
       c.step-step.ensures
-      (agree-but c.args.self.now.world.tables c.args.self.now.world.state c.step.new.self.state c.step-step.result c.in_ok-outcome.outcome c.at-at.result
-      c.args.self.now.cores c.note.new.cores made before c.at-at.ensures c.note.ensures)));
+      (agree-but c.args.self.now.world.tables c.args.self.now.world.state c.go.new.self.state c.step-step.result c.in_ok-went.went.outcome c.in_ok-went.went.at
+      c.args.self.now.cores c.note.new.cores made before c.in_ok-went.ensures.at c.note.ensures)));
 }

@@ -19,10 +19,10 @@ pub returns-then-not-is_quiet_at : goal.returns-then-not-is_quiet_at
 returns-then-not-is_quiet_at c =
     rw (← c.self.view_is)
     (not-quiet c.self.inside.shape.caches c.self.inside.opening.items c.self.inside.blocks.items c.loop-number.number
-    (omega (arith, c.loop-number-test.true, c.blocks-number-end.ensures.value, c.self.invariant.opening)) (sym c.if-not-is_quiet_at.ensures))
+    (omega (arith, c.loop-number-test.true, c.blocks-number-end.ensures.value, c.self.invariant.0.opening)) (sym c.if-not-is_quiet_at.ensures))
 
 pub returns : goal.returns
 returns c =
     rw (← c.self.view_is)
     (all-quiet c.self.inside.shape.caches c.self.inside.opening.items c.self.inside.blocks.items
-    (λ i lt. c.loop-number.invariant i (omega (arith, lt, c.loop-number-test.false, c.blocks-number-end.ensures.value, c.self.invariant.opening))))
+    (λ i lt. c.loop-number.invariant i (omega (arith, lt, c.loop-number-test.false, c.blocks-number-end.ensures.value, c.self.invariant.0.opening))))

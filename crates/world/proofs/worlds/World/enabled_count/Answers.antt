@@ -10,4 +10,4 @@ returns-clause-count c =
     ∙ rw (← c.self.view_is)
     (sym (ap length (enabled-going c.self.inside.tables
     (state_of c.self.inside.shape c.self.inside.opening.items c.self.inside.blocks.items c.self.inside.met_blank) c.if-self.false)
-    ∙ all-counted c.self.inside.tables _ c.self.inside.counts c.self.invariant.counted))
+    ∙ all-counted c.self.inside.tables _ c.self.inside.counts c.self.invariant.0.counted))

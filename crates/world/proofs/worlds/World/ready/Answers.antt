@@ -14,15 +14,17 @@ at c = rw (c.as_slice.ensures.value, c.block-number.ensures) at c.in-Some.ensure
 below : (c : goal.After-ready_at) → block_of c.args.step < length c.self.inside.blocks.items
 below c =
     below-places c.self.inside.shape c.self.inside.tables c.self.inside.opening.items c.self.inside.blocks.items c.self.inside.counts _
-    (block_of c.args.step) c.in-Some.value c.self.invariant (at c)
+    (block_of c.args.step) c.in-Some.value c.self.invariant.0 (at c)
 
 pub invariant_of-self : goal.invariant_of-self
-invariant_of-self c =
-    world-stays c.self.inside.shape c.self.inside.tables c.self.inside.opening.items c.self.inside.blocks.items c.ready_at.new.blocks.items
-    c.self.inside.counts (block_of c.args.step) c.in-Some.value c.self.inside.met_blank c.self.invariant (at c)
-    (rw c.block-number.ensures at c.ready_at.ensures.others)
-    (rw (c.block-number.ensures, c.caches.ensures.value) at c.ready_at.ensures.state)
-    ((rw c.block-number.ensures at c.ready_at.ensures.marked) (c.self.invariant.marked (block_of c.args.step)))
+invariant_of-self c = (
+  world-stays c.self.inside.shape c.self.inside.tables c.self.inside.opening.items c.self.inside.blocks.items c.ready_at.new.blocks.items
+      c.self.inside.counts (block_of c.args.step) c.in-Some.value c.self.inside.met_blank c.self.invariant.0 (at c)
+      (rw c.block-number.ensures at c.ready_at.ensures.others)
+      (rw (c.block-number.ensures, c.caches.ensures.value) at c.ready_at.ensures.state)
+      ((rw c.block-number.ensures at c.ready_at.ensures.marked) (c.self.invariant.0.marked (block_of c.args.step))),
+  c.self.invariant.1,
+)
 
 stay : (c : goal.After-ready_at) → states c.self.inside.shape.caches c.self.inside.opening.items c.ready_at.new.blocks.items
     ≡ states c.self.inside.shape.caches c.self.inside.opening.items c.self.inside.blocks.items

@@ -14,8 +14,8 @@ one_each c = c.requires ∙ ap (λ (w : View). w.shape.blocks) (sym c.self.view_
 
 each-lined : (c : After-self-2-1) → AreLined c.self.inside.shape.caches c.self.inside.blocks.items
 each-lined c =
-    lined c.self.inside.shape.caches c.self.inside.opening.items c.self.inside.blocks.items (c.self.invariant.places ∙ sym c.self.invariant.opening)
-    c.self.invariant.shaped.lines
+    lined c.self.inside.shape.caches c.self.inside.opening.items c.self.inside.blocks.items (c.self.invariant.0.places ∙ sym c.self.invariant.0.opening)
+    c.self.invariant.0.shaped.lines
 
 again : (c : After-self-2-1) → (i v : ℕ) → slice_get c.args.opening.now i ≡ Some v →
     IsOpened c.self.inside.shape.caches v (kept_at c.reset_all.new.blocks.items i)
@@ -30,15 +30,17 @@ opened-state c =
     ∙ states-reset c.self.inside.shape.caches c.args.opening.now c.reset_all.new.blocks.items (again c))
 
 counted : (c : After-self-2-1) → length c.self.inside.counts.requests ≡ c.self.inside.shape.blocks
-counted c = ap length c.self.invariant.counted.of_requests ∙ length-map _ _ ∙ c.self.invariant.shaped.blocks
+counted c = ap length c.self.invariant.0.counted.of_requests ∙ length-map _ _ ∙ c.self.invariant.0.shaped.blocks
 
 pub invariant_of-self : goal.invariant_of-self
 invariant_of-self c =
-    rw c.copy_from_slice.ensures.items
-    (world-reset c.self.inside.shape c.self.inside.tables c.args.opening.now c.reset_all.new.blocks.items c.clear.new.self
-    c.self.invariant.shaped.within (one_each c) (c.reset_all.ensures.count ∙ c.self.invariant.places) (again c)
-    (c.clear.ensures.requests ∙ ap (λ n. replicate n 0) (counted c)) (c.clear.ensures.heads ∙ ap (λ n. replicate n 0) (counted c))
-    (c.clear.ensures.responses ∙ ap (λ n. replicate n 0) (counted c)))
+    rw c.copy_from_slice.ensures.items (
+      world-reset c.self.inside.shape c.self.inside.tables c.args.opening.now c.reset_all.new.blocks.items c.clear.new.self
+          c.self.invariant.0.shaped.within (one_each c) (c.reset_all.ensures.count ∙ c.self.invariant.0.places) (again c)
+          (c.clear.ensures.requests ∙ ap (λ n. replicate n 0) (counted c)) (c.clear.ensures.heads ∙ ap (λ n. replicate n 0) (counted c))
+          (c.clear.ensures.responses ∙ ap (λ n. replicate n 0) (counted c)),
+      c.self.invariant.1,
+    )
 
 pub returns-clause-state : goal.returns-clause-state
 returns-clause-state c = rw (← c.self.view_is) (opened-state c)
@@ -47,7 +49,7 @@ pub returns-clause-history : goal.returns-clause-history
 returns-clause-history c = rw (opened-state c) (record { opens = one_each c; leads = refl })
 
 pub returns-clause-safe : goal.returns-clause-safe
-returns-clause-safe c = been-safe _ _ _ c.self.invariant.shaped.within
+returns-clause-safe c = been-safe _ _ _ c.self.invariant.0.shaped.within
 
 pub returns-clause-unstuck : goal.returns-clause-unstuck
-returns-clause-unstuck c = not-stuck _ _ _ c.self.invariant.shaped.within
+returns-clause-unstuck c = not-stuck _ _ _ c.self.invariant.0.shaped.within

@@ -20,15 +20,18 @@ blocks c =
 
 pub invariant_of-result : goal.invariant_of-result
 invariant_of-result c =
-    rw (blocks c, opening c, c.in_ok-counts.ensures) (record {
-      shaped = c.self.invariant.shaped;
-      opening = c.self.invariant.opening;
-      places =
-          sym (length-map c.in_ok-blocks.blocks.items (option_map seen)) ∙ ap length (items c)
-          ∙ length-map c.self.inside.blocks.items (option_map seen) ∙ c.self.invariant.places;
-      marked = marked-copied c.self.inside.tables c.in_ok-blocks.blocks.items c.self.inside.blocks.items (items c) c.self.invariant.marked;
-      counted = c.self.invariant.counted;
-    })
+    rw (blocks c, opening c, c.in_ok-counts.ensures) (
+      record {
+        shaped = c.self.invariant.0.shaped;
+        opening = c.self.invariant.0.opening;
+        places =
+            sym (length-map c.in_ok-blocks.blocks.items (option_map seen)) ∙ ap length (items c)
+            ∙ length-map c.self.inside.blocks.items (option_map seen) ∙ c.self.invariant.0.places;
+        marked = marked-copied c.self.inside.tables c.in_ok-blocks.blocks.items c.self.inside.blocks.items (items c) c.self.invariant.0.marked;
+        counted = c.self.invariant.0.counted;
+      },
+      c.self.invariant.1,
+    )
 
 pub returns-clause-state : goal.returns-clause-state
 returns-clause-state c = rw (← c.self.view_is, blocks c) refl

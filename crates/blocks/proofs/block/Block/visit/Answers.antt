@@ -1,19 +1,21 @@
 use Rattle.std.proofs.Common.{◌∙◌, ap, arith, subst, sym, length, ◌≤◌}
 use Rattle.std.proofs.lemmas.Grind.{common_steps}
 use Rattle.machine.specs.Transition.{Transition, carried_out, messages_of}
+use Rattle.blocks.specs.Marking.{marks_of}
 use Rattle.blocks.specs.Messages.{message_count}
+use Rattle.blocks.proofs.Passing.{decided-at}
 use Rattle.blocks.proofs.Sends.{sends-counted}
-use Rattle.blocks.proofs.block.Block.step.Goals as goal
+use Rattle.blocks.proofs.block.Block.visit.Goals as goal
 
 pub returns-clause-sent : goal.returns-clause-sent
 returns-clause-sent c =
     let d = c.decide-decision.result in
     let before = c.args.self.now.state in
     let counted = sends-counted d before c.decide-decision.ensures.among c.decide-decision.ensures.fits in
-    let made = ap (carried_out d) (sym c.in_ok-prepare.ensures.state) ∙ c.carry_out-outcome.ensures in
+    let made = ap (carried_out d) (sym c.prepare.ensures.state) ∙ c.carry_out-outcome.ensures in
     let same = ap (λ (t : Transition). message_count t.block.traffic) made in
-    subst (λ e. length (messages_of e before) ≤ c.test-tested.result.messages) c.decide-decision.ensures.decision
-    (omega (arith, counted, same, c.test-tested.ensures.messages))
+    subst (λ e. length (messages_of e before) ≤ c.test_where-tested.result.messages) c.decide-decision.ensures.decision
+    (omega (arith, counted, same, c.test_where-tested.ensures.messages))
 
 pub returns-in-Refused-clause-ok : goal.returns-in-Refused-clause-ok
 returns-in-Refused-clause-ok c = grind (arith, common_steps)
@@ -36,5 +38,21 @@ returns-in-Refused-clause-succeeds c = grind (arith, common_steps)
 pub returns-in-Refused-clause-sends_nothing : goal.returns-in-Refused-clause-sends_nothing
 returns-in-Refused-clause-sends_nothing c = grind (arith, common_steps)
 
-pub returns-in_err-prepare : goal.returns-in_err-prepare
-returns-in_err-prepare c = grind (arith, common_steps)
+pub returns-clause-at : goal.returns-clause-at
+returns-clause-at c =
+    c.decided_place-at.ensures ∙ decided-at c.args.tables.now c.args.step c.args.self.now.state c.decide-decision.result c.decide-decision.ensures.decision
+    c.in_default.not-Refused
+
+pub returns-in-Err : goal.returns-in-Err
+returns-in-Err c =
+    let refused = c.in-Err.ensures in
+    record {
+      ok = tt;
+      at = tt;
+      marks = c.prepare.ensures.marks ∙ c.requires.marks ∙ ap (marks_of c.args.tables.now) (sym c.prepare.ensures.state);
+      tested = tt;
+      sent = tt;
+      err = c.prepare.ensures.state;
+      succeeds = λ space. c.in-Err.ensures.succeeds (rw c.decide-decision.ensures.decision space);
+      sends_nothing = λ none asleep. grind (arith, common_steps);
+    }

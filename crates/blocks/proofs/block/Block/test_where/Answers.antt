@@ -1,6 +1,6 @@
 use Rattle.std.proofs.Common.{arith}
 use Rattle.std.proofs.lemmas.Grind.{common_steps}
-use Rattle.blocks.proofs.block.Block.test.Goals as goal
+use Rattle.blocks.proofs.block.Block.test_where.Goals as goal
 
 pub overflow_cast-ends : goal.overflow_cast-ends
 overflow_cast-ends c = grind (arith, common_steps)

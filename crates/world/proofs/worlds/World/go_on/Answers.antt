@@ -1,94 +1,100 @@
-use Rattle.std.proofs.Common.{◌<◌, length, ◌≡◌, Some, ap, sym, slice_get, true≢false, List, arith}
+use Rattle.std.proofs.Common.{◌∙◌, ◌<◌, length, ◌≡◌, Some, ap, sym, slice_get, true≢false, List, arith}
 use Rattle.std.proofs.lemmas.Grind.{common_steps}
 use Rattle.base.specs.Steps.{block_of}
 use Rattle.machine.specs.Block.{BlockState}
 use Rattle.network.proofs.Waits.{on_err}
-use Rattle.world.proofs.Keeping.{states-stay}
+use Rattle.std.specs.Option.{option_and_then}
+use Rattle.blocks.specs.Looks.{place_in}
+use Rattle.world.proofs.Keeping.{state-there, states-stay}
 use Rattle.world.proofs.Stepping.{below-places, light-in, next-is, room-at, tests-block, tests-sent, world-stays, world-stepped}
-use Rattle.world.proofs.worlds.World.advance.Goals as goal
+use Rattle.world.proofs.worlds.World.go_on.Goals as goal
 
 at : (c : goal.After-from_residual) → Some c.in-Some.value ≡ slice_get c.self.inside.opening.items (block_of c.args.step)
 at c = rw (c.as_slice.ensures.value, c.block-number.ensures) at c.in-Some.ensures
 
-at-2 : (c : goal.After-self-2-1) → Some c.in-Some.value ≡ slice_get c.self.inside.opening.items (block_of c.args.step)
+at-2 : (c : goal.After-result-1) → Some c.in-Some.value ≡ slice_get c.self.inside.opening.items (block_of c.args.step)
 at-2 c = rw (c.as_slice.ensures.value, c.block-number.ensures) at c.in-Some.ensures
 
 below : (c : goal.After-from_residual) → block_of c.args.step < length c.self.inside.blocks.items
 below c =
     below-places c.self.inside.shape c.self.inside.tables c.self.inside.opening.items c.self.inside.blocks.items c.self.inside.counts _
-    (block_of c.args.step) c.in-Some.value c.self.invariant (at c)
+    (block_of c.args.step) c.in-Some.value c.self.invariant.0 (at c)
 
-below-2 : (c : goal.After-self-2-1) → block_of c.args.step < length c.self.inside.blocks.items
+below-2 : (c : goal.After-result-1) → block_of c.args.step < length c.self.inside.blocks.items
 below-2 c =
     below-places c.self.inside.shape c.self.inside.tables c.self.inside.opening.items c.self.inside.blocks.items c.self.inside.counts _
-    (block_of c.args.step) c.in-Some.value c.self.invariant (at-2 c)
+    (block_of c.args.step) c.in-Some.value c.self.invariant.0 (at-2 c)
 
 pub invariant_of-self : goal.invariant_of-self
-invariant_of-self c =
-    world-stays c.self.inside.shape c.self.inside.tables c.self.inside.opening.items c.self.inside.blocks.items c.step_at.new.blocks.items
-    c.self.inside.counts (block_of c.args.step) c.in-Some.value c.self.inside.met_blank c.self.invariant (at c)
-    (rw c.block-number.ensures at c.in_err-made.ensures.others)
-    (rw (c.block-number.ensures, c.caches.ensures.value) at c.in_err-made.ensures.err)
-    (rw c.block-number.ensures at c.in_err-made.ensures.marked)
+invariant_of-self c = (
+  world-stays c.self.inside.shape c.self.inside.tables c.self.inside.opening.items c.self.inside.blocks.items c.step_at.new.blocks.items
+      c.self.inside.counts (block_of c.args.step) c.in-Some.value c.self.inside.met_blank c.self.invariant.0 (at c)
+      (rw c.block-number.ensures at c.in_err-visit.ensures.others)
+      (rw (c.block-number.ensures, c.caches.ensures.value) at c.in_err-visit.ensures.err)
+      (rw c.block-number.ensures at c.in_err-visit.ensures.marked),
+  c.self.invariant.1,
+)
 
-pub returns-in_err-made-clause-err : goal.returns-in_err-made-clause-err
-returns-in_err-made-clause-err c =
+pub returns-in_err-visit-clause-err : goal.returns-in_err-visit-clause-err
+returns-in_err-visit-clause-err c =
     on_err c.from_residual.result
     (rw (← c.self.view_is)
     (ap (λ (bs : List BlockState). record { blocks = bs; broken = c.self.inside.met_blank })
     (states-stay c.self.inside.shape.caches c.self.inside.opening.items c.self.inside.blocks.items c.step_at.new.blocks.items (block_of c.args.step)
     c.in-Some.value (at c)
     (below c)
-    (rw c.block-number.ensures at c.in_err-made.ensures.others)
-    (rw (c.block-number.ensures, c.caches.ensures.value) at c.in_err-made.ensures.err))))
+    (rw c.block-number.ensures at c.in_err-visit.ensures.others)
+    (rw (c.block-number.ensures, c.caches.ensures.value) at c.in_err-visit.ensures.err))))
 
-pub returns-in_err-made-clause-succeeds : goal.returns-in_err-made-clause-succeeds
-returns-in_err-made-clause-succeeds c h =
-    absurd (true≢false (sym ((rw (c.block-number.ensures, c.caches.ensures.value) at c.in_err-made.ensures.succeeds)
+pub returns-in_err-visit-clause-succeeds : goal.returns-in_err-visit-clause-succeeds
+returns-in_err-visit-clause-succeeds c h =
+    absurd (true≢false (sym ((rw (c.block-number.ensures, c.caches.ensures.value) at c.in_err-visit.ensures.succeeds)
     (room-at c.self.inside.shape c.self.inside.tables c.self.inside.opening.items c.self.inside.blocks.items c.self.inside.tested
     c.args.step c.in-Some.value (at c)
     (rw (← c.self.view_is, c.if-self.false) at h)))))
 
-pub returns-in_err-made-clause-sends_nothing : goal.returns-in_err-made-clause-sends_nothing
-returns-in_err-made-clause-sends_nothing c s w =
-    absurd (true≢false (sym ((rw (c.block-number.ensures, c.caches.ensures.value) at c.in_err-made.ensures.light)
+pub returns-in_err-visit-clause-sends_nothing : goal.returns-in_err-visit-clause-sends_nothing
+returns-in_err-visit-clause-sends_nothing c s w =
+    absurd (true≢false (sym ((rw (c.block-number.ensures, c.caches.ensures.value) at c.in_err-visit.ensures.light)
     (light-in c.self.inside.shape c.self.inside.tables c.self.inside.opening.items c.self.inside.blocks.items c.self.inside.tested
     c.args.step c.in-Some.value (at c)
     (rw (← c.self.view_is, c.if-self.false) at s) (rw (← c.self.view_is) at w)))))
 
 pub invariant_of-self-2 : goal.invariant_of-self-2
 invariant_of-self-2 c =
-    rw (c.note-self-inside.ensures.counts, c.block-number.ensures)
-    (world-stepped c.self.inside.shape c.self.inside.tables c.self.inside.opening.items c.self.inside.blocks.items c.step_at.new.blocks.items
-    c.self.inside.counts c.args.step c.in-Some.value c.in_ok-made.made.outcome c.in_ok-made.made.tested c.self.inside.met_blank
-    c.breaks-self-inside.result c.self.invariant (at-2 c)
-    (rw c.block-number.ensures at c.in_ok-made.ensures.others)
-    (rw (c.block-number.ensures, c.caches.ensures.value) at c.in_ok-made.ensures.ok)
-    (rw c.block-number.ensures at c.in_ok-made.ensures.marked)
-    (rw (c.block-number.ensures, c.caches.ensures.value) at c.in_ok-made.ensures.tested))
+    rw (c.note-self-inside.ensures.counts, c.block-number.ensures) (
+      world-stepped c.self.inside.shape c.self.inside.tables c.self.inside.opening.items c.self.inside.blocks.items c.step_at.new.blocks.items
+          c.self.inside.counts c.args.step c.in-Some.value c.in_ok-visit.visit.made.outcome c.in_ok-visit.visit.made.tested c.self.inside.met_blank
+          c.breaks-self-inside.result c.self.invariant.0 (at-2 c)
+          (rw c.block-number.ensures at c.in_ok-visit.ensures.others)
+          (rw (c.block-number.ensures, c.caches.ensures.value) at c.in_ok-visit.ensures.ok)
+          (rw c.block-number.ensures at c.in_ok-visit.ensures.marked)
+          (rw (c.block-number.ensures, c.caches.ensures.value) at c.in_ok-visit.ensures.tested),
+      c.self.invariant.1,
+    )
 
 pub returns-clause-ok : goal.returns-clause-ok
 returns-clause-ok c =
     rw (← c.self.view_is, c.if-self.false, c.breaks-self-inside.ensures)
     (next-is c.self.inside.shape c.self.inside.tables c.self.inside.opening.items c.self.inside.blocks.items c.step_at.new.blocks.items
-    c.args.step c.in-Some.value c.in_ok-made.made.outcome (at-2 c)
+    c.args.step c.in-Some.value c.in_ok-visit.visit.made.outcome (at-2 c)
     (below-2 c)
-    (rw c.block-number.ensures at c.in_ok-made.ensures.others)
-    (rw (c.block-number.ensures, c.caches.ensures.value) at c.in_ok-made.ensures.ok))
+    (rw c.block-number.ensures at c.in_ok-visit.ensures.others)
+    (rw (c.block-number.ensures, c.caches.ensures.value) at c.in_ok-visit.ensures.ok))
 
 pub returns-clause-tests_what_it_sends : goal.returns-clause-tests_what_it_sends
 returns-clause-tests_what_it_sends c =
     rw (c.note-self-inside.ensures.tested, ← c.self.view_is, c.if-self.false)
     (tests-sent c.self.inside.shape c.self.inside.tables c.self.inside.opening.items c.self.inside.blocks.items c.args.step c.in-Some.value
     c.self.inside.tested _ (at-2 c)
-    (rw (c.block-number.ensures, c.caches.ensures.value) at c.in_ok-made.ensures.sent))
+    (rw (c.block-number.ensures, c.caches.ensures.value) at c.in_ok-visit.ensures.sent))
 
 pub returns-clause-tests_its_block : goal.returns-clause-tests_its_block
 returns-clause-tests_its_block c =
     rw (c.note-self-inside.ensures.tested, ← c.self.view_is)
     (tests-block c.self.inside.shape c.self.inside.tables c.self.inside.opening.items c.step_at.new.blocks.items c.breaks-self-inside.result
-    (block_of c.args.step) c.in-Some.value c.self.inside.tested _ c.in_ok-made.made.tested (at-2 c)
-    (rw (c.block-number.ensures, c.caches.ensures.value) at c.in_ok-made.ensures.tested))
+    (block_of c.args.step) c.in-Some.value c.self.inside.tested _ c.in_ok-visit.visit.made.tested (at-2 c)
+    (rw (c.block-number.ensures, c.caches.ensures.value) at c.in_ok-visit.ensures.tested))
 
 pub returns-then-self-clause-within : goal.returns-then-self-clause-within
 returns-then-self-clause-within c = grind (arith, common_steps)
@@ -141,23 +147,23 @@ returns-in_default-clause-succeeds c = grind (arith, common_steps)
 pub returns-in_default-clause-sends_nothing : goal.returns-in_default-clause-sends_nothing
 returns-in_default-clause-sends_nothing c = grind (arith, common_steps)
 
-pub returns-in_err-made-clause-within : goal.returns-in_err-made-clause-within
-returns-in_err-made-clause-within c = grind (arith, common_steps)
+pub returns-in_err-visit-clause-within : goal.returns-in_err-visit-clause-within
+returns-in_err-visit-clause-within c = grind (arith, common_steps)
 
-pub returns-in_err-made-clause-ok : goal.returns-in_err-made-clause-ok
-returns-in_err-made-clause-ok c = grind (arith, common_steps)
+pub returns-in_err-visit-clause-ok : goal.returns-in_err-visit-clause-ok
+returns-in_err-visit-clause-ok c = grind (arith, common_steps)
 
-pub returns-in_err-made-clause-shape : goal.returns-in_err-made-clause-shape
-returns-in_err-made-clause-shape c = grind (arith, common_steps)
+pub returns-in_err-visit-clause-shape : goal.returns-in_err-visit-clause-shape
+returns-in_err-visit-clause-shape c = grind (arith, common_steps)
 
-pub returns-in_err-made-clause-tables : goal.returns-in_err-made-clause-tables
-returns-in_err-made-clause-tables c = grind (arith, common_steps)
+pub returns-in_err-visit-clause-tables : goal.returns-in_err-visit-clause-tables
+returns-in_err-visit-clause-tables c = grind (arith, common_steps)
 
-pub returns-in_err-made-clause-tests_its_block : goal.returns-in_err-made-clause-tests_its_block
-returns-in_err-made-clause-tests_its_block c = grind (arith, common_steps)
+pub returns-in_err-visit-clause-tests_its_block : goal.returns-in_err-visit-clause-tests_its_block
+returns-in_err-visit-clause-tests_its_block c = grind (arith, common_steps)
 
-pub returns-in_err-made-clause-err_tested : goal.returns-in_err-made-clause-err_tested
-returns-in_err-made-clause-err_tested c = grind (arith, common_steps)
+pub returns-in_err-visit-clause-err_tested : goal.returns-in_err-visit-clause-err_tested
+returns-in_err-visit-clause-err_tested c = grind (arith, common_steps)
 
 pub returns-clause-within : goal.returns-clause-within
 returns-clause-within c = grind (arith, common_steps)
@@ -179,3 +185,10 @@ returns-clause-succeeds c = grind (arith, common_steps)
 
 pub returns-clause-sends_nothing : goal.returns-clause-sends_nothing
 returns-clause-sends_nothing c = grind (arith, common_steps)
+
+pub returns-clause-at : goal.returns-clause-at
+returns-clause-at c =
+    (rw (c.block-number.ensures, c.caches.ensures.value) at c.in_ok-visit.ensures.at)
+    ∙ rw (← c.self.view_is)
+    (ap (option_and_then (place_in c.args.step))
+    (sym (state-there c.self.inside.shape.caches c.self.inside.opening.items c.self.inside.blocks.items (block_of c.args.step) c.in-Some.value (at-2 c))))
