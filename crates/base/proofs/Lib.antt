@@ -5,3 +5,4 @@ pub mod Spellings
 pub mod Spelled
 pub mod Same
 pub mod Numbers
+pub mod Fronts

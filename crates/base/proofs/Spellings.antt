@@ -1,5 +1,9 @@
 -- What spells a step or an outcome.
-use Rattle.std.proofs.Common.{◌≡◌, ◌≢◌, ◌<◌, ◌^◌, List, ℕ, [], ◌∷◌, eqb, codes, arith, ap, get_or}
+use Rattle.std.proofs.Common.{◌≡◌, ◌≢◌, ◌<◌, ◌^◌, List, ℕ, [], ◌∷◌, ◌++◌, Option, Some, None, length, eqb, codes, arith, ap, sym, ◌∙◌, get_or}
+use Rattle.std.specs.Prelude.{MatchOption}
+use Rattle.std.specs.Borrow.{Bor}
+use Rattle.std.proofs.lemmas.List.{append-nil}
+use Rattle.std.proofs.lemmas.List.Splits.{length-slice_split}
 use Rattle.std.proofs.lemmas.Fmt.{decimal_injective}
 use Rattle.std.specs.Fmt.{decimal}
 use Rattle.base.specs.declared.ids.CacheId.{CacheId}
@@ -9,28 +13,12 @@ use Rattle.base.specs.declared.step.Ask.TheVariants.{Load, Store, Replace}
 use Rattle.base.specs.declared.step.Step.{Step}
 use Rattle.base.specs.declared.step.Step.TheVariants.{Request, Forward, Response}
 use Rattle.base.specs.declared.step.Step.TheVariants as step
+use Rattle.base.specs.declared.step.Outcome.{Outcome}
 use Rattle.base.specs.declared.step.Outcome.TheVariants.{Sent, Moved, Held, Absent, Idle, Blank, Broken}
 use Rattle.base.specs.declared.step.Outcome.TheVariants as outcome
-use Rattle.base.specs.Spelling.{words, ask_words, step_words, FitsAsk, FitsStep, IsNoAsk, IsNoPair, IsNoOutcome}
-use Rattle.base.proofs.Lines.{not_one}
-
--- of what a core asks, only a store has a second word
-pub only_a_store : (word rest line : List ℕ) → words line ≡ word ∷ words rest → word ≢ codes "store" → IsNoAsk line
-only_a_store word rest line cut other Load fits = not_one (λ b. eqb b 32) rest _ word _ cut
-only_a_store word rest line cut other (Store value) fits = λ e. other cc
-only_a_store word rest line cut other Replace fits = not_one (λ b. eqb b 32) rest _ word _ cut
-
--- behind the first word of an outcome only two numbers can follow
-pub only_numbers : (word rest line : List ℕ) → words line ≡ word ∷ words rest → IsNoPair 32 64 rest → IsNoOutcome line
-only_numbers word rest line cut none Sent fits = not_one (λ b. eqb b 32) rest _ word _ cut
-only_numbers word rest line cut none Moved fits = not_one (λ b. eqb b 32) rest _ word _ cut
-only_numbers word rest line cut none (outcome.Load cache value) fits = λ e. none cache.0 value fits.0 fits.1 cc
-only_numbers word rest line cut none (outcome.Store cache value) fits = λ e. none cache.0 value fits.0 fits.1 cc
-only_numbers word rest line cut none Held fits = not_one (λ b. eqb b 32) rest _ word _ cut
-only_numbers word rest line cut none Absent fits = not_one (λ b. eqb b 32) rest _ word _ cut
-only_numbers word rest line cut none Idle fits = not_one (λ b. eqb b 32) rest _ word _ cut
-only_numbers word rest line cut none Blank fits = not_one (λ b. eqb b 32) rest _ word _ cut
-only_numbers word rest line cut none Broken fits = not_one (λ b. eqb b 32) rest _ word _ cut
+use Rattle.base.specs.inner.Behind.{words_behind, IsNoNumberFirst, IsNoStepFirst}
+use Rattle.base.proofs.Fronts.{spelled}
+use Rattle.base.specs.Spelling.{words, outcome_words, IsNoOutcome, IsNoOutcomeWord, IsOutcomeWord, IsOutcomeLine, ask_words, step_words, FitsAsk, FitsStep}
 
 same_cache : (c d : CacheId) → c.0 < 2 ^ 32 → d.0 < 2 ^ 32 → decimal c.0 ≡ decimal d.0 → c ≡ d
 same_cache c d low below e = ap (λ n. record { 0 = n }) (decimal_injective c.0 d.0 (omega arith) (omega arith) e)
@@ -71,3 +59,102 @@ same_step (Response b i) (step.Ask d k q) f g e = cc
 same_step (Response b i) (Request k j) f g e = cc
 same_step (Response b i) (Forward k d) f g e = cc
 same_step (Response b i) (Response k j) f g e = cc (same_block b k f.0 g.0 cc, decimal_injective i j f.1 g.1 cc)
+
+behind_ask : (a b : Ask) (rest more : List (List ℕ)) → ask_words a ++ rest ≡ ask_words b ++ more → rest ≡ more
+behind_ask Load Load rest more e = cc
+behind_ask Load (Store w) rest more e = cc
+behind_ask Load Replace rest more e = cc
+behind_ask (Store v) Load rest more e = cc
+behind_ask (Store v) (Store w) rest more e = cc
+behind_ask (Store v) Replace rest more e = cc
+behind_ask Replace Load rest more e = cc
+behind_ask Replace (Store w) rest more e = cc
+behind_ask Replace Replace rest more e = cc
+
+-- where two steps stand in front of the same words, so does the same behind them
+pub behind_step : (s t : Step) (rest more : List (List ℕ)) → step_words s ++ rest ≡ step_words t ++ more → rest ≡ more
+behind_step (step.Ask c b a) (step.Ask d k q) rest more e = behind_ask a q rest more cc
+behind_step (step.Ask c b a) (Request k j) rest more e = cc
+behind_step (step.Ask c b a) (Forward k d) rest more e = cc
+behind_step (step.Ask c b a) (Response k j) rest more e = cc
+behind_step (Request b i) (step.Ask d k q) rest more e = cc
+behind_step (Request b i) (Request k j) rest more e = cc
+behind_step (Request b i) (Forward k d) rest more e = let first : 114 ≡ 102 = ap first_byte e in absurd (omega (arith, first))
+behind_step (Request b i) (Response k j) rest more e = cc
+behind_step (Forward b c) (step.Ask d k q) rest more e = cc
+behind_step (Forward b c) (Request k j) rest more e = let first : 102 ≡ 114 = ap first_byte e in absurd (omega (arith, first))
+behind_step (Forward b c) (Forward k d) rest more e = cc
+behind_step (Forward b c) (Response k j) rest more e = cc
+behind_step (Response b i) (step.Ask d k q) rest more e = cc
+behind_step (Response b i) (Request k j) rest more e = cc
+behind_step (Response b i) (Forward k d) rest more e = cc
+behind_step (Response b i) (Response k j) rest more e = cc
+
+-- behind `ask` and a first word, no number below 2 ^ 32
+pub no_ask : (line behind : List (List ℕ)) (first : List ℕ) → line ≡ first ∷ behind → IsNoNumberFirst 32 behind → IsNoStepFirst (codes "ask" ∷ line)
+no_ask line behind first is none (step.Ask c b a) others fits = λ e. none b.0 (ask_words a ++ others) fits.1 cc
+no_ask line behind first is none (Request b i) others fits = λ e. absurd cc
+no_ask line behind first is none (Forward b c) others fits = λ e. absurd cc
+no_ask line behind first is none (Response b i) others fits = λ e. absurd cc
+
+-- the same of the other steps
+pub no_request : (line behind : List (List ℕ)) (first : List ℕ) → line ≡ first ∷ behind → IsNoNumberFirst 64 behind → IsNoStepFirst (codes "request" ∷ line)
+no_request line behind first is none (step.Ask c b a) others fits = λ e. absurd cc
+no_request line behind first is none (Request b i) others fits = λ e. none i others fits.1 cc
+no_request line behind first is none (Forward b c) others fits = λ e. let first : 114 ≡ 102 = ap first_byte e in absurd (omega (arith, first))
+no_request line behind first is none (Response b i) others fits = λ e. absurd cc
+
+pub no_forward : (line behind : List (List ℕ)) (first : List ℕ) → line ≡ first ∷ behind → IsNoNumberFirst 32 behind → IsNoStepFirst (codes "forward" ∷ line)
+no_forward line behind first is none (step.Ask c b a) others fits = λ e. absurd cc
+no_forward line behind first is none (Request b i) others fits = λ e. let first : 102 ≡ 114 = ap first_byte e in absurd (omega (arith, first))
+no_forward line behind first is none (Forward b c) others fits = λ e. none c.0 others fits.1 cc
+no_forward line behind first is none (Response b i) others fits = λ e. absurd cc
+
+pub no_response : (line behind : List (List ℕ)) (first : List ℕ) → line ≡ first ∷ behind → IsNoNumberFirst 64 behind → IsNoStepFirst (codes "response" ∷ line)
+no_response line behind first is none (step.Ask c b a) others fits = λ e. absurd cc
+no_response line behind first is none (Request b i) others fits = λ e. absurd cc
+no_response line behind first is none (Forward b c) others fits = λ e. absurd cc
+no_response line behind first is none (Response b i) others fits = λ e. none i others fits.1 cc
+
+-- a line that is one of these words is an outcome
+pub bare : (line : List ℕ) (o : Outcome) → line ∷ [] ≡ outcome_words o → words line ≡ outcome_words o
+bare line Sent e = let is : line ≡ codes "sent" = cc in ap words is
+bare line Moved e = let is : line ≡ codes "moved" = cc in ap words is
+bare line (outcome.Load cache value) e = absurd cc
+bare line (outcome.Store cache value) e = absurd cc
+bare line Held e = let is : line ≡ codes "held" = cc in ap words is
+bare line Absent e = let is : line ≡ codes "absent" = cc in ap words is
+bare line Idle e = let is : line ≡ codes "idle" = cc in ap words is
+bare line Blank e = let is : line ≡ codes "blank" = cc in ap words is
+bare line Broken e = let is : line ≡ codes "broken" = cc in ap words is
+
+one-outcome : (line word : List ℕ) → words line ≡ word ∷ [] → line ∷ [] ≡ word ∷ []
+one-outcome line word e = ap (λ (w : List ℕ). w ∷ []) (spelled line (word ∷ []) e ∙ append-nil word)
+
+-- a line that is none of them, and no load nor store, is none
+pub no_outcome : (line : List ℕ) → ((first : List ℕ) (others : List (List ℕ)) → words line ≢ codes "load" ∷ first ∷ others) →
+    ((first : List ℕ) (others : List (List ℕ)) → words line ≢ codes "store" ∷ first ∷ others) → IsNoOutcomeWord line → IsNoOutcome line
+no_outcome line load store none Sent fits = λ e. none Sent fits (one-outcome line _ e)
+no_outcome line load store none Moved fits = λ e. none Moved fits (one-outcome line _ e)
+no_outcome line load store none (outcome.Load cache value) fits = load _ _
+no_outcome line load store none (outcome.Store cache value) fits = store _ _
+no_outcome line load store none Held fits = λ e. none Held fits (one-outcome line _ e)
+no_outcome line load store none Absent fits = λ e. none Absent fits (one-outcome line _ e)
+no_outcome line load store none Idle fits = λ e. none Idle fits (one-outcome line _ e)
+no_outcome line load store none Blank fits = λ e. none Blank fits (one-outcome line _ e)
+no_outcome line load store none Broken fits = λ e. none Broken fits (one-outcome line _ e)
+
+-- a bare outcome, or none
+pub read_bare : (line : List ℕ) (r : Option Outcome) → ((first : List ℕ) (others : List (List ℕ)) → words line ≢ codes "load" ∷ first ∷ others) →
+    ((first : List ℕ) (others : List (List ℕ)) → words line ≢ codes "store" ∷ first ∷ others) →
+    MatchOption r (IsNoOutcomeWord line) (λ o. IsOutcomeWord line o) → MatchOption r (IsNoOutcome line) (λ o. IsOutcomeLine line o)
+read_bare line None load store told = no_outcome line load store told
+read_bare line (Some o) load store told = bare line o told
+
+-- a step in front of more words is no step alone
+pub more_than_step : (line : List (List ℕ)) (s t : Step) (rest : Option (Bor (List ℕ))) (more : Bor (List ℕ)) → rest ≡ Some more →
+    line ≡ step_words s ++ words_behind rest → line ≢ step_words t
+more_than_step line s t rest more some is e =
+    let none : words_behind rest ≡ [] = behind_step s t (words_behind rest) [] (sym is ∙ e ∙ sym (append-nil (step_words t))) in
+    let here : words_behind rest ≡ words more.now = ap words_behind some in
+    absurd (omega (arith, length-slice_split (λ b. eqb b 32) more.now, ap length (sym here ∙ none)))

@@ -110,18 +110,6 @@ IsNoOutcome line = (o : Outcome) → FitsOutcome o → words line ≢ outcome_wo
 abbrev pub IsNoPair : ℕ → ℕ → List ℕ → Type 0
 IsNoPair first second line = (a b : ℕ) → a < 2 ^ first → b < 2 ^ second → words line ≢ decimal a ∷ decimal b ∷ []
 
--- the line isn't what a core asks
-abbrev pub IsNoAsk : List ℕ → Type 0
-IsNoAsk line = (ask : Ask) → FitsAsk ask → words line ≢ ask_words ask
-
--- behind the word, the line spells the step
-abbrev pub IsStepBehind : List ℕ → List ℕ → Step → Type 0
-IsStepBehind word line s = word ∷ words line ≡ step_words s
-
--- behind the word, the line spells no step
-abbrev pub IsNoStepBehind : List ℕ → List ℕ → Type 0
-IsNoStepBehind word line = (s : Step) → FitsStep s → word ∷ words line ≢ step_words s
-
 -- the one word spells the outcome
 abbrev pub IsOutcomeWord : List ℕ → Outcome → Type 0
 IsOutcomeWord word o = word ∷ [] ≡ outcome_words o
@@ -133,3 +121,7 @@ IsNoOutcomeWord word = (o : Outcome) → FitsOutcome o → word ∷ [] ≢ outco
 -- a line is the text of one step at most
 abbrev pub SpellsOneStep : Type 0
 SpellsOneStep = (line : List ℕ) (s t : Step) → FitsStep s → FitsStep t → IsStepLine line s → IsStepLine line t → s ≡ t
+
+-- the first words of the line are no step's with something behind them
+abbrev pub HasNoStepInFront : List ℕ → Type 0
+HasNoStepInFront line = (s : Step) (first : List ℕ) (others : List (List ℕ)) → FitsStep s → words line ≢ step_words s ++ first ∷ others

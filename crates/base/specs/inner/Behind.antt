@@ -1,6 +1,9 @@
-use Rattle.std.specs.Prelude.{◌≢◌, ℕ, ◌≤◌, List, [], Option, Some, None, length, map}
+use Rattle.std.specs.Prelude.{◌≢◌, ℕ, ◌≤◌, ◌<◌, ◌^◌, List, [], ◌∷◌, ◌++◌, Option, Some, None, length, map}
+use Rattle.std.specs.Fmt.{decimal}
 use Rattle.std.specs.Borrow.{Bor}
-use Rattle.base.specs.Spelling.{words}
+use Rattle.base.specs.Spelling.{words, ask_words, step_words, FitsAsk, FitsStep}
+use Rattle.base.specs.declared.step.Ask.{Ask}
+use Rattle.base.specs.declared.step.Step.{Step}
 
 -- the words behind a blank, if there is one
 abbrev pub words_behind : Option (Bor (List ℕ)) → List (List ℕ)
@@ -10,3 +13,15 @@ words_behind (Some rest) = words rest.now
 -- these words name no actions, at most eight
 abbrev pub IsNoActions : {A : Type 0} → (A → List ℕ) → List (List ℕ) → Type 0
 IsNoActions {A} action line = (actions : List A) → length actions ≤ 8 → line ≢ map action actions
+
+-- the first of these words is no number below 2 ^ bits
+abbrev pub IsNoNumberFirst : ℕ → List (List ℕ) → Type 0
+IsNoNumberFirst bits line = (n : ℕ) (others : List (List ℕ)) → n < 2 ^ bits → line ≢ decimal n ∷ others
+
+-- these words don't begin with those of a step
+abbrev pub IsNoStepFirst : List (List ℕ) → Type 0
+IsNoStepFirst line = (s : Step) (others : List (List ℕ)) → FitsStep s → line ≢ step_words s ++ others
+
+-- these words don't begin with what a core asks
+abbrev pub IsNoAskFirst : List (List ℕ) → Type 0
+IsNoAskFirst line = (ask : Ask) (others : List (List ℕ)) → FitsAsk ask → line ≢ ask_words ask ++ others

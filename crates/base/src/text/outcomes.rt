@@ -4,7 +4,7 @@ ghost use Rattle.base.specs.Spelling.{joined, outcome_words, FitsOutcome, IsNoOu
 use crate::ids::CacheId;
 use crate::step::Outcome;
 use crate::text::short::Text;
-use crate::text::words::{cut, small_and_number};
+use crate::text::words::{behind_word, small_and_number};
 use std::fmt;
 
 impl Outcome {
@@ -14,19 +14,17 @@ impl Outcome {
     pub fn read(line: &[u8]) -> Option<Outcome>
         ensures { MatchOption result (IsNoOutcome line.now) (λ o. IsOutcomeLine line.now o) }
     {
-        let (word, rest) = cut(line);
-        let Some(rest) = rest else {
-            return bare_outcome(word);
-        };
-        let (cache, value) = small_and_number(rest)?;
-        let cache = CacheId(cache);
-        if word == b"load".as_slice() {
-            Some(Outcome::Load { cache, value })
-        } else if word == b"store".as_slice() {
-            Some(Outcome::Store { cache, value })
-        } else {
-            None
+        if let Some(rest) = behind_word(line, b"load") {
+            let (cache, value) = small_and_number(rest)?;
+            let cache = CacheId(cache);
+            return Some(Outcome::Load { cache, value });
         }
+        if let Some(rest) = behind_word(line, b"store") {
+            let (cache, value) = small_and_number(rest)?;
+            let cache = CacheId(cache);
+            return Some(Outcome::Store { cache, value });
+        }
+        bare_outcome(line)
     }
 }
 

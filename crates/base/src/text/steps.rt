@@ -1,11 +1,12 @@
-ghost use Rattle.std.specs.Prelude.{◌≡◌, ◌≤◌, ◌+◌, ◌++◌, MatchOption, codes, length};
+ghost use Rattle.std.specs.Prelude.{◌≡◌, ◌≤◌, ◌+◌, ◌∷◌, ◌++◌, MatchOption, codes, length};
 ghost use Rattle.base.specs.Spelling.{words, joined, spaced, ask_words, step_words, FitsAsk, FitsStep};
-ghost use Rattle.base.specs.Spelling.{IsSpelled, IsNoAsk, IsNoStep, IsStepLine, IsStepBehind, IsNoStepBehind, SpellsOneStep};
+ghost use Rattle.base.specs.Spelling.{HasNoStepInFront, IsNoStep, IsStepLine, SpellsOneStep};
+ghost use Rattle.base.specs.inner.Behind.{words_behind, IsNoAskFirst, IsNoStepFirst};
 
 use crate::ids::{BlockId, CacheId};
 use crate::step::{Ask, Step};
 use crate::text::short::Text;
-use crate::text::words::{cut, only_number, small_and_number, small_number_of, two_small_numbers};
+use crate::text::words::{after_word, behind_word, number_in_front, small_in_front};
 use std::fmt;
 
 impl Step {
@@ -15,92 +16,120 @@ impl Step {
     pub fn read(line: &[u8]) -> Option<Step>
         ensures { MatchOption result (IsNoStep line.now) (λ s. IsStepLine line.now s) }
     {
-        let (word, rest) = cut(line);
-        let rest = rest?;
-        if word == b"ask".as_slice() {
-            ask_step(rest)
-        } else if word == b"request".as_slice() {
-            request_step(rest)
-        } else if word == b"forward".as_slice() {
-            forward_step(rest)
-        } else if word == b"response".as_slice() {
-            response_step(rest)
-        } else {
-            None
+        let (step, rest) = step_in_front(line)?;
+        match rest {
+            None => Some(step),
+            Some(_) => None,
         }
+    }
+
+    /// The step that the first words of a line spell, and what follows the blank behind them.
+    ///
+    /// `None` comes for every line that isn't the text of a step, a blank and something else.
+    pub fn read_front(line: &[u8]) -> Option<(Step, &[u8])>
+        ensures { MatchOption result (HasNoStepInFront line.now) (λ found. words line.now ≡ step_words found.0 ++ words found.1.now) }
+    {
+        let (step, rest) = step_in_front(line)?;
+        Some((step, rest?))
     }
 }
 
-/// The step that a line spells behind the word `ask`.
-fn ask_step(line: &[u8]) -> Option<Step>
-    ensures { MatchOption result (IsNoStepBehind (codes "ask") line.now) (λ s. IsStepBehind (codes "ask") line.now s) }
+/// The step that the first words of a line spell, and what follows the blank behind them, if there is one.
+fn step_in_front(line: &[u8]) -> Option<(Step, Option<&[u8]>)>
+    ensures { MatchOption result (IsNoStepFirst (words line.now)) (λ found. words line.now ≡ step_words found.0 ++ words_behind found.1) }
 {
-    let (cache, rest) = cut(line);
-    let (block, rest) = cut(rest?);
-    let ask = ask_of(rest?)?;
-    Some(Step::Ask {
-        cache: CacheId(small_number_of(cache)?),
-        block: BlockId(small_number_of(block)?),
+    if let Some(rest) = behind_word(line, b"ask") {
+        return ask_in_front(rest);
+    }
+    if let Some(rest) = behind_word(line, b"request") {
+        return request_in_front(rest);
+    }
+    if let Some(rest) = behind_word(line, b"forward") {
+        return forward_in_front(rest);
+    }
+    if let Some(rest) = behind_word(line, b"response") {
+        return response_in_front(rest);
+    }
+    None
+}
+
+/// The step that a line spells behind the word `ask`, and what follows it.
+fn ask_in_front(line: &[u8]) -> Option<(Step, Option<&[u8]>)>
+    ensures { MatchOption result
+        (IsNoStepFirst (codes "ask" ∷ words line.now))
+        (λ found. codes "ask" ∷ words line.now ≡ step_words found.0 ++ words_behind found.1) }
+{
+    let (cache, rest) = small_in_front(line)?;
+    let (block, rest) = small_in_front(rest?)?;
+    let (ask, rest) = what_is_asked(rest?)?;
+    let step = Step::Ask {
+        cache: CacheId(cache),
+        block: BlockId(block),
         ask,
-    })
+    };
+    Some((step, rest))
 }
 
-/// What a core asks, in these words.
-fn ask_of(line: &[u8]) -> Option<Ask>
-    ensures { MatchOption result (IsNoAsk line.now) (λ ask. IsSpelled line.now (ask_words ask)) }
+/// What a core asks, in the first words of a line, and what follows them.
+fn what_is_asked(line: &[u8]) -> Option<(Ask, Option<&[u8]>)>
+    ensures { MatchOption result
+        (IsNoAskFirst (words line.now))
+        (λ found. words line.now ≡ ask_words found.0 ++ words_behind found.1) }
 {
-    let (word, rest) = cut(line);
-    match rest {
-        Some(value) => {
-            if word == b"store".as_slice() {
-                Some(Ask::Store(only_number(value)?))
-            } else {
-                None
-            }
-        }
-        None => {
-            if word == b"load".as_slice() {
-                Some(Ask::Load)
-            } else if word == b"replace".as_slice() {
-                Some(Ask::Replace)
-            } else {
-                None
-            }
-        }
+    if let Some(rest) = after_word(line, b"load") {
+        return Some((Ask::Load, rest));
     }
+    if let Some(rest) = behind_word(line, b"store") {
+        let (value, rest) = number_in_front(rest)?;
+        return Some((Ask::Store(value), rest));
+    }
+    let rest = after_word(line, b"replace")?;
+    Some((Ask::Replace, rest))
 }
 
-/// The step that a line spells behind the word `request`.
-fn request_step(line: &[u8]) -> Option<Step>
-    ensures { MatchOption result (IsNoStepBehind (codes "request") line.now) (λ s. IsStepBehind (codes "request") line.now s) }
+/// The step that a line spells behind the word `request`, and what follows it.
+fn request_in_front(line: &[u8]) -> Option<(Step, Option<&[u8]>)>
+    ensures { MatchOption result
+        (IsNoStepFirst (codes "request" ∷ words line.now))
+        (λ found. codes "request" ∷ words line.now ≡ step_words found.0 ++ words_behind found.1) }
 {
-    let (block, index) = small_and_number(line)?;
-    Some(Step::Request {
+    let (block, rest) = small_in_front(line)?;
+    let (index, rest) = number_in_front(rest?)?;
+    let step = Step::Request {
         block: BlockId(block),
         index,
-    })
+    };
+    Some((step, rest))
 }
 
-/// The step that a line spells behind the word `forward`.
-fn forward_step(line: &[u8]) -> Option<Step>
-    ensures { MatchOption result (IsNoStepBehind (codes "forward") line.now) (λ s. IsStepBehind (codes "forward") line.now s) }
+/// The step that a line spells behind the word `forward`, and what follows it.
+fn forward_in_front(line: &[u8]) -> Option<(Step, Option<&[u8]>)>
+    ensures { MatchOption result
+        (IsNoStepFirst (codes "forward" ∷ words line.now))
+        (λ found. codes "forward" ∷ words line.now ≡ step_words found.0 ++ words_behind found.1) }
 {
-    let (block, cache) = two_small_numbers(line)?;
-    Some(Step::Forward {
+    let (block, rest) = small_in_front(line)?;
+    let (cache, rest) = small_in_front(rest?)?;
+    let step = Step::Forward {
         block: BlockId(block),
         cache: CacheId(cache),
-    })
+    };
+    Some((step, rest))
 }
 
-/// The step that a line spells behind the word `response`.
-fn response_step(line: &[u8]) -> Option<Step>
-    ensures { MatchOption result (IsNoStepBehind (codes "response") line.now) (λ s. IsStepBehind (codes "response") line.now s) }
+/// The step that a line spells behind the word `response`, and what follows it.
+fn response_in_front(line: &[u8]) -> Option<(Step, Option<&[u8]>)>
+    ensures { MatchOption result
+        (IsNoStepFirst (codes "response" ∷ words line.now))
+        (λ found. codes "response" ∷ words line.now ≡ step_words found.0 ++ words_behind found.1) }
 {
-    let (block, index) = small_and_number(line)?;
-    Some(Step::Response {
+    let (block, rest) = small_in_front(line)?;
+    let (index, rest) = number_in_front(rest?)?;
+    let step = Step::Response {
         block: BlockId(block),
         index,
-    })
+    };
+    Some((step, rest))
 }
 
 impl Step {

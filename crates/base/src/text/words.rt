@@ -1,8 +1,10 @@
-ghost use Rattle.std.specs.Prelude.{◌≡◌, ◌≢◌, ◌≤◌, ◌<◌, ◌^◌, ℕ, List, length, eqb, false, true, get_or, [], ◌∷◌, IfSome, IfNone, MatchOption};
+ghost use Rattle.std.specs.Prelude.{◌≡◌, ◌≢◌, ◌≤◌, ◌<◌, ◌^◌, ℕ, List, length, eqb, false, true, get_or, take, drop, [], ◌∷◌, ◌++◌, IfSome, IfNone, MatchOption};
 ghost use Rattle.std.specs.List.{position_or_len};
 ghost use Rattle.std.specs.Fmt.{decimal};
 ghost use Rattle.std.specs.Char.{digit_value};
+ghost use Rattle.std.specs.Str.Parse.{AllDigits, digits_value};
 ghost use Rattle.base.specs.Spelling.{words, IsSpelled, IsNoPair};
+ghost use Rattle.base.specs.inner.Behind.{words_behind, IsNoNumberFirst};
 
 /// The first word of a line, and what follows the blank behind it.
 ///
@@ -90,51 +92,131 @@ pub fn small_number_of(text: &[u8]) -> Option<u32>
     u32::try_from(n).ok()
 }
 
-/// The number that is the only word of a line.
-#[tactic(auto, using(crate::proofs::Lines::not_one))]
-pub(crate) fn only_number(line: &[u8]) -> Option<u64>
+/// What stands behind a word at the front of a line, if the line begins with that word: nothing, or a blank and more words.
+#[inline(always)]
+pub(crate) fn after_word<'a>(line: &'a [u8], word: &[u8]) -> Option<Option<&'a [u8]>>
+    requires { words word.now ≡ word.now ∷ [] }
     ensures { MatchOption result
-        ((n : ℕ) → n < 2 ^ 64 → words line.now ≢ decimal n ∷ [])
-        (λ n. IsSpelled line.now (decimal n ∷ [])) }
+        ((others : List (List ℕ)) → words line.now ≢ word.now ∷ others)
+        (λ rest. words line.now ≡ word.now ∷ words_behind rest) }
 {
-    let (word, rest) = cut(line);
-    match rest {
-        None => number_of(word),
-        Some(_) => None,
+    // most words are told apart by where they end
+    if line.len() > word.len() && line[word.len()] != b' ' {
+        return None;
+    }
+    if !begins_with(line, word) {
+        return None;
+    }
+    match &line[word.len()..] {
+        [] => Some(None),
+        [_, rest @ ..] => Some(Some(rest)),
     }
 }
 
-/// The two words of a line that has two.
-#[tactic(auto, using(crate::proofs::Lines::not_one, crate::proofs::Lines::not_two))]
-fn two_words(line: &[u8]) -> Option<(&[u8], &[u8])>
-    ensures { MatchOption result
-        ((first second : List ℕ) → words line.now ≢ first ∷ second ∷ [])
-        (λ pair. IsSpelled line.now (pair.0.now ∷ pair.1.now ∷ [])) }
+/// Whether a line begins with a word, byte by byte: for words as short as these `starts_with` costs more.
+#[inline(always)]
+fn begins_with(line: &[u8], word: &[u8]) -> bool
+    ensures bound { result ≡ true → length word.now ≤ length line.now }
+    ensures yes { result ≡ true → line.now ≡ word.now ++ drop (length word.now) line.now }
+    ensures no { result ≡ false → (rest : List ℕ) → line.now ≢ word.now ++ rest }
 {
-    let (first, rest) = cut(line);
-    let (second, rest) = cut(rest?);
-    match rest {
-        None => Some((first, second)),
-        Some(_) => None,
+    if line.len() < word.len() {
+        return false;
+    }
+    for i in 0..word.len() {
+        if line[i] != word[i] {
+            return false;
+        }
+    }
+    true
+}
+
+/// What follows the blank behind a word at the front of a line, if the line begins with both.
+#[inline(always)]
+pub(crate) fn behind_word<'a>(line: &'a [u8], word: &[u8]) -> Option<&'a [u8]>
+    requires { words word.now ≡ word.now ∷ [] }
+    ensures { MatchOption result
+        ((first : List ℕ) (others : List (List ℕ)) → words line.now ≢ word.now ∷ first ∷ others)
+        (λ rest. words line.now ≡ word.now ∷ words rest.now) }
+{
+    after_word(line, word)?
+}
+
+/// The digits at the front of a text, as many as a number below 10^19 has: their value, and how many they are.
+#[inline(always)]
+fn digits_in_front(text: &[u8]) -> (u64, usize)
+    ensures within { result.1 ≤ length text.now }
+    ensures digits { AllDigits 10 (take result.1 text.now) }
+    ensures value { result.0 ≡ digits_value 10 (take result.1 text.now) }
+{
+    let mut value: u64 = 0;
+    let mut end = 0;
+    while end < text.len() {
+        let digit = text[end].wrapping_sub(b'0');
+        if digit > 9 || value >= 1_000_000_000_000_000_000 {
+            break;
+        }
+        value = value * 10 + u64::from(digit);
+        end += 1;
+    }
+    (value, end)
+}
+
+/// The number below 2^64 that is the first word of a line, and what follows the blank behind it.
+#[inline(always)]
+pub(crate) fn number_in_front(line: &[u8]) -> Option<(u64, Option<&[u8]>)>
+    ensures { MatchOption result
+        (IsNoNumberFirst 64 (words line.now))
+        (λ found. words line.now ≡ decimal found.0 ∷ words_behind found.1) }
+{
+    let (value, end) = digits_in_front(line);
+    if has_first_digit(&line[..end]) {
+        match &line[end..] {
+            [] => return Some((value, None)),
+            [b' ', rest @ ..] => return Some((value, Some(rest))),
+            _ => {}
+        }
+    }
+    first_word_as_number(line)
+}
+
+/// The same, where the first word is no number or a long one.
+#[cold]
+#[inline(never)]
+fn first_word_as_number(line: &[u8]) -> Option<(u64, Option<&[u8]>)>
+    ensures { MatchOption result
+        (IsNoNumberFirst 64 (words line.now))
+        (λ found. words line.now ≡ decimal found.0 ∷ words_behind found.1) }
+{
+    let (word, rest) = cut(line);
+    Some((number_of(word)?, rest))
+}
+
+/// The number below 2^32 that is the first word of a line, and what follows the blank behind it.
+#[inline(always)]
+pub(crate) fn small_in_front(line: &[u8]) -> Option<(u32, Option<&[u8]>)>
+    ensures { MatchOption result
+        (IsNoNumberFirst 32 (words line.now))
+        (λ found. words line.now ≡ decimal found.0 ∷ words_behind found.1) }
+{
+    let (number, rest) = number_in_front(line)?;
+    match u32::try_from(number) {
+        Ok(number) => Some((number, rest)),
+        Err(_) => None,
     }
 }
 
 /// The two numbers that are the words of a line.
+#[inline(always)]
 pub(crate) fn small_and_number(line: &[u8]) -> Option<(u32, u64)>
     ensures { MatchOption result
         (IsNoPair 32 64 line.now)
         (λ pair. IsSpelled line.now (decimal pair.0 ∷ decimal pair.1 ∷ [])) }
 {
-    let (first, second) = two_words(line)?;
-    Some((small_number_of(first)?, number_of(second)?))
-}
-
-/// The two numbers below 2^32 that are the words of a line.
-pub(crate) fn two_small_numbers(line: &[u8]) -> Option<(u32, u32)>
-    ensures { MatchOption result
-        (IsNoPair 32 32 line.now)
-        (λ pair. IsSpelled line.now (decimal pair.0 ∷ decimal pair.1 ∷ [])) }
-{
-    let (first, second) = two_words(line)?;
-    Some((small_number_of(first)?, small_number_of(second)?))
+    let (first, rest) = small_in_front(line)?;
+    let (second, rest) = number_in_front(rest?)?;
+    match rest {
+        None => Some((first, second)),
+        Some(_) => None,
+    }
 }

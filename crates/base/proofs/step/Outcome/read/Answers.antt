@@ -1,6 +1,5 @@
-use Rattle.std.proofs.Common.{rules}
-use Rattle.base.proofs.Spellings.{only_numbers}
+use Rattle.base.proofs.Spellings.{read_bare}
 use Rattle.base.proofs.step.Outcome.read.Goals as goal
 
-pub returns-in_err-cache : goal.returns-in_err-cache
-returns-in_err-cache c = rw c.from_residual.ensures (only_numbers c.cut.result.0.now c.in-Some.rest.now c.args.line.now (search rules) (search rules))
+pub returns : goal.returns
+returns c = read_bare c.args.line.now c.bare_outcome.result c.in_default.ensures c.in_default-behind_word.ensures c.bare_outcome.ensures
