@@ -1,4 +1,4 @@
-ghost use Rattle.std.specs.Prelude.{◌≡◌, ◌≤◌, MatchOption, length};
+ghost use Rattle.std.specs.Prelude.{◌≡◌, ◌≤◌, ◌+◌, ◌++◌, MatchOption, length};
 ghost use Rattle.base.specs.Spelling.{joined, outcome_words, FitsOutcome, IsNoOutcome, IsOutcomeLine, IsNoOutcomeWord, IsOutcomeWord};
 
 use crate::ids::CacheId;
@@ -52,26 +52,38 @@ impl Outcome {
         ensures fits { FitsOutcome self }
     {
         let mut text = Text::new();
-        match self {
-            Outcome::Sent => text.push(b"sent"),
-            Outcome::Moved => text.push(b"moved"),
+        text.push_outcome(self);
+        text
+    }
+}
+
+impl Text {
+    /// Adds an outcome's text at the end.
+    pub fn push_outcome(&mut self, outcome: Outcome)
+        requires { length self.old + 50 ≤ 192 }
+        ensures text { self.new ≡ self.old ++ joined (outcome_words outcome) }
+        ensures short { length self.new ≤ length self.old + 50 }
+        ensures fits { FitsOutcome outcome }
+    {
+        match outcome {
+            Outcome::Sent => self.push(b"sent"),
+            Outcome::Moved => self.push(b"moved"),
             Outcome::Load { cache, value } => {
-                text.push(b"load");
-                text.push_number(u64::from(cache.0));
-                text.push_number(value);
+                self.push(b"load");
+                self.push_number(u64::from(cache.0));
+                self.push_number(value);
             }
             Outcome::Store { cache, value } => {
-                text.push(b"store");
-                text.push_number(u64::from(cache.0));
-                text.push_number(value);
+                self.push(b"store");
+                self.push_number(u64::from(cache.0));
+                self.push_number(value);
             }
-            Outcome::Held => text.push(b"held"),
-            Outcome::Absent => text.push(b"absent"),
-            Outcome::Idle => text.push(b"idle"),
-            Outcome::Blank => text.push(b"blank"),
-            Outcome::Broken => text.push(b"broken"),
+            Outcome::Held => self.push(b"held"),
+            Outcome::Absent => self.push(b"absent"),
+            Outcome::Idle => self.push(b"idle"),
+            Outcome::Blank => self.push(b"blank"),
+            Outcome::Broken => self.push(b"broken"),
         }
-        text
     }
 }
 

@@ -60,6 +60,10 @@ impl Text {
         ensures text { self.new ≡ self.old ++ (32 ∷ decimal number) }
         ensures short { length self.new ≤ length self.old + 21 }
     {
+        if number < 10 {
+            self.push(&[b' ', b'0' + number as u8]);
+            return;
+        }
         let mut digits = Buffer::new();
         self.push_word(digits.format(number).as_bytes());
     }

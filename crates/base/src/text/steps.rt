@@ -140,36 +140,48 @@ impl Step {
         ensures fits { FitsStep self }
     {
         let mut text = Text::new();
-        match self {
+        text.push_step(self);
+        text
+    }
+}
+
+impl Text {
+    /// Adds a step's text at the end.
+    pub fn push_step(&mut self, step: Step)
+        requires { length self.old + 80 ≤ 192 }
+        ensures text { self.new ≡ self.old ++ joined (step_words step) }
+        ensures short { length self.new ≤ length self.old + 80 }
+        ensures fits { FitsStep step }
+    {
+        match step {
             Step::Ask { cache, block, ask } => {
-                text.push(b"ask");
-                text.push_number(u64::from(cache.0));
-                text.push_number(u64::from(block.0));
-                push_ask(&mut text, ask);
+                self.push(b"ask");
+                self.push_number(u64::from(cache.0));
+                self.push_number(u64::from(block.0));
+                push_ask(self, ask);
             }
             Step::Request { block, index } => {
-                text.push(b"request");
-                text.push_number(u64::from(block.0));
-                text.push_number(index);
+                self.push(b"request");
+                self.push_number(u64::from(block.0));
+                self.push_number(index);
             }
             Step::Forward { block, cache } => {
-                text.push(b"forward");
-                text.push_number(u64::from(block.0));
-                text.push_number(u64::from(cache.0));
+                self.push(b"forward");
+                self.push_number(u64::from(block.0));
+                self.push_number(u64::from(cache.0));
             }
             Step::Response { block, index } => {
-                text.push(b"response");
-                text.push_number(u64::from(block.0));
-                text.push_number(index);
+                self.push(b"response");
+                self.push_number(u64::from(block.0));
+                self.push_number(index);
             }
         }
-        text
     }
 }
 
 /// Adds what a core asks, with a blank before each word.
 fn push_ask(text: &mut Text, ask: Ask)
-    requires { length text.old ≤ 50 }
+    requires { length text.old + 28 ≤ 192 }
     ensures text { text.new ≡ text.old ++ spaced (ask_words ask) }
     ensures short { length text.new ≤ length text.old + 28 }
     ensures fits { FitsAsk ask }
