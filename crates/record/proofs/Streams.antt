@@ -1,12 +1,13 @@
 -- Bytes that come from a source, with those that were pulled and aren't taken yet.
-use Rattle.std.proofs.Common.{◌≡◌, ℕ, ◌+◌, ◌-◌, ◌<◌, ◌≤◌, List, [], ◌∷◌, ◌++◌, Option, Some, None, length, take, drop, get_or, suc, refl, ap}
-use Rattle.std.proofs.Common.{◌≢◌, inl, inr, sym, ◌∙◌, subst, arith, append_assoc, length-append}
-use Rattle.std.proofs.lemmas.List.{drop_more, append-nil, length_push, take-append-le, take_all}
+use Rattle.std.proofs.Common.{◌≡◌, Bool, true, false, ℕ, ◌+◌, ◌-◌, ◌<◌, ◌≤◌, List, [], ◌∷◌, ◌++◌, Option, Some, None, length, take, drop, get_or, suc, refl, ap}
+use Rattle.std.proofs.Common.{◌≢◌, inl, inr, sym, ◌∙◌, subst, arith, append_assoc, length-append, length-drop, take-append-drop}
+use Rattle.std.proofs.lemmas.List.{drop_more, drop-drop, drop-take, append-nil, get_or-drop, get_or-take, length-take, length-take-le, take-append-le, take-take}
 use Rattle.std.proofs.lemmas.Bool.{cases_lt}
-use Rattle.std.proofs.lemmas.List.Elements.{All-push}
+use Rattle.std.proofs.lemmas.List.Elements.{All-append, All-take}
+use Rattle.std.specs.Bool.{Decides}
 use Rattle.std.specs.Io.KnownBytes.{Consumes, prepend_known}
 use Rattle.record.specs.Refused.{ended, HasNoEnd, IsTooLong}
-use Rattle.record.specs.inner.Reading.{BeginsWithEnd}
+use Rattle.record.specs.inner.Reading.{BeginsWithEnd, IsWholeIf}
 
 pub none-held : (a : Option (List ℕ)) → prepend_known [] a ≡ a
 none-held None = refl
@@ -68,27 +69,77 @@ held-begins buffer more x at end fits is = elim (cases_lt at end) [
   | inr high ↦ let none = none-held_between buffer at end high in absurd (cc)
 ]
 
--- and that byte, moved to the line
-pub byte-moved : (buffer line new : List ℕ) (at end : ℕ) → at < end → end ≤ length buffer → new ≡ line ++ get_or buffer at 0 ∷ [] →
-    new ++ take (end - (at + 1)) (drop (at + 1) buffer) ≡ line ++ take (end - at) (drop at buffer)
-byte-moved buffer line new at end low fits is =
-    let rest = take (end - (at + 1)) (drop (at + 1) buffer) in
-    ap (λ l. l ++ rest) is ∙ append_assoc line (get_or buffer at 0 ∷ []) rest ∙ ap (λ l. line ++ l) (sym (first-held buffer at end low fits))
+-- the bytes behind some of those that are held
+pub held-behind : (buffer : List ℕ) (at end count : ℕ) → count ≤ end - at →
+    drop count (take (end - at) (drop at buffer)) ≡ take (end - (at + count)) (drop (at + count) buffer)
+held-behind buffer at end count few =
+    let split : end - at ≡ count + (end - (at + count)) = omega arith in
+    ap (λ n. drop count (take n (drop at buffer))) split ∙ drop-take count (end - (at + count)) (drop at buffer)
+    ∙ ap (take (end - (at + count))) (drop-drop count at buffer)
 
-pub more-open : (line : List ℕ) (x : ℕ) → HasNoEnd line → x ≢ 10 → HasNoEnd (line ++ x ∷ [])
-more-open line x none other = All-push (λ b. b ≢ 10) line x none other
+pub held-length : (buffer : List ℕ) (at end : ℕ) → end ≤ length buffer → length (take (end - at) (drop at buffer)) ≡ end - at
+held-length buffer at end fits = length-take-le (end - at) (drop at buffer) (omega (arith, length-drop {A = ℕ} at buffer))
 
--- the line is full, and its end isn't next
-pub too-long : (line rest : List ℕ) (x : ℕ) → HasNoEnd line → length line ≡ 90000 → x ≢ 10 → IsTooLong (line ++ x ∷ rest)
-too-long line rest x none long other =
-    let n : length (line ++ x ∷ []) ≡ 90001 = omega (arith, length_push line x, long) in
-    let split : line ++ x ∷ rest ≡ (line ++ x ∷ []) ++ rest = sym (append_assoc line (x ∷ []) rest) in
-    subst IsTooLong (sym split) (record {
-      long = omega (arith, n, length-append (line ++ x ∷ []) rest);
+-- the first of the bytes that are held, as a part of the buffer
+pub held-front : (buffer : List ℕ) (at end count : ℕ) → count ≤ end - at → take ((at + count) - at) (drop at buffer) ≡ take count (take (end - at) (drop at buffer))
+held-front buffer at end count few =
+    let n : (at + count) - at ≡ count = omega arith in
+    ap (λ k. take k (drop at buffer)) n ∙ sym (take-take count (end - at) (drop at buffer) few)
+
+-- these bytes, moved to the line
+pub front-moved : (buffer line new : List ℕ) (at end count : ℕ) → count ≤ end - at → new ≡ line ++ take ((at + count) - at) (drop at buffer) →
+    new ++ take (end - (at + count)) (drop (at + count) buffer) ≡ line ++ take (end - at) (drop at buffer)
+front-moved buffer line new at end count few is =
+    let held = take (end - at) (drop at buffer) in
+    ap (λ l. l ++ take (end - (at + count)) (drop (at + count) buffer)) (is ∙ ap (λ l. line ++ l) (held-front buffer at end count few))
+    ∙ append_assoc line (take count held) (take (end - (at + count)) (drop (at + count) buffer))
+    ∙ ap (λ l. line ++ (take count held ++ l)) (sym (held-behind buffer at end count few)) ∙ ap (λ l. line ++ l) (take-append-drop count held)
+
+-- and the line isn't too long still
+pub still-short : (buffer line new : List ℕ) (at count : ℕ) → new ≡ line ++ take ((at + count) - at) (drop at buffer) → length line ≤ 90000 →
+    count ≤ 90000 - length line → length new ≤ 90000
+still-short buffer line new at count is short few =
+    omega (
+      arith,
+      ap length is,
+      length-append line (take ((at + count) - at) (drop at buffer)),
+      length-take {A = ℕ} ((at + count) - at) (drop at buffer),
+      short,
+      few,
+    )
+
+-- and the line has no end still
+pub still-open : (buffer line new : List ℕ) (at end count : ℕ) → count ≤ end - at → new ≡ line ++ take ((at + count) - at) (drop at buffer) → HasNoEnd line →
+    HasNoEnd (take count (take (end - at) (drop at buffer))) → HasNoEnd new
+still-open buffer line new at end count few is none lasting =
+    subst HasNoEnd (sym (is ∙ ap (λ l. line ++ l) (held-front buffer at end count few)))
+    (All-append (λ b. b ≢ 10) line (take count (take (end - at) (drop at buffer))) none lasting)
+
+-- what is held behind the bytes of a line: its end, or nothing
+pub held-whole : (whole : Bool) (buffer : List ℕ) (at end count : ℕ) → end ≤ length buffer → count ≤ length (take (end - at) (drop at buffer)) →
+    (count < length (take (end - at) (drop at buffer)) → get_or (take (end - at) (drop at buffer)) count 0 ≡ 10) → Decides whole (at + count < end) →
+    IsWholeIf whole (take (end - (at + count)) (drop (at + count) buffer))
+held-whole true buffer at end count fits few ends decides =
+    let low : at + count < end = decides.0 refl in
+    let held = held-length buffer at end fits in
+    held-ends buffer (at + count) end low fits
+    (sym (get_or-drop at buffer count 0) ∙ sym (get_or-take (end - at) (drop at buffer) count 0 (omega arith)) ∙ ends (omega (arith, held)))
+held-whole false buffer at end count fits few ends decides = elim (cases_lt (at + count) end) [
+  | inl low ↦ let yes = decides.1 low in absurd (cc)
+  | inr high ↦ none-held_between buffer (at + count) end high
+]
+
+-- the line with the bytes of it that are held is too long
+pub too-long : (line held : List ℕ) (count : ℕ) → HasNoEnd line → HasNoEnd (take count held) → count ≤ length held → 90000 < length line + count →
+    IsTooLong (line ++ held)
+too-long line held count none lasting few long =
+    let front = line ++ take count held in
+    let n : length front ≡ length line + count = length-append line (take count held) ∙ ap (λ k. length line + k) (length-take-le count held few) in
+    let split : line ++ held ≡ front ++ drop count held =
+    ap (λ l. line ++ l) (sym (take-append-drop count held)) ∙ sym (append_assoc line (take count held) (drop count held)) in
+    record {
+      long = omega (arith, ap length split, n, length-append front (drop count held), long);
       no_end =
-          subst HasNoEnd
-          (sym
-          (ap (λ k. take k ((line ++ x ∷ []) ++ rest)) (sym n) ∙ take-append-le (length (line ++ x ∷ [])) (line ++ x ∷ []) rest
-          (omega arith) ∙ take_all (length (line ++ x ∷ [])) (line ++ x ∷ []) (omega arith)))
-          (more-open line x none other);
-    })
+          subst HasNoEnd (sym (ap (take 90001) split ∙ take-append-le 90001 front (drop count held) (omega (arith, n, long))))
+          (All-take (λ b. b ≢ 10) 90001 front (All-append (λ b. b ≢ 10) line (take count held) none lasting));
+    }

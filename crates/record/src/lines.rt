@@ -1,11 +1,13 @@
-ghost use Rattle.std.specs.Prelude.{◌≡◌, ◌≤◌, ◌<◌, ◌+◌, ◌^◌, ◌∷◌, [], length, IfOk, IfErr, OnOk, OnErr};
+ghost use Rattle.std.specs.Prelude.{◌≡◌, ◌≤◌, ◌<◌, ◌+◌, ◌-◌, ◌^◌, ◌∷◌, ◌++◌, [], drop, get_or, length, take, IfOk, IfErr, OnOk, OnErr};
 ghost use Rattle.std.specs.Io.KnownBytes.{Consumes, IsAtEnd};
+ghost use Rattle.std.specs.Vec.{vec_capacity};
 ghost use Rattle.base.specs.Ends.{Marks};
 ghost use Rattle.record.specs.Refused.{HasNoEnd, IsTooLong};
 ghost use Rattle.record.specs.inner.Reading.{Gathered, AreSomeIf, BeginsWithEnd, IsTakenOff, IsWholeIf, pending};
 
 use crate::fault::ReadKind;
 use base::{Failed, NoMemory, Source};
+use memchr::memchr;
 use std::alloc::Global;
 use std::marker::Model;
 
@@ -86,18 +88,24 @@ impl Lines {
         ensures open { HasNoEnd self.new.line }
         ensures short { length self.new.line ≤ 90000 }
     {
-        while self.at < self.end {
-            let byte = self.buffer[self.at];
-            if byte == b'\n' {
-                return Ok(true);
-            }
-            if self.line.len() >= MOST_BYTES {
-                return Err(ReadKind::OverLimit);
-            }
-            self.line.push_reserved(byte);
-            self.at += 1;
+        let count = self.bytes_of_line();
+        if count > MOST_BYTES - self.line.len() {
+            return Err(ReadKind::OverLimit);
         }
-        Ok(false)
+        let from = self.at;
+        self.at += count;
+        append(&mut self.line, &mut self.buffer, from, self.at);
+        Ok(self.at < self.end)
+    }
+
+    /// How many of the bytes ahead stand in front of the first end of a line.
+    fn bytes_of_line(&self) -> usize
+        ensures within { result ≤ length self.now.ahead }
+        ensures open { HasNoEnd (take result self.now.ahead) }
+        ensures end { result < length self.now.ahead → get_or self.now.ahead result 0 ≡ 10 }
+    {
+        let ahead = &self.buffer[self.at..self.end];
+        memchr(b'\n', ahead).unwrap_or(ahead.len())
     }
 
     /// Pulls the next bytes, where none are ahead, and answers whether there were any.
@@ -128,4 +136,15 @@ impl Lines {
         self.at += 1;
         self.number += 1;
     }
+}
+
+/// Adds a part of a buffer to a line that has room for it. The buffer is lent as `&mut` because its owner is.
+fn append(line: &mut Vec<u8>, buffer: &mut [u8; MOST_PULLED], from: usize, to: usize)
+    requires part { (from ≤ to) × (to ≤ 4096) }
+    requires room { length line.old.items + (to - from) ≤ vec_capacity line.old }
+    ensures line { line.new.items ≡ line.old.items ++ take (to - from) (drop from buffer.old) }
+    ensures room { vec_capacity line.old ≤ vec_capacity line.new }
+    ensures buffer { buffer.new ≡ buffer.old }
+{
+    line.extend_from_slice(&buffer[from..to]).unwrap();
 }
