@@ -169,10 +169,11 @@ fn entry_due(line: &[u8]) -> Result<Entry, ReadKind>
     ensures ok { IfOk result (λ entry. words line.now ≡ entry_words entry) }
     ensures err { IfErr result (λ kind. (left : ℕ) → IsFaultOfLine (due.EntryLine left) (words line.now) kind) }
 {
-    if is_end(line) {
-        return Err(ReadKind::CountDiffers);
+    match entry_of(line) {
+        Ok(entry) => Ok(entry),
+        Err(_) if is_end(line) => Err(ReadKind::CountDiffers),
+        Err(kind) => Err(kind),
     }
-    entry_of(line)
 }
 
 /// Whether this is the last line.

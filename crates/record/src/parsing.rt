@@ -9,7 +9,7 @@ ghost use Rattle.base.specs.Spelling.{words, step_words, FitsStep};
 ghost use Rattle.record.specs.Text.{header_words, shape_words, opening_words, end_words, entry_words};
 ghost use Rattle.record.specs.Grammar.{FitsEntry};
 ghost use Rattle.record.specs.Refused.{IsNumber};
-ghost use Rattle.record.specs.inner.Reading.{IsBadCount, IsBadShape, IsBadOpening, IsBadEntry, HasNoStep, HasNoStepBefore};
+ghost use Rattle.record.specs.inner.Reading.{IsBadCount, IsBadShape, IsBadOpening, IsBadEntry, HasNoStep};
 
 use crate::fault::ReadKind;
 use crate::recording::Entry;
@@ -187,26 +187,9 @@ fn step_at_front(line: &[u8]) -> Option<(Step, &[u8])>
     ensures fits { IfSome result (λ found. FitsStep found.0) }
     ensures step { MatchOption result (HasNoStep (words line.now)) (λ found. words line.now ≡ step_words found.0 ++ codes "=" ∷ words found.1.now) }
 {
-    for at in 0..line.len() {
-        if let Some(found) = step_before(line, at) {
-            return Some(found);
-        }
-    }
-    None
-}
-
-/// The step in front of an equals sign whose first blank stands here, and what follows its second.
-fn step_before(line: &[u8], at: usize) -> Option<(Step, &[u8])>
-    requires { at < length line.now }
-    ensures fits { IfSome result (λ found. FitsStep found.0) }
-    ensures step { MatchOption result (HasNoStepBefore line.now at) (λ found. words line.now ≡ step_words found.0 ++ codes "=" ∷ words found.1.now) }
-{
-    if line.len() - at < 3 {
+    let (step, rest) = Step::read_front(line)?;
+    if rest.len() < 2 || rest[0] != b'=' || rest[1] != b' ' {
         return None;
     }
-    if line[at] != b' ' || line[at + 1] != b'=' || line[at + 2] != b' ' {
-        return None;
-    }
-    let step = Step::read(&line[..at])?;
-    Some((step, &line[at + 3..]))
+    Some((step, &rest[2..]))
 }

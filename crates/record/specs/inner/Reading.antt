@@ -3,7 +3,7 @@ use Rattle.std.specs.Prelude.{Bool, true, false, ◌≡◌, ◌≢◌, ℕ, ◌+
 use Rattle.std.specs.Io.KnownBytes.{prepend_known}
 use Rattle.std.specs.Fmt.{decimal}
 use Rattle.base.specs.Extent.{Extent, IsWithinLimits}
-use Rattle.base.specs.Spelling.{words, step_words, FitsStep}
+use Rattle.base.specs.Spelling.{step_words, FitsStep}
 use Rattle.base.specs.declared.step.Step.{Step}
 use Rattle.record.specs.declared.cells.Cell.{Cell}
 use Rattle.record.specs.Cells.{cell_words, FitsCell}
@@ -84,7 +84,3 @@ abbrev pub IsBadEntry : List (List ℕ) → ReadKind → Type 0
 IsBadEntry line BadOutcome = HasNoOutcome line
 IsBadEntry line BadLine = HasNoStep line
 IsBadEntry line other = ⊥
-
--- no step and no equals sign stand in a line so that the sign's first blank is here
-abbrev pub HasNoStepBefore : List ℕ → ℕ → Type 0
-HasNoStepBefore line at = (left right : List ℕ) (s : Step) → FitsStep s → length left ≡ at → line ≡ left ++ codes " = " ++ right → words left ≢ step_words s
