@@ -17,9 +17,10 @@ pub(crate) fn entry_line(entry: Entry) -> Text
     ensures short { length result ≤ 192 }
     ensures fits { FitsEntry entry }
 {
-    let mut text = entry.step.text();
+    let mut text = Text::new();
+    text.push_step(entry.step);
     text.push(b" = ");
-    text.push(entry.outcome.text().as_slice());
+    text.push_outcome(entry.outcome);
     text.push(b"\n");
     text
 }
