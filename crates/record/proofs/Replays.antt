@@ -36,28 +36,28 @@ get-map f (x ∷ xs) zero d low = refl
 get-map f (x ∷ xs) (suc k) d low = get-map f xs k d (omega (arith, low))
 
 -- the outcome that a step has behind those so far
-found-here : (r : Kept) (done : List Entry) (world new : View) (watch : List ℕ) (entries : List Entry) (violation : Option (ℕ × Violation))
+found-here : (r : Kept) (done : List Entry) (world new : View) (watch : List ℕ) (violation : Option (ℕ × Violation))
     (step : Step) (what : Outcome) →
-    IsSoFar r done world watch entries violation → next world.tables world.state step ≡ stepped new.state what →
+    IsSoFar r done world watch violation → next world.tables world.state step ≡ stepped new.state what →
     next r.tables (state_after r.tables (opened r.shape r.opening) (steps_in done)) step ≡ stepped new.state what
-found-here r done world new watch entries violation step what h made =
+found-here r done world new watch violation step what h made =
     ap (λ (t : Tables). next t (state_after r.tables (opened r.shape r.opening) (steps_in done)) step) (sym h.tables)
     ∙ ap (λ (s : State). next world.tables s step) (sym h.state) ∙ made
 
 -- the first entry that differs
-pub differs-here : (r : Kept) (k : ℕ) (d : Entry) (world new : View) (watch : List ℕ) (entries : List Entry) (violation : Option (ℕ × Violation))
+pub differs-here : (r : Kept) (k : ℕ) (d : Entry) (world new : View) (watch : List ℕ) (violation : Option (ℕ × Violation))
     (what : Outcome) →
-    k < length r.entries → IsSoFar r (take k r.entries) world watch entries violation →
+    k < length r.entries → IsSoFar r (take k r.entries) world watch violation →
     next world.tables world.state (get_or r.entries k d).step ≡ stepped new.state what → what ≢ (get_or r.entries k d).outcome →
     IsFirstToDiffer r k (get_or r.entries k d).outcome what
-differs-here r k d world new watch entries violation what low h made other =
+differs-here r k d world new watch violation what low h made other =
     let s : State = opened r.shape r.opening in
     let front : take k (steps_of r) ≡ steps_in (take k r.entries) = take-map (λ (e : Entry). e.step) k r.entries in
     record {
       is_told = get-map (λ (e : Entry). e.outcome) r.entries k d low;
       is_found = outcome-at r.tables s (steps_of r) k (get_or r.entries k d).step (get-map (λ (e : Entry). e.step) r.entries k d low)
           ∙ ap (λ (steps : List Step). Some (next r.tables (state_after r.tables s steps) (get_or r.entries k d).step).outcome) front
-          ∙ ap (λ (n : Next). Some n.outcome) (found-here r (take k r.entries) world new watch entries violation (get_or r.entries k d).step what h made);
+          ∙ ap (λ (n : Next). Some n.outcome) (found-here r (take k r.entries) world new watch violation (get_or r.entries k d).step what h made);
       differs = λ same. other (sym same);
       first =
           take-map (λ (e : Entry). e.outcome) k r.entries ∙ h.legal ∙ ap (outcomes_of r.tables s) (sym front) ∙ sym (outcomes-take r.tables s (steps_of r) k);
@@ -74,16 +74,16 @@ outcomes-push tables s [] step = refl
 outcomes-push tables s (x ∷ xs) step = ap (λ os. (next tables s x).outcome ∷ os) (outcomes-push tables (next tables s x).state xs step)
 
 -- one entry more, whose outcome is as told
-pub push-so-far : (r : Kept) (done : List Entry) (e : Entry) (world new : View) (old_watch watch : List ℕ) (entries : List Entry)
+pub push-so-far : (r : Kept) (done : List Entry) (e : Entry) (world new : View) (old_watch watch : List ℕ)
     (violation : Option (ℕ × Violation)) (seen : Option Violation) (what : Outcome) (n : ℕ) →
-    n ≡ length done → IsSoFar r done world old_watch entries violation → next world.tables world.state e.step ≡ stepped new.state what →
+    n ≡ length done → IsSoFar r done world old_watch violation → next world.tables world.state e.step ≡ stepped new.state what →
     new.shape ≡ world.shape → new.tables ≡ world.tables → what ≡ e.outcome →
     AnswersHistory new old_watch e.step what seen → SeesNext new old_watch e.step what watch →
-    IsSoFar r (done ++ e ∷ []) new watch (entries ++ record { step = e.step; outcome = what } ∷ []) (first_seen violation n seen)
-push-so-far r done e world new old_watch watch entries violation seen what n is h made shape tables told answers sees =
+    IsSoFar r (done ++ e ∷ []) new watch (first_seen violation n seen)
+push-so-far r done e world new old_watch watch violation seen what n is h made shape tables told answers sees =
     let s : State = opened r.shape r.opening in
     let steps : steps_in (done ++ e ∷ []) ≡ steps_in done ++ e.step ∷ [] = map_push (λ (e : Entry). e.step) done e in
-    let here = found-here r done world new old_watch entries violation e.step what h made in
+    let here = found-here r done world new old_watch violation e.step what h made in
     let new_shape : new.shape ≡ r.shape = shape ∙ h.shape in
     let new_tables : new.tables ≡ r.tables = tables ∙ h.tables in
     let has_seen : HasSeen new r.opening (steps_in done) old_watch =
@@ -101,9 +101,6 @@ push-so-far r done e world new old_watch watch entries violation seen what n is 
       tables = new_tables;
       state = ap (λ (n : Next). n.state) (sym here) ∙ sym (state-push r.tables s (steps_in done) e.step) ∙ ap (state_after r.tables s) (sym steps);
       seen = subst (λ (l : List Step). HasSeen new r.opening l watch) (sym steps) (sees r.opening (steps_in done) has_seen leads);
-      same =
-          ap (λ l. l ++ record { step = e.step; outcome = what } ∷ []) h.same
-          ∙ ap (λ o. let x : Entry = record { step = e.step; outcome = o } in done ++ x ∷ []) told;
       legal =
           map_push (λ (e : Entry). e.outcome) done e ∙ ap (λ os. os ++ e.outcome ∷ []) h.legal
           ∙ ap (λ o. outcomes_of r.tables s (steps_in done) ++ o ∷ []) (sym told ∙ ap (λ (n : Next). n.outcome) (sym here))
@@ -112,52 +109,49 @@ push-so-far r done e world new old_watch watch entries violation seen what n is 
           (first-push r.shape r.tables r.opening (steps_in done) e.step n violation seen (is ∙ sym (length-map done (λ (e : Entry). e.step))) h.first scene);
     }
 
-pub one-more : (r : Kept) (k : ℕ) (d : Entry) (world new : View) (old_watch watch : List ℕ) (entries : List Entry)
+pub one-more : (r : Kept) (k : ℕ) (d : Entry) (world new : View) (old_watch watch : List ℕ)
     (violation : Option (ℕ × Violation)) (seen : Option Violation) (what : Outcome) →
-    k < length r.entries → IsSoFar r (take k r.entries) world old_watch entries violation → next world.tables world.state
+    k < length r.entries → IsSoFar r (take k r.entries) world old_watch violation → next world.tables world.state
     (get_or r.entries k d).step ≡ stepped new.state what → new.shape ≡ world.shape → new.tables ≡ world.tables → what ≡
     (get_or r.entries k d).outcome →
     AnswersHistory new old_watch (get_or r.entries k d).step what seen → SeesNext new old_watch (get_or r.entries k d).step what watch →
-    IsSoFar r (take (k + 1) r.entries) new watch (entries ++ record { step = (get_or r.entries k d).step; outcome = what } ∷ []) (first_seen violation k seen)
-one-more r k d world new old_watch watch entries violation seen what low h made shape tables told answers sees =
+    IsSoFar r (take (k + 1) r.entries) new watch (first_seen violation k seen)
+one-more r k d world new old_watch watch violation seen what low h made shape tables told answers sees =
     subst
-    (λ (done : List Entry). IsSoFar r done new watch (entries ++ record { step = (get_or r.entries k d).step; outcome = what } ∷ [])
-    (first_seen violation k seen))
+    (λ (done : List Entry). IsSoFar r done new watch (first_seen violation k seen))
     (sym (take_more r.entries k d low))
-    (push-so-far r (take k r.entries) (get_or r.entries k d) world new old_watch watch entries violation seen what k
+    (push-so-far r (take k r.entries) (get_or r.entries k d) world new old_watch watch violation seen what k
     (sym (length-take-le k r.entries (omega (arith, low)))) h made shape tables told answers sees)
 
 -- the same, of equal entries
 pub differs-told : (r : Kept) (told : List Entry) → told ≡ r.entries →
-    (k : ℕ) (d : Entry) (world new : View) (watch : List ℕ) (entries : List Entry) (violation : Option (ℕ × Violation)) (what : Outcome) →
-    k < length told → IsSoFar r (take k told) world watch entries violation →
+    (k : ℕ) (d : Entry) (world new : View) (watch : List ℕ) (violation : Option (ℕ × Violation)) (what : Outcome) →
+    k < length told → IsSoFar r (take k told) world watch violation →
     next world.tables world.state (get_or told k d).step ≡ stepped new.state what → what ≢ (get_or told k d).outcome →
     IsFirstToDiffer r k (get_or told k d).outcome what
 differs-told r told is =
     subst
-    (λ (told : List Entry). (k : ℕ) (d : Entry) (world new : View) (watch : List ℕ) (entries : List Entry) (violation : Option (ℕ × Violation))
-    (what : Outcome) → k < length told → IsSoFar r (take k told) world watch entries violation → next world.tables world.state
+    (λ (told : List Entry). (k : ℕ) (d : Entry) (world new : View) (watch : List ℕ) (violation : Option (ℕ × Violation))
+    (what : Outcome) → k < length told → IsSoFar r (take k told) world watch violation → next world.tables world.state
     (get_or told k d).step ≡ stepped new.state what → what ≢ (get_or told k d).outcome → IsFirstToDiffer r k (get_or told k d).outcome what)
     (sym is) (differs-here r)
 
 pub one-more-told : (r : Kept) (told : List Entry) → told ≡ r.entries →
-    (k : ℕ) (d : Entry) (world new : View) (old_watch watch : List ℕ) (entries : List Entry) (violation : Option (ℕ × Violation))
+    (k : ℕ) (d : Entry) (world new : View) (old_watch watch : List ℕ) (violation : Option (ℕ × Violation))
     (seen : Option Violation) (what : Outcome) →
-    k < length told → IsSoFar r (take k told) world old_watch entries violation → next world.tables world.state
+    k < length told → IsSoFar r (take k told) world old_watch violation → next world.tables world.state
     (get_or told k d).step ≡ stepped new.state what → new.shape ≡ world.shape → new.tables ≡ world.tables → what ≡ (get_or told k d).outcome →
     AnswersHistory new old_watch (get_or told k d).step what seen → SeesNext new old_watch (get_or told k d).step what watch →
-    IsSoFar r (take (k + 1) told) new watch (entries ++ record { step = (get_or told k d).step; outcome = what } ∷ []) (first_seen violation k seen)
+    IsSoFar r (take (k + 1) told) new watch (first_seen violation k seen)
 one-more-told r told is =
     subst
-    (λ (told : List Entry). (k : ℕ) (d : Entry) (world new : View) (old_watch watch : List ℕ) (entries : List Entry)
+    (λ (told : List Entry). (k : ℕ) (d : Entry) (world new : View) (old_watch watch : List ℕ)
     (violation : Option (ℕ × Violation)) (seen : Option Violation) (what : Outcome) →
-    k < length told → IsSoFar r (take k told) world old_watch entries violation → next world.tables world.state
+    k < length told → IsSoFar r (take k told) world old_watch violation → next world.tables world.state
     (get_or told k d).step ≡ stepped new.state what → new.shape ≡ world.shape → new.tables ≡ world.tables → what ≡ (get_or told k d).outcome →
     AnswersHistory new old_watch (get_or told k d).step what seen → SeesNext new old_watch (get_or told k d).step what watch →
-    IsSoFar r (take (k + 1) told) new watch (entries ++ record { step = (get_or told k d).step; outcome = what } ∷ [])
-    (first_seen violation k seen)) (sym is) (one-more r)
+    IsSoFar r (take (k + 1) told) new watch (first_seen violation k seen)) (sym is) (one-more r)
 
-pub same-so-far : (r : Kept) (done : List Entry) (world : View) (watch : List ℕ) (entries es : List Entry) (violation v : Option (ℕ × Violation)) →
-    es ≡ entries → v ≡ violation → IsSoFar r done world watch entries violation → IsSoFar r done world watch es v
-same-so-far r done world watch entries es violation v e f h =
-    subst (λ (x : List Entry). IsSoFar r done world watch x v) (sym e) (subst (λ (x : Option (ℕ × Violation)). IsSoFar r done world watch entries x) (sym f) h)
+pub same-so-far : (r : Kept) (done : List Entry) (world : View) (watch : List ℕ) (violation v : Option (ℕ × Violation)) →
+    v ≡ violation → IsSoFar r done world watch violation → IsSoFar r done world watch v
+same-so-far r done world watch violation v f h = subst (λ (x : Option (ℕ × Violation)). IsSoFar r done world watch x) (sym f) h

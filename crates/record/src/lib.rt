@@ -18,7 +18,7 @@ mod writing;
 
 pub use fault::{ReadFault, ReadKind};
 pub use recording::{Entry, MOST_ENTRIES, PushFault, Recording};
-pub use replaying::{ReplayFault, Replayed, replay};
+pub use replaying::{ReplayFault, Replayed, first_violation, replay};
 pub use text_laws::{
     a_text_is_of_one_recording, a_text_is_read, one_refusal_at_most, well_formed_bytes_are_a_text,
 };

@@ -1,4 +1,4 @@
-ghost use Rattle.std.specs.Prelude.{◌≡◌, ◌↔◌, [], None, IfOk, IfErr};
+ghost use Rattle.std.specs.Prelude.{◌≡◌, ◌↔◌, [], None, IfOk, IfErr, OnOk};
 ghost use Rattle.machine.specs.Coherence.{Safe};
 ghost use Rattle.machine.specs.Restraint.{Restrains};
 ghost use Rattle.record.specs.Kept.{IsLegal, steps_of};
@@ -56,6 +56,27 @@ pub fn replay(alloc: Global, recording: &Recording) -> Result<Replayed, ReplayFa
     ensures clean { Restrains recording.now.tables → IfOk result (λ replayed. replayed.violation ≡ None) }
     ensures differs { IfErr result (FaultOf recording.now) }
 {
+    let violation = first_violation(alloc, recording)?;
+    let Ok(entries) = Vec::from_slice(alloc, recording.entries()) else {
+        return Err(ReplayFault::NoMemory);
+    };
+    Ok(Replayed { entries, violation })
+}
+
+/// Makes the steps of a recording as `replay` does, and keeps none of them: answers the first violation, with the number of
+/// its step, counted from 0.
+pub fn first_violation(
+    alloc: Global,
+    recording: &Recording,
+) -> Result<Option<(u64, Violation)>, ReplayFault>
+    ensures legal { OnOk result (IsLegal recording.now) }
+    ensures violation { IfOk result (λ violation. AnswersFirst recording.now.shape recording.now.tables recording.now.opening
+        (steps_of recording.now) violation) }
+    ensures safe { IfOk result (λ violation. violation ≡ None ↔ Safe recording.now.shape recording.now.tables recording.now.opening
+        (steps_of recording.now)) }
+    ensures clean { Restrains recording.now.tables → IfOk result (λ violation. violation ≡ None) }
+    ensures differs { IfErr result (FaultOf recording.now) }
+{
     violations_are_what_isnt_safe();
     no_violation_under_restrained_tables();
     let opening = recording.opening();
@@ -68,9 +89,7 @@ pub fn replay(alloc: Global, recording: &Recording) -> Result<Replayed, ReplayFa
     let Ok(mut watch) = Watch::open(alloc, opening) else {
         return Err(ReplayFault::NoMemory);
     };
-    let mut entries = Vec::new(alloc);
-    let violation = replay_in(&mut world, &mut watch, recording, &mut entries)?;
-    Ok(Replayed { entries, violation })
+    replay_in(&mut world, &mut watch, recording)
 }
 
 /// Makes the steps of a recording in a world that was opened for it, and answers the first violation.
@@ -78,10 +97,9 @@ fn replay_in(
     world: &mut World,
     watch: &mut Watch,
     recording: &Recording,
-    entries: &mut Vec<Entry>,
 ) -> Result<Option<(u64, Violation)>, ReplayFault>
-    requires { IsSoFar recording.now [] world.old watch.old entries.old.items None }
-    ensures ok { IfOk result (λ violation. IsSoFar recording.now recording.now.entries world.new watch.new entries.new.items violation) }
+    requires { IsSoFar recording.now [] world.old watch.old None }
+    ensures ok { IfOk result (λ violation. IsSoFar recording.now recording.now.entries world.new watch.new violation) }
     ensures differs { IfErr result (FaultOf recording.now) }
 {
     let told = recording.entries();
@@ -98,13 +116,6 @@ fn replay_in(
                 told: entry.outcome,
                 found,
             });
-        }
-        let made = Entry {
-            step: entry.step,
-            outcome: found,
-        };
-        if let Err(_) = entries.push(made) {
-            return Err(ReplayFault::NoMemory);
         }
     }
     Ok(violation)

@@ -19,11 +19,10 @@ abbrev pub outcomes_in : List Entry → List Outcome
 outcomes_in entries = map (λ e. e.outcome) entries
 
 -- the entries so far have been made as they are told
-pub record IsSoFar (r : Kept) (done : List Entry) (world : View) (watch : List ℕ) (entries : List Entry) (violation : Option (ℕ × Violation)) : Type 0 where
+pub record IsSoFar (r : Kept) (done : List Entry) (world : View) (watch : List ℕ) (violation : Option (ℕ × Violation)) : Type 0 where
   pub shape : world.shape ≡ r.shape
   pub tables : world.tables ≡ r.tables
   pub state : world.state ≡ state_after r.tables (opened r.shape r.opening) (steps_in done)
   pub seen : HasSeen world r.opening (steps_in done) watch
-  pub same : entries ≡ done
   pub legal : outcomes_in done ≡ outcomes_of r.tables (opened r.shape r.opening) (steps_in done)
   pub first : AnswersFirst r.shape r.tables r.opening (steps_in done) violation

@@ -1,12 +1,17 @@
-use Rattle.std.proofs.Common.{arith}
+use Rattle.std.proofs.Common.{◌≡◌, ℕ, List, Option, None, Result, Ok, Err, arith}
+use Rattle.std.specs.Prelude.{◌↔◌, IfOk}
+use Rattle.machine.specs.Coherence.{Safe}
+use Rattle.monitor.specs.declared.violation.Violation.{Violation}
+use Rattle.monitor.specs.Violations.{AnswersFirst}
+use Rattle.world.specs.View.{View}
+use Rattle.record.specs.Kept.{Kept, steps_of}
+use Rattle.record.specs.declared.replaying.ReplayFault.{ReplayFault}
+use Rattle.record.specs.inner.SoFar.{IsSoFar}
 use Rattle.std.proofs.lemmas.Grind.{common_steps}
-use Rattle.record.proofs.replaying.replay.Goals as goal
+use Rattle.record.proofs.replaying.first_violation.Goals as goal
 
 pub returns-in_default-clause-legal : goal.returns-in_default-clause-legal
 returns-in_default-clause-legal c = grind (arith, common_steps)
-
-pub returns-in_default-clause-entries : goal.returns-in_default-clause-entries
-returns-in_default-clause-entries c = grind (arith, common_steps)
 
 pub returns-in_default-clause-violation : goal.returns-in_default-clause-violation
 returns-in_default-clause-violation c = grind (arith, common_steps)
@@ -23,9 +28,6 @@ returns-in_default-clause-differs c = grind (arith, common_steps)
 pub returns-in_default-open-clause-legal : goal.returns-in_default-open-clause-legal
 returns-in_default-open-clause-legal c = grind (arith, common_steps)
 
-pub returns-in_default-open-clause-entries : goal.returns-in_default-open-clause-entries
-returns-in_default-open-clause-entries c = grind (arith, common_steps)
-
 pub returns-in_default-open-clause-violation : goal.returns-in_default-open-clause-violation
 returns-in_default-open-clause-violation c = grind (arith, common_steps)
 
@@ -41,9 +43,6 @@ returns-in_default-open-clause-differs c = grind (arith, common_steps)
 pub returns-in_default-open-2-clause-legal : goal.returns-in_default-open-2-clause-legal
 returns-in_default-open-2-clause-legal c = grind (arith, common_steps)
 
-pub returns-in_default-open-2-clause-entries : goal.returns-in_default-open-2-clause-entries
-returns-in_default-open-2-clause-entries c = grind (arith, common_steps)
-
 pub returns-in_default-open-2-clause-violation : goal.returns-in_default-open-2-clause-violation
 returns-in_default-open-2-clause-violation c = grind (arith, common_steps)
 
@@ -56,32 +55,26 @@ returns-in_default-open-2-clause-clean c = grind (arith, common_steps)
 pub returns-in_default-open-2-clause-differs : goal.returns-in_default-open-2-clause-differs
 returns-in_default-open-2-clause-differs c = grind (arith, common_steps)
 
-pub returns-in_err-violation-clause-legal : goal.returns-in_err-violation-clause-legal
-returns-in_err-violation-clause-legal c = grind (arith, common_steps)
-
-pub returns-in_err-violation-clause-entries : goal.returns-in_err-violation-clause-entries
-returns-in_err-violation-clause-entries c = grind (arith, common_steps)
-
-pub returns-in_err-violation-clause-violation : goal.returns-in_err-violation-clause-violation
-returns-in_err-violation-clause-violation c = grind (arith, common_steps)
-
-pub returns-in_err-violation-clause-safe : goal.returns-in_err-violation-clause-safe
-returns-in_err-violation-clause-safe c = grind (arith, common_steps)
-
-pub returns-in_err-violation-clause-clean : goal.returns-in_err-violation-clause-clean
-returns-in_err-violation-clause-clean c = grind (arith, common_steps)
-
-pub returns-in_err-violation-clause-differs : goal.returns-in_err-violation-clause-differs
-returns-in_err-violation-clause-differs c = grind (arith, common_steps)
-
 pub returns-clause-legal : goal.returns-clause-legal
 returns-clause-legal c = grind (arith, common_steps)
-
-pub returns-clause-entries : goal.returns-clause-entries
-returns-clause-entries c = grind (arith, common_steps)
 
 pub returns-clause-violation : goal.returns-clause-violation
 returns-clause-violation c = grind (arith, common_steps)
 
 pub returns-clause-differs : goal.returns-clause-differs
 returns-clause-differs c = grind (arith, common_steps)
+
+-- where the first violation is known, none is the same as safety
+known : (r : Result (Option (ℕ × Violation)) ReplayFault) (told : Kept) (world : View) (watch : List ℕ) →
+    ((answer : Option (ℕ × Violation)) → AnswersFirst told.shape told.tables told.opening (steps_of told) answer →
+    answer ≡ None ↔ Safe told.shape told.tables told.opening (steps_of told)) →
+    IfOk r (λ violation. IsSoFar told told.entries world watch violation) →
+    IfOk r (λ violation. violation ≡ None ↔ Safe told.shape told.tables told.opening (steps_of told))
+known (Ok violation) told world watch none made = none violation made.first
+known (Err fault) told world watch none made = tt
+
+pub returns-clause-safe : goal.returns-clause-safe
+returns-clause-safe c =
+    let told = c.args.recording.now in
+    known c.replay_in.result told c.replay_in.new.world c.replay_in.new.watch
+    (c.violations_are_what_isnt_safe.ensures.answer told.shape told.tables told.opening (steps_of told)) c.replay_in.ensures.ok
