@@ -15,7 +15,7 @@ use Rattle.rows.specs.inner.Words.{IsWhole, below, bit, flags_of, low}
 use Rattle.rows.proofs.Words.{bit-lt, counts_bit, flag-at, flag-below, flags-length, set_is, unset}
 
 -- the next bit of a word
-low-step : (word n : ℕ) → low word (n + 1) ≡ low word n + bit_at word n
+pub low-step : (word n : ℕ) → low word (n + 1) ≡ low word n + bit_at word n
 low-step word n =
     ap (λ m. count_ones (word % 2 ^ m)) (swap n)
     ∙ ap count_ones (mod-pow-add word 1 n)
@@ -102,13 +102,6 @@ low-half word at half h =
     low-add word at half
     ∙ ap (λ b. low word at + count_ones b)
     (sym (ap (λ m. bit_and (word / 2 ^ at) (m - 1)) (one_shl half 64 h) ∙ and_mask (word / 2 ^ at) half))
-
--- the one bit that is left
-pub low-last : (word at left k : ℕ) → low word at + left ≡ k → k < low word (at + 1) → (bit_at word at ≡ 1) × (low word at ≡ k)
-low-last word at left k placed within =
-    let step = low-step word at in
-    let small : bit_at word at < 2 = bit_at-lt word at in
-    (omega arith, omega arith)
 
 -- ---- places in the row
 

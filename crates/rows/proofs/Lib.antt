@@ -3,6 +3,7 @@ pub mod Copied
 pub mod Counted
 pub mod Fronts
 pub mod Held
+pub mod Lowest
 pub mod Rising
 pub mod Tree
 pub mod Words

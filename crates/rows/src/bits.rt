@@ -178,17 +178,21 @@ fn lowest_from(word: u64, from: u32) -> Option<u32>
     Some(rest.trailing_zeros())
 }
 
-/// The k-th bit that is set, counted from 0: halves the bits that it may be among.
+/// From how many set bits before the one that is sought halving is quicker than taking them off.
+const MANY: u32 = 16;
+
+/// The k-th bit that is set, counted from 0: halves the bits that it may be among while many are before it, and takes the few
+/// that are left off one by one.
 fn find_in(word: u64, k: u32) -> u32
     requires { k < low word 64 }
     ensures within { result < 64 }
     ensures set { bit_at word result ≡ 1 }
     ensures before { low word result ≡ k }
 {
-    let mut at = 0;
-    let mut width = 64;
+    let mut at = 0u32;
+    let mut width = 64u32;
     let mut left = k;
-    while width > 1 {
+    while left >= MANY && width > 1 {
         let half = width / 2;
         let count = ((word >> at) & ((1u64 << half) - 1)).count_ones();
         if count <= left {
@@ -199,5 +203,9 @@ fn find_in(word: u64, k: u32) -> u32
             width = half;
         }
     }
-    at
+    let mut rest = word & (u64::MAX << at);
+    for _ in 0..left {
+        rest &= rest - 1;
+    }
+    rest.trailing_zeros()
 }
