@@ -13,6 +13,7 @@ pub mod Growing
 pub mod Items
 pub mod Leading
 pub mod Lengths
+pub mod Passing
 pub mod Places
 pub mod Reached
 pub mod Refusing

@@ -11,5 +11,6 @@ pub mod Says
 pub mod Shown
 pub mod Taking
 pub mod Tree
+pub mod Turns
 pub mod Walk
 pub mod Words

@@ -1,6 +1,6 @@
 -- For private clauses: where an offer is found, the parts that a cursor has, and how far it comes by an offer.
 use Rattle.std.specs.Prelude.{◌≡◌, ◌≤◌, ◌<◌, ◌+◌, ℕ, zero, suc, List, [], ◌∷◌, length, take, map}
-use Rattle.std.specs.Prelude.{Bool, true, false, ◌&&◌, Option, Some, IfSome, slice_get, slice_set, Result, Ok, Err}
+use Rattle.std.specs.Prelude.{Option, Some, IfSome, slice_get, slice_set, Result, Ok, Err}
 use Rattle.std.specs.Prelude as std
 use Rattle.base.specs.declared.step.CoreAsk.{CoreAsk}
 use Rattle.scenario.specs.Tree.{Tree, Trees, plain, plain_all, trees_of}
@@ -109,24 +109,3 @@ Grows (p ∷ ps) (q ∷ qs) = (q ≡ p) × Grows ps qs
 -- the first parts are these trees, all of each, but for the part of this number, which stays as it was
 abbrev pub IsWholeBut : ℕ → List Tree → List Progress → List Progress → Type 0
 IsWholeBut k ts old new = IfSome (slice_get old k) (λ p. take (length ts) new ≡ slice_set (map Whole ts) k p)
-
--- a tree is one ask
-abbrev pub is_ask : Tree → Bool
-is_ask (tree.One ask) = true
-is_ask (tree.Seq ts) = false
-is_ask (tree.Any ts) = false
-is_ask (tree.Times n t) = false
-is_ask (tree.Both ts) = false
-
--- all of these are
-abbrev pub all_asks : Trees → Bool
-all_asks tree.Nil = true
-all_asks (tree.Cons t ts) = is_ask t && all_asks ts
-
--- a tree is one ask, or a choice of asks
-abbrev pub is_choice : Tree → Bool
-is_choice (tree.One ask) = true
-is_choice (tree.Seq ts) = false
-is_choice (tree.Any ts) = all_asks ts
-is_choice (tree.Times n t) = false
-is_choice (tree.Both ts) = false

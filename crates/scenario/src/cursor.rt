@@ -1,6 +1,9 @@
 //! What is left of a scenario that is borrowed.
 
-use crate::part::{Part, Place, part_repeats, take_from};
+ghost use Rattle.std.specs.Prelude.{◌≡◌, true};
+ghost use Rattle.scenario.specs.Turns.{chooses};
+
+use crate::part::{Part, Place, part_chooses, part_repeats, pass_at_once, take_from};
 use crate::seeking::find_offer;
 use crate::tree::Scenario;
 use base::{CoreAsk, NoMemory};
@@ -13,10 +16,13 @@ use std::alloc::Allocator;
 #[derive(Drop)]
 pub struct Cursor<'t, A: Allocator, B: Allocator> {
     pub(crate) root: Part<'t, A, B>,
+    // Whether it is known to be in turns of a choice of asks, so that its children need not be looked at.
+    in_turns: bool,
+    ghost known: { in_turns ≡ true → chooses root ≡ true },
 }
 
 impl<'t, A: Allocator, B: Allocator> Cursor<'t, A, B> {
-    ghost use Rattle.std.specs.Prelude.{◌≡◌, ◌≤◌};
+    ghost use Rattle.std.specs.Prelude.{◌≤◌};
     ghost use Rattle.scenario.specs.Cursors.{most_nodes, nodes, remaining, standing};
     ghost use Rattle.scenario.specs.Tree.{plain};
 
@@ -27,12 +33,12 @@ impl<'t, A: Allocator, B: Allocator> Cursor<'t, A, B> {
     {
         Cursor {
             root: Part::Fresh(Place::Whole(tree)),
+            in_turns: false,
         }
     }
 }
 
 impl<'t, A: Allocator, B: Allocator> Cursor<'t, A, B> {
-    ghost use Rattle.std.specs.Prelude.{◌≡◌, true};
     ghost use Rattle.scenario.specs.Cursors.{remaining};
     ghost use Rattle.scenario.specs.Repeats.{Repeats};
     ghost use Rattle.scenario.specs.Tree.{plain};
@@ -41,19 +47,20 @@ impl<'t, A: Allocator, B: Allocator> Cursor<'t, A, B> {
     pub fn repeats(&self) -> bool
         ensures { result ≡ true → Repeats (remaining self.now) }
     {
-        part_repeats(&self.root)
+        part_repeats(&self.root, self.in_turns)
     }
 
     /// All of this tree is left from now on, whatever was. The parts that the cursor has are used again.
     pub fn restart(&mut self, tree: &'t Scenario<A>)
         ensures { remaining self.new ≡ plain tree.entry.now }
     {
+        self.in_turns = false;
         self.root.move_to(Place::Whole(tree));
     }
 }
 
 impl<'t, A: Allocator, B: Allocator + Clone> Cursor<'t, A, B> {
-    ghost use Rattle.std.specs.Prelude.{◌≡◌, ◌<◌, ◌≤◌, IfOk, OnErr, OnOk, length};
+    ghost use Rattle.std.specs.Prelude.{◌<◌, ◌≤◌, IfOk, OnErr, OnOk, length};
     ghost use Rattle.scenario.specs.Alike.{Alike, Takes};
     ghost use Rattle.scenario.specs.Cursors.{most_nodes, remaining, standing};
     ghost use Rattle.scenario.specs.Taking.{left, offers};
@@ -83,7 +90,13 @@ impl<'t, A: Allocator, B: Allocator + Clone> Cursor<'t, A, B> {
         ensures err { OnErr result (remaining self.new ≡ remaining self.old) }
         ensures nodes { most_nodes (standing self.new) ≤ most_nodes (standing self.old) }
     {
+        if pass_at_once(&mut self.root, self.in_turns, at) {
+            return Ok(());
+        }
+        let begins = matches!(self.root.place(), Place::Whole(_));
+        self.in_turns = false;
         take_from(&mut self.root, &alloc, at)?;
+        self.in_turns = begins && part_chooses(&self.root);
         Ok(())
     }
 }

@@ -1,13 +1,15 @@
 //! The parts of a cursor: how far it is in each of the trees that it has begun.
 
 mod looking;
+mod passing;
 mod repeating;
 mod starting;
 mod taking;
 
 use crate::tree::Scenario;
 pub(crate) use looking::part_may_end;
-pub(crate) use repeating::part_repeats;
+pub(crate) use passing::pass_at_once;
+pub(crate) use repeating::{part_chooses, part_repeats};
 use std::alloc::{AllocError, Allocator};
 pub(crate) use taking::take_from;
 
@@ -62,7 +64,7 @@ impl<'t, A: Allocator, B: Allocator> Part<'t, A, B> {
     }
 
     #[tactic(auto, using(crate::proofs::Cursors::parts))]
-    fn place(&self) -> Place<'t, A>
+    pub(crate) fn place(&self) -> Place<'t, A>
         ensures { result ≡ place_of self.now }
     {
         match self {

@@ -2,28 +2,42 @@
 
 ghost use Rattle.std.specs.Prelude.{◌≡◌, ◌<◌, true};
 ghost use Rattle.scenario.specs.Cursors.{Nothing, first_part, progress};
-ghost use Rattle.scenario.specs.Parts.{all_asks, is_ask, is_choice, part_left, parts_of};
+ghost use Rattle.scenario.specs.Parts.{part_left, parts_of};
 ghost use Rattle.scenario.specs.Repeats.{Repeats};
 ghost use Rattle.scenario.specs.Tree.{plain, plain_all};
+ghost use Rattle.scenario.specs.Turns.{all_asks, chooses, is_ask, is_choice};
 
 use super::{Part, Place};
 use crate::tree::Scenario;
 use std::alloc::Allocator;
 
-/// Whether the same is offered again, whichever offer is taken. `false` promises nothing.
+/// Whether the same is offered again, whichever offer is taken. `false` promises nothing. It may be known already that the part
+/// is in turns of a choice of asks.
 #[tactic(auto, using(crate::proofs::Cursors::parts))]
-pub(crate) fn part_repeats<A: Allocator, B: Allocator>(part: &Part<'_, A, B>) -> bool
+pub(crate) fn part_repeats<A: Allocator, B: Allocator>(part: &Part<'_, A, B>, known: bool) -> bool
+    requires { known ≡ true → chooses part.now ≡ true }
     ensures { result ≡ true → Repeats (part_left part.now) }
 {
     match part.place() {
         Place::Whole(tree) => tree_repeats(tree),
-        Place::InTimes(turns, child) => repeats_turns(turns, child) && first_is_over(part),
+        Place::InTimes(turns, child) => repeats_turns(turns, child, known) && first_is_over(part),
         Place::Nothing | Place::InSeq(_) | Place::InBoth(_) => false,
     }
 }
 
+/// Whether a part is in turns of a choice of asks.
+#[tactic(auto, using(crate::proofs::Cursors::parts))]
+pub(crate) fn part_chooses<A: Allocator, B: Allocator>(part: &Part<'_, A, B>) -> bool
+    ensures { result ≡ chooses part.now }
+{
+    match part.place() {
+        Place::InTimes(_, child) => is_choice(child),
+        Place::Nothing | Place::Whole(_) | Place::InSeq(_) | Place::InBoth(_) => false,
+    }
+}
+
 /// Whether nothing is left of the first part.
-fn first_is_over<A: Allocator, B: Allocator>(part: &Part<'_, A, B>) -> bool
+pub(super) fn first_is_over<A: Allocator, B: Allocator>(part: &Part<'_, A, B>) -> bool
     ensures { result ≡ true → first_part (parts_of part.now) ≡ Nothing }
 {
     match part.parts().first() {
@@ -48,17 +62,18 @@ fn tree_repeats<A: Allocator>(tree: &Scenario<A>) -> bool
     ensures { result ≡ true → Repeats (plain tree.now) }
 {
     match tree {
-        Scenario::Times(turns, child) => repeats_turns(*turns, child),
+        Scenario::Times(turns, child) => repeats_turns(*turns, child, false),
         _ => false,
     }
 }
 
-/// Whether so many turns of a tree offer the same again, as it is a choice of asks.
-fn repeats_turns<A: Allocator>(turns: u32, child: &Scenario<A>) -> bool
+/// Whether so many turns of a tree offer the same again, as it is a choice of asks. That may be known already.
+fn repeats_turns<A: Allocator>(turns: u32, child: &Scenario<A>, known: bool) -> bool
+    requires { known ≡ true → is_choice (plain child.now) ≡ true }
     ensures turns { result ≡ true → 1 < turns }
     ensures choice { result ≡ true → is_choice (plain child.now) ≡ true }
 {
-    turns > 1 && is_choice(child)
+    turns > 1 && (known || is_choice(child))
 }
 
 /// Whether a tree is one ask, or a choice of asks.
@@ -86,7 +101,7 @@ fn are_asks<A: Allocator>(children: &[Scenario<A>]) -> bool
 }
 
 /// Whether a tree is one ask.
-fn is_ask<A: Allocator>(tree: &Scenario<A>) -> bool
+pub(super) fn is_ask<A: Allocator>(tree: &Scenario<A>) -> bool
     ensures { result ≡ is_ask (plain tree.now) }
 {
     match tree {
