@@ -116,6 +116,9 @@ impl Sums {
         let mut node = (1usize << self.levels) + at;
         let before = self.tree[node];
         let after = value as u64;
+        if before == after {
+            return;
+        }
         self.tree[node] = after;
         while node > 1 {
             node /= 2;
