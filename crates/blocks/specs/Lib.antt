@@ -1,3 +1,4 @@
+pub mod Asking
 pub mod Kept
 pub mod Marking
 pub mod Messages

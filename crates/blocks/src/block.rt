@@ -1,5 +1,6 @@
 mod access;
 mod acting;
+mod asking;
 mod deciding;
 mod looking;
 mod passing;
@@ -7,6 +8,7 @@ mod testing;
 
 use access::Access;
 pub use acting::{Made, Visit};
+pub use asking::{HeldAsks, held_asks_opened};
 use base::{CacheId, NoMemory};
 use control::{Home, Line};
 pub use deciding::{decide_opened, opened_line};

@@ -4,6 +4,6 @@
 mod block;
 
 pub use block::{
-    Block, Made, Tested, Visit, decide_opened, foreseen, is_held_opened, is_stall, opened_line,
-    responses_pass,
+    Block, HeldAsks, Made, Tested, Visit, decide_opened, foreseen, held_asks_opened,
+    is_held_opened, is_stall, opened_line, responses_pass,
 };

@@ -1,20 +1,25 @@
 -- Marks beside asks, and what can be put by them.
-use Rattle.std.proofs.Common.{◌≡◌, ◌≢◌, ℕ, zero, suc, ◌+◌, ◌-◌, ◌<◌, ◌≤◌, Bool, true, false, ◌&&◌, if◌then◌else◌, cond, List, [], ◌∷◌, ◌++◌, length, map}
+use Rattle.std.proofs.Common.{◌≡◌, ◌≢◌, ◌==◌, ℕ, zero, suc, ◌+◌, ◌-◌, ◌<◌, ◌≤◌, not, Bool, true, false, ◌&&◌, if◌then◌else◌, cond, List, [], ◌∷◌, ◌++◌, length, map}
 use Rattle.std.proofs.Common.{take, drop, set, get_or, slice_get, Option, Some, None, IfSome, inl, inr, refl, sym, ap, ◌∙◌, subst, arith, add-one, append_assoc}
 use Rattle.std.proofs.lemmas.List.{take_more, take_more_set, drop-set-lt}
 use Rattle.std.proofs.lemmas.Bool.{cases_lt}
+use Rattle.std.proofs.lemmas.Bool.Decides.{nat_tests}
 use Rattle.std.proofs.lemmas.List.Sums.{sum_by-cons}
 use Rattle.std.proofs.Math.Seq.{drop-cons}
 use Rattle.base.specs.declared.ids.BlockId.{BlockId}
 use Rattle.base.specs.declared.ids.CacheId.{CacheId}
 use Rattle.base.specs.declared.step.CoreAsk.{CoreAsk}
+use Rattle.base.specs.declared.step.Step.TheVariants as step
+use Rattle.blocks.specs.Asking.{holds}
+use Rattle.blocks.specs.declared.block.asking.HeldAsks.{HeldAsks}
 use Rattle.rows.specs.Flags.{set_count, IsKth}
 use Rattle.both_tables.specs.Tables.{Tables}
 use Rattle.machine.specs.Machine.{State}
+use Rattle.world.specs.Looks.{held_at}
 use Rattle.cores.specs.Cores.{Core, is_free}
 use Rattle.schedule.specs.Choices.{can_be_put, offers_from}
 use Rattle.schedule.specs.Listed.{is_unheld}
-use Rattle.schedule.specs.inner.Marks.{is_at, marks_at, offers_by}
+use Rattle.schedule.specs.inner.Marks.{AreHeldAt, is_at, marks_at, offers_by}
 use Rattle.schedule.specs.inner.Owned.{AreKept, AreOf}
 use Rattle.schedule.specs.declared.choosing.Choice.{Choice}
 use Rattle.schedule.specs.declared.choosing.Choice.TheVariants.{Offer}
@@ -73,6 +78,32 @@ marks-here tables s core block n asks marks all d low long here before =
     ∙ append_assoc (take n marks) (mark ∷ []) later
     ∙ ap (λ t. take n marks ++ ((if t then mark else get_or marks n false) ∷ later)) (sym here)
     ∙ ap (λ b. take n marks ++ b) (sym step) ∙ before
+
+-- an ask that is there is held where it is one of those that are
+pub held-here : (tables : Tables) (s : State) (core : CacheId) (block : BlockId) (held : HeldAsks) (ask : CoreAsk) → AreHeldAt tables s core block held →
+    is_at core block ask ≡ true → not (holds held ask.ask) ≡ is_unheld tables s ask
+held-here tables s core block held ask all here =
+    ap not (all ask.ask)
+    ∙ ap (λ (c : CacheId). not (held_at tables s (step.Ask c block ask.ask))) (sym (same-core ask.core core (is-here ask.core.0 core.0 ask.block.0 block.0 here).0))
+    ∙ ap (λ (b : BlockId). not (held_at tables s (step.Ask ask.core b ask.ask))) (sym (same-block ask.block block (is-here ask.core.0 core.0 ask.block.0 block.0 here).1))
+  where
+    is-here : (a b c d : ℕ) → ((a == b) && (c == d)) ≡ true → (a ≡ b) × (c ≡ d)
+    is-here a b c d e = grind (arith, nat_tests)
+
+    same-core : (a b : CacheId) → a.0 ≡ b.0 → a ≡ b
+    same-core a b e = λ i. record { 0 = e i }
+
+    same-block : (a b : BlockId) → a.0 ≡ b.0 → a ≡ b
+    same-block a b e = λ i. record { 0 = e i }
+
+-- so marks are made anew by what is held
+pub marks-held : (tables : Tables) (s : State) (core : CacheId) (block : BlockId) (n : ℕ) (asks : List CoreAsk) (marks all : List Bool) (d : CoreAsk)
+    (held : HeldAsks) (is : Bool) → n < length asks → length marks ≡ length asks → AreHeldAt tables s core block held →
+    is ≡ holds held (get_or asks n d).ask → is_at core block (get_or asks n d) ≡ true →
+    take n marks ++ marks_at tables s core block (drop n asks) (drop n marks) ≡ all →
+    take (n + 1) (set marks n (not is)) ++ marks_at tables s core block (drop (n + 1) asks) (drop (n + 1) (set marks n (not is))) ≡ all
+marks-held tables s core block n asks marks all d held is low long known e here before =
+    rw (e, held-here tables s core block held (get_or asks n d) known here) (marks-here tables s core block n asks marks all d low long here before)
 
 pub marks-apart : (tables : Tables) (s : State) (core : CacheId) (block : BlockId) (n : ℕ) (asks : List CoreAsk) (marks all : List Bool) (d : CoreAsk) →
     n < length asks →

@@ -4,11 +4,12 @@ ghost use Rattle.std.specs.Prelude.{◌≡◌, ◌<◌, ◌+◌, ◌^◌, ◌&&�
 ghost use Rattle.cores.specs.Cores.{is_free};
 ghost use Rattle.rows.specs.Flags.{is_set};
 ghost use Rattle.schedule.specs.Listed.{is_unheld};
-ghost use Rattle.schedule.specs.inner.Marks.{is_at, marks_at, offers_by};
+ghost use Rattle.schedule.specs.inner.Marks.{AreHeldAt, is_at, marks_at, offers_by};
 ghost use Rattle.schedule.specs.inner.Owned.{AreOf};
 
 use crate::choosing::{Choice, step_of};
 use base::{BlockId, CacheId, CoreAsk, NoMemory};
+use blocks::HeldAsks;
 use cores::Cores;
 use rows::Bits;
 use scenario::{Cursor, Rest};
@@ -220,16 +221,30 @@ fn mark_each(world: &World, asks: &[CoreAsk], unheld: &mut Bits)
     }
 }
 
-/// Marks a core's asks about a block anew.
+/// Marks a core's asks about a block anew. The world is asked where there is one, and once.
 fn mark_at(world: &World, core: CacheId, block: BlockId, asks: &[CoreAsk], unheld: &mut Bits)
     requires long { length unheld.old ≡ length asks.now }
     requires short { length asks.now < 2 ^ 32 }
     ensures { unheld.new ≡ marks_at world.now.tables world.now.state core block asks.now unheld.old }
 {
+    let mut known = None;
     for (number, ask) in asks.iter().enumerate() {
         if is_at(core, block, *ask) {
-            unheld.set(number as u32, is_unheld(world, *ask));
+            let held = held_at(world, core, block, known);
+            known = Some(held);
+            unheld.set(number as u32, !held.holds(ask.ask));
         }
+    }
+}
+
+/// Which of a core's asks about a block would be held, if that isn't known yet.
+fn held_at(world: &World, core: CacheId, block: BlockId, known: Option<HeldAsks>) -> HeldAsks
+    requires { IfSome known (λ held. AreHeldAt world.now.tables world.now.state core block held) }
+    ensures { AreHeldAt world.now.tables world.now.state core block result }
+{
+    match known {
+        Some(held) => held,
+        None => world.held_asks(core, block),
     }
 }
 

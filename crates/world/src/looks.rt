@@ -1,4 +1,6 @@
 ghost use Rattle.std.specs.Prelude.{◌≡◌, ℕ};
+ghost use Rattle.base.specs.declared.step.Ask.{Ask};
+ghost use Rattle.base.specs.declared.step.Step.TheVariants as step;
 ghost use Rattle.machine.specs.Block.{opened_block};
 ghost use Rattle.blocks.specs.Looks.{place_in};
 ghost use Rattle.world.specs.inner.Found.{is_quiet_kept};
@@ -6,11 +8,18 @@ ghost use Rattle.world.specs.inner.Held.{kept_at};
 
 use crate::worlds::{World, opening_value};
 use base::{BlockId, CacheId, Outcome, Place, Shape, Step};
-use blocks::{Block, is_held_opened, opened_line};
+use blocks::{Block, HeldAsks, held_asks_opened, is_held_opened, opened_line};
 use control::Line;
 use directory_table::DirectoryState;
 use network::{Forward, Message};
 use rows::Sparse;
+
+/// No ask would be held.
+const NONE_HELD: HeldAsks = HeldAsks {
+    load: false,
+    store: false,
+    replace: false,
+};
 
 /// A block: what is kept of it, or its opening value where nothing is.
 #[derive(Clone, Copy)]
@@ -30,7 +39,8 @@ impl World {
     ghost use Rattle.machine.specs.Completions.{completions_of, due};
     ghost use Rattle.machine.specs.Coherence.{line_at};
     ghost use Rattle.world.specs.View.{home_at, shares_at};
-    ghost use Rattle.world.specs.Looks.{latest_at, readers_of, writer_of, all_quiet, forward_at, message_at, place_at};
+    ghost use Rattle.blocks.specs.Asking.{holds};
+    ghost use Rattle.world.specs.Looks.{held_at, latest_at, readers_of, writer_of, all_quiet, forward_at, message_at, place_at};
 
     /// How many caches and blocks there are.
     pub fn shape(&self) -> Shape
@@ -178,6 +188,27 @@ impl World {
             Some(Found::Kept(block)) => block.is_held(&self.tables, step),
             Some(Found::Opened(_)) => is_held_opened(&self.tables, self.shape.caches(), step),
             None => false,
+        }
+    }
+
+    /// Which asks of a cache's core about a block would be held.
+    pub fn held_asks(&self, cache: CacheId, block: BlockId) -> HeldAsks
+        ensures { (ask : Ask) → holds result ask ≡ held_at self.now.tables self.now.state (step.Ask cache block ask) }
+    {
+        if self.met_blank {
+            return NONE_HELD;
+        }
+        self.asks_held(cache, block)
+    }
+
+    /// Which asks would be held in a world that isn't broken. Where their block isn't there none would.
+    fn asks_held(&self, cache: CacheId, block: BlockId) -> HeldAsks
+        ensures { (ask : Ask) → holds result ask ≡ is_held_found self.now.tables (step.Ask cache block ask) (slice_get self.now.state.blocks block.0) }
+    {
+        match self.find(block.0) {
+            Some(Found::Kept(block)) => block.held_asks(&self.tables, cache),
+            Some(Found::Opened(_)) => held_asks_opened(&self.tables, self.shape.caches(), cache),
+            None => NONE_HELD,
         }
     }
 

@@ -202,7 +202,7 @@ pub fn is_held_opened(tables: &Tables, caches: u32, step: Step) -> bool
 }
 
 /// Whether an ask would be held at a line. Where there is no line it wouldn't.
-fn stalls_ask(tables: &Tables, ask: Ask, line: Option<Line>) -> bool
+pub(crate) fn stalls_ask(tables: &Tables, ask: Ask, line: Option<Line>) -> bool
     ensures { result ≡ ask_stalls tables.now.cache ask line }
 {
     let Some(found) = line else {

@@ -1,10 +1,15 @@
 -- Marks made anew, and what they say can be put.
-use Rattle.std.specs.Prelude.{ℕ, ◌+◌, ◌==◌, Bool, ◌&&◌, if◌then◌else◌, List, [], ◌∷◌, ◌++◌, map}
+use Rattle.std.specs.Prelude.{◌≡◌, ℕ, ◌+◌, ◌==◌, Bool, ◌&&◌, if◌then◌else◌, List, [], ◌∷◌, ◌++◌, map}
 use Rattle.base.specs.declared.ids.BlockId.{BlockId}
 use Rattle.base.specs.declared.ids.CacheId.{CacheId}
+use Rattle.base.specs.declared.step.Ask.{Ask}
 use Rattle.base.specs.declared.step.CoreAsk.{CoreAsk}
+use Rattle.base.specs.declared.step.Step.TheVariants as step
+use Rattle.blocks.specs.Asking.{holds}
+use Rattle.blocks.specs.declared.block.asking.HeldAsks.{HeldAsks}
 use Rattle.both_tables.specs.Tables.{Tables}
 use Rattle.machine.specs.Machine.{State}
+use Rattle.world.specs.Looks.{held_at}
 use Rattle.cores.specs.Cores.{Core, is_free}
 use Rattle.schedule.specs.Listed.{Listed, is_unheld}
 use Rattle.schedule.specs.declared.choosing.Choice.{Choice}
@@ -17,6 +22,10 @@ all_marked tables state l = record { asks = l.asks; unheld = map (is_unheld tabl
 -- an ask is this core's, and about this block
 abbrev pub is_at : CacheId → BlockId → CoreAsk → Bool
 is_at core block ask = (ask.core.0 == core.0) && (ask.block.0 == block.0)
+
+-- these of a core's asks about a block would be held
+abbrev pub AreHeldAt : Tables → State → CacheId → BlockId → HeldAsks → Type 0
+AreHeldAt tables state core block held = (ask : Ask) → holds held ask ≡ held_at tables state (step.Ask core block ask)
 
 -- the marks, with those of a core's asks about a block made anew
 abbrev pub marks_at : Tables → State → CacheId → BlockId → List CoreAsk → List Bool → List Bool
