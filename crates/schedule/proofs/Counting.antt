@@ -21,7 +21,7 @@ use Rattle.schedule.specs.Choices.{can_be_put, offers_from}
 use Rattle.schedule.specs.Lanes.{Agree, AgreeBut, AreReady, IsKept, IsLevel, IsListed, Laned, lanes_of, listed_at, offers_at, puttable}
 use Rattle.schedule.specs.Listed.{IsMarked, Listed, is_unheld, nothing_listed}
 use Rattle.schedule.specs.inner.Marks.{is_at, marked_at, marks_at}
-use Rattle.schedule.specs.inner.Changes.{AreMarked, Counts, IsCountedAt, IsCountedIf, IsMarkedIn, KeepsOthers, Marks, TakesFrom}
+use Rattle.schedule.specs.inner.Changes.{AreCountedAt, AreMarked, Counts, IsCountedAt, IsCountedIf, IsMarkedIn, KeepsOthers, Marks, TakesFrom}
 use Rattle.schedule.specs.inner.Changes.{WereReady, count_by, counted_at, marked_in}
 use Rattle.schedule.specs.inner.Owned.{IsMarkedOrSame}
 use Rattle.schedule.specs.declared.choosing.Choice.TheVariants.{Offer}
@@ -357,6 +357,27 @@ counted-if cores lane at taken old new is level low e =
         λ some. ne (same-number at lane (sym (sym is ∙ some))),
       )
     ]
+  where
+    same-number : (a b : ℕ) → Some a ≡ Some b → a ≡ b
+    same-number a b e = cc e
+
+-- behind the counting of the lanes of a core these are counted
+pub counted-at-all : (cores : List Core) (at : Option Place) (old new : Laned) → Counts old new →
+    ((lane : ℕ) → lane < length old.trees → IsCountedAt cores at old new lane) → AreCountedAt cores at new
+counted-at-all cores at old new counts each core lane is low there =
+    let trees = ap (λ (l : Laned). l.trees) counts.same in
+    elim (each lane (subst (λ ts. lane < length ts) trees low)) [
+      | inl e ↦ e ∙ ap (λ xs. count_by cores (get_or xs lane nothing_listed)) (sym (ap (λ (l : Laned). l.listed) counts.same))
+      | inr h ↦ absurd (h.1 core is (subst (λ rs. Contains (lanes_of rs core.0) lane) (ap (λ (l : Laned). l.reached) counts.same) there))
+    ]
+
+-- a lane that was counted need not be counted again
+pub counted-already : (cores : List Core) (lane other : ℕ) (taken : Option ℕ) (l : Laned) → taken ≡ Some lane →
+    get_or l.ready lane 0 ≡ count_by cores (listed_at l lane) → IsCountedIf cores taken l l other
+counted-already cores lane other taken l is counted = elim (cases_eq other lane) [
+  | inl q ↦ inl (subst (λ n. get_or l.ready n 0 ≡ count_by cores (listed_at l n)) (sym q) counted)
+  | inr ne ↦ inr (refl, λ some. ne (same-number other lane (sym (sym is ∙ some))))
+]
   where
     same-number : (a b : ℕ) → Some a ≡ Some b → a ≡ b
     same-number a b e = cc e

@@ -72,6 +72,11 @@ IsCountedAt cores at old new lane =
     ⊎ ((slice_index new.ready lane ≡ slice_index old.ready lane)
     × ((core : CacheId) → at ≡ Some (Cache core) → ¬ Contains (lanes_of old.reached core.0) lane))
 
+-- the counts of all lanes that may have an ask of a cache that this is are those by their marks
+abbrev pub AreCountedAt : List Core → Option Place → Laned → Type 0
+AreCountedAt cores at l = (core : CacheId) (lane : ℕ) → at ≡ Some (Cache core) → lane < length l.trees → Contains (lanes_of l.reached core.0) lane →
+    slice_index l.ready lane ≡ count_by cores (listed_at l lane)
+
 -- the count of a lane is that by its marks; or it is as it was, and this isn't the lane
 abbrev pub IsCountedIf : List Core → Option ℕ → Laned → Laned → ℕ → Type 0
 IsCountedIf cores taken old new lane =

@@ -28,7 +28,7 @@ impl<'s, A: Allocator, B: Allocator + Clone> Lanes<'s, A, B> {
     ghost use Rattle.scenario.specs.Taking.{offers};
     ghost use Rattle.schedule.specs.Choices.{IsOffered, chosen_step, rest_after};
     ghost use Rattle.schedule.specs.Lanes.{AgreeBut, AreReady, IsKept, IsLevel, IsListed, laned, lanes_of, listed_at, whole};
-    ghost use Rattle.schedule.specs.inner.Changes.{AreMarked, Counts, IsCountedAt, IsCountedIf, IsCountedIn, IsMarkedIn, KeepsOthers};
+    ghost use Rattle.schedule.specs.inner.Changes.{AreCountedAt, AreMarked, Counts, IsCountedAt, IsCountedIf, IsCountedIn, IsMarkedIn, KeepsOthers};
     ghost use Rattle.schedule.specs.inner.Changes.{Marks, TakesFrom, WereReady, counted_at, marked_in};
     ghost use Rattle.schedule.specs.inner.Owned.{IsMarkedOrSame};
 
@@ -56,7 +56,7 @@ impl<'s, A: Allocator, B: Allocator + Clone> Lanes<'s, A, B> {
         let taken = self.take_chosen(alloc, choice, world)?;
         self.mark_again(at, choice.step().block(), world);
         self.count_at(at, cores);
-        self.count_taken(taken, cores);
+        self.count_taken(taken, at, cores);
         Ok(())
     }
 
@@ -112,17 +112,38 @@ impl<'s, A: Allocator, B: Allocator + Clone> Lanes<'s, A, B> {
         }
     }
 
-    /// Counts again what can be put of a lane, if there is one.
-    fn count_taken(&mut self, taken: Option<usize>, cores: &Cores)
+    /// Counts again what can be put of a lane, if there is one, but where it was counted with those of the core whose cache a step
+    /// went to.
+    fn count_taken(&mut self, taken: Option<usize>, at: Option<Place>, cores: &Cores)
         requires kept { IsKept (laned self.old) }
         requires there { IfSome taken (λ lane. lane < length (laned self.old).trees) }
+        requires counted { AreCountedAt cores.now at (laned self.old) }
         ensures kept { IsKept (laned self.new) }
         ensures counts { Counts (laned self.old) (laned self.new) }
         ensures each { (lane : ℕ) → lane < length (laned self.old).trees →
             IsCountedIf cores.now taken (laned self.old) (laned self.new) lane }
     {
-        if let Some(lane) = taken {
-            self.count_lane(lane, cores);
+        let Some(lane) = taken else {
+            return;
+        };
+        if self.is_reached(at, lane) {
+            return;
+        }
+        self.count_lane(lane, cores);
+    }
+
+    /// Whether a lane is among those that may offer an ask of the core whose cache this is.
+    fn is_reached(&self, at: Option<Place>, lane: usize) -> bool
+        requires kept { IsKept (laned self.now) }
+        requires there { lane < length (laned self.now).trees }
+        ensures { result ≡ true → (core : CacheId) × (at ≡ Some (Cache core)) × Contains (lanes_of (laned self.now).reached core.0) lane }
+    {
+        match cache_of(at) {
+            Some(core) => {
+                let row = row_of(&self.reached, core);
+                has(&self.reached[row], lane as u32)
+            }
+            None => false,
         }
     }
 
@@ -331,12 +352,19 @@ fn is_of(core: Option<CacheId>, ask: CoreAsk) -> bool
     }
 }
 
+/// Whether the lane is among these.
+fn has(lanes: &Vec<u32>, lane: u32) -> bool
+    ensures { result ≡ true → Contains lanes.now.items lane }
+{
+    lanes.contains(&lane)
+}
+
 /// The lane is among these from now on.
 fn add(lanes: &mut Vec<u32>, lane: u32) -> Result<(), NoMemory>
     ensures more { (other : ℕ) → Contains lanes.old.items other → Contains lanes.new.items other }
     ensures ok { OnOk result (Contains lanes.new.items lane) }
 {
-    if !lanes.contains(&lane) {
+    if !has(lanes, lane) {
         lanes.push(lane)?;
     }
     Ok(())

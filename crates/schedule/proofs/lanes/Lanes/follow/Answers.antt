@@ -2,7 +2,7 @@ use Rattle.std.proofs.Common.{ℕ, ◌∙◌, ap, subst, sym, arith}
 use Rattle.std.proofs.lemmas.Grind.{common_steps}
 use Rattle.base.specs.Steps.{block_of}
 use Rattle.schedule.specs.Lanes.{AgreeBut, laned}
-use Rattle.schedule.proofs.Counting.{all-counted}
+use Rattle.schedule.proofs.Counting.{all-counted, counted-at-all}
 use Rattle.schedule.proofs.lanes.Lanes.follow.Goals as goal
 
 pub returns-clause-ready : goal.returns-clause-ready
@@ -30,3 +30,7 @@ returns-clause-rest g c = grind (arith, common_steps)
 
 pub returns-clause-kept : goal.returns-clause-kept
 returns-clause-kept g c = grind (arith, common_steps)
+
+pub count_taken-requires-clause-counted : goal.count_taken-requires-clause-counted
+count_taken-requires-clause-counted g c =
+    counted-at-all c.args.cores.now c.args.at (laned c.mark_again.new.self) (laned c.count_at.new.self) c.count_at.ensures.counts c.count_at.ensures.each
