@@ -1,5 +1,5 @@
 -- Taking the lowest set bits of a word off one by one.
-use Rattle.std.proofs.Common.{◌≡◌, ℕ, ◌+◌, ◌-◌, ◌/◌, ◌%◌, ◌^◌, ◌<◌, ◌≤◌, min}
+use Rattle.std.proofs.Common.{◌≡◌, ◌≢◌, ℕ, ◌+◌, ◌-◌, ◌/◌, ◌%◌, ◌^◌, ◌<◌, ◌≤◌, min}
 use Rattle.std.proofs.Common.{sym, ap, ◌∙◌, zero, suc, arith, inl, inr, bit_and}
 use Rattle.std.specs.Int.{bit_at, trailing_zeros, w64}
 use Rattle.std.specs.Int.RustNames.{count_ones}
@@ -78,6 +78,22 @@ off-behind (suc t) b (suc j) none one h =
     ∙ ap (λ x. bit_at x j) half
     ∙ off-behind t (b / 2) j (λ i l. sym (bit_at-suc b i) ∙ none (suc i) (omega arith)) (sym (bit_at-suc b t) ∙ one) (omega arith)
     ∙ sym (bit_at-suc b j)
+
+-- the other set bits stay
+pub others-stay : (b j : ℕ) → 0 < b → b < 2 ^ 64 → bit_at b j ≡ 1 → j ≢ trailing_zeros w64 b → bit_at (bit_and b (b - 1)) j ≡ 1
+others-stay b j some fits set other =
+    let found = bit_at-trailing_zeros w64 b some fits in
+    elim (cases_lt j (trailing_zeros w64 b)) [
+      | inl l ↦ absurd (let none = found.2 j l in omega arith)
+      | inr l ↦
+          (let both = bit_at_and b (b - 1) j in
+          let same = off-behind (trailing_zeros w64 b) b j found.2 found.1
+          (elim (cases_eq j (trailing_zeros w64 b)) [
+            | inl e ↦ absurd (other e)
+            | inr e ↦ omega arith
+          ]) in
+          omega arith)
+    ]
 
 -- so before each place one bit less is set
 one-off : (b t : ℕ) → ((i : ℕ) → i < t → bit_at b i ≡ 0) → bit_at b t ≡ 1 → (n : ℕ) → low (bit_and b (b - 1)) n ≡ low b n - 1

@@ -1,3 +1,4 @@
 pub mod Changes
+pub mod Groups
 pub mod Marks
 pub mod Owned

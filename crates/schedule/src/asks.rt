@@ -8,6 +8,7 @@ ghost use Rattle.schedule.specs.inner.Marks.{AreHeldAt, is_at, marks_at, offers_
 ghost use Rattle.schedule.specs.inner.Owned.{AreOf};
 
 use crate::choosing::{Choice, step_of};
+use crate::groups::{group, mark_places, row_of};
 use base::{BlockId, CacheId, CoreAsk, NoMemory};
 use blocks::HeldAsks;
 use cores::Cores;
@@ -27,19 +28,24 @@ pub(crate) struct Asks {
     unheld: Bits,
     // Whose all asks are, where there are some and they are one core's.
     core: Option<CacheId>,
+    // Where the asks about a block are, if they are grouped.
+    grouped: bool,
+    places: [u64; 16],
     // Where what is offered next is listed.
     next: Vec<CoreAsk>,
 }
 
 impl Model for Asks {
+    ghost use Rattle.std.specs.Prelude.{◌≡◌, true};
     ghost use Rattle.schedule.specs.Listed.{Listed};
+    ghost use Rattle.schedule.specs.inner.Groups.{Cover};
     ghost use Rattle.schedule.specs.inner.Owned.{AreKept};
 
     ghost Value = { Listed };
 
     ghost view = { λ a. record { asks = a.asks.items; unheld = a.unheld } };
 
-    ghost invariant = { λ a. AreKept a.asks.items a.unheld a.core };
+    ghost invariant = { λ a. AreKept a.asks.items a.unheld a.core × (a.grouped ≡ true → Cover a.places a.asks.items) };
 }
 
 impl Asks {
@@ -57,6 +63,8 @@ impl Asks {
             asks: Vec::new(alloc),
             unheld,
             core: None,
+            grouped: false,
+            places: [0; 16],
             next: Vec::new(alloc),
         })
     }
@@ -83,6 +91,7 @@ impl Asks {
         if are_same(self.next.as_slice(), self.asks.as_slice()) {
             return Ok(());
         }
+        self.grouped = false;
         take_over(
             self.alloc,
             world,
@@ -91,6 +100,7 @@ impl Asks {
             &mut self.unheld,
         )?;
         self.core = core_of(self.asks.as_slice());
+        self.grouped = group(self.asks.as_slice(), &mut self.places);
         Ok(())
     }
 
@@ -105,6 +115,18 @@ impl Asks {
     pub(crate) fn mark(&mut self, world: &World, core: CacheId, block: BlockId)
         ensures { self.new ≡ marked_at world.now.tables world.now.state core block self.old }
     {
+        if self.grouped {
+            let places = self.places[row_of(block)];
+            mark_places(
+                world,
+                core,
+                block,
+                places,
+                self.asks.as_slice(),
+                &mut self.unheld,
+            );
+            return;
+        }
         mark_at(world, core, block, self.asks.as_slice(), &mut self.unheld);
     }
 
@@ -204,10 +226,11 @@ fn is_unheld(world: &World, ask: CoreAsk) -> bool
 }
 
 /// Whether the ask is this core's, and about this block.
-fn is_at(core: CacheId, block: BlockId, ask: CoreAsk) -> bool
+pub(crate) fn is_at(core: CacheId, block: BlockId, ask: CoreAsk) -> bool
     ensures { result ≡ is_at core block ask }
 {
-    ask.core.0 == core.0 && ask.block.0 == block.0
+    // Of most asks that are looked at the core is this one and the block isn't, so the block is compared first.
+    ask.block.0 == block.0 && ask.core.0 == core.0
 }
 
 /// Marks these asks.
@@ -238,7 +261,12 @@ fn mark_at(world: &World, core: CacheId, block: BlockId, asks: &[CoreAsk], unhel
 }
 
 /// Which of a core's asks about a block would be held, if that isn't known yet.
-fn held_at(world: &World, core: CacheId, block: BlockId, known: Option<HeldAsks>) -> HeldAsks
+pub(crate) fn held_at(
+    world: &World,
+    core: CacheId,
+    block: BlockId,
+    known: Option<HeldAsks>,
+) -> HeldAsks
     requires { IfSome known (λ held. AreHeldAt world.now.tables world.now.state core block held) }
     ensures { AreHeldAt world.now.tables world.now.state core block result }
 {

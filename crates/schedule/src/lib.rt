@@ -4,6 +4,7 @@
 mod asks;
 mod choosing;
 mod dice;
+mod groups;
 mod lanes;
 mod laws;
 

@@ -9,13 +9,13 @@ pub returns-then-not-free : goal.returns-then-not-free
 returns-then-not-free c =
     rw (← c.self.view_is)
     (ap (λ cs. slice_get cs c.args.k) (sym (none-of-busy c.args.cores.now c.in-Some.core c.self.inside.core c.args.first c.self.inside.asks.items
-    c.self.inside.unheld c.self.invariant c.in-Some.is (sym c.free.ensures ∙ c.if-not-free.true))))
+    c.self.inside.unheld c.self.invariant.0 c.in-Some.is (sym c.free.ensures ∙ c.if-not-free.true))))
 
 pub returns-in_err-at-in-Some : goal.returns-in_err-at-in-Some
 returns-in_err-at-in-Some c =
     rw (← c.self.view_is)
     (c.from_residual.ensures
-    ∙ past-free c.args.cores.now c.in-Some.core c.self.inside.core c.args.first c.args.k c.self.inside.asks.items c.self.inside.unheld c.self.invariant
+    ∙ past-free c.args.cores.now c.in-Some.core c.self.inside.core c.args.first c.args.k c.self.inside.asks.items c.self.inside.unheld c.self.invariant.0
     c.in-Some.is (sym c.free.ensures ∙ c.if-not-free.false) (not-below c.args.k (set_count c.self.inside.unheld) c.in_err-at-in-Some.ensures.found.1))
 
 pub returns-in_ok-at-in-Some : goal.returns-in_ok-at-in-Some
@@ -23,7 +23,7 @@ returns-in_ok-at-in-Some c =
     rw (← c.self.view_is)
     (ap (λ ask. Some (Offer (c.args.first + c.in_ok-at-in-Some.field-0) ask)) c.index.ensures
     ∙ kth-of-free c.args.cores.now c.in-Some.core c.self.inside.core c.args.first c.args.k c.in_ok-at-in-Some.field-0 c.self.inside.asks.items
-    c.self.inside.unheld c.index.result.now c.self.invariant c.in-Some.is (sym c.free.ensures ∙ c.if-not-free.false) c.in_ok-at-in-Some.ensures.place)
+    c.self.inside.unheld c.index.result.now c.self.invariant.0 c.in-Some.is (sym c.free.ensures ∙ c.if-not-free.false) c.in_ok-at-in-Some.ensures.place)
 
 pub overflow_cast-at : goal.overflow_cast-at
 overflow_cast-at c = grind (arith, common_steps)
