@@ -1,3 +1,4 @@
+use memchr::memchr;
 use std::alloc::Global;
 use std::io;
 use std::io::{BufRead, BufReader, Read};
@@ -9,6 +10,9 @@ pub const MOST_BYTES: usize = 200;
 #[derive(Drop)]
 pub struct Lines<R> {
     reader: BufReader<R>,
+    /// How many of the bytes that were read ahead are the line and its LF, where the line lies there.
+    held: usize,
+    /// The line, where it doesn't.
     line: Vec<u8>,
     number: u64,
 }
@@ -19,6 +23,7 @@ impl<R: Read + Drop> Lines<R> {
         let line = Vec::with_capacity(alloc, MOST_BYTES + 2)?;
         Ok(Lines {
             reader,
+            held: 0,
             line,
             number: 0,
         })
@@ -26,13 +31,34 @@ impl<R: Read + Drop> Lines<R> {
 
     /// Whether the next line may have to be waited for.
     pub fn may_wait(&self) -> bool {
-        self.reader.buffer().is_empty()
+        self.reader.buffer().len() <= self.held
     }
 
     /// Reads the next line, or answers `false` where there is none. The last line needs no LF.
     ///
     /// Of a longer line only the first `MOST_BYTES + 1` bytes are read.
     pub fn advance(&mut self) -> io::Result<bool> {
+        self.reader.consume(self.held);
+        self.held = self.read_ahead();
+        if self.held == 0 && !self.read()? {
+            return Ok(false);
+        }
+        self.number = self.number.saturating_add(1);
+        Ok(true)
+    }
+
+    /// How many of the bytes that were read ahead are the next line and its LF: 0 where not all of it was, or it is too long.
+    fn read_ahead(&self) -> usize {
+        let ahead = self.reader.buffer();
+        let front = &ahead[..ahead.len().min(MOST_BYTES + 1)];
+        match memchr(b'\n', front) {
+            Some(end) => end + 1,
+            None => 0,
+        }
+    }
+
+    /// Reads the next line piece by piece, and answers `false` where there is none.
+    fn read(&mut self) -> io::Result<bool> {
         self.line.clear();
         if read_front(&mut self.reader, &mut self.line)? == 0 {
             return Ok(false);
@@ -40,13 +66,16 @@ impl<R: Read + Drop> Lines<R> {
         if self.line.last() == Some(&b'\n') {
             let _ = self.line.pop();
         }
-        self.number = self.number.saturating_add(1);
         Ok(true)
     }
 
     /// The line, without its LF.
     pub fn line(&self) -> &[u8] {
-        self.line.as_slice()
+        if self.held == 0 {
+            return self.line.as_slice();
+        }
+        let ahead = self.reader.buffer();
+        &ahead[..ahead.len().min(self.held - 1)]
     }
 
     /// The number of the line, counted from 1.
