@@ -2,6 +2,7 @@ use crate::fault::Fault;
 use crate::finding::Finding;
 use crate::lines::{Lines, MOST_BYTES};
 use crate::printing::Printer;
+use base::text::Text;
 use base::{NoMemory, Outcome, Shape, Step};
 use both_tables::Tables;
 use monitor::Watch;
@@ -89,7 +90,8 @@ fn play_one<O: Write + Drop>(
 }
 
 fn print_outcome<O: Write + Drop>(outcome: Outcome, printer: &mut Printer<O>) {
-    let mut text = outcome.text();
+    let mut text = Text::new();
+    text.push_outcome(outcome);
     text.push(b"\n");
     printer.bytes(text.as_slice());
 }
