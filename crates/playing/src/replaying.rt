@@ -2,7 +2,8 @@ use crate::fault::Fault;
 use crate::finding::Finding;
 use crate::printing::Printer;
 use base::FromRead;
-use record::{Recording, ReplayFault, Replayed};
+use monitor::Violation;
+use record::{Recording, ReplayFault, first_violation};
 use std::alloc::Global;
 use std::io::{Read, Write};
 
@@ -14,17 +15,18 @@ pub fn replay<I: Read + Drop, O: Write + Drop>(
     output: O,
 ) -> Result<Finding, Fault> {
     let recording = Recording::read(alloc, &mut FromRead::new(input))?;
-    print_replayed(alloc, record::replay(alloc, &recording), output)
+    print_replayed(alloc, &recording, output)
 }
 
 fn print_replayed<O: Write + Drop>(
     alloc: Global,
-    replayed: Result<Replayed, ReplayFault>,
+    recording: &Recording,
     output: O,
 ) -> Result<Finding, Fault> {
+    let found = first_violation(alloc, recording);
     let mut printer = Printer::new(alloc, output)?;
-    let finding = match replayed {
-        Ok(replayed) => print_same(&replayed, &mut printer),
+    let finding = match found {
+        Ok(violation) => print_same(recording.entries().len(), violation, &mut printer),
         Err(ReplayFault::Differs { entry, told, found }) => {
             printer.line(format_args!("differs {entry} told {told} found {found}"));
             Finding::Difference
@@ -34,9 +36,13 @@ fn print_replayed<O: Write + Drop>(
     printer.finish(Ok(finding))
 }
 
-fn print_same<O: Write + Drop>(replayed: &Replayed, printer: &mut Printer<O>) -> Finding {
-    printer.line(format_args!("same {}", replayed.entries.len()));
-    let Some((entry, violation)) = replayed.violation else {
+fn print_same<O: Write + Drop>(
+    entries: usize,
+    violation: Option<(u64, Violation)>,
+    printer: &mut Printer<O>,
+) -> Finding {
+    printer.line(format_args!("same {entries}"));
+    let Some((entry, violation)) = violation else {
         return Finding::Nothing;
     };
     printer.line(format_args!("violation {entry} {violation}"));
