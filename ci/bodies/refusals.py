@@ -4,7 +4,8 @@ import re
 from dataclasses import dataclass
 from enum import Enum
 
-OPEN = re.compile(r"^note: (src/\S+?):(\d+):\d+: it is not proved that (.*?) \(`([^`]*)`\)", re.M)
+# (of a struct's ghost field only that no proof was found is said)
+OPEN = re.compile(r"^note: (src/\S+?):(\d+):\d+: (?:it is not proved that (.*?)|`search` found no proof) \(`([^`]*)`\)", re.M)
 # (what is said goes on in lines that begin with blanks)
 ANSWER = re.compile(r"^(?:\./)?(proofs/\S+?):(\d+):\d+: error: (?:`([^`]*)`: )?(.*(?:\n  .*)*)$", re.M)
 CALLS = re.compile(r"^fn (\S+): no proof: it calls ", re.M)
@@ -53,7 +54,7 @@ class Refusal:
 
 def refusals_in(said):
     """All that the check's output says of goals that aren't proved."""
-    found = [Refusal(Kind.OPEN, file, int(line), goal, what) for file, line, what, goal in OPEN.findall(said)]
+    found = [Refusal(Kind.OPEN, file, int(line), goal, what or subject_of(goal)) for file, line, what, goal in OPEN.findall(said)]
     for file, line, goal, why in ANSWER.findall(said):
         if LEANS.match(why):
             continue
