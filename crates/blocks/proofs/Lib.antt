@@ -14,3 +14,4 @@ pub mod Writes
 pub mod TestedMarks
 pub mod Holding
 pub mod Passing
+pub mod Relinking

@@ -113,7 +113,7 @@ pub marks-response_taken : (tables : Tables) (b : BlockState) (i : ℕ) →
 marks-response_taken tables b i =
     ap (λ (xs : List Bool). record (marks_of tables b) { responses = xs }) (map-remove (response_stalls tables b) b.traffic.responses i)
 
-links_stall-set : (cells : cache_table.Cells) (lines : List Line) (cache : ℕ) (ls : List (List Forward)) (k : ℕ) (fs : List Forward) →
+pub links_stall-set : (cells : cache_table.Cells) (lines : List Line) (cache : ℕ) (ls : List (List Forward)) (k : ℕ) (fs : List Forward) →
     links_stall cells lines cache (slice_set ls k fs) ≡ slice_set (links_stall cells lines cache ls) k (link_stalls cells lines (cache + k) fs)
 links_stall-set cells lines cache [] k fs = refl
 links_stall-set cells lines cache (l ∷ ls) zero fs =

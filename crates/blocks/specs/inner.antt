@@ -2,3 +2,4 @@ pub mod Named
 pub mod Held
 pub mod Tested
 pub mod Placed
+pub mod Linking

@@ -1,7 +1,9 @@
 mod access;
 mod acting;
 mod asking;
+mod counting;
 mod deciding;
+mod free;
 mod looking;
 mod passing;
 mod testing;
@@ -11,6 +13,7 @@ pub use acting::{Made, Visit};
 pub use asking::{HeldAsks, held_asks_opened};
 use base::{CacheId, NoMemory};
 use control::{Home, Line};
+use counting::LinkCounts;
 pub use deciding::{decide_opened, opened_line};
 use directory_table::DirectoryState;
 pub use looking::{foreseen, is_held_opened, is_stall};
@@ -31,9 +34,13 @@ pub struct Block {
     wires: Wires,
     latest: u64,
     access: Access,
+    // What is on the links and which of their heads are marked, by numbers, where that is known.
+    counted: Option<LinkCounts>,
 }
 
 impl Model for Block {
+    ghost use Rattle.std.specs.Prelude.{IfSome};
+    ghost use Rattle.blocks.specs.inner.Linking.{AreCounted};
     ghost use Rattle.blocks.specs.Kept.{Kept};
     ghost use Rattle.blocks.specs.inner.Held.{IsHeld, kept_lines, lines_of};
 
@@ -50,7 +57,8 @@ impl Model for Block {
       home = b.home;
       traffic = b.wires.traffic;
       latest = b.latest;
-    }) b.lines.items b.access.readers b.access.writers };
+    }) b.lines.items b.access.readers b.access.writers ×
+        IfSome b.counted (λ k. AreCounted b.wires.marks.links b.wires.traffic.links k.heads k.forwards) };
 }
 
 impl Block {
@@ -73,6 +81,7 @@ impl Block {
             wires,
             latest: value,
             access,
+            counted: None,
         })
     }
 
@@ -86,6 +95,7 @@ impl Block {
         self.home.reset(value);
         self.wires.clear();
         self.latest = value;
+        self.counted = None;
         self.access.clear();
     }
 
@@ -134,6 +144,7 @@ impl TryClone for Block {
             wires,
             latest: self.latest,
             access,
+            counted: None,
         })
     }
 }

@@ -34,6 +34,7 @@ fn send(action: CacheAction, cache: CacheId, value: u64, to: Option<CacheId>, wi
     requires { HasRoomFor (line_message cache value to action) wires.old.room }
     ensures traffic { wires.new.traffic ≡ all_sent (line_message cache value to action) wires.old.traffic }
     ensures room { UsesRoomFor (line_message cache value to action) wires.old.room wires.new.room }
+    ensures links { wires.new.marks.links ≡ wires.old.marks.links }
 {
     match action {
         CacheAction::GetS => wires.place(request(RequestKind::GetS, cache)),
@@ -63,7 +64,8 @@ fn send_all(
     wires: &mut Wires,
 )
     requires { HasRoomFor (line_messages cache value to actions.now) wires.old.room }
-    ensures { wires.new.traffic ≡ all_sent (line_messages cache value to actions.now) wires.old.traffic }
+    ensures traffic { wires.new.traffic ≡ all_sent (line_messages cache value to actions.now) wires.old.traffic }
+    ensures links { wires.new.marks.links ≡ wires.old.marks.links }
 {
     for action in actions {
         send(*action, cache, value, to, wires);
@@ -99,6 +101,7 @@ pub fn line_perform(
     ensures done { result ≡ line_completes input next line.old }
     ensures line { line.new ≡ line_after input next line.old }
     ensures traffic { wires.new.traffic ≡ all_sent (line_sends cache input actions line.old) wires.old.traffic }
+    ensures links { wires.new.marks.links ≡ wires.old.marks.links }
 {
     *line = move_on(*line, input, next);
     send_all(

@@ -5,7 +5,9 @@ ghost use Rattle.control.specs.LineEffect.{line_after, line_completes, line_send
 ghost use Rattle.machine.specs.Transition.{outcome_of, plain_outcome, latest_after, without, IsThere};
 ghost use Rattle.rows.specs.Flags.{is_set};
 ghost use Rattle.blocks.specs.inner.Held.{kept_lines, lines_of};
+ghost use Rattle.blocks.specs.inner.Linking.{IsOwn, IsRelinked};
 ghost use Rattle.blocks.specs.inner.Placed.{decided_place};
+ghost use Rattle.base.specs.declared.ids.CacheId.{CacheId};
 
 use crate::block::{Block, Tested, foreseen};
 use base::{CacheId, NoMemory, Outcome, Place, Step};
@@ -35,7 +37,9 @@ pub struct Visit {
 
 impl Block {
     ghost use Rattle.std.specs.Prelude.{◌≡◌, ◌≤◌, [], IfOk, IsOk, OnOk, OnErr, false, true, length};
+    ghost use Rattle.base.specs.declared.ids.CacheId.{CacheId};
     ghost use Rattle.blocks.specs.Looks.{place_in};
+    ghost use Rattle.blocks.specs.inner.Linking.{IsAtOwn, IsRelinked};
     ghost use Rattle.blocks.specs.Passing.{ResponsesPass};
     ghost use Rattle.machine.specs.Transition.{Fits, Transition, carried_out, decision_of, messages_of, transition};
     ghost use Rattle.blocks.specs.Kept.{moved_to, wakes_line, HasSpaceFor};
@@ -101,8 +105,11 @@ impl Block {
         requires fits { Fits decision.now self.old.state }
         requires names { DecisionNames self.old.space.lines decision.now }
         requires room { HasSpaceFor decision.now self.old.state self.old.space }
-        ensures { carried_out decision.now self.old.state ≡ moved_to self.new.state result }
+        ensures done { carried_out decision.now self.old.state ≡ moved_to self.new.state result }
+        ensures links { (cache : CacheId) → IsAtOwn decision.now cache →
+            IsRelinked cache.0 self.old.marks.links self.old.state.traffic.links self.new.marks.links self.new.state.traffic.links }
     {
+        self.counted = None;
         match *decision {
             Decision::Refused(outcome) => outcome,
             Decision::AtLine {
@@ -176,11 +183,12 @@ impl Block {
             return Ok(Visit { made, at });
         }
         let at = decided_place(&decision);
+        let others = self.others(&decision);
         if let Err(refused) = self.prepare(&decision) {
             return Err(refused);
         }
         let outcome = self.carry_out(&decision);
-        let tested = self.test_where(tables, pass);
+        let tested = self.test_after(tables, pass, others);
         let made = Made {
             outcome,
             tested: Some(tested),
@@ -218,6 +226,8 @@ fn take(wires: &mut Wires, from: Origin)
     requires { IsThere from wires.old.traffic }
     ensures traffic { wires.new.traffic ≡ without from wires.old.traffic }
     ensures room { UsesRoomFor [] wires.old.room wires.new.room }
+    ensures links { (cache : CacheId) → IsOwn from cache →
+        IsRelinked cache.0 wires.old.marks.links wires.old.traffic.links wires.new.marks.links wires.new.traffic.links }
 {
     match from {
         Origin::Core => {}

@@ -1,14 +1,14 @@
 //! Tests of messages. A message is tested when it is asked whether the cell that it goes to is a stall.
-ghost use Rattle.std.specs.Prelude.{◌≡◌, ◌≤◌, ◌*◌, ◌-◌, ◌^◌, true, length, slice_get, slice_set};
+ghost use Rattle.std.specs.Prelude.{◌≡◌, ◌≤◌, ◌<◌, ◌+◌, ◌*◌, ◌-◌, ◌^◌, true, length, slice_get, slice_set};
 ghost use Rattle.blocks.specs.Passing.{ResponsesPass};
 ghost use Rattle.std.specs.List.{sum_by};
-ghost use Rattle.std.specs.Option.{option_map};
 ghost use Rattle.network.specs.Traffic.{Traffic, link};
-ghost use Rattle.blocks.specs.Marking.{home_stalls, line_stalls, response_stalls, links_stall, marks_of, unmarked, unmarked_heads};
-ghost use Rattle.blocks.specs.Marking.{free_responses, unmarked_count, unmarked_heads_count};
+ghost use Rattle.blocks.specs.Marking.{home_stalls, line_stalls, response_stalls, links_stall, marks_of, free_responses, unmarked_count, unmarked_heads_count};
 ghost use Rattle.blocks.specs.inner.Held.{lines_of};
+ghost use Rattle.blocks.specs.inner.Linking.{AreCounted, AreOthers};
 ghost use Rattle.blocks.specs.inner.Tested.{block_of, forwards_stall, requests_stall};
 
+use crate::block::counting::{LinkCounts, with_link};
 use crate::block::passing::is_clear;
 use crate::block::{Block, opened_line};
 use base::{CacheId, Place};
@@ -33,10 +33,10 @@ pub struct Tested {
 }
 
 impl Block {
-    ghost use Rattle.std.specs.Prelude.{◌≡◌, true, slice_get};
-    ghost use Rattle.std.specs.Option.{option_map};
+    ghost use Rattle.std.specs.Prelude.{◌≡◌, true, IfSome};
+    ghost use Rattle.blocks.specs.inner.Linking.{AreOthers, AreRight};
     ghost use Rattle.blocks.specs.Passing.{ResponsesPass};
-    ghost use Rattle.blocks.specs.Marking.{free_requests, free_heads, free_responses, marks_of, unmarked, unmarked_heads};
+    ghost use Rattle.blocks.specs.Marking.{free_requests, free_heads, free_responses, marks_of};
     ghost use Rattle.blocks.specs.Messages.{message_count};
 
     /// Tests all messages, and marks those that would be held.
@@ -66,34 +66,69 @@ impl Block {
         let requests = mark_requests(tables, &self.home, &mut self.wires);
         let (heads, forwards) = test_links(tables, &self.lines, &mut self.wires);
         let responses = mark_responses(tables, pass, &self.home, &self.lines, &mut self.wires);
-        let ends = self.wires.request_count() as u64 + self.wires.response_count() as u64;
+        self.counted = Some(LinkCounts { heads, forwards });
         Tested {
             requests,
             heads,
             responses,
-            messages: ends + forwards,
+            messages: ends_of(&self.wires) + forwards,
         }
     }
 
-    /// The place of the k-th request that isn't marked, counted from 0, if there are so many.
-    pub fn free_request(&self, k: u32) -> Option<u64>
-        ensures { result ≡ slice_get (unmarked 0 self.now.marks.requests) k }
+    /// Tests all messages but those on the links to other caches than this one, of which this is known, and whose marks are
+    /// right. It marks those that would be held.
+    fn test_line(
+        &mut self,
+        tables: &Tables,
+        pass: bool,
+        cache: CacheId,
+        others: LinkCounts,
+    ) -> Tested
+        requires pass { pass ≡ true → ResponsesPass tables.now }
+        requires marks { AreRight tables.now self.old.state.lines self.old.state.traffic.links cache.0 self.old.marks.links }
+        requires others { AreOthers self.old.marks.links self.old.state.traffic.links cache.0 others.heads others.forwards }
+        ensures state { self.new.state ≡ self.old.state }
+        ensures space { self.new.space ≡ self.old.space }
+        ensures marks { self.new.marks ≡ marks_of tables.now self.old.state }
+        ensures requests { result.requests ≡ free_requests tables.now self.old.state }
+        ensures heads { result.heads ≡ free_heads tables.now self.old.state }
+        ensures responses { result.responses ≡ free_responses tables.now self.old.state }
+        ensures messages { result.messages ≡ message_count self.old.state.traffic }
     {
-        kth_request(&self.wires, k)
+        let requests = mark_requests(tables, &self.home, &mut self.wires);
+        let counted = test_own_link(tables, &self.lines, cache, others, &mut self.wires);
+        let responses = mark_responses(tables, pass, &self.home, &self.lines, &mut self.wires);
+        self.counted = Some(counted);
+        Tested {
+            requests,
+            heads: counted.heads,
+            responses,
+            messages: ends_of(&self.wires) + counted.forwards,
+        }
     }
 
-    /// The cache of the k-th head of a link that isn't marked, counted from 0, if there are so many.
-    pub fn free_head(&self, k: u32) -> Option<CacheId>
-        ensures { option_map (λ cache. cache.0) result ≡ slice_get (unmarked_heads 0 self.now.marks.links) k }
+    /// Tests all messages, or only those that a step at a line may have changed, where the rest is known.
+    pub(crate) fn test_after(
+        &mut self,
+        tables: &Tables,
+        pass: bool,
+        others: Option<(CacheId, LinkCounts)>,
+    ) -> Tested
+        requires pass { pass ≡ true → ResponsesPass tables.now }
+        requires marks { IfSome others (λ o. AreRight tables.now self.old.state.lines self.old.state.traffic.links o.0.0 self.old.marks.links) }
+        requires others { IfSome others (λ o. AreOthers self.old.marks.links self.old.state.traffic.links o.0.0 o.1.heads o.1.forwards) }
+        ensures state { self.new.state ≡ self.old.state }
+        ensures space { self.new.space ≡ self.old.space }
+        ensures marks { self.new.marks ≡ marks_of tables.now self.old.state }
+        ensures requests { result.requests ≡ free_requests tables.now self.old.state }
+        ensures heads { result.heads ≡ free_heads tables.now self.old.state }
+        ensures responses { result.responses ≡ free_responses tables.now self.old.state }
+        ensures messages { result.messages ≡ message_count self.old.state.traffic }
     {
-        kth_head(&self.wires, k)
-    }
-
-    /// The place of the k-th response that isn't marked, counted from 0, if there are so many.
-    pub fn free_response(&self, k: u32) -> Option<u64>
-        ensures { result ≡ slice_get (unmarked 0 self.now.marks.responses) k }
-    {
-        kth_response(&self.wires, k)
+        match others {
+            Some((cache, others)) => self.test_line(tables, pass, cache, others),
+            None => self.test_where(tables, pass),
+        }
     }
 }
 
@@ -259,6 +294,37 @@ fn test_links(tables: &Tables, lines: &Sparse<Line>, wires: &mut Wires) -> (u32,
     (heads, messages)
 }
 
+/// Tests what is on the link to a cache, where this is known of the others, and answers what is known of all.
+fn test_own_link(
+    tables: &Tables,
+    lines: &Sparse<Line>,
+    cache: CacheId,
+    others: LinkCounts,
+    wires: &mut Wires,
+) -> LinkCounts
+    requires { AreOthers wires.old.marks.links wires.old.traffic.links cache.0 others.heads others.forwards }
+    ensures traffic { wires.new.traffic ≡ wires.old.traffic }
+    ensures room { wires.new.room ≡ wires.old.room }
+    ensures marks { wires.new.marks ≡ record wires.old.marks {
+      links = slice_set wires.old.marks.links cache.0
+          (forwards_stall tables.now.cache (slice_get (lines_of lines.now.items) cache.0) (link wires.old.traffic cache.0));
+    } }
+    ensures counted { AreCounted wires.new.marks.links wires.old.traffic.links result.heads result.forwards }
+{
+    // Called for its contract: there are as many rows of marks as links.
+    let _links = wires.link_count();
+    test_link(tables, line_of(lines, cache), cache, wires);
+    with_link(others, cache, wires)
+}
+
+/// How many requests and responses there are.
+fn ends_of(wires: &Wires) -> u64
+    ensures count { result ≡ length wires.now.traffic.requests + length wires.now.traffic.responses }
+    ensures few { result ≤ 2 * (2 ^ 32 - 1) }
+{
+    u64::from(wires.request_count()) + u64::from(wires.response_count())
+}
+
 /// Tests all responses, and answers how many wouldn't be held.
 fn test_responses(tables: &Tables, home: &Home, lines: &Sparse<Line>, wires: &mut Wires) -> u32
     ensures traffic { wires.new.traffic ≡ wires.old.traffic }
@@ -279,53 +345,4 @@ fn test_responses(tables: &Tables, home: &Home, lines: &Sparse<Line>, wires: &mu
         }
     }
     free
-}
-
-fn kth_request(wires: &Wires, k: u32) -> Option<u64>
-    ensures { result ≡ slice_get (unmarked 0 wires.now.marks.requests) k }
-{
-    let mut left = k;
-    for index in 0..wires.request_count() as u64 {
-        if !wires.is_request_held(index) {
-            if left == 0 {
-                return Some(index);
-            }
-            left -= 1;
-        }
-    }
-    None
-}
-
-fn kth_head(wires: &Wires, k: u32) -> Option<CacheId>
-    ensures { option_map (λ cache. cache.0) result ≡ slice_get (unmarked_heads 0 wires.now.marks.links) k }
-{
-    let mut left = k;
-    let mut from = 0;
-    let links = wires.link_count();
-    while from < links {
-        let cache = wires.next_waiting(from)?;
-        if !wires.is_head_held(cache) {
-            if left == 0 {
-                return Some(cache);
-            }
-            left -= 1;
-        }
-        from = cache.0 + 1;
-    }
-    None
-}
-
-fn kth_response(wires: &Wires, k: u32) -> Option<u64>
-    ensures { result ≡ slice_get (unmarked 0 wires.now.marks.responses) k }
-{
-    let mut left = k;
-    for index in 0..wires.response_count() as u64 {
-        if !wires.is_response_held(index) {
-            if left == 0 {
-                return Some(index);
-            }
-            left -= 1;
-        }
-    }
-    None
 }

@@ -9,4 +9,5 @@ invariant-loop-action l = record {
   traffic : all_sent (line_messages l.cache l.value l.to (drop l.action-index l.actions)) l.wires.traffic
       ≡ all_sent (line_messages l.cache l.value l.to l.actions) l.fn.wires.traffic;
   room : HasRoomFor (line_messages l.cache l.value l.to (drop l.action-index l.actions)) l.wires.room;
+  links : l.wires.marks.links ≡ l.fn.wires.marks.links;
 }

@@ -2,15 +2,6 @@ use Rattle.std.proofs.Common.{arith}
 use Rattle.std.proofs.lemmas.Grind.{common_steps}
 use Rattle.blocks.proofs.block.Block.test_where.Goals as goal
 
-pub overflow_cast-ends : goal.overflow_cast-ends
-overflow_cast-ends c = grind (arith, common_steps)
-
-pub overflow_cast-ends-2 : goal.overflow_cast-ends-2
-overflow_cast-ends-2 c = grind (arith, common_steps)
-
-pub overflow_add-ends : goal.overflow_add-ends
-overflow_add-ends c = grind (arith, common_steps)
-
 pub overflow_add-result : goal.overflow_add-result
 overflow_add-result c = grind (arith, common_steps)
 

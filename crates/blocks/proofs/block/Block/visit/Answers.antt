@@ -4,6 +4,7 @@ use Rattle.machine.specs.Transition.{Transition, carried_out, messages_of}
 use Rattle.blocks.specs.Marking.{marks_of}
 use Rattle.blocks.specs.Messages.{message_count}
 use Rattle.blocks.proofs.Passing.{decided-at}
+use Rattle.blocks.proofs.Relinking.{others-after, right-after, some-map}
 use Rattle.blocks.proofs.Sends.{sends-counted}
 use Rattle.blocks.proofs.block.Block.visit.Goals as goal
 
@@ -12,10 +13,10 @@ returns-clause-sent c =
     let d = c.decide-decision.result in
     let before = c.args.self.now.state in
     let counted = sends-counted d before c.decide-decision.ensures.among c.decide-decision.ensures.fits in
-    let made = ap (carried_out d) (sym c.prepare.ensures.state) ∙ c.carry_out-outcome.ensures in
+    let made = ap (carried_out d) (sym c.prepare.ensures.state) ∙ c.carry_out-outcome.ensures.done in
     let same = ap (λ (t : Transition). message_count t.block.traffic) made in
-    subst (λ e. length (messages_of e before) ≤ c.test_where-tested.result.messages) c.decide-decision.ensures.decision
-    (omega (arith, counted, same, c.test_where-tested.ensures.messages))
+    subst (λ e. length (messages_of e before) ≤ c.test_after-tested.result.messages) c.decide-decision.ensures.decision
+    (omega (arith, counted, same, c.test_after-tested.ensures.messages))
 
 pub returns-in-Refused-clause-ok : goal.returns-in-Refused-clause-ok
 returns-in-Refused-clause-ok c = grind (arith, common_steps)
@@ -55,4 +56,25 @@ returns-in-Err c =
       err = c.prepare.ensures.state;
       succeeds = λ space. c.in-Err.ensures.succeeds (rw c.decide-decision.ensures.decision space);
       sends_nothing = λ none asleep. grind (arith, common_steps);
+    }
+
+pub test_after-tested-requires : goal.test_after-tested-requires
+test_after-tested-requires c =
+    let before = c.args.self.now.state in
+    let marks = c.args.self.now.marks in
+    let after = c.carry_out-outcome.new.self in
+    let done = ap (carried_out c.decide-decision.result) (sym c.prepare.ensures.state) ∙ c.carry_out-outcome.ensures.done in
+    record {
+      pass = c.requires.pass;
+      marks =
+          some-map c.others-others.result
+          (λ o known. right-after c.args.tables.now c.decide-decision.result before after.state c.carry_out-outcome.result marks after.marks o.0
+          c.requires.marks known.0 done
+          (rw (c.prepare.ensures.state, c.prepare.ensures.marks) at c.carry_out-outcome.ensures.links o.0 known.0))
+          c.others-others.ensures;
+      others =
+          some-map c.others-others.result
+          (λ o known. others-after c.args.tables.now before after.state marks after.marks o.0 o.1.heads o.1.forwards c.requires.marks known.1
+          (rw (c.prepare.ensures.state, c.prepare.ensures.marks) at c.carry_out-outcome.ensures.links o.0 known.0))
+          c.others-others.ensures;
     }

@@ -1,8 +1,8 @@
 use Rattle.std.proofs.Common.{◌+◌, ◌∙◌, sym, ap, refl, arith, drop, slice_get}
 use Rattle.blocks.specs.Marking.{unmarked}
 use Rattle.blocks.proofs.UnmarkedPlaces.{kth-held, kth-here, kth-behind, kth-none}
-use Rattle.blocks.proofs.block.testing.kth_response.Goals as goal
-use Rattle.blocks.proofs.block.testing.kth_response.Goals.{then-not-is_response_held+else-left-eq0, else-not-is_response_held}
+use Rattle.blocks.proofs.block.free.kth_response.Goals as goal
+use Rattle.blocks.proofs.block.free.kth_response.Goals.{then-not-is_response_held+else-left-eq0, else-not-is_response_held}
 
 pub loop-index-init : goal.loop-index-init
 loop-index-init c = refl

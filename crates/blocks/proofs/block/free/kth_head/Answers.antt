@@ -2,8 +2,8 @@ use Rattle.std.proofs.Common.{◌+◌, ◌∙◌, sym, ap, arith, drop, slice_ge
 use Rattle.blocks.specs.Marking.{unmarked_heads}
 use Rattle.blocks.proofs.TestedMarks.{kth-free_link, kth-held_link, kth-link_behind, kth-no_link}
 use Rattle.blocks.proofs.UnmarkedHeads.{kth-head-end}
-use Rattle.blocks.proofs.block.testing.kth_head.Goals as goal
-use Rattle.blocks.proofs.block.testing.kth_head.Goals.{then-not-is_head_held+else-left-eq0, else-not-is_head_held}
+use Rattle.blocks.proofs.block.free.kth_head.Goals as goal
+use Rattle.blocks.proofs.block.free.kth_head.Goals.{then-not-is_head_held+else-left-eq0, else-not-is_head_held}
 
 pub returns-in_err-cache : goal.returns-in_err-cache
 returns-in_err-cache c =

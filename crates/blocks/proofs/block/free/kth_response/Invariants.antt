@@ -1,6 +1,6 @@
 use Rattle.std.proofs.Common.{◌≡◌, drop, slice_get}
 use Rattle.blocks.specs.Marking.{unmarked}
-use Rattle.blocks.proofs.block.testing.kth_response.Given as goal
+use Rattle.blocks.proofs.block.free.kth_response.Given as goal
 
 abbrev pub invariant-loop-index : goal.invariant-loop-index
 invariant-loop-index l =
