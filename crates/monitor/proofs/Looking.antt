@@ -1,6 +1,6 @@
 -- What the looks at the writer and the readers of a block say of its caches.
 use Rattle.std.proofs.Common.{◌≡◌, ◌≤◌, ◌<◌, ◌+◌, ℕ, zero, suc, false, List, [], ◌∷◌, Option, Some, None, IsTrue, MatchOption}
-use Rattle.std.proofs.Common.{cond, count_by, slice_get, refl, ap, subst, arith, inl, inr}
+use Rattle.std.proofs.Common.{◌⊎◌, IfNone, IfSome, cond, count_by, slice_get, refl, sym, ap, subst, arith, inl, inr}
 use Rattle.std.proofs.lemmas.Bool.{cases_Bool}
 use Rattle.std.proofs.lemmas.List.Sums.{sum_by-cons}
 use Rattle.std.specs.Option.{option_and_then, option_map_or, IsSomeAnd}
@@ -134,3 +134,24 @@ none-shared scene few (WriterBesideReader block writer reader) low high s =
     s.1.beside.holds.0
     (one-reader scene.state at reader.0 writer.0 few s.1.beside.holds.1 (writes-reads scene.state writer.0 at s.1.writes.holds))
 none-shared scene few (StaleLoad block got due) low high s = absurd (omega (arith, high))
+
+-- where no cache may write, there is neither a second writer nor a reader beside one
+pub none-writes : (scene : Scene) → NoneFrom (λ c. Writes scene.state c (block_of scene.step)) 0 → ShowsNone scene 1 3
+none-writes scene none (Blank at block) low high s = absurd (omega (arith, low))
+none-writes scene none (SecondWriter block first second) low high s = none first.0 (omega arith) s.1.least.holds
+none-writes scene none (WriterBesideReader block writer reader) low high s = none writer.0 (omega arith) s.1.writes.holds
+none-writes scene none (StaleLoad block got due) low high s = absurd (omega (arith, high))
+
+-- what a look for a crowded writer says
+pub crowded-some : (s : State) (block : ℕ) (found : Option CacheId) → IfSome found (λ cache. Some cache ≡ writer_of s block) →
+    IfSome found (λ cache. IsLeastFrom (λ c. Writes s c block) 0 cache.0)
+crowded-some s block None h = tt
+crowded-some s block (Some cache) h =
+    subst (λ o. MatchOption o (NoneFrom (λ c. Writes s c block) 0) (λ cache. IsLeastFrom (λ c. Writes s c block) 0 cache.0)) (sym h) (writer-is s block)
+
+pub crowded-none : (s : State) (block : ℕ) (found : Option CacheId) → IfNone found ((readers_of s block ≤ 1) ⊎ (None ≡ writer_of s block)) →
+    IfNone found ((readers_of s block ≤ 1) ⊎ NoneFrom (λ c. Writes s c block) 0)
+crowded-none s block None (inl few) = inl few
+crowded-none s block None (inr none) =
+    inr (subst (λ o. MatchOption o (NoneFrom (λ c. Writes s c block) 0) (λ cache. IsLeastFrom (λ c. Writes s c block) 0 cache.0)) (sym none) (writer-is s block))
+crowded-none s block (Some cache) h = tt

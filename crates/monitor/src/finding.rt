@@ -1,4 +1,5 @@
-ghost use Rattle.std.specs.Prelude.{◌≡◌, ◌≢◌, ◌+◌, ◌≤◌, ◌↔◌, ℕ, IsTrue, MatchOption, None, Option};
+ghost use Rattle.std.specs.Prelude.{◌≡◌, ◌≢◌, ◌+◌, ◌≤◌, ◌↔◌, ◌⊎◌, ℕ, IfNone, IfSome, IsTrue, MatchOption, None, Option};
+ghost use Rattle.world.specs.Looks.{readers_of};
 ghost use Rattle.base.specs.Steps.{block_of};
 ghost use Rattle.base.specs.declared.step.Outcome.{Outcome};
 ghost use Rattle.machine.specs.Machine.{State};
@@ -62,11 +63,8 @@ fn find_shared(world: &World, step: Step) -> Option<Violation>
     ensures { (outcome : Outcome) (due : Option ℕ) → IsLookedAt outcome → AnswersWithin (scene_in world.now.state step outcome due) 1 3 result }
 {
     let block = step.block();
-    let first = first_writer(world, block)?;
     // A writer may read too, so a single reader is the writer.
-    if world.readers(block) <= 1 {
-        return None;
-    }
+    let first = crowded_writer(world, block)?;
     if let Some(second) = writer_behind(world, block, first) {
         return Some(Violation::SecondWriter {
             block,
@@ -102,13 +100,12 @@ fn find_stale(step: Step, outcome: Outcome, due: Option<u64>) -> Option<Violatio
     }
 }
 
-/// The least cache that may write a block.
-fn first_writer(world: &World, block: BlockId) -> Option<CacheId>
-    ensures { MatchOption result
-        (NoneFrom (λ c. Writes world.now.state c block.0) 0)
-        (λ cache. IsLeastFrom (λ c. Writes world.now.state c block.0) 0 cache.0) }
+/// The least cache that may write a block which more than one may read.
+fn crowded_writer(world: &World, block: BlockId) -> Option<CacheId>
+    ensures some { IfSome result (λ cache. IsLeastFrom (λ c. Writes world.now.state c block.0) 0 cache.0) }
+    ensures none { IfNone result ((readers_of world.now.state block.0 ≤ 1) ⊎ NoneFrom (λ c. Writes world.now.state c block.0) 0) }
 {
-    world.writer(block)
+    world.crowded_writer(block)
 }
 
 /// The least cache behind one that may write a block.

@@ -29,7 +29,7 @@ enum Found<'a> {
 }
 
 impl World {
-    ghost use Rattle.std.specs.Prelude.{◌≡◌, ◌<◌, ◌↔◌, IsSome, IsTrue, List, ℕ, slice_get};
+    ghost use Rattle.std.specs.Prelude.{◌≡◌, ◌<◌, ◌≤◌, ◌↔◌, ◌⊎◌, IfNone, IfSome, IsSome, IsTrue, List, None, Some, ℕ, slice_get};
     ghost use Rattle.std.specs.Option.{option_map};
     ghost use Rattle.world.specs.inner.Found.{is_held_found, state_found};
     ghost use Rattle.base.specs.Steps.{block_of};
@@ -141,6 +141,18 @@ impl World {
         match self.find(block.0)? {
             Found::Kept(block) => block.writer(),
             Found::Opened(_) => None,
+        }
+    }
+
+    /// The least cache in M, where more than one cache is in S, SM^AD, SM^A or M and the block is in the shape. It takes one
+    /// look where [`writer`](World::writer) and [`readers`](World::readers) take two.
+    pub fn crowded_writer(&self, block: BlockId) -> Option<CacheId>
+        ensures some { IfSome result (λ cache. Some cache ≡ writer_of self.now.state block.0) }
+        ensures none { IfNone result ((readers_of self.now.state block.0 ≤ 1) ⊎ (None ≡ writer_of self.now.state block.0)) }
+    {
+        match self.find(block.0) {
+            Some(Found::Kept(block)) => block.crowded_writer(),
+            Some(Found::Opened(_)) | None => None,
         }
     }
 
