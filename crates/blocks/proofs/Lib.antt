@@ -15,3 +15,4 @@ pub mod TestedMarks
 pub mod Holding
 pub mod Passing
 pub mod Relinking
+pub mod Asked

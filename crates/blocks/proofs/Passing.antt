@@ -1,6 +1,5 @@
 -- Marks where nothing is held, and where a cell acts.
-use Rattle.std.proofs.Common.{◌≡◌, ◌≢◌, ◌+◌, ℕ, Option, List, [], ◌∷◌, Bool, true, false, not, if◌then◌else◌, map, length, ap, refl, sym, ◌∙◌, arith, Some, None, slice_get}
-use Rattle.std.proofs.lemmas.List.{length-map}
+use Rattle.std.proofs.Common.{◌≡◌, ◌≢◌, ℕ, Option, List, [], ◌∷◌, Bool, true, false, if◌then◌else◌, map, length, ap, refl, sym, ◌∙◌, arith, Some, None, slice_get}
 use Rattle.std.proofs.lemmas.List.Sums.{sum_by-cons}
 use Rattle.base.specs.declared.step.Step.{Step}
 use Rattle.base.specs.declared.step.Step.TheVariants as step
@@ -39,9 +38,7 @@ use Rattle.machine.specs.declared.decision.Origin.{Origin}
 use Rattle.blocks.specs.Kept.{acts}
 use Rattle.blocks.specs.Looks.{place_in, cache_place, forward_place, request_place, response_place}
 use Rattle.blocks.specs.Marking.{unmarked_count}
-use Rattle.blocks.specs.Passing.{IsClear}
 use Rattle.blocks.specs.inner.Placed.{decided_place}
-use Rattle.blocks.specs.inner.Tested.{requests_stall}
 
 -- where no element is marked, the marks are those that were all taken back
 pub none-marked : {X : Type 0} (f : X → Bool) (xs : List X) (marks : List Bool) → length marks ≡ length xs → ((x : X) → f x ≡ false) → unset marks ≡ map f xs

@@ -1,5 +1,5 @@
 -- What a step at a line leaves of the links: all but its own, as numbers and as marks.
-use Rattle.std.proofs.Common.{◌≡◌, ◌≢◌, ◌≤◌, ◌<◌, ◌+◌, ◌-◌, ◌*◌, ◌^◌, ℕ, List, [], ◌∷◌, Bool, true, false, not, if◌then◌else◌, Option, None, Some, length, map, remove, get_or, set, slice_set, slice_index_or}
+use Rattle.std.proofs.Common.{◌≡◌, ◌≢◌, ◌≤◌, ◌<◌, ◌+◌, ℕ, List, [], ◌∷◌, Bool, not, if◌then◌else◌, Option, None, Some, length, map, remove, get_or, set, slice_set, slice_index_or}
 use Rattle.std.proofs.Common.{inl, inr, refl, sym, ap, ◌∙◌, arith, zero, suc, zero-add}
 use Rattle.std.specs.List.{sum_by}
 use Rattle.std.proofs.lemmas.Bool.{cases_eq, cases_lt}
@@ -8,7 +8,7 @@ use Rattle.std.proofs.lemmas.List.{ext_get_or, get_or-set_other, get_or-set_same
 use Rattle.std.proofs.lemmas.List.Sums.{sum_by-set}
 use Rattle.base.specs.declared.ids.CacheId.{CacheId}
 use Rattle.network.specs.declared.message.Forward.{Forward}
-use Rattle.network.specs.Traffic.{Traffic, all_sent, link}
+use Rattle.network.specs.Traffic.{Traffic, all_sent}
 use Rattle.network.proofs.Sending.{all_sent-append}
 use Rattle.cache_table.specs.declared.actions.CacheAction.{CacheAction}
 use Rattle.cache_table.specs.declared.actions.CacheAction.TheVariants as action
@@ -16,7 +16,7 @@ use Rattle.control.specs.LineEffect.{line_message, line_messages}
 use Rattle.control.specs.declared.line.Line.{Line}
 use Rattle.both_tables.specs.Tables.{Tables}
 use Rattle.blocks.specs.Marking.{is_stopped, link_stalls, links_stall, marks_of, unmarked_heads_count}
-use Rattle.blocks.specs.inner.Linking.{AreCounted, AreOthers, AreRight, IsAtOwn, IsRelinked, free_in}
+use Rattle.blocks.specs.inner.Linking.{AreOthers, AreRight, IsAtOwn, IsRelinked, free_in}
 use Rattle.blocks.proofs.CountChanges.{heads-count-set}
 use Rattle.std.specs.Option.{IfSome}
 use Rattle.base.specs.declared.step.Outcome.{Outcome}
@@ -197,6 +197,11 @@ relinked-marked cache marks links ms = record {
 pub some-map : {X : Type 0} {P Q : X → Type 0} (o : Option X) → ((x : X) → P x → Q x) → IfSome o P → IfSome o Q
 some-map None f h = tt
 some-map (Some x) f h = f x h
+
+-- two facts of what there is, if there is something
+pub some-both : {X : Type 0} (P Q : X → Type 0) (o : Option X) → IfSome o P → IfSome o Q → IfSome o (λ x. P x × Q x)
+some-both P Q None p q = tt
+some-both P Q (Some x) p q = (p, q)
 
 -- only the line of its cache is another
 pub lines-at : (d : Decision) (b new : BlockState) (what : Outcome) (own : CacheId) → IsAtOwn d own → carried_out d b ≡ moved_to new what →

@@ -3,3 +3,4 @@ pub mod Held
 pub mod Tested
 pub mod Placed
 pub mod Linking
+pub mod Asked

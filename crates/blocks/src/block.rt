@@ -13,7 +13,7 @@ pub use acting::{Made, Visit};
 pub use asking::{HeldAsks, held_asks_opened};
 use base::{CacheId, NoMemory};
 use control::{Home, Line};
-use counting::LinkCounts;
+use counting::Counts;
 pub use deciding::{decide_opened, opened_line};
 use directory_table::DirectoryState;
 pub use looking::{foreseen, is_held_opened, is_stall};
@@ -34,12 +34,13 @@ pub struct Block {
     wires: Wires,
     latest: u64,
     access: Access,
-    // What is on the links and which of their heads are marked, by numbers, where that is known.
-    counted: Option<LinkCounts>,
+    // What the last test of all messages counted, where nothing has changed since.
+    counted: Option<Counts>,
 }
 
 impl Model for Block {
-    ghost use Rattle.std.specs.Prelude.{IfSome};
+    ghost use Rattle.std.specs.Prelude.{◌≡◌, IfSome};
+    ghost use Rattle.blocks.specs.Marking.{unmarked_count};
     ghost use Rattle.blocks.specs.inner.Linking.{AreCounted};
     ghost use Rattle.blocks.specs.Kept.{Kept};
     ghost use Rattle.blocks.specs.inner.Held.{IsHeld, kept_lines, lines_of};
@@ -58,7 +59,8 @@ impl Model for Block {
       traffic = b.wires.traffic;
       latest = b.latest;
     }) b.lines.items b.access.readers b.access.writers ×
-        IfSome b.counted (λ k. AreCounted b.wires.marks.links b.wires.traffic.links k.heads k.forwards) };
+        IfSome b.counted (λ k. (k.requests ≡ unmarked_count b.wires.marks.requests) ×
+        AreCounted b.wires.marks.links b.wires.traffic.links k.links.heads k.links.forwards) };
 }
 
 impl Block {

@@ -3,3 +3,4 @@ pub mod HomeSends
 pub mod HomeCounts
 pub mod HomeLinks
 pub mod Shared
+pub mod Fronts

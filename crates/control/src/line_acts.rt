@@ -1,4 +1,4 @@
-ghost use Rattle.std.specs.Prelude.{◌≡◌, IsOk, IfOk, OnOk, OnErr};
+ghost use Rattle.std.specs.Prelude.{◌≡◌, IsOk, IfOk, OnOk, OnErr, length, take};
 ghost use Rattle.network.specs.declared.message.Message.TheVariants as message;
 ghost use Rattle.network.specs.declared.message.Response.TheVariants as response;
 ghost use Rattle.network.specs.Traffic.{all_sent};
@@ -30,11 +30,13 @@ fn data(from: CacheId, to: Place, value: u64) -> Message
 }
 
 /// Does one action of a line.
+#[tactic(auto, using(crate::proofs::Fronts::fronts))]
 fn send(action: CacheAction, cache: CacheId, value: u64, to: Option<CacheId>, wires: &mut Wires)
     requires { HasRoomFor (line_message cache value to action) wires.old.room }
     ensures traffic { wires.new.traffic ≡ all_sent (line_message cache value to action) wires.old.traffic }
     ensures room { UsesRoomFor (line_message cache value to action) wires.old.room wires.new.room }
     ensures links { wires.new.marks.links ≡ wires.old.marks.links }
+    ensures requests { take (length wires.old.marks.requests) wires.new.marks.requests ≡ wires.old.marks.requests }
 {
     match action {
         CacheAction::GetS => wires.place(request(RequestKind::GetS, cache)),
@@ -56,6 +58,7 @@ fn send(action: CacheAction, cache: CacheId, value: u64, to: Option<CacheId>, wi
 }
 
 /// Does the actions of a line in order.
+#[tactic(auto, using(crate::proofs::Fronts::fronts))]
 fn send_all(
     actions: &[CacheAction],
     cache: CacheId,
@@ -66,6 +69,7 @@ fn send_all(
     requires { HasRoomFor (line_messages cache value to actions.now) wires.old.room }
     ensures traffic { wires.new.traffic ≡ all_sent (line_messages cache value to actions.now) wires.old.traffic }
     ensures links { wires.new.marks.links ≡ wires.old.marks.links }
+    ensures requests { take (length wires.old.marks.requests) wires.new.marks.requests ≡ wires.old.marks.requests }
 {
     for action in actions {
         send(*action, cache, value, to, wires);
@@ -102,6 +106,7 @@ pub fn line_perform(
     ensures line { line.new ≡ line_after input next line.old }
     ensures traffic { wires.new.traffic ≡ all_sent (line_sends cache input actions line.old) wires.old.traffic }
     ensures links { wires.new.marks.links ≡ wires.old.marks.links }
+    ensures requests { take (length wires.old.marks.requests) wires.new.marks.requests ≡ wires.old.marks.requests }
 {
     *line = move_on(*line, input, next);
     send_all(

@@ -27,9 +27,10 @@ pub record AreOthers (marks : List (List Bool)) (links : List (List Forward)) (c
   pub forwards : there + length (slice_index_or links cache []) ≡ sum_by length links
   pub few : sum_by length links ≤ (2 ^ 32 - 1) * (2 ^ 32 - 1)
 
--- an input at the line of a cache comes from no other cache's link
+-- an input at the line of a cache comes from no other cache's link, and is no request
 abbrev pub IsOwn : Origin → CacheId → Type 0
 IsOwn (origin.Head link) cache = link.0 ≡ cache.0
+IsOwn (origin.Request index) cache = ⊥
 IsOwn other cache = Unit {0}
 
 -- a cell acts at the line of this cache, on an input from no other cache's link

@@ -36,7 +36,7 @@ pub struct Visit {
 }
 
 impl Block {
-    ghost use Rattle.std.specs.Prelude.{◌≡◌, ◌≤◌, [], IfOk, IsOk, OnOk, OnErr, false, true, length};
+    ghost use Rattle.std.specs.Prelude.{◌≡◌, ◌≤◌, [], IfOk, IsOk, OnOk, OnErr, false, true, length, take};
     ghost use Rattle.base.specs.declared.ids.CacheId.{CacheId};
     ghost use Rattle.blocks.specs.Looks.{place_in};
     ghost use Rattle.blocks.specs.inner.Linking.{IsAtOwn, IsRelinked};
@@ -108,6 +108,8 @@ impl Block {
         ensures done { carried_out decision.now self.old.state ≡ moved_to self.new.state result }
         ensures links { (cache : CacheId) → IsAtOwn decision.now cache →
             IsRelinked cache.0 self.old.marks.links self.old.state.traffic.links self.new.marks.links self.new.state.traffic.links }
+        ensures requests { (cache : CacheId) → IsAtOwn decision.now cache →
+            take (length self.old.marks.requests) self.new.marks.requests ≡ self.old.marks.requests }
     {
         self.counted = None;
         match *decision {
@@ -228,6 +230,7 @@ fn take(wires: &mut Wires, from: Origin)
     ensures room { UsesRoomFor [] wires.old.room wires.new.room }
     ensures links { (cache : CacheId) → IsOwn from cache →
         IsRelinked cache.0 wires.old.marks.links wires.old.traffic.links wires.new.marks.links wires.new.traffic.links }
+    ensures requests { (cache : CacheId) → IsOwn from cache → wires.new.marks.requests ≡ wires.old.marks.requests }
 {
     match from {
         Origin::Core => {}

@@ -1,4 +1,5 @@
-//! What is on the links of a block, by numbers: it is kept from step to step, as a step at a line changes one link at most.
+//! What is on the wires of a block, by numbers: it is kept from step to step, as a step at a line changes one link at most, and
+//! leaves the requests that there are.
 
 ghost use Rattle.std.specs.Prelude.{◌≡◌, ◌<◌, [], true, length, slice_index_or};
 ghost use Rattle.blocks.specs.inner.Linking.{AreCounted, AreOthers, IsOwn, free_in};
@@ -15,16 +16,39 @@ pub(crate) struct LinkCounts {
     pub(crate) forwards: u64,
 }
 
+/// What a test of all messages of a block counted.
+#[derive(Clone, Copy)]
+pub(crate) struct Counts {
+    /// How many requests wouldn't be held.
+    pub(crate) requests: u32,
+    pub(crate) links: LinkCounts,
+}
+
+/// What a step at the line of a cache leaves as it is.
+#[derive(Clone, Copy)]
+pub(crate) struct Others {
+    pub(crate) cache: CacheId,
+    /// All links but that to the cache.
+    pub(crate) links: LinkCounts,
+    /// How many requests there are, and how many of them wouldn't be held.
+    pub(crate) requests: u32,
+    pub(crate) free: u32,
+}
+
 impl Block {
-    ghost use Rattle.std.specs.Prelude.{IfSome};
+    ghost use Rattle.std.specs.Prelude.{◌≡◌, IfSome, length};
+    ghost use Rattle.blocks.specs.Marking.{unmarked_count};
     ghost use Rattle.blocks.specs.inner.Linking.{AreOthers, IsAtOwn};
 
-    /// The cache at whose line a decision has its cell act, and what is known of all links but its own, if that is known and
-    /// the input comes from none of them.
+    /// The cache at whose line a decision has its cell act, and what is known of the requests and of all links but its own, if
+    /// that is known and the input comes from none of them.
     #[inline(always)]
-    pub(crate) fn others(&self, decision: &Decision) -> Option<(CacheId, LinkCounts)>
-        ensures { IfSome result (λ o. IsAtOwn decision.now o.0 ×
-            AreOthers self.now.marks.links self.now.state.traffic.links o.0.0 o.1.heads o.1.forwards) }
+    pub(crate) fn others(&self, decision: &Decision) -> Option<Others>
+        ensures own { IfSome result (λ o. IsAtOwn decision.now o.cache) }
+        ensures links { IfSome result (λ o.
+            AreOthers self.now.marks.links self.now.state.traffic.links o.cache.0 o.links.heads o.links.forwards) }
+        ensures requests { IfSome result (λ o. o.requests ≡ length self.now.state.traffic.requests) }
+        ensures free { IfSome result (λ o. o.free ≡ unmarked_count self.now.marks.requests) }
     {
         let counted = self.counted?;
         match *decision {
@@ -32,20 +56,26 @@ impl Block {
                 if !is_own(origin, cache) {
                     return None;
                 }
-                Some((cache, without_link(counted, cache, &self.wires)))
+                Some(Others {
+                    cache,
+                    links: without_link(counted.links, cache, &self.wires),
+                    requests: self.wires.request_count(),
+                    free: counted.requests,
+                })
             }
             Decision::Refused(_) | Decision::AtHome { .. } => None,
         }
     }
 }
 
-/// Whether an input at the line of a cache comes from no other cache's link.
+/// Whether an input at the line of a cache comes from no other cache's link, and is no request.
 fn is_own(origin: Origin, cache: CacheId) -> bool
     ensures { result ≡ true → IsOwn origin cache }
 {
     match origin {
         Origin::Head(link) => link.0 == cache.0,
-        Origin::Core | Origin::Request(_) | Origin::Response(_) => true,
+        Origin::Core | Origin::Response(_) => true,
+        Origin::Request(_) => false,
     }
 }
 

@@ -4,11 +4,12 @@ ghost use Rattle.blocks.specs.Passing.{ResponsesPass};
 ghost use Rattle.std.specs.List.{sum_by};
 ghost use Rattle.network.specs.Traffic.{Traffic, link};
 ghost use Rattle.blocks.specs.Marking.{home_stalls, line_stalls, response_stalls, links_stall, marks_of, free_responses, unmarked_count, unmarked_heads_count};
+ghost use Rattle.blocks.specs.inner.Asked.{AreFirstRight};
 ghost use Rattle.blocks.specs.inner.Held.{lines_of};
 ghost use Rattle.blocks.specs.inner.Linking.{AreCounted, AreOthers};
 ghost use Rattle.blocks.specs.inner.Tested.{block_of, forwards_stall, requests_stall};
 
-use crate::block::counting::{LinkCounts, with_link};
+use crate::block::counting::{Counts, LinkCounts, Others, with_link};
 use crate::block::passing::is_clear;
 use crate::block::{Block, opened_line};
 use base::{CacheId, Place};
@@ -34,7 +35,9 @@ pub struct Tested {
 
 impl Block {
     ghost use Rattle.std.specs.Prelude.{◌≡◌, true, IfSome};
+    ghost use Rattle.blocks.specs.inner.Asked.{AreFirstRight};
     ghost use Rattle.blocks.specs.inner.Linking.{AreOthers, AreRight};
+    ghost use Rattle.blocks.specs.inner.Tested.{requests_stall};
     ghost use Rattle.blocks.specs.Passing.{ResponsesPass};
     ghost use Rattle.blocks.specs.Marking.{free_requests, free_heads, free_responses, marks_of};
     ghost use Rattle.blocks.specs.Messages.{message_count};
@@ -66,7 +69,10 @@ impl Block {
         let requests = mark_requests(tables, &self.home, &mut self.wires);
         let (heads, forwards) = test_links(tables, &self.lines, &mut self.wires);
         let responses = mark_responses(tables, pass, &self.home, &self.lines, &mut self.wires);
-        self.counted = Some(LinkCounts { heads, forwards });
+        self.counted = Some(Counts {
+            requests,
+            links: LinkCounts { heads, forwards },
+        });
         Tested {
             requests,
             heads,
@@ -75,18 +81,14 @@ impl Block {
         }
     }
 
-    /// Tests all messages but those on the links to other caches than this one, of which this is known, and whose marks are
-    /// right. It marks those that would be held.
-    fn test_line(
-        &mut self,
-        tables: &Tables,
-        pass: bool,
-        cache: CacheId,
-        others: LinkCounts,
-    ) -> Tested
+    /// Tests all messages but those of which this is known, and whose marks are right: the requests that there were before
+    /// a step at the line of a cache, and what is on the links to other caches. It marks those that would be held.
+    fn test_line(&mut self, tables: &Tables, pass: bool, others: Others) -> Tested
         requires pass { pass ≡ true → ResponsesPass tables.now }
-        requires marks { AreRight tables.now self.old.state.lines self.old.state.traffic.links cache.0 self.old.marks.links }
-        requires others { AreOthers self.old.marks.links self.old.state.traffic.links cache.0 others.heads others.forwards }
+        requires marks { AreRight tables.now self.old.state.lines self.old.state.traffic.links others.cache.0 self.old.marks.links }
+        requires links { AreOthers self.old.marks.links self.old.state.traffic.links others.cache.0 others.links.heads others.links.forwards }
+        requires requests { AreFirstRight others.requests others.free self.old.marks.requests
+            (requests_stall tables.now.directory self.old.state.home self.old.state.traffic.requests) }
         ensures state { self.new.state ≡ self.old.state }
         ensures space { self.new.space ≡ self.old.space }
         ensures marks { self.new.marks ≡ marks_of tables.now self.old.state }
@@ -95,15 +97,27 @@ impl Block {
         ensures responses { result.responses ≡ free_responses tables.now self.old.state }
         ensures messages { result.messages ≡ message_count self.old.state.traffic }
     {
-        let requests = mark_requests(tables, &self.home, &mut self.wires);
-        let counted = test_own_link(tables, &self.lines, cache, others, &mut self.wires);
+        let requests = test_requests(
+            tables,
+            &self.home,
+            others.requests,
+            others.free,
+            &mut self.wires,
+        );
+        let links = test_own_link(
+            tables,
+            &self.lines,
+            others.cache,
+            others.links,
+            &mut self.wires,
+        );
         let responses = mark_responses(tables, pass, &self.home, &self.lines, &mut self.wires);
-        self.counted = Some(counted);
+        self.counted = Some(Counts { requests, links });
         Tested {
             requests,
-            heads: counted.heads,
+            heads: links.heads,
             responses,
-            messages: ends_of(&self.wires) + counted.forwards,
+            messages: ends_of(&self.wires) + links.forwards,
         }
     }
 
@@ -112,11 +126,14 @@ impl Block {
         &mut self,
         tables: &Tables,
         pass: bool,
-        others: Option<(CacheId, LinkCounts)>,
+        others: Option<Others>,
     ) -> Tested
         requires pass { pass ≡ true → ResponsesPass tables.now }
-        requires marks { IfSome others (λ o. AreRight tables.now self.old.state.lines self.old.state.traffic.links o.0.0 self.old.marks.links) }
-        requires others { IfSome others (λ o. AreOthers self.old.marks.links self.old.state.traffic.links o.0.0 o.1.heads o.1.forwards) }
+        requires marks { IfSome others (λ o. AreRight tables.now self.old.state.lines self.old.state.traffic.links o.cache.0 self.old.marks.links) }
+        requires links { IfSome others (λ o.
+            AreOthers self.old.marks.links self.old.state.traffic.links o.cache.0 o.links.heads o.links.forwards) }
+        requires requests { IfSome others (λ o. AreFirstRight o.requests o.free self.old.marks.requests
+            (requests_stall tables.now.directory self.old.state.home self.old.state.traffic.requests)) }
         ensures state { self.new.state ≡ self.old.state }
         ensures space { self.new.space ≡ self.old.space }
         ensures marks { self.new.marks ≡ marks_of tables.now self.old.state }
@@ -126,7 +143,7 @@ impl Block {
         ensures messages { result.messages ≡ message_count self.old.state.traffic }
     {
         match others {
-            Some((cache, others)) => self.test_line(tables, pass, cache, others),
+            Some(others) => self.test_line(tables, pass, others),
             None => self.test_where(tables, pass),
         }
     }
@@ -201,7 +218,7 @@ fn mark_requests(tables: &Tables, home: &Home, wires: &mut Wires) -> u32
         wires.unmark_requests();
         return wires.request_count();
     }
-    test_requests(tables, home, wires)
+    test_requests(tables, home, 0, 0, wires)
 }
 
 /// Marks all responses, and answers how many wouldn't be held. Where none ever is, they aren't looked at.
@@ -227,8 +244,10 @@ fn mark_responses(
     test_responses(tables, home, lines, wires)
 }
 
-/// Tests all requests, and answers how many wouldn't be held.
-fn test_requests(tables: &Tables, home: &Home, wires: &mut Wires) -> u32
+/// Tests all requests but the first so many, whose marks are right and of which so many wouldn't be held, and answers how many of
+/// all wouldn't be.
+fn test_requests(tables: &Tables, home: &Home, right: u32, free_ones: u32, wires: &mut Wires) -> u32
+    requires { AreFirstRight right free_ones wires.old.marks.requests (requests_stall tables.now.directory home.now wires.old.traffic.requests) }
     ensures traffic { wires.new.traffic ≡ wires.old.traffic }
     ensures room { wires.new.room ≡ wires.old.room }
     ensures marks { wires.new.marks ≡ record wires.old.marks {
@@ -236,8 +255,8 @@ fn test_requests(tables: &Tables, home: &Home, wires: &mut Wires) -> u32
     } }
     ensures count { result ≡ unmarked_count (requests_stall tables.now.directory home.now wires.old.traffic.requests) }
 {
-    let mut free = 0;
-    for index in 0..wires.request_count() as u64 {
+    let mut free = free_ones;
+    for index in u64::from(right)..wires.request_count() as u64 {
         if let Some(request) = wires.request(index) {
             let held = stalls_home(tables, home, HomeInput::Request(request));
             wires.mark_request(index, held);

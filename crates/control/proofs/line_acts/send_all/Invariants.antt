@@ -1,4 +1,4 @@
-use Rattle.std.proofs.Common.{◌≡◌, drop}
+use Rattle.std.proofs.Common.{◌≡◌, drop, length, take}
 use Rattle.network.specs.Traffic.{all_sent}
 use Rattle.network.specs.Room.{HasRoomFor}
 use Rattle.control.specs.LineEffect.{line_messages}
@@ -10,4 +10,5 @@ invariant-loop-action l = record {
       ≡ all_sent (line_messages l.cache l.value l.to l.actions) l.fn.wires.traffic;
   room : HasRoomFor (line_messages l.cache l.value l.to (drop l.action-index l.actions)) l.wires.room;
   links : l.wires.marks.links ≡ l.fn.wires.marks.links;
+  requests : take (length l.fn.wires.marks.requests) l.wires.marks.requests ≡ l.fn.wires.marks.requests;
 }

@@ -3,4 +3,4 @@ use Rattle.blocks.proofs.block.Block.test_line.Goals as goal
 
 pub overflow_add-result : goal.overflow_add-result
 overflow_add-result c =
-    omega (arith, c.ends_of.ensures.few, c.test_own_link-counted.ensures.counted.forwards, c.test_own_link-counted.ensures.counted.few)
+    omega (arith, c.ends_of.ensures.few, c.test_own_link-links.ensures.counted.forwards, c.test_own_link-links.ensures.counted.few)

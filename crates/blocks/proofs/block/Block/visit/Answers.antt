@@ -3,8 +3,9 @@ use Rattle.std.proofs.lemmas.Grind.{common_steps}
 use Rattle.machine.specs.Transition.{Transition, carried_out, messages_of}
 use Rattle.blocks.specs.Marking.{marks_of}
 use Rattle.blocks.specs.Messages.{message_count}
+use Rattle.blocks.proofs.Asked.{first-right-after}
 use Rattle.blocks.proofs.Passing.{decided-at}
-use Rattle.blocks.proofs.Relinking.{others-after, right-after, some-map}
+use Rattle.blocks.proofs.Relinking.{others-after, right-after, some-both, some-map}
 use Rattle.blocks.proofs.Sends.{sends-counted}
 use Rattle.blocks.proofs.block.Block.visit.Goals as goal
 
@@ -64,17 +65,25 @@ test_after-tested-requires c =
     let marks = c.args.self.now.marks in
     let after = c.carry_out-outcome.new.self in
     let done = ap (carried_out c.decide-decision.result) (sym c.prepare.ensures.state) ∙ c.carry_out-outcome.ensures.done in
+    let known = some-both _ _ c.others-others.result c.others-others.ensures.own c.others-others.ensures.links in
+    let asked = some-both _ _ c.others-others.result c.others-others.ensures.requests c.others-others.ensures.free in
     record {
       pass = c.requires.pass;
       marks =
           some-map c.others-others.result
-          (λ o known. right-after c.args.tables.now c.decide-decision.result before after.state c.carry_out-outcome.result marks after.marks o.0
+          (λ o known. right-after c.args.tables.now c.decide-decision.result before after.state c.carry_out-outcome.result marks after.marks o.cache
           c.requires.marks known.0 done
-          (rw (c.prepare.ensures.state, c.prepare.ensures.marks) at c.carry_out-outcome.ensures.links o.0 known.0))
-          c.others-others.ensures;
-      others =
+          (rw (c.prepare.ensures.state, c.prepare.ensures.marks) at c.carry_out-outcome.ensures.links o.cache known.0))
+          known;
+      links =
           some-map c.others-others.result
-          (λ o known. others-after c.args.tables.now before after.state marks after.marks o.0 o.1.heads o.1.forwards c.requires.marks known.1
-          (rw (c.prepare.ensures.state, c.prepare.ensures.marks) at c.carry_out-outcome.ensures.links o.0 known.0))
-          c.others-others.ensures;
+          (λ o known. others-after c.args.tables.now before after.state marks after.marks o.cache o.links.heads o.links.forwards c.requires.marks known.1
+          (rw (c.prepare.ensures.state, c.prepare.ensures.marks) at c.carry_out-outcome.ensures.links o.cache known.0))
+          known;
+      requests =
+          some-map c.others-others.result
+          (λ o known. first-right-after c.args.tables.now c.decide-decision.result before after.state c.carry_out-outcome.result marks after.marks o.cache
+          o.requests o.free c.requires.marks known.0 done
+          (rw (c.prepare.ensures.marks) at c.carry_out-outcome.ensures.requests o.cache known.0) known.1.0 known.1.1)
+          (some-both _ _ c.others-others.result c.others-others.ensures.own asked);
     }

@@ -1,9 +1,8 @@
-use Rattle.std.proofs.Common.{ap, sym, ◌∙◌, length, List, Bool}
+use Rattle.std.proofs.Common.{ap, ◌∙◌, length, List, Bool}
 use Rattle.network.specs.Traffic.{Traffic}
 use Rattle.control.specs.Events.{event_at_home}
 use Rattle.control.specs.declared.home.HomeInput.TheVariants as home_input
 use Rattle.blocks.specs.Marking.{home_stalls}
-use Rattle.blocks.specs.inner.Tested.{block_of}
 use Rattle.blocks.proofs.Passing.{none-counted, none-marked}
 use Rattle.blocks.proofs.block.testing.mark_requests.Goals as goal
 

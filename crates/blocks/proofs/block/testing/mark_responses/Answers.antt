@@ -1,4 +1,4 @@
-use Rattle.std.proofs.Common.{ap, arith, false, sym, ◌∙◌, length, List, Bool}
+use Rattle.std.proofs.Common.{ap, arith, false, ◌∙◌, length, List, Bool}
 use Rattle.std.proofs.lemmas.List.{length-map}
 use Rattle.network.specs.Marks.{Marks}
 use Rattle.network.specs.Traffic.{Traffic}

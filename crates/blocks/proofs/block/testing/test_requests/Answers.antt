@@ -1,9 +1,10 @@
-use Rattle.std.proofs.Common.{◌∙◌, sym, ap, arith, length, map, slice_get}
+use Rattle.std.proofs.Common.{◌∙◌, sym, ap, arith, refl, length, map, slice_get, List, Bool}
 use Rattle.std.proofs.lemmas.List.{length-map}
 use Rattle.control.specs.declared.home.HomeInput.TheVariants as home_input
 use Rattle.network.specs.declared.message.Request.{Request}
 use Rattle.network.specs.Traffic.{Traffic}
 use Rattle.blocks.specs.Marking.{home_stalls}
+use Rattle.blocks.proofs.Asked.{count-front, written-front}
 use Rattle.blocks.proofs.TestedMarks.{requests-end, requests-step}
 use Rattle.blocks.proofs.UnmarkedPlaces.{count-below, count-free, count-held}
 use Rattle.blocks.proofs.Writes.{map-at, map-within, none-past}
@@ -76,3 +77,19 @@ returns-clause-marks c =
     let long = length-map c.args.wires.now.traffic.requests stalls in
     requests-end c.args.wires.now.marks c.loop-index.wires.marks (map stalls c.args.wires.now.traffic.requests) c.loop-index.index
     (omega (arith, long, count.ensures.as_many)) (omega (arith, long, count.ensures.count, c.loop-index-test.false)) c.loop-index.invariant.marks
+
+pub loop-index-init : goal.loop-index-init
+loop-index-init c =
+    let stalls = λ (r : Request). home_stalls c.args.tables.now.directory c.args.home.now (home_input.Request r) in
+    let right = map stalls c.args.wires.now.traffic.requests in
+    let long = length-map c.args.wires.now.traffic.requests stalls in
+    let count = count-front right c.args.right in
+    rw c.from-index.ensures (record {
+      traffic = refl;
+      room = refl;
+      marks =
+          ap (λ (ms : List Bool). record c.args.wires.now.marks { requests = ms })
+          (sym (written-front right c.args.wires.now.marks.requests c.args.right (omega (arith, long, c.request_count-index-end.ensures.as_many))
+          c.requires.front));
+      free = omega (arith, count, c.requires.unset);
+    })

@@ -1,0 +1,116 @@
+-- What a step at a line leaves of the requests: those that there were, and their marks.
+use Rattle.std.proofs.Common.{◌≡◌, ℕ, ◌+◌, List, [], ◌∷◌, Bool, not, Option, None, Some, length, map, take, drop, cond}
+use Rattle.std.proofs.Common.{refl, sym, ap, ◌∙◌, arith, zero, suc}
+use Rattle.std.proofs.lemmas.List.{length-map, take-map}
+use Rattle.std.proofs.lemmas.List.Sums.{sum_by-take-drop}
+use Rattle.base.specs.declared.ids.CacheId.{CacheId}
+use Rattle.base.specs.declared.step.Outcome.{Outcome}
+use Rattle.network.specs.declared.message.Request.{Request}
+use Rattle.network.specs.Marks.{Marks}
+use Rattle.network.specs.Traffic.{Traffic, all_sent}
+use Rattle.network.proofs.Sending.{all_sent-append}
+use Rattle.cache_table.specs.declared.actions.CacheAction.{CacheAction}
+use Rattle.cache_table.specs.declared.actions.CacheAction.TheVariants as action
+use Rattle.control.specs.LineEffect.{line_message, line_messages, line_sends}
+use Rattle.control.specs.declared.home.HomeInput.TheVariants as home_input
+use Rattle.control.proofs.Fronts.{front-append, front-front, front-whole}
+use Rattle.both_tables.specs.Tables.{Tables}
+use Rattle.machine.specs.Block.{BlockState}
+use Rattle.machine.specs.Transition.{Transition, carried_out, without}
+use Rattle.machine.specs.declared.decision.Decision.{Decision}
+use Rattle.machine.specs.declared.decision.Decision.TheVariants.{Refused, AtLine, AtHome}
+use Rattle.machine.specs.declared.decision.Origin.{Origin}
+use Rattle.machine.specs.declared.decision.Origin.TheVariants as origin
+use Rattle.blocks.specs.Kept.{moved_to}
+use Rattle.blocks.specs.Marking.{home_stalls, marks_of, unmarked_count}
+use Rattle.blocks.specs.inner.Asked.{AreFirstRight}
+use Rattle.blocks.specs.inner.Linking.{IsAtOwn, IsOwn}
+use Rattle.blocks.specs.inner.Tested.{requests_stall}
+use Rattle.blocks.proofs.Writes.{written}
+
+-- ---- what a line sends comes behind the requests that there are
+
+message-requests : (cache : CacheId) (value : ℕ) (to : Option CacheId) (a : CacheAction) (w : Traffic) →
+    take (length w.requests) (all_sent (line_message cache value to a) w).requests ≡ w.requests
+message-requests cache value to action.GetS w = front-append w.requests _
+message-requests cache value to action.GetM w = front-append w.requests _
+message-requests cache value to action.PutS w = front-append w.requests _
+message-requests cache value to action.PutM w = front-append w.requests _
+message-requests cache value (Some t) action.InvAck w = front-whole w.requests
+message-requests cache value (Some t) action.DataReq w = front-whole w.requests
+message-requests cache value None action.InvAck w = front-whole w.requests
+message-requests cache value None action.DataReq w = front-whole w.requests
+message-requests cache value to action.DataDir w = front-whole w.requests
+
+messages-requests : (cache : CacheId) (value : ℕ) (to : Option CacheId) (actions : List CacheAction) (w : Traffic) →
+    take (length w.requests) (all_sent (line_messages cache value to actions) w).requests ≡ w.requests
+messages-requests cache value to [] w = front-whole w.requests
+messages-requests cache value to (a ∷ actions) w =
+    let mid = all_sent (line_message cache value to a) w in
+    ap (λ (t : Traffic). take (length w.requests) t.requests) (all_sent-append (line_message cache value to a) (line_messages cache value to actions) w)
+    ∙ front-front w.requests mid.requests _ (message-requests cache value to a w) (messages-requests cache value to actions mid)
+
+without-requests : (from : Origin) (own : CacheId) (w : Traffic) → IsOwn from own → (without from w).requests ≡ w.requests
+without-requests origin.Core own w mine = refl
+without-requests (origin.Request index) own w mine = absurd mine
+without-requests (origin.Head cache) own w mine = refl
+without-requests (origin.Response index) own w mine = refl
+
+-- ---- a step at a line
+
+same-home : (d : Decision) (b new : BlockState) (what : Outcome) (own : CacheId) → IsAtOwn d own → carried_out d b ≡ moved_to new what →
+    new.home ≡ b.home
+same-home (Refused said) b new what own at done = absurd at
+same-home (AtHome input next actions from) b new what own at done = absurd at
+same-home (AtLine cache line input next actions from) b new what own at done = sym (ap (λ (t : Transition). t.block.home) done)
+
+requests-front : (d : Decision) (b new : BlockState) (what : Outcome) (own : CacheId) → IsAtOwn d own → carried_out d b ≡ moved_to new what →
+    take (length b.traffic.requests) new.traffic.requests ≡ b.traffic.requests
+requests-front (Refused said) b new what own at done = absurd at
+requests-front (AtHome input next actions from) b new what own at done = absurd at
+requests-front (AtLine cache line input next actions from) b new what own at done =
+    let before = without-requests from own b.traffic at.1 in
+    let mid = without from b.traffic in
+    ap (λ (t : Transition). take (length b.traffic.requests) t.block.traffic.requests) (sym done)
+    ∙ ap (λ (rs : List Request). take (length rs) (all_sent (line_sends cache input actions line) mid).requests) (sym before)
+    ∙ messages-requests cache _ _ actions mid
+    ∙ before
+
+-- the marks of the requests that there were stay right
+pub first-right-after : (tables : Tables) (d : Decision) (old new : BlockState) (what : Outcome) (marks new_marks : Marks) (own : CacheId) (count free : ℕ) →
+    marks ≡ marks_of tables old → IsAtOwn d own → carried_out d old ≡ moved_to new what →
+    take (length marks.requests) new_marks.requests ≡ marks.requests → count ≡ length old.traffic.requests → free ≡ unmarked_count marks.requests →
+    AreFirstRight count free new_marks.requests (requests_stall tables.directory new.home new.traffic.requests)
+first-right-after tables d old new what marks new_marks own count free right at done front many few =
+    let stalls = λ (r : Request). home_stalls tables.directory old.home (home_input.Request r) in
+    let were : marks.requests ≡ map stalls old.traffic.requests = ap (λ (m : Marks). m.requests) right in
+    let long : length marks.requests ≡ count = ap length were ∙ length-map old.traffic.requests stalls ∙ sym many in
+    let now : take count (requests_stall tables.directory new.home new.traffic.requests) ≡ marks.requests =
+    ap (λ h. take count (requests_stall tables.directory h new.traffic.requests)) (same-home d old new what own at done)
+    ∙ take-map stalls count new.traffic.requests
+    ∙ ap (λ n. map stalls (take n new.traffic.requests)) many
+    ∙ ap (map stalls) (requests-front d old new what own at done)
+    ∙ sym were in
+    record {
+      front = ap (λ n. take n new_marks.requests) (sym long) ∙ front ∙ sym now;
+      unset = few ∙ ap unmarked_count (sym now);
+    }
+
+-- ---- a test that begins behind the marks that are right
+
+first-same : {X : Type 0} (y x : X) (ys xs : List X) → y ∷ ys ≡ x ∷ xs → x ≡ y
+first-same y x ys xs e = cc e
+
+rest-same : {X : Type 0} (y x : X) (ys xs : List X) → y ∷ ys ≡ x ∷ xs → ys ≡ xs
+rest-same y x ys xs e = cc e
+
+pub written-front : {X : Type 0} (new old : List X) (n : ℕ) → length old ≡ length new → take n old ≡ take n new → written new old n ≡ old
+written-front new old zero same e = refl
+written-front [] old (suc n) same e = refl
+written-front (x ∷ new) [] (suc n) same e = refl
+written-front (x ∷ new) (y ∷ old) (suc n) same e =
+    ap (λ z. z ∷ written new old n) (first-same y x _ _ e) ∙ ap (λ zs. y ∷ zs) (written-front new old n (omega arith) (rest-same y x _ _ e))
+
+-- the first marks and the others are all
+pub count-front : (marks : List Bool) (n : ℕ) → unmarked_count (take n marks) + unmarked_count (drop n marks) ≡ unmarked_count marks
+count-front marks n = sum_by-take-drop (λ m. cond (not m) 1 0) marks n
