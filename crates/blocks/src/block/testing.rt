@@ -332,6 +332,9 @@ fn test_own_link(
 {
     // Called for its contract: there are as many rows of marks as links.
     let _links = wires.link_count();
+    if wires.forward_count(cache) == 0 {
+        return others;
+    }
     test_link(tables, line_of(lines, cache), cache, wires);
     with_link(others, cache, wires)
 }
