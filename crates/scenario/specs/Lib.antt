@@ -10,6 +10,7 @@ pub mod Saving
 pub mod Says
 pub mod Shown
 pub mod Taking
+pub mod Telling
 pub mod Tree
 pub mod Turns
 pub mod Walk

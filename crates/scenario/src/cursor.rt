@@ -3,8 +3,9 @@
 ghost use Rattle.std.specs.Prelude.{◌≡◌, true};
 ghost use Rattle.scenario.specs.Turns.{chooses};
 
-use crate::part::{Part, Place, part_chooses, part_repeats, pass_at_once, take_from};
+use crate::part::{Part, Place, part_chooses, part_next, part_repeats, pass_at_once, take_from};
 use crate::seeking::find_offer;
+use crate::telling::Next;
 use crate::tree::Scenario;
 use base::{CoreAsk, NoMemory};
 use std::alloc::Allocator;
@@ -41,6 +42,8 @@ impl<'t, A: Allocator, B: Allocator> Cursor<'t, A, B> {
 impl<'t, A: Allocator, B: Allocator> Cursor<'t, A, B> {
     ghost use Rattle.scenario.specs.Cursors.{remaining};
     ghost use Rattle.scenario.specs.Repeats.{Repeats};
+    ghost use Rattle.scenario.specs.Taking.{offers};
+    ghost use Rattle.scenario.specs.Telling.{Tells};
     ghost use Rattle.scenario.specs.Tree.{plain};
 
     /// Whether the same is offered again, whichever offer is taken. It is told by a look: `false` promises nothing.
@@ -48,6 +51,13 @@ impl<'t, A: Allocator, B: Allocator> Cursor<'t, A, B> {
         ensures { result ≡ true → Repeats (remaining self.now) }
     {
         part_repeats(&self.root, self.in_turns)
+    }
+
+    /// What is offered next, where that is one ask at most and a look tells it.
+    pub fn peek(&self) -> Next
+        ensures { Tells result (offers (remaining self.now)) }
+    {
+        part_next(&self.root)
     }
 
     /// All of this tree is left from now on, whatever was. The parts that the cursor has are used again.

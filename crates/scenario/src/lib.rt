@@ -14,6 +14,7 @@ mod reading;
 mod rests;
 mod seeking;
 mod taking;
+mod telling;
 mod tree;
 mod writing;
 
@@ -25,5 +26,6 @@ pub use laws::{
 };
 pub use reading::{DEEPEST, LONGEST, ScenarioFault};
 pub use rests::Rest;
+pub use telling::Next;
 pub use tree::Scenario;
 pub use writing::SaveFault;

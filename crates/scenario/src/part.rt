@@ -5,6 +5,7 @@ mod passing;
 mod repeating;
 mod starting;
 mod taking;
+mod telling;
 
 use crate::tree::Scenario;
 pub(crate) use looking::part_may_end;
@@ -12,6 +13,7 @@ pub(crate) use passing::pass_at_once;
 pub(crate) use repeating::{part_chooses, part_repeats};
 use std::alloc::{AllocError, Allocator};
 pub(crate) use taking::take_from;
+pub(crate) use telling::part_next;
 
 /// How far a cursor is in a tree. Its own parts are in memory of the allocator `B`, and memory that one no longer needs is
 /// used for the next.

@@ -3,6 +3,9 @@
 ghost use Rattle.std.specs.Prelude.{◌≡◌, ◌<◌, ◌+◌, ◌^◌, ◌&&◌, IfSome, OnErr, OnOk, length, map, slice_get, true};
 ghost use Rattle.cores.specs.Cores.{is_free};
 ghost use Rattle.rows.specs.Flags.{is_set};
+ghost use Rattle.scenario.specs.Cursors.{remaining};
+ghost use Rattle.scenario.specs.Taking.{offers};
+ghost use Rattle.scenario.specs.Telling.{Tells};
 ghost use Rattle.schedule.specs.Listed.{is_unheld};
 ghost use Rattle.schedule.specs.inner.Marks.{AreHeldAt, is_at, marks_at, offers_by};
 ghost use Rattle.schedule.specs.inner.Owned.{AreOf};
@@ -13,7 +16,7 @@ use base::{BlockId, CacheId, CoreAsk, NoMemory};
 use blocks::HeldAsks;
 use cores::Cores;
 use rows::Bits;
-use scenario::{Cursor, Rest};
+use scenario::{Cursor, Next, Rest};
 use std::alloc::{Allocator, Global};
 use std::marker::Model;
 use std::mem::swap;
@@ -49,7 +52,7 @@ impl Model for Asks {
 }
 
 impl Asks {
-    ghost use Rattle.std.specs.Prelude.{◌≡◌, ◌<◌, ◌+◌, ◌^◌, OnOk, length, slice_get};
+    ghost use Rattle.std.specs.Prelude.{◌≡◌, ◌<◌, ◌+◌, ◌^◌, [], ◌∷◌, OnOk, length, slice_get};
     ghost use Rattle.scenario.specs.Cursors.{remaining};
     ghost use Rattle.scenario.specs.Taking.{offers};
     ghost use Rattle.schedule.specs.inner.Marks.{all_marked, marked_at, offers_by};
@@ -86,8 +89,14 @@ impl Asks {
         ensures asks { OnOk result (self.new.asks ≡ offers (remaining rest.now)) }
         ensures marked { OnOk result (IsMarkedOrSame world.now.tables world.now.state self.old self.new) }
     {
-        self.next.clear();
-        rest.offers(&mut self.next)?;
+        let told = rest.peek();
+        if let Next::Alone(ask) = told {
+            if self.asks.len() == 1 {
+                self.put_alone(ask, world);
+                return Ok(());
+            }
+        }
+        list_told(told, rest, &mut self.next)?;
         if are_same(self.next.as_slice(), self.asks.as_slice()) {
             return Ok(());
         }
@@ -102,6 +111,21 @@ impl Asks {
         self.core = core_of(self.asks.as_slice());
         self.grouped = group(self.asks.as_slice(), &mut self.places);
         Ok(())
+    }
+
+    /// Lists an ask that is offered alone in the place of the only one that there was.
+    fn put_alone(&mut self, ask: CoreAsk, world: &World)
+        requires { length self.old.asks ≡ 1 }
+        ensures asks { self.new.asks ≡ ask ∷ [] }
+        ensures marked { IsMarkedOrSame world.now.tables world.now.state self.old self.new }
+    {
+        if self.asks[0] == ask {
+            return;
+        }
+        self.grouped = false;
+        self.core = Some(ask.core);
+        self.asks[0] = ask;
+        self.unheld.set(0, is_unheld(world, ask));
     }
 
     /// Marks all asks anew.
@@ -161,6 +185,23 @@ impl Asks {
             }
             None => choice_by(cores, self.asks.as_slice(), &self.unheld, first, k),
         }
+    }
+}
+
+/// Lists what is offered, of which a look has told what it tells.
+fn list_told<A: Allocator, B: Allocator + Clone>(
+    told: Next,
+    rest: &Cursor<'_, A, B>,
+    next: &mut Vec<CoreAsk>,
+) -> Result<(), NoMemory>
+    requires { Tells told (offers (remaining rest.now)) }
+    ensures { OnOk result (next.new.items ≡ offers (remaining rest.now)) }
+{
+    next.clear();
+    match told {
+        Next::Nothing => Ok(()),
+        Next::Alone(ask) => Ok(next.push(ask)?),
+        Next::Unknown => rest.offers(next),
     }
 }
 
