@@ -3,7 +3,7 @@ use Rattle.std.proofs.Common.{◌≡◌, ◌≢◌, ℕ, zero, suc, ◌+◌, ◌
 use Rattle.std.proofs.Common.{not, ◌&&◌, if◌then◌else◌, List, [], ◌∷◌, ◌++◌, length, map}
 use Rattle.std.proofs.Common.{Option, Some, get_or, set, slice_get, refl, sym, ap, ◌∙◌, subst, arith}
 use Rattle.std.specs.List.{Contains}
-use Rattle.std.proofs.lemmas.List.{length-set, get_or_default, get_or_past, get_or-set_same, get_or-set_other}
+use Rattle.std.proofs.lemmas.List.{length-set, get_or_default, get_or_past, get_or-set_same, get_or-set_other, set-get_or}
 use Rattle.std.proofs.lemmas.Bool.{cases_eq, cases_lt}
 use Rattle.std.proofs.lemmas.Bool.Decides.{nat_tests}
 use Rattle.base.specs.declared.ids.BlockId.{BlockId}
@@ -20,10 +20,10 @@ use Rattle.scenario.specs.Taking as taking
 use Rattle.schedule.specs.Choices.{can_be_put, offers_from}
 use Rattle.schedule.specs.Lanes.{Agree, AgreeBut, AreReady, IsKept, IsLevel, IsListed, Laned, lanes_of, listed_at, offers_at, puttable}
 use Rattle.schedule.specs.Listed.{IsMarked, Listed, is_unheld, nothing_listed}
-use Rattle.schedule.specs.inner.Marks.{is_at, marked_at, marks_at}
+use Rattle.schedule.specs.inner.Marks.{all_marked, is_at, marked_at, marks_at}
 use Rattle.schedule.specs.inner.Changes.{AreCountedAt, AreMarked, Counts, IsCountedAt, IsCountedIf, IsMarkedIn, KeepsOthers, Marks, TakesFrom}
 use Rattle.schedule.specs.inner.Changes.{WereReady, count_by, counted_at, marked_in}
-use Rattle.schedule.specs.inner.Owned.{IsMarkedOrSame}
+use Rattle.schedule.specs.inner.Owned.{IsMarkedIf, IsMarkedOrSame}
 use Rattle.schedule.specs.declared.choosing.Choice.TheVariants.{Offer}
 use Rattle.schedule.proofs.Marking.{by-marks}
 use Rattle.schedule.proofs.Touched.{asked, held-by-line}
@@ -419,6 +419,10 @@ all-counted tables before now cb cn but at block old mid once new kept sb were m
 
 -- ---- behind an offer that was taken
 
+pub marked-or-same : (tables : Tables) (now : State) (anew : Bool) (old new : Listed) → IsMarkedIf tables now anew old new → IsMarkedOrSame tables now old new
+marked-or-same tables now true old new e = inl e
+marked-or-same tables now false old new e = inr e
+
 pub taken-were : (tables : Tables) (before now : State) (cb : List Core) (lane offer : ℕ) (old new : Laned) → TakesFrom lane offer old new →
     IsMarkedOrSame tables now (listed_at old lane) (listed_at new lane) → before.broken ≡ false → AreReady tables before cb old →
     WereReady tables before cb now (Some lane) new
@@ -445,6 +449,14 @@ ready-were tables before now cb but l sb ready = record {
 }
 
 -- ---- opening lanes one by one
+
+-- a lane whose marks are right need not be marked
+pub marked-already : (tables : Tables) (s : State) (lane : ℕ) (l : Laned) → IsMarked tables s (listed_at l lane) → l ≡ marked_in tables s lane l
+marked-already tables s lane l e =
+    let was : Listed = listed_at l lane in
+    let right : was ≡ all_marked tables s was = λ i. record { asks = was.asks; unheld = e i } in
+    let all : l.listed ≡ set l.listed lane (all_marked tables s was) = sym (set-get_or l.listed lane nothing_listed) ∙ ap (set l.listed lane) right in
+    λ i. record { trees = l.trees; listed = all i; lengths = l.lengths; ready = l.ready; reached = l.reached }
 
 listed-marked : (tables : Tables) (s : State) (lane at : ℕ) (l : Laned) → IsListed l at → lane < length l.listed → IsListed (marked_in tables s lane l) at
 listed-marked tables s lane at l h low =

@@ -52,11 +52,11 @@ impl Model for Asks {
 }
 
 impl Asks {
-    ghost use Rattle.std.specs.Prelude.{◌≡◌, ◌<◌, ◌+◌, ◌^◌, [], ◌∷◌, OnOk, length, slice_get};
+    ghost use Rattle.std.specs.Prelude.{◌≡◌, ◌<◌, ◌+◌, ◌^◌, [], ◌∷◌, IfOk, OnOk, length, slice_get};
     ghost use Rattle.scenario.specs.Cursors.{remaining};
     ghost use Rattle.scenario.specs.Taking.{offers};
     ghost use Rattle.schedule.specs.inner.Marks.{all_marked, marked_at, offers_by};
-    ghost use Rattle.schedule.specs.inner.Owned.{IsMarkedOrSame};
+    ghost use Rattle.schedule.specs.inner.Owned.{IsMarkedIf};
 
     /// No asks.
     pub(crate) fn open(alloc: Global) -> Result<Asks, NoMemory> {
@@ -80,25 +80,24 @@ impl Asks {
         self.asks.as_slice()
     }
 
-    /// Lists what is offered. Where that is what was offered before, the marks stay; else it is marked.
+    /// Lists what is offered, and answers whether it was marked. Where that is what was offered before, the marks stay.
     pub(crate) fn list<A: Allocator, B: Allocator + Clone>(
         &mut self,
         rest: &Cursor<'_, A, B>,
         world: &World,
-    ) -> Result<(), NoMemory>
+    ) -> Result<bool, NoMemory>
         ensures asks { OnOk result (self.new.asks ≡ offers (remaining rest.now)) }
-        ensures marked { OnOk result (IsMarkedOrSame world.now.tables world.now.state self.old self.new) }
+        ensures marked { IfOk result (λ anew. IsMarkedIf world.now.tables world.now.state anew self.old self.new) }
     {
         let told = rest.peek();
         if let Next::Alone(ask) = told {
             if self.asks.len() == 1 {
-                self.put_alone(ask, world);
-                return Ok(());
+                return Ok(self.put_alone(ask, world));
             }
         }
         list_told(told, rest, &mut self.next)?;
         if are_same(self.next.as_slice(), self.asks.as_slice()) {
-            return Ok(());
+            return Ok(false);
         }
         self.grouped = false;
         take_over(
@@ -110,22 +109,23 @@ impl Asks {
         )?;
         self.core = core_of(self.asks.as_slice());
         self.grouped = group(self.asks.as_slice(), &mut self.places);
-        Ok(())
+        Ok(true)
     }
 
-    /// Lists an ask that is offered alone in the place of the only one that there was.
-    fn put_alone(&mut self, ask: CoreAsk, world: &World)
+    /// Lists an ask that is offered alone in the place of the only one that there was, and answers whether it was marked.
+    fn put_alone(&mut self, ask: CoreAsk, world: &World) -> bool
         requires { length self.old.asks ≡ 1 }
         ensures asks { self.new.asks ≡ ask ∷ [] }
-        ensures marked { IsMarkedOrSame world.now.tables world.now.state self.old self.new }
+        ensures marked { IsMarkedIf world.now.tables world.now.state result self.old self.new }
     {
         if self.asks[0] == ask {
-            return;
+            return false;
         }
         self.grouped = false;
         self.core = Some(ask.core);
         self.asks[0] = ask;
         self.unheld.set(0, is_unheld(world, ask));
+        true
     }
 
     /// Marks all asks anew.

@@ -20,7 +20,7 @@ use std::alloc::Allocator;
 use world::World;
 
 impl<'s, A: Allocator, B: Allocator + Clone> Lanes<'s, A, B> {
-    ghost use Rattle.std.specs.Prelude.{◌≡◌, ◌<◌, ℕ, List, Option, OnOk, IfOk, IfSome, false, length};
+    ghost use Rattle.std.specs.Prelude.{◌≡◌, ◌<◌, ℕ, List, Option, OnOk, IfOk, IfSome, false, true, length};
     ghost use Rattle.base.specs.Steps.{block_of};
     ghost use Rattle.cores.specs.Cores.{Core};
     ghost use Rattle.machine.specs.Machine.{State};
@@ -30,7 +30,8 @@ impl<'s, A: Allocator, B: Allocator + Clone> Lanes<'s, A, B> {
     ghost use Rattle.schedule.specs.Lanes.{AgreeBut, AreReady, IsKept, IsLevel, IsListed, laned, lanes_of, listed_at, whole};
     ghost use Rattle.schedule.specs.inner.Changes.{AreCountedAt, AreMarked, Counts, IsCountedAt, IsCountedIf, IsCountedIn, IsMarkedIn, KeepsOthers};
     ghost use Rattle.schedule.specs.inner.Changes.{Marks, TakesFrom, WereReady, counted_at, marked_in};
-    ghost use Rattle.schedule.specs.inner.Owned.{IsMarkedOrSame};
+    ghost use Rattle.schedule.specs.Listed.{IsMarked};
+    ghost use Rattle.schedule.specs.inner.Owned.{IsMarkedIf, IsMarkedOrSame};
 
     /// Follows a choice that was made, by a step that went to a controller: an offer is taken, what is made anew for it is
     /// `alloc`'s, and the lanes that this and the step changed are marked and counted again.
@@ -166,31 +167,36 @@ impl<'s, A: Allocator, B: Allocator + Clone> Lanes<'s, A, B> {
         Ok(found.place)
     }
 
-    /// Lists anew what a lane offers. Where that is what it offered before, the marks stay.
-    pub(super) fn list(&mut self, lane: usize, world: &World) -> Result<(), NoMemory>
+    /// Lists anew what a lane offers, and answers whether it was marked. Where that is what it offered before, the marks stay.
+    pub(super) fn list(&mut self, lane: usize, world: &World) -> Result<bool, NoMemory>
         requires level { IsLevel (laned self.old) }
         requires there { lane < length (laned self.old).trees }
         ensures trees { OnOk result ((laned self.new).trees ≡ (laned self.old).trees) }
         ensures level { OnOk result (IsLevel (laned self.new)) }
         ensures listed { OnOk result (IsListed (laned self.new) lane) }
         ensures others { OnOk result (KeepsOthers lane (laned self.old) (laned self.new)) }
-        ensures marks { OnOk result (IsMarkedOrSame world.now.tables world.now.state
+        ensures marks { IfOk result (λ anew. IsMarkedIf world.now.tables world.now.state anew
             (listed_at (laned self.old) lane) (listed_at (laned self.new) lane)) }
     {
-        self.lanes[lane].list(world)?;
+        let anew = self.lanes[lane].list(world)?;
         let offers = self.lanes[lane].asks.asks();
         let Ok(length) = u32::try_from(offers.len()) else {
             return Err(NoMemory);
         };
         self.lengths.set(lane, length);
-        reach(&mut self.reached, offers, lane as u32)
+        reach(&mut self.reached, offers, lane as u32)?;
+        Ok(anew)
     }
 
-    /// Marks anew all that a lane offers.
-    pub(super) fn mark_lane(&mut self, lane: usize, world: &World)
-        requires { lane < length (laned self.old).trees }
+    /// Marks anew all that a lane offers, if it isn't marked already.
+    pub(super) fn mark_lane(&mut self, lane: usize, is_marked: bool, world: &World)
+        requires there { lane < length (laned self.old).trees }
+        requires marked { is_marked ≡ true → IsMarked world.now.tables world.now.state (listed_at (laned self.old) lane) }
         ensures { laned self.new ≡ marked_in world.now.tables world.now.state lane (laned self.old) }
     {
+        if is_marked {
+            return;
+        }
         self.lanes[lane].asks.mark_all(world);
     }
 
@@ -242,16 +248,16 @@ impl<'s, A: Allocator, B: Allocator + Clone> Lanes<'s, A, B> {
 }
 
 impl<'s, A: Allocator, B: Allocator + Clone> Lane<'s, A, B> {
-    ghost use Rattle.std.specs.Prelude.{◌≡◌, OnOk};
+    ghost use Rattle.std.specs.Prelude.{◌≡◌, IfOk, OnOk};
     ghost use Rattle.scenario.specs.Cursors.{remaining};
     ghost use Rattle.scenario.specs.Taking.{offers};
-    ghost use Rattle.schedule.specs.inner.Owned.{IsMarkedOrSame};
+    ghost use Rattle.schedule.specs.inner.Owned.{IsMarkedIf};
 
-    /// Lists anew what is offered. Where that is what was offered before, the marks stay.
-    fn list(&mut self, world: &World) -> Result<(), NoMemory>
+    /// Lists anew what is offered, and answers whether it was marked. Where that is what was offered before, the marks stay.
+    fn list(&mut self, world: &World) -> Result<bool, NoMemory>
         ensures rest { remaining self.new.rest ≡ remaining self.old.rest }
         ensures asks { OnOk result (self.new.asks.asks ≡ offers (remaining self.old.rest)) }
-        ensures marks { OnOk result (IsMarkedOrSame world.now.tables world.now.state self.old.asks self.new.asks) }
+        ensures marks { IfOk result (λ anew. IsMarkedIf world.now.tables world.now.state anew self.old.asks self.new.asks) }
     {
         self.asks.list(&self.rest, world)
     }

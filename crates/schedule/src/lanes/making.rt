@@ -101,8 +101,8 @@ impl<'s, A: Allocator, B: Allocator + Clone> Lanes<'s, A, B> {
         ensures ready { OnOk result (AreReady world.now.tables world.now.state cores.now (laned self.new)) }
     {
         for lane in 0..self.lanes.len() {
-            self.list(lane, world)?;
-            self.mark_lane(lane, world);
+            let anew = self.list(lane, world)?;
+            self.mark_lane(lane, anew, world);
             self.count_lane(lane, cores);
         }
         Ok(())

@@ -1,4 +1,4 @@
-use Rattle.std.proofs.Common.{◌≡◌, ◌∙◌, List, [], ◌∷◌, Bool, ap, arith, inl, length, map, refl, set}
+use Rattle.std.proofs.Common.{◌≡◌, ◌∙◌, List, [], ◌∷◌, Bool, ap, arith, length, map, refl, set}
 use Rattle.std.proofs.lemmas.Grind.{common_steps}
 use Rattle.base.specs.declared.step.CoreAsk.{CoreAsk}
 use Rattle.schedule.specs.Listed.{is_unheld}
@@ -16,9 +16,7 @@ only-mark f (x ∷ y ∷ asks) marks ask one long = absurd (omega (arith, one))
 pub returns-clause-marked : goal.returns-clause-marked
 returns-clause-marked c =
     let one : length c.self.inside.asks.items ≡ 1 = grind (arith, common_steps) in
-    inl (
     c.set.ensures
     ∙ ap (set c.self.inside.unheld 0) c.is_unheld.ensures
     ∙ only-mark (is_unheld c.args.world.now.tables c.args.world.now.state) c.self.inside.asks.items c.self.inside.unheld c.args.ask one
     c.self.invariant.0.long
-    )

@@ -1,16 +1,22 @@
-use Rattle.std.proofs.Common.{◌≡◌, ◌∙◌, ap, arith, length}
+use Rattle.std.proofs.Common.{◌≡◌, ◌∙◌, ap, arith, length, subst}
 use Rattle.std.proofs.lemmas.Grind.{common_steps}
 use Rattle.std.proofs.lemmas.List.{length-map}
 use Rattle.scenario.specs.Cursors.{remaining}
 use Rattle.schedule.specs.declared.lanes.Lane.{Lane}
-use Rattle.schedule.specs.Lanes.{Laned, laned}
+use Rattle.schedule.specs.Lanes.{Laned, laned, listed_at}
+use Rattle.schedule.specs.inner.Owned.{IsMarkedIf}
 use Rattle.schedule.proofs.Counting.{Opens, level-opened, one-listed, one-right}
 use Rattle.schedule.proofs.lanes.Lanes.list_all.Goals as goal
+
+pub mark_lane-requires-clause-marked : goal.mark_lane-requires-clause-marked
+mark_lane-requires-clause-marked g c is =
+    subst (λ anew. IsMarkedIf c.args.world.now.tables c.args.world.now.state anew (listed_at (laned c.loop-lane.self) c.loop-lane.lane)
+    (listed_at (laned c.list.new.self) c.loop-lane.lane)) is c.in_ok-anew.ensures.marks
 
 pub loop-lane-preserved : goal.loop-lane-preserved
 loop-lane-preserved g c =
     let before = c.loop-lane.invariant in
-    let made = c.in_ok-list.ensures in
+    let made = c.in_ok-anew.ensures in
     let tables = c.args.world.now.tables in
     let state = c.args.world.now.state in
     let cores = c.args.cores.now in
@@ -63,14 +69,14 @@ returns-clause-ready g c =
 pub loop-lane-init : goal.loop-lane-init
 loop-lane-init g c = grind (arith, common_steps)
 
-pub returns-in_err-list-clause-trees : goal.returns-in_err-list-clause-trees
-returns-in_err-list-clause-trees g c = grind (arith, common_steps)
+pub returns-in_err-anew-clause-trees : goal.returns-in_err-anew-clause-trees
+returns-in_err-anew-clause-trees g c = grind (arith, common_steps)
 
-pub returns-in_err-list-clause-kept : goal.returns-in_err-list-clause-kept
-returns-in_err-list-clause-kept g c = grind (arith, common_steps)
+pub returns-in_err-anew-clause-kept : goal.returns-in_err-anew-clause-kept
+returns-in_err-anew-clause-kept g c = grind (arith, common_steps)
 
-pub returns-in_err-list-clause-ready : goal.returns-in_err-list-clause-ready
-returns-in_err-list-clause-ready g c = grind (arith, common_steps)
+pub returns-in_err-anew-clause-ready : goal.returns-in_err-anew-clause-ready
+returns-in_err-anew-clause-ready g c = grind (arith, common_steps)
 
 pub loop-lane-smaller : goal.loop-lane-smaller
 loop-lane-smaller g c = grind (arith, common_steps)

@@ -2,6 +2,8 @@ use Rattle.std.proofs.Common.{refl}
 use Rattle.std.specs.Vec.{with_item}
 use Rattle.schedule.specs.declared.lanes.Lane.{Lane}
 use Rattle.schedule.specs.declared.lanes.Lanes.{Lanes}
+use Rattle.schedule.specs.Lanes.{laned}
+use Rattle.schedule.proofs.Counting.{marked-already}
 use Rattle.schedule.proofs.Listing.{lane-low, lane-marked}
 use Rattle.schedule.proofs.lanes.Lanes.mark_lane.Given as given
 use Rattle.schedule.proofs.lanes.Lanes.mark_lane.Goals as goal
@@ -21,4 +23,8 @@ made g c = record {
 pub returns : goal.returns
 returns g c =
     lane-marked c.args.world.now.tables c.args.world.now.state c.args.self.now (made g c) c.args.lane c.index_mut.result.now (marked g c)
-    (lane-low c.args.self.now c.args.lane c.requires) c.index_mut.ensures.value refl refl c.mark_all.ensures refl refl refl
+    (lane-low c.args.self.now c.args.lane c.requires.there) c.index_mut.ensures.value refl refl c.mark_all.ensures refl refl refl
+
+pub returns-then-is_marked : goal.returns-then-is_marked
+returns-then-is_marked g c =
+    marked-already c.args.world.now.tables c.args.world.now.state c.args.lane (laned c.args.self.now) (c.requires.marked c.if-is_marked.true)

@@ -10,6 +10,7 @@ use Rattle.schedule.specs.declared.lanes.Lanes.{Lanes}
 use Rattle.schedule.specs.Lanes.{laned, listed_at}
 use Rattle.schedule.specs.Listed.{Listed, nothing_listed}
 use Rattle.schedule.specs.inner.Owned.{IsMarkedOrSame}
+use Rattle.schedule.proofs.Counting.{marked-or-same}
 use Rattle.schedule.proofs.Kept.{all-lengths, found-within, lane-tree}
 use Rattle.schedule.proofs.Listing.{Steps, found-offered, lane-low, lane-steps, takes-again, takes-from}
 use Rattle.schedule.proofs.lanes.Lanes.take.Given as given
@@ -95,7 +96,9 @@ returns-clause-takes g c =
 pub returns-clause-marks : goal.returns-clause-marks
 returns-clause-marks g c =
     subst (λ (l : Listed). IsMarkedOrSame c.args.world.now.tables c.args.world.now.state l (listed_at (laned c.list.new.self) c.find-found.result.place))
-    (ap (λ ls. get_or ls c.find-found.result.place nothing_listed) (steps g c).listed) c.in_ok-list.ensures.marks
+    (ap (λ ls. get_or ls c.find-found.result.place nothing_listed) (steps g c).listed)
+    (marked-or-same c.args.world.now.tables c.args.world.now.state c.in_ok-list.field-0 (listed_at (laned (mid g c)) c.find-found.result.place)
+    (listed_at (laned c.list.new.self) c.find-found.result.place) c.in_ok-list.ensures.marks)
 
 pub overflow_cast-found : goal.overflow_cast-found
 overflow_cast-found g c = grind (arith, common_steps)
