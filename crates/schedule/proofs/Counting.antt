@@ -23,7 +23,7 @@ use Rattle.schedule.specs.Listed.{IsMarked, Listed, is_unheld, nothing_listed}
 use Rattle.schedule.specs.inner.Marks.{all_marked, is_at, marked_at, marks_at}
 use Rattle.schedule.specs.inner.Changes.{AreCountedAt, AreMarked, Counts, IsCountedAt, IsCountedIf, IsMarkedIn, KeepsOthers, Marks, TakesFrom}
 use Rattle.schedule.specs.inner.Changes.{WereReady, count_by, counted_at, marked_in}
-use Rattle.schedule.specs.inner.Owned.{IsMarkedIf, IsMarkedOrSame}
+use Rattle.schedule.specs.inner.Owned.{IsMarkedIf}
 use Rattle.schedule.specs.declared.choosing.Choice.TheVariants.{Offer}
 use Rattle.schedule.proofs.Marking.{by-marks}
 use Rattle.schedule.proofs.Touched.{asked, held-by-line}
@@ -194,6 +194,32 @@ marked-more tables s core block now start which n each within lane low =
           ∙ ap (λ (ms : List Bool). let l : Listed = record { asks = was.asks; unheld = ms } in l) (anew-twice tables s core block was.asks was.unheld)
       | inr x ↦ ap (marked_at tables s core block) x.0
     ]
+
+-- one whose marks are right may be passed over
+pub marked-past : (tables : Tables) (s : State) (core : CacheId) (block : BlockId) (now start : List Listed) (which : List ℕ) (n many : ℕ) →
+    ((lane : ℕ) → lane < many → (get_or now lane nothing_listed ≡ marked_at tables s core block (get_or start lane nothing_listed))
+    ⊎ ((get_or now lane nothing_listed ≡ get_or start lane nothing_listed) × ((k : ℕ) → k < n → get_or which k 0 ≢ lane))) →
+    IsMarked tables s (get_or start (get_or which n 0) nothing_listed) → (lane : ℕ) → lane < many →
+    (get_or now lane nothing_listed ≡ marked_at tables s core block (get_or start lane nothing_listed))
+    ⊎ ((get_or now lane nothing_listed ≡ get_or start lane nothing_listed) × ((k : ℕ) → k < n + 1 → get_or which k 0 ≢ lane))
+marked-past tables s core block now start which n many each right lane low = elim (each lane low) [
+  | inl x ↦ inl x
+  | inr x ↦ elim (cases_eq (get_or which n 0) lane) [
+    | inl q ↦ inl (x.0 ∙ still (get_or start lane nothing_listed) (subst (λ j. IsMarked tables s (get_or start j nothing_listed)) q right))
+    | inr ne ↦ inr (
+      x.0,
+      λ k h q. elim (cases_lt k n) [
+        | inl l ↦ x.1 k l q
+        | inr l ↦ (let z : k ≡ n = omega (arith, h, l) in ne (sym (ap (λ j. get_or which j 0) z) ∙ q))
+      ],
+    )
+  ]
+]
+  where
+    still : (l : Listed) → IsMarked tables s l → l ≡ marked_at tables s core block l
+    still l e =
+        let marks = ap (marks_at tables s core block l.asks) e ∙ anew-now tables s core block l.asks ∙ sym e in
+        λ i. record { asks = l.asks; unheld = (sym marks) i }
 
 pub left-more : (P : ℕ → Type 0) (Q : ℕ → Type 0) (which : List ℕ) (n many : ℕ) →
     ((lane : ℕ) → lane < many → P lane ⊎ (Q lane × ((k : ℕ) → k < n → get_or which k 0 ≢ lane))) → many ≤ get_or which n 0 →
@@ -419,19 +445,21 @@ all-counted tables before now cb cn but at block old mid once new kept sb were m
 
 -- ---- behind an offer that was taken
 
-pub marked-or-same : (tables : Tables) (now : State) (anew : Bool) (old new : Listed) → IsMarkedIf tables now anew old new → IsMarkedOrSame tables now old new
+marked-or-same : (tables : Tables) (now : State) (anew : Bool) (old new : Listed) → IsMarkedIf tables now anew old new →
+    IsMarked tables now new ⊎ (new ≡ old)
 marked-or-same tables now true old new e = inl e
 marked-or-same tables now false old new e = inr e
 
-pub taken-were : (tables : Tables) (before now : State) (cb : List Core) (lane offer : ℕ) (old new : Laned) → TakesFrom lane offer old new →
-    IsMarkedOrSame tables now (listed_at old lane) (listed_at new lane) → before.broken ≡ false → AreReady tables before cb old →
+pub taken-were : (tables : Tables) (before now : State) (cb : List Core) (lane offer : ℕ) (anew : Bool) (old new : Laned) → TakesFrom lane offer old new →
+    IsMarkedIf tables now anew (listed_at old lane) (listed_at new lane) → before.broken ≡ false → AreReady tables before cb old →
     WereReady tables before cb now (Some lane) new
-taken-were tables before now cb lane offer old new takes marks sb ready = record {
+taken-were tables before now cb lane offer anew old new takes marks sb ready = record {
   marked = λ other low. elim (cases_eq other lane) [
-    | inl q ↦ subst (λ n. IsMarked tables now (listed_at new n) ⊎ IsMarked tables before (listed_at new n)) (sym q) (elim marks [
-      | inl e ↦ inl e
-      | inr e ↦ inr (subst (IsMarked tables before) (sym e) (ready.marked sb lane takes.there))
-    ])
+    | inl q ↦ subst (λ n. IsMarked tables now (listed_at new n) ⊎ IsMarked tables before (listed_at new n)) (sym q)
+        (elim (marked-or-same tables now anew (listed_at old lane) (listed_at new lane) marks) [
+          | inl e ↦ inl e
+          | inr e ↦ inr (subst (IsMarked tables before) (sym e) (ready.marked sb lane takes.there))
+        ])
     | inr ne ↦ inr (subst (IsMarked tables before) (sym (takes.others.same other ne))
         (ready.marked sb other (let many = takes.others.count in omega (arith, low, many))))
   ];

@@ -3,6 +3,7 @@
 mod changing;
 mod counting;
 mod making;
+mod marking;
 
 use crate::asks::Asks;
 use rows::Sums;

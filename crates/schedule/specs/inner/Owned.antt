@@ -1,5 +1,5 @@
 -- What is kept beside asks.
-use Rattle.std.specs.Prelude.{◌≡◌, ◌<◌, ◌^◌, ◌⊎◌, ℕ, Bool, true, false, List, Option, Some, IfSome, length, slice_get}
+use Rattle.std.specs.Prelude.{◌≡◌, ◌<◌, ◌^◌, ℕ, Bool, true, false, List, Option, Some, IfSome, length, slice_get}
 use Rattle.base.specs.declared.ids.CacheId.{CacheId}
 use Rattle.base.specs.declared.step.CoreAsk.{CoreAsk}
 use Rattle.both_tables.specs.Tables.{Tables}
@@ -16,11 +16,7 @@ pub record AreKept (asks : List CoreAsk) (unheld : List Bool) (core : Option Cac
   pub short : length asks < 2 ^ 32
   pub owned : IfSome core (λ of. AreOf of asks)
 
--- the marks are right, or nothing has changed
-abbrev pub IsMarkedOrSame : Tables → State → Listed → Listed → Type 0
-IsMarkedOrSame tables state old new = IsMarked tables state new ⊎ (new ≡ old)
-
--- which of both it is
+-- where it is said that they were marked the marks are right, else nothing has changed
 abbrev pub IsMarkedIf : Tables → State → Bool → Listed → Listed → Type 0
 IsMarkedIf tables state true old new = IsMarked tables state new
 IsMarkedIf tables state false old new = new ≡ old

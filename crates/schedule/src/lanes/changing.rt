@@ -1,26 +1,32 @@
 //! Keeping lanes up to date.
 
-ghost use Rattle.std.specs.Prelude.{◌≡◌, ◌≢◌, ◌≤◌, ◌<◌, ◌^◌, ◌-◌, ℕ, Some, OnOk, IfSome, IfNone, true, [], length, map, min};
-ghost use Rattle.std.specs.Prelude.{slice_get, slice_index_or};
+ghost use Rattle.std.specs.Prelude.{◌≡◌, ◌≢◌, ◌≤◌, ◌<◌, ◌-◌, ℕ, Some, OnOk, IfSome, IfNone, true, length, map, min, slice_get};
 ghost use Rattle.std.specs.List.{Contains};
 ghost use Rattle.base.specs.declared.ids.CacheId.{CacheId};
 ghost use Rattle.base.specs.declared.ids.Place.TheVariants.{Cache};
 ghost use Rattle.base.specs.declared.step.CoreAsk.{CoreAsk};
-ghost use Rattle.scenario.specs.Cursors.{remaining};
 ghost use Rattle.schedule.specs.Lanes.{lanes_of};
-ghost use Rattle.schedule.specs.Listed.{nothing_listed};
-ghost use Rattle.schedule.specs.inner.Changes.{IsCountedIn, IsMarkedIn};
+ghost use Rattle.schedule.specs.inner.Changes.{IsCountedIn};
 
 use super::{Lane, Lanes};
 use crate::choosing::Choice;
-use base::{BlockId, CacheId, CoreAsk, NoMemory, Place};
+use base::{CacheId, CoreAsk, NoMemory, Place};
 use cores::Cores;
 use rows::Sums;
 use std::alloc::Allocator;
 use world::World;
 
+/// What taking an offer did, if one was taken.
+#[derive(Clone, Copy)]
+struct Taken {
+    /// The lane that had it.
+    lane: Option<usize>,
+    /// That lane, where it was marked anew.
+    marked: Option<usize>,
+}
+
 impl<'s, A: Allocator, B: Allocator + Clone> Lanes<'s, A, B> {
-    ghost use Rattle.std.specs.Prelude.{◌≡◌, ◌<◌, ℕ, List, Option, OnOk, IfOk, IfSome, false, true, length};
+    ghost use Rattle.std.specs.Prelude.{◌≡◌, ◌<◌, ℕ, List, OnOk, IfOk, IfSome, false, length};
     ghost use Rattle.base.specs.Steps.{block_of};
     ghost use Rattle.cores.specs.Cores.{Core};
     ghost use Rattle.machine.specs.Machine.{State};
@@ -28,10 +34,10 @@ impl<'s, A: Allocator, B: Allocator + Clone> Lanes<'s, A, B> {
     ghost use Rattle.scenario.specs.Taking.{offers};
     ghost use Rattle.schedule.specs.Choices.{IsOffered, chosen_step, rest_after};
     ghost use Rattle.schedule.specs.Lanes.{AgreeBut, AreReady, IsKept, IsLevel, IsListed, laned, lanes_of, listed_at, whole};
-    ghost use Rattle.schedule.specs.inner.Changes.{AreCountedAt, AreMarked, Counts, IsCountedAt, IsCountedIf, IsCountedIn, IsMarkedIn, KeepsOthers};
-    ghost use Rattle.schedule.specs.inner.Changes.{Marks, TakesFrom, WereReady, counted_at, marked_in};
+    ghost use Rattle.schedule.specs.inner.Changes.{AreCountedAt, Counts, IsCountedAt, IsCountedIf, IsCountedIn, KeepsOthers};
+    ghost use Rattle.schedule.specs.inner.Changes.{TakesFrom, WereReady, counted_at};
     ghost use Rattle.schedule.specs.Listed.{IsMarked};
-    ghost use Rattle.schedule.specs.inner.Owned.{IsMarkedIf, IsMarkedOrSame};
+    ghost use Rattle.schedule.specs.inner.Owned.{IsMarkedIf};
 
     /// Follows a choice that was made, by a step that went to a controller: an offer is taken, what is made anew for it is
     /// `alloc`'s, and the lanes that this and the step changed are marked and counted again.
@@ -55,48 +61,33 @@ impl<'s, A: Allocator, B: Allocator + Clone> Lanes<'s, A, B> {
             AreReady world.now.tables world.now.state cores.now (laned self.new)) }
     {
         let taken = self.take_chosen(alloc, choice, world)?;
-        self.mark_again(at, choice.step().block(), world);
+        self.mark_again(taken.marked, at, choice.step().block(), world);
         self.count_at(at, cores);
-        self.count_taken(taken, at, cores);
+        self.count_taken(taken.lane, at, cores);
         Ok(())
     }
 
-    /// Takes the offer that was chosen, where the choice is one, and answers the lane that had it.
-    fn take_chosen(
-        &mut self,
-        alloc: B,
-        choice: Choice,
-        world: &World,
-    ) -> Result<Option<usize>, NoMemory>
+    /// Takes the offer that was chosen, where the choice is one.
+    fn take_chosen(&mut self, alloc: B, choice: Choice, world: &World) -> Result<Taken, NoMemory>
         requires kept { IsKept (laned self.old) }
         requires offered { IsOffered choice (whole (laned self.old)) }
         ensures rest { OnOk result (Alike (whole (laned self.new)) (rest_after choice (whole (laned self.old)))) }
         ensures kept { OnOk result (IsKept (laned self.new)) }
-        ensures there { IfOk result (λ taken. IfSome taken (λ lane. lane < length (laned self.new).trees)) }
+        ensures there { IfOk result (λ taken. IfSome taken.lane (λ lane. lane < length (laned self.new).trees)) }
+        ensures marked { IfOk result (λ taken. IfSome taken.marked (λ lane. IsMarked world.now.tables world.now.state (listed_at (laned self.new) lane))) }
         ensures were { IfOk result (λ taken. (before : State) (cores_before : List Core) → before.broken ≡ false →
             AreReady world.now.tables before cores_before (laned self.old) →
-            WereReady world.now.tables before cores_before world.now.state taken (laned self.new)) }
+            WereReady world.now.tables before cores_before world.now.state taken.lane (laned self.new)) }
     {
         match choice {
             Choice::Offer(number, _) => {
-                let lane = self.take(alloc, number, world)?;
-                Ok(Some(lane))
+                let taken = self.take(alloc, number, world)?;
+                Ok(taken_from(taken.0, taken.1))
             }
-            Choice::Deliver(_) => Ok(None),
-        }
-    }
-
-    /// Marks again what a step about a block changed, which went to a controller.
-    fn mark_again(&mut self, at: Option<Place>, block: BlockId, world: &World)
-        requires { IsKept (laned self.old) }
-        ensures kept { IsKept (laned self.new) }
-        ensures same { Marks (laned self.old) (laned self.new) }
-        ensures marked { (before : State) (cores_before cores_now : List Core) (but : Option ℕ) → before.broken ≡ false →
-            world.now.state.broken ≡ false → WereReady world.now.tables before cores_before world.now.state but (laned self.old) →
-            AgreeBut at block.0 before world.now.state cores_before cores_now → AreMarked world.now.tables world.now.state (laned self.new) }
-    {
-        if let Some(core) = cache_of(at) {
-            self.mark_core(core, block, world);
+            Choice::Deliver(_) => Ok(Taken {
+                lane: None,
+                marked: None,
+            }),
         }
     }
 
@@ -148,12 +139,14 @@ impl<'s, A: Allocator, B: Allocator + Clone> Lanes<'s, A, B> {
         }
     }
 
-    /// Takes the offer of this number, and answers the lane that had it. The lane is listed anew, but where it offers the same again.
-    fn take(&mut self, alloc: B, number: usize, world: &World) -> Result<usize, NoMemory>
+    /// Takes the offer of this number, and answers the lane that had it, and whether it was marked anew. The lane is listed anew, but
+    /// where it offers the same again.
+    fn take(&mut self, alloc: B, number: usize, world: &World) -> Result<(usize, bool), NoMemory>
         requires kept { IsKept (laned self.old) }
         requires offered { number < length (offers (whole (laned self.old))) }
-        ensures takes { IfOk result (λ lane. TakesFrom lane number (laned self.old) (laned self.new)) }
-        ensures marks { IfOk result (λ lane. IsMarkedOrSame world.now.tables world.now.state (listed_at (laned self.old) lane) (listed_at (laned self.new) lane)) }
+        ensures takes { IfOk result (λ taken. TakesFrom taken.0 number (laned self.old) (laned self.new)) }
+        ensures marks { IfOk result (λ taken. IsMarkedIf world.now.tables world.now.state taken.1
+            (listed_at (laned self.old) taken.0) (listed_at (laned self.new) taken.0)) }
     {
         let found = self.lengths.find(number as u64);
         let repeats = self.lanes[found.place].rest.repeats();
@@ -161,10 +154,10 @@ impl<'s, A: Allocator, B: Allocator + Clone> Lanes<'s, A, B> {
             .rest
             .pass(alloc, found.rest as usize)?;
         if repeats {
-            return Ok(found.place);
+            return Ok((found.place, false));
         }
-        self.list(found.place, world)?;
-        Ok(found.place)
+        let anew = self.list(found.place, world)?;
+        Ok((found.place, anew))
     }
 
     /// Lists anew what a lane offers, and answers whether it was marked. Where that is what it offered before, the marks stay.
@@ -188,18 +181,6 @@ impl<'s, A: Allocator, B: Allocator + Clone> Lanes<'s, A, B> {
         Ok(anew)
     }
 
-    /// Marks anew all that a lane offers, if it isn't marked already.
-    pub(super) fn mark_lane(&mut self, lane: usize, is_marked: bool, world: &World)
-        requires there { lane < length (laned self.old).trees }
-        requires marked { is_marked ≡ true → IsMarked world.now.tables world.now.state (listed_at (laned self.old) lane) }
-        ensures { laned self.new ≡ marked_in world.now.tables world.now.state lane (laned self.old) }
-    {
-        if is_marked {
-            return;
-        }
-        self.lanes[lane].asks.mark_all(world);
-    }
-
     /// Counts anew what can be put of a lane.
     pub(super) fn count_lane(&mut self, lane: usize, cores: &Cores)
         requires level { IsLevel (laned self.old) }
@@ -208,25 +189,6 @@ impl<'s, A: Allocator, B: Allocator + Clone> Lanes<'s, A, B> {
     {
         let count = self.lanes[lane].asks.count(cores);
         self.ready.set(lane, count);
-    }
-
-    /// Marks anew the offers of a core about a block.
-    fn mark_core(&mut self, core: CacheId, block: BlockId, world: &World)
-        requires { IsKept (laned self.old) }
-        ensures kept { IsKept (laned self.new) }
-        ensures same { Marks (laned self.old) (laned self.new) }
-        ensures each { (lane : ℕ) → lane < length (laned self.old).trees →
-            IsMarkedIn world.now.tables world.now.state core block (lanes_of (laned self.old).reached core.0)
-            (listed_at (laned self.old) lane) (listed_at (laned self.new) lane) lane }
-    {
-        let row = row_of(&self.reached, core);
-        mark_each(
-            world,
-            core,
-            block,
-            &mut self.lanes,
-            self.reached[row].as_slice(),
-        );
     }
 
     /// Counts anew what can be put of each lane that may offer an ask of a core.
@@ -264,7 +226,7 @@ impl<'s, A: Allocator, B: Allocator + Clone> Lane<'s, A, B> {
 }
 
 /// The cache, where a controller is one.
-fn cache_of(at: Option<Place>) -> Option<CacheId>
+pub(super) fn cache_of(at: Option<Place>) -> Option<CacheId>
     ensures some { IfSome result (λ cache. at ≡ Some (Cache cache)) }
     ensures none { IfNone result ((cache : CacheId) → at ≢ Some (Cache cache)) }
 {
@@ -275,26 +237,20 @@ fn cache_of(at: Option<Place>) -> Option<CacheId>
     }
 }
 
-/// Marks anew the offers of a core about a block, in each of these lanes.
-fn mark_each<A: Allocator, B: Allocator>(
-    world: &World,
-    core: CacheId,
-    block: BlockId,
-    lanes: &mut Vec<Lane<'_, A, B>>,
-    which: &[u32],
-)
-    ensures count { length lanes.new.items ≡ length lanes.old.items }
-    ensures trees { map (λ l. remaining l.rest) lanes.new.items ≡ map (λ l. remaining l.rest) lanes.old.items }
-    ensures each { (lane : ℕ) → lane < length lanes.old.items →
-        IsMarkedIn world.now.tables world.now.state core block which.now
-        (slice_index_or (map (λ l. l.asks) lanes.old.items) lane nothing_listed)
-        (slice_index_or (map (λ l. l.asks) lanes.new.items) lane nothing_listed) lane }
+/// An offer was taken from this lane, which was marked anew, or wasn't.
+fn taken_from(lane: usize, is_marked: bool) -> Taken
+    ensures lane { result.lane ≡ Some lane }
+    ensures marked { IfSome result.marked (λ marked. (is_marked ≡ true) × (marked ≡ lane)) }
 {
-    for number in which {
-        let lane = *number as usize;
-        if lane < lanes.len() {
-            lanes[lane].asks.mark(world, core, block);
-        }
+    if is_marked {
+        return Taken {
+            lane: Some(lane),
+            marked: Some(lane),
+        };
+    }
+    Taken {
+        lane: Some(lane),
+        marked: None,
     }
 }
 
@@ -320,7 +276,7 @@ fn count_each<A: Allocator, B: Allocator>(
 }
 
 /// The row of a core among those of the cores. Cores that have no row of their own share the last one.
-fn row_of(reached: &Vec<Vec<u32>>, core: CacheId) -> usize
+pub(super) fn row_of(reached: &Vec<Vec<u32>>, core: CacheId) -> usize
     requires { 1 ≤ length reached.now.items }
     ensures { result ≡ min core.0 (length reached.now.items - 1) }
 {

@@ -7,7 +7,7 @@ use Rattle.schedule.proofs.lanes.Lanes.mark_again.Goals as goal
 pub returns-in-Some-clause-marked : goal.returns-in-Some-clause-marked
 returns-in-Some-clause-marked g c before cb cn but sb sn were agree =
     all-marked c.args.world.now.tables before c.args.world.now.state cb cn but c.in-Some.core c.args.block (laned c.args.self.now) (laned c.mark_core.new.self)
-    c.requires c.mark_core.ensures.same sb sn were
+    c.requires.kept c.mark_core.ensures.same sb sn were
     (subst (λ (at : Option Place). AgreeBut at c.args.block.0 before c.args.world.now.state cb cn) c.in-Some.ensures.some agree) c.mark_core.ensures.each
 
 pub returns-in_default-clause-marked : goal.returns-in_default-clause-marked

@@ -21,7 +21,7 @@ made g c = record {
 
 which : (g : given.Over) (c : goal.After-mark_each g) → c.as_slice.result.now ≡ lanes_of (rows_in c.args.self.now.reached.items) c.args.core.0
 which g c =
-    let some = c.requires.level.rows in
+    let some = c.requires.kept.level.rows in
     let many = length-map c.args.self.now.reached.items (λ of. of.items) in
     let row = c.row_of-row.ensures in
     let there : c.row_of-row.result < length c.args.self.now.reached.items = grind arith in
@@ -40,10 +40,10 @@ marks g c =
     let new = length-map c.mark_each.new.lanes.items (λ (l : Lane g.row.A.Denot g.row.B.Denot). l.asks) in
     let old = length-map c.args.self.now.lanes.items (λ (l : Lane g.row.A.Denot g.row.B.Denot). l.asks) in
     marks-only c.args.world.now.tables c.args.world.now.state c.args.core c.args.block (lanes_of (rows_in c.args.self.now.reached.items) c.args.core.0)
-    (laned c.args.self.now) (laned (made g c)) c.mark_each.ensures.trees refl refl refl (omega (arith, count, new, old)) c.requires.level.listed (each g c)
+    (laned c.args.self.now) (laned (made g c)) c.mark_each.ensures.trees refl refl refl (omega (arith, count, new, old)) c.requires.kept.level.listed (each g c)
 
 pub returns-clause-kept : goal.returns-clause-kept
-returns-clause-kept g c = kept-marks (laned c.args.self.now) (laned (made g c)) (marks g c) c.requires
+returns-clause-kept g c = kept-marks (laned c.args.self.now) (laned (made g c)) (marks g c) c.requires.kept
 
 pub returns-clause-same : goal.returns-clause-same
 returns-clause-same g c = marks g c

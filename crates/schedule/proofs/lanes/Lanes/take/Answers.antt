@@ -1,4 +1,4 @@
-use Rattle.std.proofs.Common.{◌<◌, inr, ap, get_or, length, refl, subst, sym, arith}
+use Rattle.std.proofs.Common.{◌<◌, ap, get_or, length, refl, subst, sym, arith}
 use Rattle.std.proofs.lemmas.Grind.{common_steps}
 use Rattle.std.specs.Vec.{with_item}
 use Rattle.scenario.specs.Alike.{Alike}
@@ -9,8 +9,7 @@ use Rattle.schedule.specs.declared.lanes.Lane.{Lane}
 use Rattle.schedule.specs.declared.lanes.Lanes.{Lanes}
 use Rattle.schedule.specs.Lanes.{laned, listed_at}
 use Rattle.schedule.specs.Listed.{Listed, nothing_listed}
-use Rattle.schedule.specs.inner.Owned.{IsMarkedOrSame}
-use Rattle.schedule.proofs.Counting.{marked-or-same}
+use Rattle.schedule.specs.inner.Owned.{IsMarkedIf}
 use Rattle.schedule.proofs.Kept.{all-lengths, found-within, lane-tree}
 use Rattle.schedule.proofs.Listing.{Steps, found-offered, lane-low, lane-steps, takes-again, takes-from}
 use Rattle.schedule.proofs.lanes.Lanes.take.Given as given
@@ -34,10 +33,10 @@ pass-requires g c =
     (found-offered place c.args.number rest (laned c.args.self.now) c.requires.kept c.find-found.ensures)
 
 -- the lane that the offer was taken from, before it is listed, and the lanes with it
-abbrev taken : (g : given.Over) → goal.In_ok-list g → Lane g.row.A.Denot g.row.B.Denot
+abbrev taken : (g : given.Over) → goal.In_ok-anew g → Lane g.row.A.Denot g.row.B.Denot
 taken g c = record { rest = c.pass.new.self; asks = c.index_mut.result.now.asks }
 
-abbrev mid : (g : given.Over) → goal.In_ok-list g → Lanes g.row.A.Denot g.row.B.Denot
+abbrev mid : (g : given.Over) → goal.In_ok-anew g → Lanes g.row.A.Denot g.row.B.Denot
 mid g c = record {
   lanes = with_item c.args.self.now.lanes c.find-found.result.place (taken g c);
   lengths = c.args.self.now.lengths;
@@ -46,7 +45,7 @@ mid g c = record {
 }
 
 -- another tree is left of that lane, and nothing else has changed
-steps : (g : given.Over) (c : goal.In_ok-list g) → Steps c.find-found.result.place (remaining c.pass.new.self) (laned c.args.self.now) (laned (mid g c))
+steps : (g : given.Over) (c : goal.In_ok-anew g) → Steps c.find-found.result.place (remaining c.pass.new.self) (laned c.args.self.now) (laned (mid g c))
 steps g c =
     lane-steps c.args.self.now (mid g c) c.find-found.result.place c.index_mut.result.now (taken g c) c.index_mut.ensures.value refl refl refl refl refl
 
@@ -80,7 +79,7 @@ returns-then-repeats-clause-takes g c =
     (again-steps g c)
 
 pub returns-then-repeats-clause-marks : goal.returns-then-repeats-clause-marks
-returns-then-repeats-clause-marks g c = inr (ap (λ ls. get_or ls c.find-found.result.place nothing_listed) (again-steps g c).listed)
+returns-then-repeats-clause-marks g c = ap (λ ls. get_or ls c.find-found.result.place nothing_listed) (again-steps g c).listed
 
 pub returns-clause-takes : goal.returns-clause-takes
 returns-clause-takes g c =
@@ -91,14 +90,13 @@ returns-clause-takes g c =
     (laned (mid g c)) (laned c.list.new.self) c.requires.kept c.find-found.ensures
     (subst (λ t. Alike (remaining c.pass.new.self) (left t c.find-found.result.rest))
     (lane-tree c.args.self.now.lanes.items c.find-found.result.place c.index_mut.result.now there c.index_mut.ensures.value) c.in_ok-pass.ensures.ok)
-    (steps g c) c.in_ok-list.ensures.trees c.in_ok-list.ensures.level c.in_ok-list.ensures.listed c.in_ok-list.ensures.others
+    (steps g c) c.in_ok-anew.ensures.trees c.in_ok-anew.ensures.level c.in_ok-anew.ensures.listed c.in_ok-anew.ensures.others
 
 pub returns-clause-marks : goal.returns-clause-marks
 returns-clause-marks g c =
-    subst (λ (l : Listed). IsMarkedOrSame c.args.world.now.tables c.args.world.now.state l (listed_at (laned c.list.new.self) c.find-found.result.place))
-    (ap (λ ls. get_or ls c.find-found.result.place nothing_listed) (steps g c).listed)
-    (marked-or-same c.args.world.now.tables c.args.world.now.state c.in_ok-list.field-0 (listed_at (laned (mid g c)) c.find-found.result.place)
-    (listed_at (laned c.list.new.self) c.find-found.result.place) c.in_ok-list.ensures.marks)
+    subst (λ (l : Listed). IsMarkedIf c.args.world.now.tables c.args.world.now.state c.in_ok-anew.anew l
+    (listed_at (laned c.list.new.self) c.find-found.result.place))
+    (ap (λ ls. get_or ls c.find-found.result.place nothing_listed) (steps g c).listed) c.in_ok-anew.ensures.marks
 
 pub overflow_cast-found : goal.overflow_cast-found
 overflow_cast-found g c = grind (arith, common_steps)
@@ -109,8 +107,8 @@ returns-in_err-pass-clause-takes g c = grind (arith, common_steps)
 pub returns-in_err-pass-clause-marks : goal.returns-in_err-pass-clause-marks
 returns-in_err-pass-clause-marks g c = grind (arith, common_steps)
 
-pub returns-in_err-list-clause-takes : goal.returns-in_err-list-clause-takes
-returns-in_err-list-clause-takes g c = grind (arith, common_steps)
+pub returns-in_err-anew-clause-takes : goal.returns-in_err-anew-clause-takes
+returns-in_err-anew-clause-takes g c = grind (arith, common_steps)
 
-pub returns-in_err-list-clause-marks : goal.returns-in_err-list-clause-marks
-returns-in_err-list-clause-marks g c = grind (arith, common_steps)
+pub returns-in_err-anew-clause-marks : goal.returns-in_err-anew-clause-marks
+returns-in_err-anew-clause-marks g c = grind (arith, common_steps)

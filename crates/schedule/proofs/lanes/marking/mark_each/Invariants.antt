@@ -2,7 +2,7 @@ use Rattle.std.proofs.Common.{◌≡◌, ◌≢◌, ◌⊎◌, ◌<◌, ℕ, len
 use Rattle.scenario.specs.Cursors.{remaining}
 use Rattle.schedule.specs.Listed.{nothing_listed}
 use Rattle.schedule.specs.inner.Marks.{marked_at}
-use Rattle.schedule.proofs.lanes.changing.mark_each.Given as goal
+use Rattle.schedule.proofs.lanes.marking.mark_each.Given as goal
 
 abbrev pub invariant-loop-number : goal.invariant-loop-number
 invariant-loop-number g l =

@@ -1,19 +1,29 @@
-use Rattle.std.proofs.Common.{◌∙◌, ◌≡◌, ◌≢◌, ◌⊎◌, ◌+◌, ◌<◌, inl, inr, ℕ, List, ap, get_or, set, sym, subst, arith, length, map}
+use Rattle.std.proofs.Common.{◌∙◌, ◌≡◌, ◌≢◌, ◌⊎◌, ◌+◌, ◌<◌, inl, inr, ℕ, List, IfSome, Option, ap, get_or, set, sym, subst, arith, length, map}
 use Rattle.std.proofs.lemmas.List.{length-set, length-map, map-set}
 use Rattle.std.proofs.Math.Seq.{map-set_same}
 use Rattle.scenario.specs.Cursors.{remaining}
-use Rattle.schedule.specs.Listed.{Listed, nothing_listed}
+use Rattle.schedule.specs.Listed.{IsMarked, Listed, nothing_listed}
 use Rattle.schedule.specs.inner.Marks.{marked_at}
 use Rattle.schedule.specs.declared.lanes.Lane.{Lane}
 use Rattle.schedule.proofs.Kept.{lane-listed}
-use Rattle.schedule.proofs.Counting.{left-more, marked-more, not-among}
-use Rattle.schedule.proofs.lanes.changing.mark_each.Given as given
-use Rattle.schedule.proofs.lanes.changing.mark_each.Goals as goal
-use Rattle.schedule.proofs.lanes.changing.mark_each.Goals.{then-lane-len, else-lane-len}
+use Rattle.schedule.proofs.Counting.{left-more, marked-more, marked-past, not-among}
+use Rattle.schedule.proofs.lanes.marking.mark_each.Given as given
+use Rattle.schedule.proofs.lanes.marking.mark_each.Goals as goal
+use Rattle.schedule.proofs.lanes.marking.mark_each.Goals.{then-lane-len, else-lane-len}
 
 -- what each lane offers
 abbrev listed_in : (g : given.Over) → List (Lane g.row.A.Denot g.row.B.Denot) → List Listed
 listed_in g lanes = map (λ (l : Lane g.row.A.Denot g.row.B.Denot). l.asks) lanes
+
+pub loop-number-preserved-then-is_lane : goal.loop-number-preserved-then-is_lane
+loop-number-preserved-then-is_lane g c =
+    let right = subst (λ (of : Option ℕ). IfSome of (λ lane. IsMarked c.args.world.now.tables c.args.world.now.state
+    (get_or (listed_in g c.args.lanes.now.items) lane nothing_listed))) (c.is_lane.ensures c.if-is_lane.true) c.requires in (
+      c.loop-number.invariant.0,
+      c.loop-number.invariant.1,
+      marked-past c.args.world.now.tables c.args.world.now.state c.args.core c.args.block (listed_in g c.loop-number.lanes.items)
+          (listed_in g c.args.lanes.now.items) c.args.which.now c.loop-number.number-index (length c.args.lanes.now.items) c.loop-number.invariant.2 right,
+    )
 
 pub loop-number-preserved : goal.loop-number-preserved
 loop-number-preserved g c = elim c.if-lane-len.branch [
