@@ -42,6 +42,16 @@ fn is_looked_at(outcome: Outcome) -> bool
     }
 }
 
+/// Whether a step met a blank cell.
+pub(crate) fn meets_blank(outcome: Outcome) -> bool
+    ensures { IsTrue result ↔ (outcome ≡ Outcome.Blank) }
+{
+    match outcome {
+        Outcome::Blank => true,
+        _ => false,
+    }
+}
+
 /// The blank cell that the step met.
 fn find_blank(world: &World, step: Step, outcome: Outcome) -> Option<Violation>
     ensures { (due : Option ℕ) → AnswersWithin (scene_in world.now.state step outcome due) 0 1 result }
@@ -81,7 +91,7 @@ fn find_shared(world: &World, step: Step) -> Option<Violation>
 }
 
 /// The load by the step that returned another value than this one.
-fn find_stale(step: Step, outcome: Outcome, due: Option<u64>) -> Option<Violation>
+pub(crate) fn find_stale(step: Step, outcome: Outcome, due: Option<u64>) -> Option<Violation>
     ensures { (state : State) → AnswersWithin (scene_in state step outcome due) 3 4 result }
 {
     match (outcome, due) {

@@ -1,9 +1,9 @@
-use crate::finding::find;
+use crate::finding::{find, find_stale, meets_blank};
 use crate::violation::Violation;
 use base::{BlockId, NoMemory, Outcome, Step};
 use std::alloc::Global;
 use std::marker::Model;
-use world::World;
+use world::{Went, World};
 
 /// The value that each block ought to have, noted from the outcomes of steps alone.
 #[derive(Drop)]
@@ -20,8 +20,10 @@ impl Model for Watch {
 }
 
 impl Watch {
-    ghost use Rattle.std.specs.Prelude.{◌≡◌, [], IfOk, OnOk, slice_get};
+    ghost use Rattle.std.specs.Prelude.{◌≡◌, ◌≢◌, [], false, IfOk, OnOk, slice_get};
     ghost use Rattle.base.specs.Steps.{block_of};
+    ghost use Rattle.machine.specs.Machine.{State};
+    ghost use Rattle.world.specs.Crowds.{IsUncrowded};
     ghost use Rattle.world.specs.View.{View};
     ghost use Rattle.monitor.specs.Scenes.{Answers, scene_in};
     ghost use Rattle.machine.specs.Completions.{noted};
@@ -64,6 +66,48 @@ impl Watch {
         let due = self.values.get(block.0 as usize).copied();
         self.note(block, outcome);
         find(world, step, outcome, due)
+    }
+
+    /// Notes a step, and answers what is wrong after it, as [`see`](Watch::see) does. It takes what [`World::go`] answered of
+    /// the step, and doesn't look at the world where the block isn't crowded and no cell was blank.
+    pub fn see_went(&mut self, world: &World, step: Step, went: &Went) -> Option<Violation>
+        requires { went.now.crowded ≡ false → IsUncrowded world.now.state (block_of step) }
+        ensures noted { self.new ≡ noted self.old (block_of step) went.now.outcome }
+        ensures violation { Answers (scene_in world.now.state step went.now.outcome (slice_get self.old (block_of step))) result }
+        ensures history { AnswersHistory world.now self.old step went.now.outcome result }
+        ensures seen { SeesNext world.now self.old step went.now.outcome self.new }
+    {
+        if went.crowded || meets_blank(went.outcome) {
+            return self.see(world, step, went.outcome);
+        }
+        self.see_value(step, went.outcome)
+    }
+
+    /// Notes a step that met no blank cell, and answers what is wrong after it where its block isn't crowded: only a load may be.
+    fn see_value(&mut self, step: Step, outcome: Outcome) -> Option<Violation>
+        requires { outcome ≢ Outcome.Blank }
+        ensures noted { self.new ≡ noted self.old (block_of step) outcome }
+        ensures violation { (state : State) → IsUncrowded state (block_of step) →
+            Answers (scene_in state step outcome (slice_get self.old (block_of step))) result }
+    {
+        match outcome {
+            Outcome::Load { .. } => {
+                let due = self.due(step.block());
+                find_stale(step, outcome, due)
+            }
+            Outcome::Store { .. } => {
+                self.note(step.block(), outcome);
+                None
+            }
+            _ => None,
+        }
+    }
+
+    /// The value that a load of a block ought to return, if the block is known.
+    fn due(&self, block: BlockId) -> Option<u64>
+        ensures { result ≡ slice_get self.now block.0 }
+    {
+        self.values.get(block.0 as usize).copied()
     }
 
     fn note(&mut self, block: BlockId, outcome: Outcome)

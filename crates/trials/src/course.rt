@@ -145,7 +145,7 @@ impl<'s, 'b, A: Allocator, N: Notes> Course<'s, 'b, A, N> {
         let (world, cores) = (&self.world, &self.cores);
         self.lanes.follow(arena, choice, at, world, cores)?;
         self.notes.add(Entry { step, outcome })?;
-        Ok(self.watch.see(&self.world, step, outcome))
+        Ok(self.watch.see_went(&self.world, step, &went))
     }
 
     /// The verdict where there is no choice.

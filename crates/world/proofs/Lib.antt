@@ -7,6 +7,7 @@ pub mod Stepping
 pub mod Copying
 pub mod Marking
 pub mod Counted
+pub mod Crowds
 pub mod QuietMarks
 pub mod Spotted
 pub mod Delivering

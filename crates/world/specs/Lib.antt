@@ -1,6 +1,7 @@
 pub mod View
 pub mod Runs
 pub mod Looks
+pub mod Crowds
 pub mod Enabled
 pub mod Messages
 pub mod Coherent

@@ -4,18 +4,29 @@ ghost use Rattle.machine.specs.declared.decision.Decision.TheVariants.{Refused};
 ghost use Rattle.blocks.specs.Kept.{acts, moved_to};
 ghost use Rattle.blocks.specs.Looks.{place_in};
 ghost use Rattle.blocks.specs.Passing.{ResponsesPass};
+ghost use Rattle.world.specs.Crowds.{IsUncrowdedIn};
 ghost use Rattle.world.specs.View.{HasSpaceAt, space_of, state_or};
 ghost use Rattle.world.specs.inner.Held.{kept_at, IsLight, OthersStay};
 ghost use Rattle.world.specs.inner.Tests.{IsMarked};
 ghost use Rattle.blocks.specs.Tests.{IsTested, tested_in};
 
 use crate::looks::place_opened;
-use base::{NoMemory, Outcome, Step};
-use blocks::{Block, Made, Visit, decide_opened};
+use base::{NoMemory, Outcome, Place, Step};
+use blocks::{Block, Made, decide_opened};
 use both_tables::Tables;
 use machine::Decision;
 use rows::Sparse;
 use std::alloc::Global;
+
+/// What a step came to at one of the blocks.
+#[derive(Clone, Copy)]
+pub struct Visited {
+    pub made: Made,
+    /// The controller that it went to, if cache and message were there.
+    pub at: Option<Place>,
+    /// Whether a cache may write the block after it, and another one may read it.
+    pub crowded: bool,
+}
 
 /// Keeps a block that a step acts at, or answers the outcome of a step that no cell acts on there.
 ///
@@ -75,7 +86,7 @@ pub fn step_at(
     tables: &Tables,
     pass: bool,
     step: Step,
-) -> Result<Visit, NoMemory>
+) -> Result<Visited, NoMemory>
     requires below { number < length blocks.old.items }
     requires pass { pass ≡ true → ResponsesPass tables.now }
     requires marked { IsMarked tables.now (kept_at blocks.old.items number) }
@@ -84,6 +95,7 @@ pub fn step_at(
     ensures ok { IfOk result (λ visit. transition tables.now step (state_or caches value (kept_at blocks.old.items number))
         ≡ moved_to (state_or caches value (kept_at blocks.new.items number)) visit.made.outcome) }
     ensures at { IfOk result (λ visit. visit.at ≡ place_in step (state_or caches value (kept_at blocks.old.items number))) }
+    ensures uncrowded { IfOk result (λ visit. visit.crowded ≡ false → IsUncrowdedIn (state_or caches value (kept_at blocks.new.items number))) }
     ensures tested { IfOk result (λ visit. IsTested tables.now (state_or caches value (kept_at blocks.old.items number))
         (state_or caches value (kept_at blocks.new.items number)) visit.made.tested) }
     ensures sent { IfOk result (λ visit. (length (messages_of (decision_of tables.now step (state_or caches value (kept_at blocks.old.items number)))
@@ -99,12 +111,21 @@ pub fn step_at(
             tested: None,
         };
         let at = place_opened(caches, step);
-        return Ok(Visit { made, at });
+        return Ok(Visited {
+            made,
+            at,
+            crowded: false,
+        });
     }
     let Some(block) = blocks.get_mut(number) else {
         unreachable!();
     };
-    block.visit(tables, pass, step)
+    let visit = block.visit(tables, pass, step)?;
+    Ok(Visited {
+        made: visit.made,
+        at: visit.at,
+        crowded: block.crowded_writer().is_some(),
+    })
 }
 
 /// Makes the room that a step at one of the blocks wants.

@@ -42,6 +42,8 @@ pub struct Went {
     pub outcome: Outcome,
     /// The controller that it went to. There is none where cache, block or message wasn't there.
     pub at: Option<Place>,
+    /// Whether its block is crowded after it: a cache is in M, and another one is in S, SM^AD, SM^A or M.
+    pub crowded: bool,
 }
 
 /// A world of caches and blocks, with the tables of its controllers.
@@ -90,6 +92,7 @@ impl World {
     ghost use Rattle.base.specs.Steps.{block_of};
     ghost use Rattle.machine.specs.Machine.{IsHistory, next, opened, sent_by};
     ghost use Rattle.world.specs.Coherent.{HasBeenSafe, IsUnstuck};
+    ghost use Rattle.world.specs.Crowds.{IsUncrowded};
     ghost use Rattle.world.specs.Looks.{place_at};
     ghost use Rattle.world.specs.Messages.{messages_at, raised};
     ghost use Rattle.world.specs.View.{HasRoomToStep, LeadsOn, stepped, wakes};
@@ -158,10 +161,12 @@ impl World {
         Ok(outcome)
     }
 
-    /// Makes one step as [`step`](World::step) does, and answers where it went too. Where memory is refused nothing has changed.
+    /// Makes one step as [`step`](World::step) does, and answers where it went too, and whether its block is crowded after it.
+    /// Where memory is refused nothing has changed.
     pub fn go(&mut self, step: Step) -> Result<Went, NoMemory>
         ensures ok { IfOk result (λ went. next self.old.tables self.old.state step ≡ stepped self.new.state went.outcome) }
         ensures at { IfOk result (λ went. went.at ≡ place_at self.old.state step) }
+        ensures uncrowded { IfOk result (λ went. went.crowded ≡ false → IsUncrowded self.new.state (block_of step)) }
         ensures history { OnOk result (LeadsOn self.old (step ∷ []) self.new) }
         ensures safe { HasBeenSafe self.new }
         ensures unstuck { IsUnstuck self.new }
@@ -252,6 +257,7 @@ impl World {
         ensures within { IsWithinLimits self.new.shape }
         ensures ok { IfOk result (λ went. next self.old.tables self.old.state step ≡ stepped self.new.state went.outcome) }
         ensures at { IfOk result (λ went. went.at ≡ place_at self.old.state step) }
+        ensures uncrowded { IfOk result (λ went. went.crowded ≡ false → IsUncrowded self.new.state (block_of step)) }
         ensures shape { self.new.shape ≡ self.old.shape }
         ensures tables { self.new.tables ≡ self.old.tables }
         ensures err { OnErr result (self.new.state ≡ self.old.state) }
@@ -265,6 +271,7 @@ impl World {
             return Ok(Went {
                 outcome: Outcome::Broken,
                 at: self.at(step),
+                crowded: self.crowded_writer(step.block()).is_some(),
             });
         }
         let number = step.block().0;
@@ -272,6 +279,7 @@ impl World {
             return Ok(Went {
                 outcome: Outcome::Absent,
                 at: None,
+                crowded: false,
             });
         };
         let visit = step_at(
@@ -289,6 +297,7 @@ impl World {
         Ok(Went {
             outcome: visit.made.outcome,
             at: visit.at,
+            crowded: visit.crowded,
         })
     }
 }

@@ -83,3 +83,7 @@ returns-clause-succeeds c = grind (arith, common_steps)
 
 pub returns-clause-light : goal.returns-clause-light
 returns-clause-light c = grind (arith, common_steps)
+
+pub returns-in_err-visit-clause-others : goal.returns-in_err-visit-clause-others
+returns-in_err-visit-clause-others c =
+    others-set c.args.blocks.now.items c.touch.new.blocks.items c.args.number (Some c.visit.new.self) c.requires.below c.touch.ensures.others

@@ -25,8 +25,8 @@ returns-clause-makes g c r told =
         dice = refl;
         recorded = ap (λ (s : Step). with_entry r (record { step = s; outcome = c.in_ok-went.went.outcome })) is;
         answer =
-            subst (λ (s : Step). AnswersHistory c.go.new.self c.args.self.now.watch s c.in_ok-went.went.outcome c.see.result) is c.see.ensures.history;
-        seen = subst (λ (s : Step). SeesNext c.go.new.self c.args.self.now.watch s c.in_ok-went.went.outcome c.see.new.self) is c.see.ensures.seen;
+            subst (λ (s : Step). AnswersHistory c.go.new.self c.args.self.now.watch s c.in_ok-went.went.outcome c.see_went.result) is c.see_went.ensures.history;
+        seen = subst (λ (s : Step). SeesNext c.go.new.self c.args.self.now.watch s c.in_ok-went.went.outcome c.see_went.new.self) is c.see_went.ensures.seen;
       },
     )
 

@@ -1,0 +1,60 @@
+-- What there is to see where a step's block isn't crowded.
+use Rattle.std.proofs.Common.{◌≡◌, ◌≢◌, ℕ, List, None, refl, inl, inr, arith}
+use Rattle.base.specs.Steps.{block_of}
+use Rattle.base.specs.declared.ids.CacheId.{CacheId}
+use Rattle.base.specs.declared.step.Outcome.{Outcome}
+use Rattle.base.specs.declared.step.Outcome.TheVariants as outcome
+use Rattle.machine.specs.Completions.{noted}
+use Rattle.world.specs.Crowds.{IsUncrowded}
+use Rattle.monitor.specs.declared.violation.Violation.TheVariants.{Blank, SecondWriter, WriterBesideReader, StaleLoad}
+use Rattle.monitor.specs.Scenes.{IsLoadOf, Scene}
+use Rattle.monitor.specs.inner.Finding.{ShowsNone}
+use Rattle.monitor.proofs.Findings.{none-then}
+use Rattle.monitor.proofs.Looking.{crowded-none, none-shared, none-writes}
+
+none-blank : (scene : Scene) → scene.outcome ≢ outcome.Blank → ShowsNone scene 0 1
+none-blank scene met (Blank at block) low high s = met s.1.was_blank
+none-blank scene met (SecondWriter block first second) low high s = absurd (omega (arith, high))
+none-blank scene met (WriterBesideReader block writer reader) low high s = absurd (omega (arith, high))
+none-blank scene met (StaleLoad block got due) low high s = absurd (omega (arith, high))
+
+-- where no cell was blank and the block isn't crowded, only a load may be wrong
+pub none-uncrowded : (scene : Scene) → scene.outcome ≢ outcome.Blank → IsUncrowded scene.state (block_of scene.step) → ShowsNone scene 0 3
+none-uncrowded scene met uncrowded =
+    none-then scene 0 1 3 (none-blank scene met)
+    (elim (crowded-none scene.state (block_of scene.step) None uncrowded) [
+      | inl few ↦ none-shared scene few
+      | inr none ↦ none-writes scene none
+    ])
+
+-- where nothing was loaded, no load is wrong
+pub none-loaded : (scene : Scene) → ((value : ℕ) → ¬ IsLoadOf value scene.outcome) → ShowsNone scene 3 4
+none-loaded scene none (Blank at block) low high s = absurd (omega (arith, low))
+none-loaded scene none (SecondWriter block first second) low high s = absurd (omega (arith, low))
+none-loaded scene none (WriterBesideReader block writer reader) low high s = absurd (omega (arith, low))
+none-loaded scene none (StaleLoad block got due) low high s = none got s.1.loaded
+
+-- what isn't a load is none of any value
+pub not-loaded : (what : Outcome) → ((cache : CacheId) (value : ℕ) → ¬ (what ≡ outcome.Load cache value)) → (value : ℕ) → ¬ IsLoadOf value what
+not-loaded (outcome.Load cache loaded) not value h = not cache loaded refl
+not-loaded (outcome.Store cache stored) not value h = h
+not-loaded outcome.Sent not value h = h
+not-loaded outcome.Moved not value h = h
+not-loaded outcome.Held not value h = h
+not-loaded outcome.Absent not value h = h
+not-loaded outcome.Idle not value h = h
+not-loaded outcome.Blank not value h = h
+not-loaded outcome.Broken not value h = h
+
+-- what isn't a store leaves the values
+pub not-stored : (values : List ℕ) (block : ℕ) (what : Outcome) → ((cache : CacheId) (value : ℕ) → ¬ (what ≡ outcome.Store cache value)) →
+    noted values block what ≡ values
+not-stored values block (outcome.Store cache stored) not = absurd (not cache stored refl)
+not-stored values block (outcome.Load cache loaded) not = refl
+not-stored values block outcome.Sent not = refl
+not-stored values block outcome.Moved not = refl
+not-stored values block outcome.Held not = refl
+not-stored values block outcome.Absent not = refl
+not-stored values block outcome.Idle not = refl
+not-stored values block outcome.Blank not = refl
+not-stored values block outcome.Broken not = refl
