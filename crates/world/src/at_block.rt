@@ -31,6 +31,7 @@ pub struct Visited {
 /// Keeps a block that a step acts at, or answers the outcome of a step that no cell acts on there.
 ///
 /// A block that is kept already stays as it is.
+#[inline(always)]
 fn touch(
     alloc: Global,
     blocks: &mut Sparse<Block>,
@@ -55,6 +56,31 @@ fn touch(
     if let Some(_) = blocks.get(number) {
         return Ok(None);
     }
+    touch_opened(alloc, blocks, caches, value, number, tables, step)
+}
+
+/// Does so with a block that isn't kept. It stands apart, as few steps come here.
+#[cold]
+#[inline(never)]
+fn touch_opened(
+    alloc: Global,
+    blocks: &mut Sparse<Block>,
+    caches: u32,
+    value: u64,
+    number: u32,
+    tables: &Tables,
+    step: Step,
+) -> Result<Option<Outcome>, NoMemory>
+    requires below { number < length blocks.old.items }
+    requires none { kept_at blocks.old.items number ≡ None }
+    ensures others { OthersStay number blocks.old.items blocks.new.items }
+    ensures state { state_or caches value (kept_at blocks.new.items number) ≡ state_or caches value (kept_at blocks.old.items number) }
+    ensures marked { IsMarked tables.now (kept_at blocks.new.items number) }
+    ensures refused { IfOk result (λ done. IfSome done (λ what.
+        decision_of tables.now step (state_or caches value (kept_at blocks.old.items number)) ≡ Refused what)) }
+    ensures kept { IfOk result (λ done. IfNone done (IsSome (kept_at blocks.new.items number))) }
+    ensures succeeds { acts (decision_of tables.now step (state_or caches value (kept_at blocks.old.items number))) ≡ false → IsOk result }
+{
     let decision = decide_opened(tables, caches, step);
     if let Decision::Refused(outcome) = decision {
         return Ok(Some(outcome));

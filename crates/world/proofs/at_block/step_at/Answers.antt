@@ -87,3 +87,48 @@ returns-clause-light c = grind (arith, common_steps)
 pub returns-in_err-visit-clause-others : goal.returns-in_err-visit-clause-others
 returns-in_err-visit-clause-others c =
     others-set c.args.blocks.now.items c.touch.new.blocks.items c.args.number (Some c.visit.new.self) c.requires.below c.touch.ensures.others
+
+pub returns-in_err-outcome-clause-uncrowded : goal.returns-in_err-outcome-clause-uncrowded
+returns-in_err-outcome-clause-uncrowded c = grind (arith, common_steps)
+
+pub returns-in_err-outcome-clause-at : goal.returns-in_err-outcome-clause-at
+returns-in_err-outcome-clause-at c = grind (arith, common_steps)
+
+pub returns-in-Some-clause-at : goal.returns-in-Some-clause-at
+returns-in-Some-clause-at c = grind (arith, common_steps)
+
+pub returns-in-Some-clause-uncrowded : goal.returns-in-Some-clause-uncrowded
+returns-in-Some-clause-uncrowded c = grind (arith, common_steps)
+
+pub returns-clause-at : goal.returns-clause-at
+returns-clause-at c = grind (arith, common_steps)
+
+pub returns-clause-uncrowded : goal.returns-clause-uncrowded
+returns-clause-uncrowded c = grind (arith, common_steps)
+
+pub returns-in_err-visit-clause-marked : goal.returns-in_err-visit-clause-marked
+returns-in_err-visit-clause-marked c = grind (arith, common_steps)
+
+pub returns-in_err-visit-clause-ok : goal.returns-in_err-visit-clause-ok
+returns-in_err-visit-clause-ok c = grind (arith, common_steps)
+
+pub returns-in_err-visit-clause-at : goal.returns-in_err-visit-clause-at
+returns-in_err-visit-clause-at c = grind (arith, common_steps)
+
+pub returns-in_err-visit-clause-uncrowded : goal.returns-in_err-visit-clause-uncrowded
+returns-in_err-visit-clause-uncrowded c = grind (arith, common_steps)
+
+pub returns-in_err-visit-clause-tested : goal.returns-in_err-visit-clause-tested
+returns-in_err-visit-clause-tested c = grind (arith, common_steps)
+
+pub returns-in_err-visit-clause-sent : goal.returns-in_err-visit-clause-sent
+returns-in_err-visit-clause-sent c = grind (arith, common_steps)
+
+pub returns-in_err-visit-clause-err : goal.returns-in_err-visit-clause-err
+returns-in_err-visit-clause-err c = grind (arith, common_steps)
+
+pub returns-in_err-visit-clause-succeeds : goal.returns-in_err-visit-clause-succeeds
+returns-in_err-visit-clause-succeeds c = grind (arith, common_steps)
+
+pub returns-in_err-visit-clause-light : goal.returns-in_err-visit-clause-light
+returns-in_err-visit-clause-light c = grind (arith, common_steps)

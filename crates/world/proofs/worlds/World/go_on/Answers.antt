@@ -201,3 +201,15 @@ returns-clause-uncrowded c e =
     block-uncrowded (record { blocks = blocks; broken = c.breaks-self-inside.result }) (block_of c.args.step) _
     (state-there c.self.inside.shape.caches c.self.inside.opening.items c.step_at.new.blocks.items (block_of c.args.step) c.in-Some.value (at-2 c))
     ((rw (c.block-number.ensures, c.caches.ensures.value) at c.in_ok-visit.ensures.uncrowded) e)
+
+pub returns-then-self-clause-uncrowded : goal.returns-then-self-clause-uncrowded
+returns-then-self-clause-uncrowded c = grind (arith, common_steps)
+
+pub returns-in_err-visit-clause-uncrowded : goal.returns-in_err-visit-clause-uncrowded
+returns-in_err-visit-clause-uncrowded c = grind (arith, common_steps)
+
+pub returns-then-self-clause-at : goal.returns-then-self-clause-at
+returns-then-self-clause-at c = grind (arith, common_steps)
+
+pub returns-in_err-visit-clause-at : goal.returns-in_err-visit-clause-at
+returns-in_err-visit-clause-at c = grind (arith, common_steps)

@@ -1,0 +1,40 @@
+use Rattle.std.proofs.Common.{◌∙◌, ap, subst, sym, arith}
+use Rattle.std.proofs.lemmas.Grind.{common_steps}
+use Rattle.machine.specs.Block.{BlockState}
+use Rattle.world.specs.inner.Held.{kept_at}
+use Rattle.world.specs.inner.Tests.{IsMarked}
+use Rattle.world.proofs.QuietMarks.{marks-quiet}
+use Rattle.world.proofs.Touching.{marked-put}
+use Rattle.world.proofs.at_block.touch_opened.Goals as goal
+
+pub returns-clause-marked : goal.returns-clause-marked
+returns-clause-marked c =
+    let block = c.in_ok-block.block in
+    let quiet = ap (λ (b : BlockState). b.traffic) c.in_ok-block.ensures.state in
+    subst (λ ks. IsMarked c.args.tables.now (kept_at ks c.args.number)) (sym c.in_ok-keep.ensures.ok)
+    (marked-put c.args.tables.now c.args.blocks.now.items c.args.number block c.requires.below
+    (c.in_ok-block.ensures.marks ∙ sym (marks-quiet c.args.tables.now block.state c.args.caches quiet)))
+
+pub returns-in-Refused-clause-others : goal.returns-in-Refused-clause-others
+returns-in-Refused-clause-others c = grind (arith, common_steps)
+
+pub returns-in-Refused-clause-state : goal.returns-in-Refused-clause-state
+returns-in-Refused-clause-state c = grind (arith, common_steps)
+
+pub returns-in-Refused-clause-marked : goal.returns-in-Refused-clause-marked
+returns-in-Refused-clause-marked c = grind (arith, common_steps)
+
+pub returns-in-Refused-clause-refused : goal.returns-in-Refused-clause-refused
+returns-in-Refused-clause-refused c = grind (arith, common_steps)
+
+pub returns-in-Refused-clause-kept : goal.returns-in-Refused-clause-kept
+returns-in-Refused-clause-kept c = grind (arith, common_steps)
+
+pub returns-in-Refused-clause-succeeds : goal.returns-in-Refused-clause-succeeds
+returns-in-Refused-clause-succeeds c = grind (arith, common_steps)
+
+pub returns-in_err-block : goal.returns-in_err-block
+returns-in_err-block c = grind (arith, common_steps)
+
+pub returns-in_err-keep : goal.returns-in_err-keep
+returns-in_err-keep c = grind (arith, common_steps)
