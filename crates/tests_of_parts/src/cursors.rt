@@ -2,7 +2,7 @@ use crate::asserting::same;
 use crate::scenario_taking::{LOAD, STORE, letter, offered, read};
 use base::{Ask, BlockId, CacheId, CoreAsk};
 use bumpalo::Bump;
-use scenario::{Cursor, Rest, Scenario};
+use scenario::{Cursor, Next, Rest, Scenario};
 use std::alloc::Global;
 use std::process::Abort;
 
@@ -216,6 +216,43 @@ fn turns_of_a_choice_offer_the_same_up_to_the_last(rt: HostRuntime) {
     compare_repeats_of(&rt, heap, THREE_CHOICES, &[true, true, false, false]);
     compare_repeats_of(&rt, heap, CHOICE, &[false]);
     compare_repeats_of(&rt, heap, CHOICES_AND_ONE, &[false, false]);
+}
+
+/// How many offers a look tells of, where it tells it. An ask that it tells has to be the first offer.
+fn count_told(rt: &impl Abort, cursor: &InArena<'_, '_>) -> Option<usize> {
+    match cursor.peek() {
+        Next::Nothing => Some(0),
+        Next::Alone(ask) => {
+            same(rt, &cursor.offer_at(0), &Some(ask));
+            Some(1)
+        }
+        Next::Unknown => None,
+    }
+}
+
+/// Takes the first offer again and again, and compares before each what a look tells.
+fn compare_looks(rt: &impl Abort, heap: Global, text: &str, wanted: &[Option<usize>]) {
+    let source = read(rt, heap, text);
+    let bump = Bump::new(heap);
+    let mut cursor: InArena<'_, '_> = Cursor::open(&source);
+    for count in wanted {
+        same(rt, &count_told(rt, &cursor), count);
+        let _taken = cursor.take(&bump, 0).expect(rt, "memory");
+    }
+}
+
+const ROW: &str =
+    r#"{"seq":[{"op":"load","core":0,"block":0},{"op":"store","core":0,"block":0,"value":5},{"op":"replace","core":0,"block":0}]}"#;
+
+const THREE_LOADS: &str = r#"{"times":3,"of":{"op":"load","core":0,"block":0}}"#;
+
+#[test]
+fn a_look_tells_the_next_ask_of_a_row(rt: HostRuntime) {
+    let heap = rt.alloc();
+    let three = [Some(1), Some(1), Some(1), Some(0)];
+    compare_looks(&rt, heap, ROW, &three);
+    compare_looks(&rt, heap, THREE_LOADS, &three);
+    compare_looks(&rt, heap, CHOICE, &[None]);
 }
 
 /// Takes the last offer of one cursor and passes the same of another, until nothing is offered, and compares what they offer.

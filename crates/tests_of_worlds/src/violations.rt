@@ -19,18 +19,27 @@ fn acting(
     CacheTable::baseline().with(state, event, CacheEntry::Act { next, actions })
 }
 
-/// Makes a step that has this outcome, and answers what is wrong then.
+/// Makes a step that has this outcome, and answers what is wrong then. A watch that is handed what the world answered of the step
+/// has to say the same.
 fn see(
     rt: &impl Abort,
     world: &mut World,
     watch: &mut Watch,
+    told: &mut Watch,
     made: &str,
     came: &str,
 ) -> Option<Violation> {
     let step = Step::read(made.as_bytes()).expect(rt, "a step");
-    let outcome = world.step(step).expect(rt, "memory");
-    same_at(rt, &Some(outcome), &Outcome::read(came.as_bytes()), &made);
-    watch.see(world, step, outcome)
+    let went = world.go(step).expect(rt, "memory");
+    same_at(
+        rt,
+        &Some(went.outcome),
+        &Outcome::read(came.as_bytes()),
+        &made,
+    );
+    let found = watch.see(world, step, went.outcome);
+    same_at(rt, &told.see_went(world, step, &went), &found, &made);
+    found
 }
 
 /// Makes these steps, and answers what is wrong after the last one. Nothing may be wrong before it.
@@ -38,6 +47,7 @@ fn see_all(
     rt: &impl Abort,
     world: &mut World,
     watch: &mut Watch,
+    told: &mut Watch,
     made: &str,
     came: &str,
 ) -> Option<Violation> {
@@ -46,7 +56,7 @@ fn see_all(
     for line in made.split(',') {
         same_at(rt, &last, &None, &line);
         let wanted = outcomes.next().expect(rt, "an outcome");
-        last = see(rt, world, watch, line, wanted);
+        last = see(rt, world, watch, told, line, wanted);
     }
     last
 }
@@ -71,8 +81,9 @@ fn last_violation(
     came: &str,
 ) -> Option<Violation> {
     let mut watch = Watch::open(alloc, &[0]).expect(rt, "memory");
+    let mut told = Watch::open(alloc, &[0]).expect(rt, "memory");
     let mut world = opened(rt, alloc, cache);
-    see_all(rt, &mut world, &mut watch, made, came)
+    see_all(rt, &mut world, &mut watch, &mut told, made, came)
 }
 
 /// Compares what a violation is shown as.
