@@ -3,6 +3,7 @@ use Rattle.std.proofs.Common.{◌≡◌, ℕ, ◌+◌, List, [], ◌∷◌, Bool
 use Rattle.std.proofs.Common.{refl, sym, ap, ◌∙◌, arith, zero, suc}
 use Rattle.std.proofs.lemmas.List.{length-map, take-map}
 use Rattle.std.proofs.lemmas.List.Sums.{sum_by-take-drop}
+use Rattle.std.proofs.Math.Seq.{take-append_seam, take-length}
 use Rattle.base.specs.declared.ids.CacheId.{CacheId}
 use Rattle.base.specs.declared.step.Outcome.{Outcome}
 use Rattle.network.specs.declared.message.Request.{Request}
@@ -13,7 +14,6 @@ use Rattle.cache_table.specs.declared.actions.CacheAction.{CacheAction}
 use Rattle.cache_table.specs.declared.actions.CacheAction.TheVariants as action
 use Rattle.control.specs.LineEffect.{line_message, line_messages, line_sends}
 use Rattle.control.specs.declared.home.HomeInput.TheVariants as home_input
-use Rattle.control.proofs.Fronts.{front-append, front-front, front-whole}
 use Rattle.both_tables.specs.Tables.{Tables}
 use Rattle.machine.specs.Block.{BlockState}
 use Rattle.machine.specs.Transition.{Transition, carried_out, without}
@@ -28,23 +28,40 @@ use Rattle.blocks.specs.inner.Linking.{IsAtOwn, IsOwn}
 use Rattle.blocks.specs.inner.Tested.{requests_stall}
 use Rattle.blocks.proofs.Writes.{written}
 
+-- ---- fronts of lists
+
+first-same : {X : Type 0} (y x : X) (ys xs : List X) → y ∷ ys ≡ x ∷ xs → x ≡ y
+first-same y x ys xs e = cc e
+
+rest-same : {X : Type 0} (y x : X) (ys xs : List X) → y ∷ ys ≡ x ∷ xs → ys ≡ xs
+rest-same y x ys xs e = cc e
+
+-- the front of a front
+front-front : {X : Type 0} (xs ys zs : List X) → take (length xs) ys ≡ xs → take (length ys) zs ≡ ys → take (length xs) zs ≡ xs
+front-front [] ys zs e f = refl
+front-front (x ∷ xs) [] zs e f = absurd (cc e)
+front-front (x ∷ xs) (y ∷ ys) [] e f = absurd (cc f)
+front-front (x ∷ xs) (y ∷ ys) (z ∷ zs) e f =
+    ap (λ a. a ∷ take (length xs) zs) (sym (first-same z y _ _ f) ∙ sym (first-same y x _ _ e))
+    ∙ ap (λ us. x ∷ us) (front-front xs ys zs (rest-same y x _ _ e) (rest-same z y _ _ f))
+
 -- ---- what a line sends comes behind the requests that there are
 
 message-requests : (cache : CacheId) (value : ℕ) (to : Option CacheId) (a : CacheAction) (w : Traffic) →
     take (length w.requests) (all_sent (line_message cache value to a) w).requests ≡ w.requests
-message-requests cache value to action.GetS w = front-append w.requests _
-message-requests cache value to action.GetM w = front-append w.requests _
-message-requests cache value to action.PutS w = front-append w.requests _
-message-requests cache value to action.PutM w = front-append w.requests _
-message-requests cache value (Some t) action.InvAck w = front-whole w.requests
-message-requests cache value (Some t) action.DataReq w = front-whole w.requests
-message-requests cache value None action.InvAck w = front-whole w.requests
-message-requests cache value None action.DataReq w = front-whole w.requests
-message-requests cache value to action.DataDir w = front-whole w.requests
+message-requests cache value to action.GetS w = take-append_seam w.requests _
+message-requests cache value to action.GetM w = take-append_seam w.requests _
+message-requests cache value to action.PutS w = take-append_seam w.requests _
+message-requests cache value to action.PutM w = take-append_seam w.requests _
+message-requests cache value (Some t) action.InvAck w = take-length w.requests
+message-requests cache value (Some t) action.DataReq w = take-length w.requests
+message-requests cache value None action.InvAck w = take-length w.requests
+message-requests cache value None action.DataReq w = take-length w.requests
+message-requests cache value to action.DataDir w = take-length w.requests
 
 messages-requests : (cache : CacheId) (value : ℕ) (to : Option CacheId) (actions : List CacheAction) (w : Traffic) →
     take (length w.requests) (all_sent (line_messages cache value to actions) w).requests ≡ w.requests
-messages-requests cache value to [] w = front-whole w.requests
+messages-requests cache value to [] w = take-length w.requests
 messages-requests cache value to (a ∷ actions) w =
     let mid = all_sent (line_message cache value to a) w in
     ap (λ (t : Traffic). take (length w.requests) t.requests) (all_sent-append (line_message cache value to a) (line_messages cache value to actions) w)
@@ -97,12 +114,6 @@ first-right-after tables d old new what marks new_marks own count free right at 
     }
 
 -- ---- a test that begins behind the marks that are right
-
-first-same : {X : Type 0} (y x : X) (ys xs : List X) → y ∷ ys ≡ x ∷ xs → x ≡ y
-first-same y x ys xs e = cc e
-
-rest-same : {X : Type 0} (y x : X) (ys xs : List X) → y ∷ ys ≡ x ∷ xs → ys ≡ xs
-rest-same y x ys xs e = cc e
 
 pub written-front : {X : Type 0} (new old : List X) (n : ℕ) → length old ≡ length new → take n old ≡ take n new → written new old n ≡ old
 written-front new old zero same e = refl
