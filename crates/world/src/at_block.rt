@@ -4,7 +4,7 @@ ghost use Rattle.machine.specs.declared.decision.Decision.TheVariants.{Refused};
 ghost use Rattle.blocks.specs.Kept.{acts, moved_to};
 ghost use Rattle.blocks.specs.Looks.{place_in};
 ghost use Rattle.blocks.specs.Passing.{ResponsesPass};
-ghost use Rattle.world.specs.Crowds.{IsUncrowdedIn};
+ghost use Rattle.world.specs.Crowds.{IsCrowdedIn, IsUncrowdedIn};
 ghost use Rattle.world.specs.View.{HasSpaceAt, space_of, state_or};
 ghost use Rattle.world.specs.inner.Held.{kept_at, IsLight, OthersStay};
 ghost use Rattle.world.specs.inner.Tests.{IsMarked};
@@ -121,6 +121,7 @@ pub fn step_at(
     ensures ok { IfOk result (λ visit. transition tables.now step (state_or caches value (kept_at blocks.old.items number))
         ≡ moved_to (state_or caches value (kept_at blocks.new.items number)) visit.made.outcome) }
     ensures at { IfOk result (λ visit. visit.at ≡ place_in step (state_or caches value (kept_at blocks.old.items number))) }
+    ensures crowded { IfOk result (λ visit. visit.crowded ≡ true → IsCrowdedIn (state_or caches value (kept_at blocks.new.items number))) }
     ensures uncrowded { IfOk result (λ visit. visit.crowded ≡ false → IsUncrowdedIn (state_or caches value (kept_at blocks.new.items number))) }
     ensures tested { IfOk result (λ visit. IsTested tables.now (state_or caches value (kept_at blocks.old.items number))
         (state_or caches value (kept_at blocks.new.items number)) visit.made.tested) }

@@ -148,6 +148,7 @@ impl World {
     /// look where [`writer`](World::writer) and [`readers`](World::readers) take two.
     pub fn crowded_writer(&self, block: BlockId) -> Option<CacheId>
         ensures some { IfSome result (λ cache. Some cache ≡ writer_of self.now.state block.0) }
+        ensures many { IfSome result (λ cache. 1 < readers_of self.now.state block.0) }
         ensures none { IfNone result ((readers_of self.now.state block.0 ≤ 1) ⊎ (None ≡ writer_of self.now.state block.0)) }
     {
         match self.find(block.0) {

@@ -87,12 +87,12 @@ impl Model for World {
 }
 
 impl World {
-    ghost use Rattle.std.specs.Prelude.{◌≡◌, ◌≢◌, ◌↔◌, ◌≤◌, ◌∷◌, [], false, IfOk, IsOk, IsErrOf, OnErr, OnOk, length};
+    ghost use Rattle.std.specs.Prelude.{◌≡◌, ◌≢◌, ◌↔◌, ◌≤◌, ◌∷◌, [], false, true, IfOk, IsOk, IsErrOf, OnErr, OnOk, length};
     ghost use Rattle.base.specs.Extent.{IsWithinLimits};
     ghost use Rattle.base.specs.Steps.{block_of};
     ghost use Rattle.machine.specs.Machine.{IsHistory, next, opened, sent_by};
     ghost use Rattle.world.specs.Coherent.{HasBeenSafe, IsUnstuck};
-    ghost use Rattle.world.specs.Crowds.{IsUncrowded};
+    ghost use Rattle.world.specs.Crowds.{IsCrowded, IsUncrowded};
     ghost use Rattle.world.specs.Looks.{place_at};
     ghost use Rattle.world.specs.Messages.{messages_at, raised};
     ghost use Rattle.world.specs.View.{HasRoomToStep, LeadsOn, stepped, wakes};
@@ -166,6 +166,7 @@ impl World {
     pub fn go(&mut self, step: Step) -> Result<Went, NoMemory>
         ensures ok { IfOk result (λ went. next self.old.tables self.old.state step ≡ stepped self.new.state went.outcome) }
         ensures at { IfOk result (λ went. went.at ≡ place_at self.old.state step) }
+        ensures crowded { IfOk result (λ went. went.crowded ≡ true → IsCrowded self.new.state (block_of step)) }
         ensures uncrowded { IfOk result (λ went. went.crowded ≡ false → IsUncrowded self.new.state (block_of step)) }
         ensures history { OnOk result (LeadsOn self.old (step ∷ []) self.new) }
         ensures safe { HasBeenSafe self.new }
@@ -257,6 +258,7 @@ impl World {
         ensures within { IsWithinLimits self.new.shape }
         ensures ok { IfOk result (λ went. next self.old.tables self.old.state step ≡ stepped self.new.state went.outcome) }
         ensures at { IfOk result (λ went. went.at ≡ place_at self.old.state step) }
+        ensures crowded { IfOk result (λ went. went.crowded ≡ true → IsCrowded self.new.state (block_of step)) }
         ensures uncrowded { IfOk result (λ went. went.crowded ≡ false → IsUncrowded self.new.state (block_of step)) }
         ensures shape { self.new.shape ≡ self.old.shape }
         ensures tables { self.new.tables ≡ self.old.tables }

@@ -15,7 +15,7 @@ use machine::Decision;
 use network::{Forward, Message, Response};
 
 impl Block {
-    ghost use Rattle.std.specs.Prelude.{◌≡◌, ◌≤◌, ◌⊎◌, IfNone, IfSome, None, Some, count_by, slice_get};
+    ghost use Rattle.std.specs.Prelude.{◌≡◌, ◌<◌, ◌≤◌, ◌⊎◌, IfNone, IfSome, None, Some, count_by, slice_get};
     ghost use Rattle.network.specs.Traffic.{is_quiet, link};
     ghost use Rattle.control.specs.LineEffect.{is_reader};
     ghost use Rattle.machine.specs.Transition.{transition};
@@ -56,6 +56,7 @@ impl Block {
     /// The least cache that may write the block, where more than one may read it.
     pub fn crowded_writer(&self) -> Option<CacheId>
         ensures some { IfSome result (λ cache. Some cache ≡ writer_in self.now.state.lines) }
+        ensures many { IfSome result (λ cache. 1 < count_by (λ line. is_reader line.state) self.now.state.lines) }
         ensures none { IfNone result ((count_by (λ line. is_reader line.state) self.now.state.lines ≤ 1) ⊎ (None ≡ writer_in self.now.state.lines)) }
     {
         if self.readers() <= 1 {

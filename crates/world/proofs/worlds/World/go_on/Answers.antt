@@ -6,7 +6,7 @@ use Rattle.network.proofs.Waits.{on_err}
 use Rattle.std.specs.Option.{option_and_then}
 use Rattle.blocks.specs.Looks.{place_in}
 use Rattle.world.specs.View.{states}
-use Rattle.world.proofs.Crowds.{block-uncrowded}
+use Rattle.world.proofs.Crowds.{block-crowded, block-uncrowded}
 use Rattle.world.proofs.Keeping.{state-there, states-stay}
 use Rattle.world.proofs.Stepping.{below-places, light-in, next-is, room-at, tests-block, tests-sent, world-stays, world-stepped}
 use Rattle.world.proofs.worlds.World.go_on.Goals as goal
@@ -194,6 +194,13 @@ returns-clause-at c =
     ∙ rw (← c.self.view_is)
     (ap (option_and_then (place_in c.args.step))
     (sym (state-there c.self.inside.shape.caches c.self.inside.opening.items c.self.inside.blocks.items (block_of c.args.step) c.in-Some.value (at-2 c))))
+
+pub returns-clause-crowded : goal.returns-clause-crowded
+returns-clause-crowded c e =
+    let blocks = states c.self.inside.shape.caches c.self.inside.opening.items c.step_at.new.blocks.items in
+    block-crowded (record { blocks = blocks; broken = c.breaks-self-inside.result }) (block_of c.args.step) _
+    (state-there c.self.inside.shape.caches c.self.inside.opening.items c.step_at.new.blocks.items (block_of c.args.step) c.in-Some.value (at-2 c))
+    ((rw (c.block-number.ensures, c.caches.ensures.value) at c.in_ok-visit.ensures.crowded) e)
 
 pub returns-clause-uncrowded : goal.returns-clause-uncrowded
 returns-clause-uncrowded c e =
