@@ -92,6 +92,7 @@ fn sharer_after(
 /// How many messages the actions put on the link to a cache.
 ///
 /// Of the home only its owner and this cache's share have to be followed from action to action, so no copy is needed.
+#[inline(always)]
 pub(crate) fn forwards_to(
     cache: CacheId,
     from: CacheId,

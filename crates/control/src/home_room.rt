@@ -41,6 +41,7 @@ pub fn home_reserve(
 }
 
 /// Room for what the actions send on a request. Only the sender, the owner and the sharers are sent anything.
+#[inline(always)]
 fn reserve_for(
     home: &Home,
     from: CacheId,

@@ -77,6 +77,7 @@ fn send_all(
 }
 
 /// Makes the room that an act of this input at a line wants. Where it is refused nothing else has changed.
+#[inline(always)]
 pub fn line_reserve(
     input: LineInput,
     actions: CacheActions,
@@ -93,6 +94,7 @@ pub fn line_reserve(
 }
 
 /// Lets an input act at the line of a cache, where there is room for what it sends. It takes no memory.
+#[inline(always)]
 pub fn line_perform(
     line: &mut Line,
     cache: CacheId,

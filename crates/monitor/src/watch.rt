@@ -70,6 +70,7 @@ impl Watch {
 
     /// Notes a step, and answers what is wrong after it, as [`see`](Watch::see) does. It takes what [`World::go`] answered of
     /// the step, and doesn't look at the world where the block isn't crowded and no cell was blank.
+    #[inline(always)]
     pub fn see_went(&mut self, world: &World, step: Step, went: &Went) -> Option<Violation>
         requires { went.now.crowded ≡ false → IsUncrowded world.now.state (block_of step) }
         ensures noted { self.new ≡ noted self.old (block_of step) went.now.outcome }

@@ -92,6 +92,7 @@ impl Links {
     }
 
     /// The least cache from one on whose link has a message, if there is one.
+    #[inline(always)]
     pub fn next_waiting(&self, from: u32) -> Option<CacheId>
         ensures some { IfSome result (λ cache. IsFirstFrom (waiting_of self.now.messages) from cache.0) }
         ensures none { IfNone result (NoneFrom (waiting_of self.now.messages) from) }
@@ -103,6 +104,7 @@ impl Links {
     }
 
     /// How many messages there are on a link.
+    #[inline(always)]
     pub fn count(&self, cache: CacheId) -> u32
         ensures count { result ≡ length (slice_index_or self.now.messages cache.0 []) }
         ensures as_many { length (slice_index_or self.now.marks cache.0 []) ≡ length (slice_index_or self.now.messages cache.0 []) }
@@ -113,6 +115,7 @@ impl Links {
         }
     }
 
+    #[inline(always)]
     pub fn get(&self, cache: CacheId, index: u64) -> Option<Forward>
         ensures { result ≡ slice_get (slice_index_or self.now.messages cache.0 []) index }
     {
@@ -120,6 +123,7 @@ impl Links {
     }
 
     /// The mark of the first message on a link. Where there is no message it is `false`.
+    #[inline(always)]
     pub fn is_head_held(&self, cache: CacheId) -> bool
         ensures mark { result ≡ mark_at (slice_index_or self.now.marks cache.0 []) 0 }
         ensures as_many { length (slice_index_or self.now.marks cache.0 []) ≡ length (slice_index_or self.now.messages cache.0 []) }
@@ -131,6 +135,7 @@ impl Links {
     }
 
     /// Sets the mark at a place of a link. Where there is no message nothing changes.
+    #[inline(always)]
     pub fn mark(&mut self, cache: CacheId, index: u64, held: bool)
         ensures messages { self.new.messages ≡ self.old.messages }
         ensures marks { self.new.marks ≡ slice_set self.old.marks cache.0 (slice_set (slice_index_or self.old.marks cache.0 []) index held) }
@@ -141,6 +146,7 @@ impl Links {
         }
     }
 
+    #[inline(always)]
     pub fn send(&mut self, cache: CacheId, forward: Forward) -> Result<(), Forward>
         requires { cache.0 < length self.old.messages }
         ensures ok { OnOk result (self.new.messages ≡ slice_set self.old.messages cache.0
@@ -158,6 +164,7 @@ impl Links {
         Ok(())
     }
 
+    #[inline(always)]
     pub fn take_head(&mut self, cache: CacheId) -> Option<Forward>
         ensures taken { result ≡ slice_get (slice_index_or self.old.messages cache.0 []) 0 }
         ensures some { OnSome result (self.new.messages ≡ slice_set self.old.messages cache.0 (remove (slice_index_or self.old.messages cache.0 []) 0)) }
@@ -173,6 +180,7 @@ impl Links {
     }
 
     /// Room for so many more messages on a link.
+    #[inline(always)]
     pub fn reserve(&mut self, cache: CacheId, count: usize) -> Result<(), NoMemory>
         requires { cache.0 < length self.old.messages }
         ensures messages { self.new.messages ≡ self.old.messages }

@@ -157,6 +157,7 @@ impl<M: Copy> Wire<M> {
     }
 
     /// Takes the message at a place, if there is one.
+    #[inline(always)]
     pub fn take(&mut self, index: u64) -> Option<M>
         ensures taken { result ≡ slice_get self.old.messages index }
         ensures some { OnSome result (self.new.messages ≡ remove self.old.messages index) }

@@ -171,6 +171,7 @@ impl Wires {
     }
 
     /// Sends a request, or gives it back where there is no memory for it.
+    #[inline(always)]
     pub fn send_request(&mut self, request: Request) -> Result<(), Request>
         ensures ok { OnOk result (self.new.traffic ≡ request_sent request self.old.traffic) }
         ensures ok_marks { OnOk result (self.new.marks ≡ request_mark_added self.old.marks) }
@@ -184,6 +185,7 @@ impl Wires {
     }
 
     /// Puts a message on the link to a cache, or gives it back where there is no memory for it.
+    #[inline(always)]
     pub fn send_forward(&mut self, cache: CacheId, forward: Forward) -> Result<(), Forward>
         requires { cache.0 < length self.old.traffic.links }
         ensures ok { OnOk result (self.new.traffic ≡ forward_sent cache.0 forward self.old.traffic) }
@@ -198,6 +200,7 @@ impl Wires {
     }
 
     /// Sends a response, or gives it back where there is no memory for it.
+    #[inline(always)]
     pub fn send_response(&mut self, response: Response) -> Result<(), Response>
         ensures ok { OnOk result (self.new.traffic ≡ response_sent response self.old.traffic) }
         ensures ok_marks { OnOk result (self.new.marks ≡ response_mark_added self.old.marks) }

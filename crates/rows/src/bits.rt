@@ -53,6 +53,7 @@ impl Bits {
     }
 
     /// How many flags there are.
+    #[inline(always)]
     pub fn places(&self) -> u32
         ensures { result ≡ length self.now }
     {
@@ -60,6 +61,7 @@ impl Bits {
     }
 
     /// How many flags are set.
+    #[inline(always)]
     pub fn ones(&self) -> u32
         ensures { result ≡ set_count self.now }
     {
@@ -67,6 +69,7 @@ impl Bits {
     }
 
     /// Whether the flag at a place is set. Beyond the row none is.
+    #[inline(always)]
     pub fn contains(&self, at: u32) -> bool
         ensures { result ≡ is_set self.now at }
     {
@@ -77,6 +80,7 @@ impl Bits {
     }
 
     /// Sets the flag at a place, or takes it back.
+    #[inline(always)]
     pub fn set(&mut self, at: u32, value: bool)
         requires { at < length self.old }
         ensures { self.new ≡ slice_set self.old at value }
@@ -120,6 +124,7 @@ impl Bits {
     }
 
     /// The first place from one on whose flag is set, if there is one.
+    #[inline(always)]
     pub fn next_from(&self, at: u32) -> Option<u32>
         ensures some { IfSome result (λ found. IsFirstFrom self.now at found) }
         ensures none { IfNone result (NoneFrom self.now at) }
@@ -135,6 +140,7 @@ impl Bits {
     }
 
     /// The place of the k-th flag that is set, counted from 0, if there are so many.
+    #[inline(always)]
     pub fn find(&self, k: u32) -> Option<u32>
         ensures place { IfSome result (λ at. IsKth self.now k at) }
         ensures found { IsSome result ↔ (k < set_count self.now) }
@@ -163,6 +169,7 @@ fn wipe(words: &mut Vec<u64>, ones: &mut u32)
 }
 
 /// The lowest bit from one on that is set, if there is one.
+#[inline(always)]
 fn lowest_from(word: u64, from: u32) -> Option<u32>
     requires { from < 64 }
     ensures behind { IfSome result (λ at. (from ≤ at)) }
@@ -183,6 +190,7 @@ const MANY: u32 = 16;
 
 /// The k-th bit that is set, counted from 0: halves the bits that it may be among while many are before it, and takes the few
 /// that are left off one by one.
+#[inline(always)]
 fn find_in(word: u64, k: u32) -> u32
     requires { k < low word 64 }
     ensures within { result < 64 }

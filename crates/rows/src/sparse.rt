@@ -77,6 +77,7 @@ impl<T> Sparse<T> {
     }
 
     /// The item at a place, to write, if it has one.
+    #[inline(always)]
     pub fn get_mut(&mut self, at: u32) -> Option<&mut T>
         ensures* writes_back { sem 𝓛 (lends_item T.row self.entry at result) }
         ensures item { option_copied_mut result ≡ item self.old at }
@@ -179,6 +180,7 @@ fn remember(hints: &mut [u16; 64], at: u32, index: usize) {
 }
 
 /// Where a place stands in the map, if it does.
+#[inline(always)]
 fn index_of<T>(held: &IndexMap<u32, T>, hints: &[u16; 64], at: u32) -> Option<usize>
     ensures key { IfSome result (λ index. slice_get (keys held.now) index ≡ Some at) }
     ensures value { IfSome result (λ index. slice_get (values held.now) index ≡ get nat_eq held.now at) }

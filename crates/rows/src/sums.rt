@@ -66,6 +66,7 @@ impl Sums {
     }
 
     /// How many numbers there are.
+    #[inline(always)]
     pub fn len(&self) -> usize
         ensures { result ≡ length self.now }
     {
@@ -73,6 +74,7 @@ impl Sums {
     }
 
     /// The number at a place.
+    #[inline(always)]
     pub fn get(&self, at: usize) -> u32
         requires { at < length self.now }
         ensures { result ≡ slice_index self.now at }
@@ -81,6 +83,7 @@ impl Sums {
     }
 
     /// The sum of all.
+    #[inline(always)]
     pub fn total(&self) -> u64
         ensures total { result ≡ sum self.now }
         ensures few { sum self.now ≤ 2 ^ 32 * length self.now }
@@ -89,6 +92,7 @@ impl Sums {
     }
 
     /// The sum of the numbers before a place.
+    #[inline(always)]
     pub fn front(&self, at: usize) -> u64
         requires { at ≤ length self.now }
         ensures front { result ≡ sum (take at self.now) }
@@ -109,6 +113,7 @@ impl Sums {
     }
 
     /// Makes the number at a place another.
+    #[inline(always)]
     pub fn set(&mut self, at: usize, value: u32)
         requires { at < length self.old }
         ensures { self.new ≡ slice_set self.old at value }
@@ -127,6 +132,7 @@ impl Sums {
     }
 
     /// The place that the k-th falls in, counted from 0, and what is left of k there.
+    #[inline(always)]
     pub fn find(&self, k: u64) -> Found
         requires { k < sum self.now }
         ensures { Finds self.now k result.place result.rest }

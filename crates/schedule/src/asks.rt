@@ -136,6 +136,7 @@ impl Asks {
     }
 
     /// Marks a core's asks about a block anew.
+    #[inline(always)]
     pub(crate) fn mark(&mut self, world: &World, core: CacheId, block: BlockId)
         ensures { self.new ≡ marked_at world.now.tables world.now.state core block self.old }
     {
@@ -171,6 +172,7 @@ impl Asks {
     }
 
     /// The k-th of the asks that can be put, by their marks, where the first ask has a number.
+    #[inline(always)]
     pub(crate) fn choice(&self, cores: &Cores, first: usize, k: u32) -> Option<Choice>
         requires { first + length self.now.asks < 2 ^ 64 }
         ensures { result ≡ slice_get (offers_by cores.now first self.now.asks self.now.unheld) k }
@@ -260,6 +262,7 @@ fn core_of(asks: &[CoreAsk]) -> Option<CacheId>
 }
 
 /// Whether the ask's step wouldn't be held.
+#[inline(always)]
 fn is_unheld(world: &World, ask: CoreAsk) -> bool
     ensures { result ≡ is_unheld world.now.tables world.now.state ask }
 {
@@ -302,6 +305,7 @@ fn mark_at(world: &World, core: CacheId, block: BlockId, asks: &[CoreAsk], unhel
 }
 
 /// Which of a core's asks about a block would be held, if that isn't known yet.
+#[inline(always)]
 pub(crate) fn held_at(
     world: &World,
     core: CacheId,

@@ -108,6 +108,7 @@ impl Counts {
 
     /// Where the k-th of all is, counted from 0, if there are so many: requests come first, then heads, then responses, each
     /// of them block by block.
+    #[inline(always)]
     pub fn find(&self, k: u64) -> Option<Spot>
         ensures some { IfSome result (λ spot. FallsAt self.now k spot) }
         ensures none { IfNone result (all_in self.now ≤ k) }

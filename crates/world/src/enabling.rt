@@ -55,6 +55,7 @@ impl World {
     }
 
     /// The k-th delivery that [`enabled`](World::enabled) lists, counted from 0, if it lists so many.
+    #[inline(always)]
     pub fn enabled_at(&self, k: u64) -> Option<Step>
         ensures { result ≡ slice_get (enabled_steps self.now.tables self.now.state) k }
     {
@@ -67,6 +68,7 @@ impl World {
 }
 
 /// The delivery at a spot, if its block is kept.
+#[inline(always)]
 fn delivery_at(blocks: &Sparse<Block>, spot: Spot) -> Option<Step>
     ensures { result ≡ step_in spot (kept_at blocks.now.items spot.block) }
 {

@@ -205,6 +205,7 @@ impl World {
     }
 
     /// Which asks of a cache's core about a block would be held.
+    #[inline(always)]
     pub fn held_asks(&self, cache: CacheId, block: BlockId) -> HeldAsks
         ensures { (ask : Ask) → holds result ask ≡ held_at self.now.tables self.now.state (step.Ask cache block ask) }
     {

@@ -222,6 +222,7 @@ fn mark_requests(tables: &Tables, home: &Home, wires: &mut Wires) -> u32
 }
 
 /// Marks all responses, and answers how many wouldn't be held. Where none ever is, they aren't looked at.
+#[inline(always)]
 fn mark_responses(
     tables: &Tables,
     pass: bool,
@@ -269,6 +270,7 @@ fn test_requests(tables: &Tables, home: &Home, right: u32, free_ones: u32, wires
 }
 
 /// Tests what is on the link to a cache, whose line is this one.
+#[inline(always)]
 fn test_link(tables: &Tables, line: Option<Line>, cache: CacheId, wires: &mut Wires)
     ensures traffic { wires.new.traffic ≡ wires.old.traffic }
     ensures room { wires.new.room ≡ wires.old.room }

@@ -161,6 +161,7 @@ impl<'s, A: Allocator, B: Allocator + Clone> Lanes<'s, A, B> {
     }
 
     /// Lists anew what a lane offers, and answers whether it was marked. Where that is what it offered before, the marks stay.
+    #[inline(always)]
     pub(super) fn list(&mut self, lane: usize, world: &World) -> Result<bool, NoMemory>
         requires level { IsLevel (laned self.old) }
         requires there { lane < length (laned self.old).trees }
@@ -216,6 +217,7 @@ impl<'s, A: Allocator, B: Allocator + Clone> Lane<'s, A, B> {
     ghost use Rattle.schedule.specs.inner.Owned.{IsMarkedIf};
 
     /// Lists anew what is offered, and answers whether it was marked. Where that is what was offered before, the marks stay.
+    #[inline(always)]
     fn list(&mut self, world: &World) -> Result<bool, NoMemory>
         ensures rest { remaining self.new.rest ≡ remaining self.old.rest }
         ensures asks { OnOk result (self.new.asks.asks ≡ offers (remaining self.old.rest)) }
