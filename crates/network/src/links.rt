@@ -4,7 +4,7 @@ ghost use Rattle.std.specs.Prelude.{slice_get, slice_index, slice_index_or, slic
 ghost use Rattle.network.specs.Marks.{mark_at};
 ghost use Rattle.network.specs.Traffic.{all_nil};
 ghost use Rattle.network.specs.Links.{AreMarked, KeepsRoom, UsesOnePlace, marks_on, on_link, room_on, waiting_of};
-ghost use Rattle.rows.specs.Flags.{IsFirstFrom, NoneFrom};
+ghost use Rattle.rows.specs.Flags.{IsFirstFrom, NoneFrom, is_set};
 
 use crate::message::Forward;
 use crate::wire::Wire;
@@ -101,6 +101,15 @@ impl Links {
             Some(number) => Some(CacheId(number)),
             None => None,
         }
+    }
+
+    /// Whether there is a message on a link. It looks at a bit, and not for the link.
+    #[inline(always)]
+    pub fn is_waiting(&self, cache: CacheId) -> bool
+        ensures there { result ≡ is_set (waiting_of self.now.messages) cache.0 }
+        ensures as_many { length (slice_index_or self.now.marks cache.0 []) ≡ length (slice_index_or self.now.messages cache.0 []) }
+    {
+        self.waiting.contains(cache.0)
     }
 
     /// How many messages there are on a link.

@@ -1,5 +1,5 @@
-ghost use Rattle.std.specs.Prelude.{◌≡◌, ◌<◌, ◌≤◌, ◌∷◌, [], IsOk, IfOk, OnOk, OnErr, IfErr, IfNone, IfSome, OnSome};
-ghost use Rattle.std.specs.Prelude.{ℕ, length, slice_get, slice_index};
+ghost use Rattle.std.specs.Prelude.{◌≡◌, ◌<◌, ◌≤◌, ◌↔◌, ◌∷◌, [], IsOk, IfOk, OnOk, OnErr, IfErr, IfNone, IfSome, OnSome};
+ghost use Rattle.std.specs.Prelude.{ℕ, length, slice_get, slice_index, true};
 ghost use Rattle.network.specs.Marks.{no_marks, link_marks, mark_at, mark_added, request_mark_added, forward_mark_added, response_mark_added};
 ghost use Rattle.network.specs.Marks.{request_mark_taken, head_mark_taken, response_mark_taken};
 ghost use Rattle.network.specs.Marks.{request_marked, forward_marked, response_marked, requests_unmarked, responses_unmarked};
@@ -140,6 +140,15 @@ impl Wires {
         ensures none { IfNone result (NoneWaits self.now.traffic from) }
     {
         self.links.next_waiting(from)
+    }
+
+    /// Whether there is a message on the link to a cache. It is told by a bit, and quicker than their count.
+    #[inline(always)]
+    pub fn is_waiting(&self, cache: CacheId) -> bool
+        ensures there { (result ≡ true) ↔ (0 < length (link self.now.traffic cache.0)) }
+        ensures as_many { length (link_marks self.now.marks cache.0) ≡ length (link self.now.traffic cache.0) }
+    {
+        self.links.is_waiting(cache)
     }
 
     /// The request at a place, if there is one.

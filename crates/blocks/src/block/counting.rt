@@ -84,10 +84,10 @@ fn without_link(counted: LinkCounts, cache: CacheId, wires: &Wires) -> LinkCount
     requires { AreCounted wires.now.marks.links wires.now.traffic.links counted.heads counted.forwards }
     ensures { AreOthers wires.now.marks.links wires.now.traffic.links cache.0 result.heads result.forwards }
 {
-    let own = wires.forward_count(cache);
-    if own == 0 {
+    if !wires.is_waiting(cache) {
         return counted;
     }
+    let own = wires.forward_count(cache);
     LinkCounts {
         heads: counted.heads - free_head(cache, wires),
         forwards: counted.forwards - u64::from(own),

@@ -334,7 +334,7 @@ fn test_own_link(
 {
     // Called for its contract: there are as many rows of marks as links.
     let _links = wires.link_count();
-    if wires.forward_count(cache) == 0 {
+    if !wires.is_waiting(cache) {
         return others;
     }
     test_link(tables, line_of(lines, cache), cache, wires);
