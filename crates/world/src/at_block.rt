@@ -53,7 +53,8 @@ fn touch(
     ensures there { IsSome (kept_at blocks.old.items number) → IsOk result }
     ensures succeeds { acts (decision_of tables.now step (state_or caches value (kept_at blocks.old.items number))) ≡ false → IsOk result }
 {
-    if let Some(_) = blocks.get(number) {
+    // Looked up as the step does behind it, the block is found once for both.
+    if let Some(_) = blocks.get_mut(number) {
         return Ok(None);
     }
     touch_opened(alloc, blocks, caches, value, number, tables, step)
