@@ -21,9 +21,8 @@ use Rattle.schedule.specs.Choices.{can_be_put, offers_from}
 use Rattle.schedule.specs.Lanes.{Agree, AgreeBut, AreReady, IsKept, IsLevel, IsListed, Laned, lanes_of, listed_at, offers_at, puttable}
 use Rattle.schedule.specs.Listed.{IsMarked, Listed, is_unheld, nothing_listed}
 use Rattle.schedule.specs.inner.Marks.{all_marked, is_at, marked_at, marks_at}
-use Rattle.schedule.specs.inner.Changes.{AreCountedAt, AreMarked, Counts, IsCountedAt, IsCountedIf, IsMarkedIn, KeepsOthers, Marks, TakesFrom}
+use Rattle.schedule.specs.inner.Changes.{AreCountedAt, AreMarked, Counts, IsCountedAt, IsCountedIf, IsMarkedIn, KeepsOthers, Marks}
 use Rattle.schedule.specs.inner.Changes.{WereReady, count_by, counted_at, marked_in}
-use Rattle.schedule.specs.inner.Owned.{IsMarkedIf}
 use Rattle.schedule.specs.declared.choosing.Choice.TheVariants.{Offer}
 use Rattle.schedule.proofs.Marking.{by-marks}
 use Rattle.schedule.proofs.Touched.{asked, held-by-line}
@@ -444,30 +443,6 @@ all-counted tables before now cb cn but at block old mid once new kept sb were m
     there lane low = subst (λ ts. lane < length ts) (ap (λ (l : Laned). l.trees) second.same ∙ ap (λ (l : Laned). l.trees) first.same) low
 
 -- ---- behind an offer that was taken
-
-marked-or-same : (tables : Tables) (now : State) (anew : Bool) (old new : Listed) → IsMarkedIf tables now anew old new →
-    IsMarked tables now new ⊎ (new ≡ old)
-marked-or-same tables now true old new e = inl e
-marked-or-same tables now false old new e = inr e
-
-pub taken-were : (tables : Tables) (before now : State) (cb : List Core) (lane offer : ℕ) (anew : Bool) (old new : Laned) → TakesFrom lane offer old new →
-    IsMarkedIf tables now anew (listed_at old lane) (listed_at new lane) → before.broken ≡ false → AreReady tables before cb old →
-    WereReady tables before cb now (Some lane) new
-taken-were tables before now cb lane offer anew old new takes marks sb ready = record {
-  marked = λ other low. elim (cases_eq other lane) [
-    | inl q ↦ subst (λ n. IsMarked tables now (listed_at new n) ⊎ IsMarked tables before (listed_at new n)) (sym q)
-        (elim (marked-or-same tables now anew (listed_at old lane) (listed_at new lane) marks) [
-          | inl e ↦ inl e
-          | inr e ↦ inr (subst (IsMarked tables before) (sym e) (ready.marked sb lane takes.there))
-        ])
-    | inr ne ↦ inr (subst (IsMarked tables before) (sym (takes.others.same other ne))
-        (ready.marked sb other (let many = takes.others.count in omega (arith, low, many))))
-  ];
-  counted = λ other low apart.
-      let ne : other ≢ lane = λ q. apart (ap Some (sym q)) in
-      ap (λ ns. get_or ns other 0) takes.others.ready ∙ ready.counted sb other (let many = takes.others.count in omega (arith, low, many))
-      ∙ ap (λ (l : Listed). puttable tables before cb l.asks) (sym (takes.others.same other ne));
-}
 
 pub ready-were : (tables : Tables) (before now : State) (cb : List Core) (but : Option ℕ) (l : Laned) → before.broken ≡ false → AreReady tables before cb l →
     WereReady tables before cb now but l

@@ -1,9 +1,8 @@
 -- What is kept of lanes, and what it says of all offers.
-use Rattle.std.proofs.Common.{◌≡◌, ℕ, zero, suc, ◌+◌, ◌-◌, ◌<◌, ◌≤◌, ◌^◌, nat_eq, true, false, if◌then◌else◌, List, [], ◌∷◌, ◌++◌, length, map, take}
+use Rattle.std.proofs.Common.{◌≡◌, ℕ, zero, suc, ◌+◌, ◌-◌, ◌<◌, ◌≤◌, nat_eq, true, false, if◌then◌else◌, List, [], ◌∷◌, ◌++◌, length, map, take}
 use Rattle.std.proofs.Common.{get_or, slice_get, refl, sym, ap, ◌∙◌, arith}
 use Rattle.std.specs.List.{sum}
 use Rattle.std.proofs.lemmas.List.{length-map, length-append, ext_get_or, get_or-map}
-use Rattle.std.proofs.lemmas.List.Sums.{sum_by_more_le}
 use Rattle.std.proofs.lemmas.Bool.Decides.{nat_tests}
 use Rattle.std.proofs.lemmas.Option.{slice_get-map}
 use Rattle.std.specs.Option.{option_map}
@@ -19,9 +18,11 @@ use Rattle.scenario.specs.Taking.{offers}
 use Rattle.schedule.specs.Choices.{choices_of, offers_from}
 use Rattle.schedule.specs.declared.lanes.Lane.{Lane}
 use Rattle.scenario.specs.Cursors.{remaining}
-use Rattle.schedule.specs.Lanes.{AreReady, IsKept, Laned, offers_at, puttable, tree_at, whole}
+use Rattle.schedule.specs.Lanes.{AreReady, IsKept, Laned, listed_at, offers_at, puttable, tree_at, whole}
 use Rattle.schedule.specs.Listed.{nothing_listed}
+use Rattle.schedule.specs.inner.Marks.{offers_by}
 use Rattle.schedule.specs.declared.choosing.Choice.TheVariants.{Deliver}
+use Rattle.schedule.proofs.Marking.{by-marks}
 use Rattle.schedule.proofs.Offered.{CountsOf, all-counted, all-found}
 use Rattle.schedule.proofs.Rows.{lengths_of, sum-lengths}
 
@@ -77,10 +78,10 @@ pub lane-there : (l : Laned) (k p r : ℕ) → IsKept l → Finds l.ready k p r 
 lane-there l k p r kept found = let w = found-within l.ready p r found.within in let m = kept.level.ready in omega (arith, w, m)
 
 -- the k-th choice is an offer of the lane that k falls in, or a delivery
-pub choice-offered : (tables : Tables) (s : State) (cores : List Core) (l : Laned) (k p r first : ℕ) → IsKept l → AreReady tables s cores l →
-    s.broken ≡ false → Finds l.ready k p r → k < sum l.ready → first ≡ sum (take p l.lengths) →
-    slice_get (offers_from tables s cores first (offers_at l p)) r ≡ slice_get (choices_of tables s cores (whole l)) k
-choice-offered tables s cores l k p r first kept ready sound found low front =
+choice-offered : (tables : Tables) (s : State) (cores : List Core) (l : Laned) (k p r : ℕ) → IsKept l → AreReady tables s cores l →
+    s.broken ≡ false → Finds l.ready k p r → k < sum l.ready →
+    slice_get (offers_from tables s cores (sum (take p l.lengths)) (offers_at l p)) r ≡ slice_get (choices_of tables s cores (whole l)) k
+choice-offered tables s cores l k p r kept ready sound found low =
     let counts = counts-are tables s cores l kept ready sound in
     let os = offers_from tables s cores 0 (offers (whole l)) in
     let few = offers-count tables s cores l kept ready sound in
@@ -89,8 +90,18 @@ choice-offered tables s cores l k p r first kept ready sound found low front =
     ∙ get_front os (map Deliver (enabled_steps tables s)) k (omega (arith, low, few))
     ∙ all-found tables s cores 0 l.trees l.ready k p r kept.level.ready counts found.front found.within
     ∙ ap (λ ls. slice_get (offers_from tables s cores (0 + sum (take p ls)) (offers (tree_at l p))) r) (sym (lengths-are l kept))
-    ∙ ap (λ n. slice_get (offers_from tables s cores n (offers (tree_at l p))) r) (let z : 0 + sum (take p l.lengths) ≡ first = omega (arith, front) in z)
-    ∙ ap (λ xs. slice_get (offers_from tables s cores first xs) r) (sym (kept.listed p here).offered))
+    ∙ ap (λ n. slice_get (offers_from tables s cores n (offers (tree_at l p))) r)
+    (let z : 0 + sum (take p l.lengths) ≡ sum (take p l.lengths) = omega arith in z)
+    ∙ ap (λ xs. slice_get (offers_from tables s cores (sum (take p l.lengths)) xs) r) (sym (kept.listed p here).offered))
+
+-- so it is by the marks of that lane
+pub choice-marked : (tables : Tables) (s : State) (cores : List Core) (l : Laned) (k p r : ℕ) → IsKept l → AreReady tables s cores l →
+    s.broken ≡ false → Finds l.ready k p r → k < sum l.ready →
+    slice_get (offers_by cores (sum (take p l.lengths)) (offers_at l p) (listed_at l p).unheld) r ≡ slice_get (choices_of tables s cores (whole l)) k
+choice-marked tables s cores l k p r kept ready sound found low =
+    ap (λ cs. slice_get cs r)
+    (by-marks tables s cores (sum (take p l.lengths)) (offers_at l p) (listed_at l p).unheld (ready.marked sound p (lane-there l k p r kept found)))
+    ∙ choice-offered tables s cores l k p r kept ready sound found low
 
 pub choice-delivered : (tables : Tables) (s : State) (cores : List Core) (l : Laned) (k offered : ℕ) → IsKept l → AreReady tables s cores l →
     s.broken ≡ false → offered ≡ sum l.ready → offered ≤ k →
@@ -103,15 +114,13 @@ choice-delivered tables s cores l k offered kept ready sound all past =
     ∙ ap (λ n. slice_get (map Deliver (enabled_steps tables s)) n) (let z : k - length os ≡ k - offered = omega (arith, all, few) in z)
     ∙ slice_get-map Deliver (enabled_steps tables s) (k - offered))
 
--- the numbers of a lane's offers fit
-pub numbers-fit : (l : Laned) (k p r first : ℕ) → IsKept l → Finds l.ready k p r → first ≡ sum (take p l.lengths) → sum l.lengths < 2 ^ 64 →
-    first + length (offers_at l p) < 2 ^ 64
-numbers-fit l k p r first kept found front fits =
-    let here = lane-there l k p r kept found in
-    let many = kept.level.lengths in
-    let count = (kept.listed p here).count in
-    let most : sum (take p l.lengths) + get_or l.lengths p 0 ≤ sum l.lengths = sum_by_more_le (λ x. x) l.lengths p 0 (omega (arith, here, many)) in
-    omega (arith, front, fits, count, most)
+-- an offer of a lane by its place there is the one of its number
+pub lane-finds : (l : Laned) (lane place : ℕ) → IsKept l → lane < length l.trees → place < length (offers_at l lane) →
+    Finds l.lengths (sum (take lane l.lengths) + place) lane place
+lane-finds l lane place kept low offered = record {
+  front = refl;
+  within = let count = (kept.listed lane low).count in omega (arith, count, offered);
+}
 
 -- whether a list is empty, by its length
 pub none-or-some : (n : ℕ) (asks : List CoreAsk) → n ≡ length asks → (nat_eq n 0 ≡ true → asks ≡ []) × (asks ≡ [] → nat_eq n 0 ≡ true)

@@ -1,5 +1,6 @@
 pub mod Choices
 pub mod Listed
 pub mod Lanes
+pub mod Picks
 pub mod Words
 pub mod inner

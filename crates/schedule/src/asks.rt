@@ -1,6 +1,7 @@
 //! Asks that are offered together, with a mark beside each.
 
-ghost use Rattle.std.specs.Prelude.{◌≡◌, ◌<◌, ◌+◌, ◌^◌, ◌&&◌, IfSome, OnErr, OnOk, length, map, slice_get, true};
+ghost use Rattle.std.specs.Prelude.{◌≡◌, ◌<◌, ◌+◌, ◌^◌, ◌&&◌, ℕ, IfSome, OnErr, OnOk, length, map, slice_get, true};
+ghost use Rattle.std.specs.Option.{option_map};
 ghost use Rattle.cores.specs.Cores.{is_free};
 ghost use Rattle.rows.specs.Flags.{is_set};
 ghost use Rattle.scenario.specs.Cursors.{remaining};
@@ -9,8 +10,9 @@ ghost use Rattle.scenario.specs.Telling.{Tells};
 ghost use Rattle.schedule.specs.Listed.{is_unheld};
 ghost use Rattle.schedule.specs.inner.Marks.{AreHeldAt, is_at, marks_at, offers_by};
 ghost use Rattle.schedule.specs.inner.Owned.{AreOf};
+ghost use Rattle.schedule.specs.declared.choosing.Choice.TheVariants.{Offer};
 
-use crate::choosing::{Choice, step_of};
+use crate::choosing::step_of;
 use crate::groups::{group, mark_places, row_of};
 use base::{BlockId, CacheId, CoreAsk, NoMemory};
 use blocks::HeldAsks;
@@ -52,11 +54,13 @@ impl Model for Asks {
 }
 
 impl Asks {
-    ghost use Rattle.std.specs.Prelude.{◌≡◌, ◌<◌, ◌+◌, ◌^◌, [], ◌∷◌, IfOk, OnOk, length, slice_get};
+    ghost use Rattle.std.specs.Prelude.{◌≡◌, ◌<◌, ◌+◌, ◌^◌, ℕ, [], ◌∷◌, IfOk, IfSome, OnOk, length, slice_get};
+    ghost use Rattle.std.specs.Option.{option_map};
     ghost use Rattle.scenario.specs.Cursors.{remaining};
     ghost use Rattle.scenario.specs.Taking.{offers};
     ghost use Rattle.schedule.specs.inner.Marks.{all_marked, marked_at, offers_by};
     ghost use Rattle.schedule.specs.inner.Owned.{IsMarkedIf};
+    ghost use Rattle.schedule.specs.declared.choosing.Choice.TheVariants.{Offer};
 
     /// No asks.
     pub(crate) fn open(alloc: Global) -> Result<Asks, NoMemory> {
@@ -171,11 +175,12 @@ impl Asks {
         }
     }
 
-    /// The k-th of the asks that can be put, by their marks, where the first ask has a number.
+    /// The place of the k-th of the asks that can be put, by their marks, and that ask; whatever number the first ask has.
     #[inline(always)]
-    pub(crate) fn choice(&self, cores: &Cores, first: usize, k: u32) -> Option<Choice>
-        requires { first + length self.now.asks < 2 ^ 64 }
-        ensures { result ≡ slice_get (offers_by cores.now first self.now.asks self.now.unheld) k }
+    pub(crate) fn find(&self, cores: &Cores, k: u32) -> Option<(usize, CoreAsk)>
+        ensures there { IfSome result (λ found. found.0 < length self.now.asks) }
+        ensures kth { (first : ℕ) → option_map (λ found. Offer (first + found.0) found.1) result
+            ≡ slice_get (offers_by cores.now first self.now.asks self.now.unheld) k }
     {
         match self.core {
             Some(core) => {
@@ -183,9 +188,9 @@ impl Asks {
                     return None;
                 }
                 let at = self.unheld.find(k)? as usize;
-                Some(Choice::Offer(first + at, self.asks[at]))
+                Some((at, self.asks[at]))
             }
-            None => choice_by(cores, self.asks.as_slice(), &self.unheld, first, k),
+            None => find_by(cores, self.asks.as_slice(), &self.unheld, k),
         }
     }
 }
@@ -343,18 +348,19 @@ fn count_by(cores: &Cores, asks: &[CoreAsk], unheld: &Bits) -> u32
     count
 }
 
-/// The k-th of these asks that can be put, by their marks, where the first ask has a number.
-fn choice_by(cores: &Cores, asks: &[CoreAsk], unheld: &Bits, first: usize, k: u32) -> Option<Choice>
+/// The place of the k-th of these asks that can be put, by their marks, and that ask; whatever number the first ask has.
+fn find_by(cores: &Cores, asks: &[CoreAsk], unheld: &Bits, k: u32) -> Option<(usize, CoreAsk)>
     requires long { length unheld.now ≡ length asks.now }
     requires short { length asks.now < 2 ^ 32 }
-    requires fits { first + length asks.now < 2 ^ 64 }
-    ensures { result ≡ slice_get (offers_by cores.now first asks.now unheld.now) k }
+    ensures there { IfSome result (λ found. found.0 < length asks.now) }
+    ensures kth { (first : ℕ) → option_map (λ found. Offer (first + found.0) found.1) result
+        ≡ slice_get (offers_by cores.now first asks.now unheld.now) k }
 {
     let mut left = k;
     for (number, ask) in asks.iter().enumerate() {
         if is_ready(cores, unheld, number as u32, *ask) {
             if left == 0 {
-                return Some(Choice::Offer(first + number, *ask));
+                return Some((number, *ask));
             }
             left -= 1;
         }

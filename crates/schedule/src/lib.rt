@@ -7,8 +7,10 @@ mod dice;
 mod groups;
 mod lanes;
 mod laws;
+mod picking;
 
 pub use choosing::{Choice, Menu, choices};
 pub use dice::Dice;
 pub use lanes::Lanes;
 pub use laws::{alike_trees_give_the_same_choices, draws_follow_the_words, first_words};
+pub use picking::Pick;

@@ -3,7 +3,7 @@ use base::{Ask, BlockId, CacheId, CoreAsk, Shape, Step};
 use both_tables::Tables;
 use cores::Cores;
 use scenario::Scenario;
-use schedule::{Choice, Dice, choices};
+use schedule::{Choice, Dice, Lanes, choices};
 use std::alloc::Global;
 use std::process::Abort;
 use world::World;
@@ -142,4 +142,32 @@ fn offers_no_held(rt: &impl Abort, alloc: Global, world: &mut World, scenario: &
 fn what_is_held_is_no_choice(rt: HostRuntime) {
     let mut world = opened(&rt, rt.alloc());
     offers_no_held(&rt, rt.alloc(), &mut world, &Scenario::One(LOAD));
+}
+
+/// Takes the only choice of a world and of a scenario, which is the load's ask.
+fn take_only(
+    rt: &impl Abort,
+    alloc: Global,
+    world: &World,
+    cores: &Cores,
+    scenario: &Scenario<Global>,
+) {
+    let opened = Lanes::open(alloc, scenario, 2, world, cores);
+    let mut lanes: Lanes<'_, Global, Global> = opened.expect(rt, "memory");
+    let choice = lanes.choice(world, cores, 0);
+    same(rt, &choice, &Some(Choice::Offer(0, LOAD)));
+    let pick = lanes.pick(world, cores, 0).expect(rt, "a choice");
+    let ask = Step::read(b"ask 0 0 load").expect(rt, "a step");
+    same(rt, &pick.step(), &ask);
+    lanes
+        .follow_pick(alloc, pick, None, world, cores)
+        .expect(rt, "memory");
+    same(rt, &lanes.is_done(), &true);
+}
+
+#[test]
+fn what_is_picked_is_taken(rt: HostRuntime) {
+    let world = opened(&rt, rt.alloc());
+    let cores = Cores::open(rt.alloc(), 2).expect(&rt, "memory");
+    take_only(&rt, rt.alloc(), &world, &cores, &Scenario::One(LOAD));
 }

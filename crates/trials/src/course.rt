@@ -17,7 +17,7 @@ use cores::Cores;
 use monitor::{Violation, Watch};
 use record::Entry;
 use scenario::Scenario;
-use schedule::{Choice, Dice, Lanes};
+use schedule::{Dice, Lanes, Pick};
 use std::alloc::{Allocator, Global};
 use world::World;
 
@@ -34,9 +34,12 @@ pub(crate) struct Course<'s, 'b, A: Allocator, N: Notes> {
 }
 
 impl<'s, 'b, A: Allocator, N: Notes> Course<'s, 'b, A, N> {
-    ghost use Rattle.std.specs.Prelude.{◌≡◌, ◌<◌, IfOk, OnOk, length};
+    ghost use Rattle.std.specs.Prelude.{◌≡◌, ◌<◌, IfOk, IfSome, OnOk, length};
+    ghost use Rattle.std.specs.Option.{option_map};
     ghost use Rattle.record.specs.Kept.{Kept};
     ghost use Rattle.scenario.specs.Tree.{plain};
+    ghost use Rattle.schedule.specs.Lanes.{laned};
+    ghost use Rattle.schedule.specs.Picks.{IsPicked, choice_of};
     ghost use Rattle.trials.specs.Going.{Begins, CanBeMade, Chooses, Ends, IsCounted, IsLike, IsStart, IsUnder, IsVerdictAtRest, MakesNoted, blank, now_of, parts_of};
 
     /// The start of the trial of this number, with notes of no entry.
@@ -94,10 +97,10 @@ impl<'s, 'b, A: Allocator, N: Notes> Course<'s, 'b, A, N> {
     {
         trials_go_on();
         for made in 0..limit {
-            let Some(choice) = self.choose() else {
+            let Some(pick) = self.choose() else {
                 return Ok(self.verdict_at_rest());
             };
-            if let Some(violation) = self.make(arena, choice)? {
+            if let Some(violation) = self.make(arena, pick)? {
                 return Ok(Verdict::Broke(violation));
             }
         }
@@ -108,9 +111,10 @@ impl<'s, 'b, A: Allocator, N: Notes> Course<'s, 'b, A, N> {
     }
 
     /// Draws one of the choices, if there is any.
-    fn choose(&mut self) -> Option<Choice>
+    fn choose(&mut self) -> Option<Pick>
         requires { IsCounted self.old }
-        ensures chooses { (r : Kept) → Chooses (parts_of r self.old) result (parts_of r self.new) }
+        ensures chooses { (r : Kept) → Chooses (parts_of r self.old) (option_map (choice_of (laned self.new.lanes)) result) (parts_of r self.new) }
+        ensures picked { IfSome result (λ pick. IsPicked pick (laned self.new.lanes)) }
         ensures counted { IsCounted self.new }
         ensures notes { self.new.notes ≡ self.old.notes }
         ensures world { self.new.world ≡ self.old.world }
@@ -120,30 +124,28 @@ impl<'s, 'b, A: Allocator, N: Notes> Course<'s, 'b, A, N> {
             return None;
         }
         let number = self.dice.pick(count);
-        let Some(choice) = self
-            .lanes
-            .choice(&self.world, &self.cores, u64::from(number))
-        else {
+        let Some(pick) = self.lanes.pick(&self.world, &self.cores, u64::from(number)) else {
             unreachable!();
         };
-        Some(choice)
+        Some(pick)
     }
 
     /// Makes a choice, and answers the violation that its step shows.
-    fn make(&mut self, arena: &'b Bump, choice: Choice) -> Result<Option<Violation>, NoMemory>
-        requires choice { CanBeMade choice self.old.world.tables (now_of self.old) }
+    fn make(&mut self, arena: &'b Bump, pick: Pick) -> Result<Option<Violation>, NoMemory>
+        requires choice { CanBeMade (choice_of (laned self.old.lanes) pick) self.old.world.tables (now_of self.old) }
+        requires picked { IsPicked pick (laned self.old.lanes) }
         requires counted { IsCounted self.old }
         requires room { (r : Kept) × N.tells self.old.notes r × (length r.entries < 1000000) }
-        ensures makes { IfOk result (λ violation. MakesNoted N.tells self.old choice self.new violation) }
+        ensures makes { IfOk result (λ violation. MakesNoted N.tells self.old (choice_of (laned self.old.lanes) pick) self.new violation) }
         ensures counted { OnOk result (IsCounted self.new) }
         ensures alike { IsLike self.old.world self.new.world }
     {
-        let step = choice.step();
+        let step = pick.step();
         let went = self.world.go(step)?;
         let (outcome, at) = (went.outcome, went.at);
         note(&mut self.cores, step, outcome);
         let (world, cores) = (&self.world, &self.cores);
-        self.lanes.follow(arena, choice, at, world, cores)?;
+        self.lanes.follow_pick(arena, pick, at, world, cores)?;
         self.notes.add(Entry { step, outcome })?;
         Ok(self.watch.see_went(&self.world, step, &went))
     }

@@ -10,6 +10,7 @@ ghost use Rattle.schedule.specs.inner.Changes.{IsCountedIn};
 
 use super::{Lane, Lanes};
 use crate::choosing::Choice;
+use crate::picking::Pick;
 use base::{CacheId, CoreAsk, NoMemory, Place};
 use cores::Cores;
 use rows::Sums;
@@ -26,14 +27,15 @@ struct Taken {
 }
 
 impl<'s, A: Allocator, B: Allocator + Clone> Lanes<'s, A, B> {
-    ghost use Rattle.std.specs.Prelude.{◌≡◌, ◌<◌, ℕ, List, OnOk, IfOk, IfSome, false, length};
+    ghost use Rattle.std.specs.Prelude.{◌≡◌, ◌<◌, ◌+◌, ℕ, List, OnOk, IfOk, IfSome, false, length, take};
+    ghost use Rattle.std.specs.List.{sum};
     ghost use Rattle.base.specs.Steps.{block_of};
     ghost use Rattle.cores.specs.Cores.{Core};
     ghost use Rattle.machine.specs.Machine.{State};
     ghost use Rattle.scenario.specs.Alike.{Alike};
-    ghost use Rattle.scenario.specs.Taking.{offers};
     ghost use Rattle.schedule.specs.Choices.{IsOffered, chosen_step, rest_after};
-    ghost use Rattle.schedule.specs.Lanes.{AgreeBut, AreReady, IsKept, IsLevel, IsListed, laned, lanes_of, listed_at, whole};
+    ghost use Rattle.schedule.specs.Lanes.{AgreeBut, AreReady, IsKept, IsLevel, IsListed, laned, lanes_of, listed_at, offers_at, whole};
+    ghost use Rattle.schedule.specs.Picks.{IsPicked, choice_of};
     ghost use Rattle.schedule.specs.inner.Changes.{AreCountedAt, Counts, IsCountedAt, IsCountedIf, IsCountedIn, KeepsOthers};
     ghost use Rattle.schedule.specs.inner.Changes.{TakesFrom, WereReady, counted_at};
     ghost use Rattle.schedule.specs.Listed.{IsMarked};
@@ -60,18 +62,62 @@ impl<'s, A: Allocator, B: Allocator + Clone> Lanes<'s, A, B> {
             AgreeBut at (block_of (chosen_step choice)) before world.now.state cores_before cores.now →
             AreReady world.now.tables world.now.state cores.now (laned self.new)) }
     {
-        let taken = self.take_chosen(alloc, choice, world)?;
-        self.mark_again(taken.marked, at, choice.step().block(), world);
+        let pick = self.pick_of(choice);
+        self.follow_pick(alloc, pick, at, world, cores)
+    }
+
+    /// Follows a pick that was made, as [`follow`](Lanes::follow) does a choice. The offer is taken from its lane by its place.
+    ///
+    /// Where memory is refused, the lanes are of no more use.
+    pub fn follow_pick(
+        &mut self,
+        alloc: B,
+        pick: Pick,
+        at: Option<Place>,
+        world: &World,
+        cores: &Cores,
+    ) -> Result<(), NoMemory>
+        requires kept { IsKept (laned self.old) }
+        requires picked { IsPicked pick (laned self.old) }
+        ensures rest { OnOk result (Alike (whole (laned self.new)) (rest_after (choice_of (laned self.old) pick) (whole (laned self.old)))) }
+        ensures kept { OnOk result (IsKept (laned self.new)) }
+        ensures ready { OnOk result ((before : State) (cores_before : List Core) → before.broken ≡ false →
+            AreReady world.now.tables before cores_before (laned self.old) →
+            AgreeBut at (block_of (chosen_step (choice_of (laned self.old) pick))) before world.now.state cores_before cores.now →
+            AreReady world.now.tables world.now.state cores.now (laned self.new)) }
+    {
+        let taken = self.take_picked(alloc, pick, world)?;
+        self.mark_again(taken.marked, at, pick.step().block(), world);
         self.count_at(at, cores);
         self.count_taken(taken.lane, at, cores);
         Ok(())
     }
 
-    /// Takes the offer that was chosen, where the choice is one.
-    fn take_chosen(&mut self, alloc: B, choice: Choice, world: &World) -> Result<Taken, NoMemory>
+    /// The lane of a choice that is an offer, and its place there.
+    fn pick_of(&self, choice: Choice) -> Pick
+        requires kept { IsKept (laned self.now) }
+        requires offered { IsOffered choice (whole (laned self.now)) }
+        ensures choice { choice_of (laned self.now) result ≡ choice }
+        ensures there { IsPicked result (laned self.now) }
+    {
+        match choice {
+            Choice::Offer(number, ask) => {
+                let found = self.lengths.find(number as u64);
+                Pick::Offer {
+                    lane: found.place,
+                    place: found.rest as usize,
+                    ask,
+                }
+            }
+            Choice::Deliver(step) => Pick::Deliver(step),
+        }
+    }
+
+    /// Takes the offer that was picked, where the pick is one.
+    fn take_picked(&mut self, alloc: B, pick: Pick, world: &World) -> Result<Taken, NoMemory>
         requires kept { IsKept (laned self.old) }
-        requires offered { IsOffered choice (whole (laned self.old)) }
-        ensures rest { OnOk result (Alike (whole (laned self.new)) (rest_after choice (whole (laned self.old)))) }
+        requires picked { IsPicked pick (laned self.old) }
+        ensures rest { OnOk result (Alike (whole (laned self.new)) (rest_after (choice_of (laned self.old) pick) (whole (laned self.old)))) }
         ensures kept { OnOk result (IsKept (laned self.new)) }
         ensures there { IfOk result (λ taken. IfSome taken.lane (λ lane. lane < length (laned self.new).trees)) }
         ensures marked { IfOk result (λ taken. IfSome taken.marked (λ lane. IsMarked world.now.tables world.now.state (listed_at (laned self.new) lane))) }
@@ -79,12 +125,12 @@ impl<'s, A: Allocator, B: Allocator + Clone> Lanes<'s, A, B> {
             AreReady world.now.tables before cores_before (laned self.old) →
             WereReady world.now.tables before cores_before world.now.state taken.lane (laned self.new)) }
     {
-        match choice {
-            Choice::Offer(number, _) => {
-                let taken = self.take(alloc, number, world)?;
-                Ok(taken_from(taken.0, taken.1))
+        match pick {
+            Pick::Offer { lane, place, .. } => {
+                let anew = self.take_at(alloc, lane, place, world)?;
+                Ok(taken_from(lane, anew))
             }
-            Choice::Deliver(_) => Ok(Taken {
+            Pick::Deliver(_) => Ok(Taken {
                 lane: None,
                 marked: None,
             }),
@@ -139,25 +185,29 @@ impl<'s, A: Allocator, B: Allocator + Clone> Lanes<'s, A, B> {
         }
     }
 
-    /// Takes the offer of this number, and answers the lane that had it, and whether it was marked anew. The lane is listed anew, but
-    /// where it offers the same again.
-    fn take(&mut self, alloc: B, number: usize, world: &World) -> Result<(usize, bool), NoMemory>
+    /// Takes the offer of a lane at a place, and answers whether the lane was marked anew. It is listed anew, but where it offers the
+    /// same again.
+    fn take_at(
+        &mut self,
+        alloc: B,
+        lane: usize,
+        place: usize,
+        world: &World,
+    ) -> Result<bool, NoMemory>
         requires kept { IsKept (laned self.old) }
-        requires offered { number < length (offers (whole (laned self.old))) }
-        ensures takes { IfOk result (λ taken. TakesFrom taken.0 number (laned self.old) (laned self.new)) }
-        ensures marks { IfOk result (λ taken. IsMarkedIf world.now.tables world.now.state taken.1
-            (listed_at (laned self.old) taken.0) (listed_at (laned self.new) taken.0)) }
+        requires there { lane < length (laned self.old).trees }
+        requires offered { place < length (offers_at (laned self.old) lane) }
+        ensures takes { OnOk result (TakesFrom lane (sum (take lane (laned self.old).lengths) + place) (laned self.old) (laned self.new)) }
+        ensures marks { IfOk result (λ anew. IsMarkedIf world.now.tables world.now.state anew
+            (listed_at (laned self.old) lane) (listed_at (laned self.new) lane)) }
     {
-        let found = self.lengths.find(number as u64);
-        let repeats = self.lanes[found.place].rest.repeats();
-        self.lanes[found.place]
-            .rest
-            .pass(alloc, found.rest as usize)?;
+        let repeats = self.lanes[lane].rest.repeats();
+        self.lanes[lane].rest.pass(alloc, place)?;
         if repeats {
-            return Ok((found.place, false));
+            return Ok(false);
         }
-        let anew = self.list(found.place, world)?;
-        Ok((found.place, anew))
+        let anew = self.list(lane, world)?;
+        Ok(anew)
     }
 
     /// Lists anew what a lane offers, and answers whether it was marked. Where that is what it offered before, the marks stay.

@@ -2,15 +2,18 @@
 
 use super::Lanes;
 use crate::choosing::Choice;
+use crate::picking::Pick;
 use cores::Cores;
 use std::alloc::Allocator;
 use world::World;
 
 impl<'s, A: Allocator, B: Allocator> Lanes<'s, A, B> {
-    ghost use Rattle.std.specs.Prelude.{◌≡◌, ◌↔◌, [], length, slice_get, true};
+    ghost use Rattle.std.specs.Prelude.{◌≡◌, ◌↔◌, [], IfSome, length, slice_get, true};
+    ghost use Rattle.std.specs.Option.{option_map};
     ghost use Rattle.scenario.specs.Taking.{offers};
     ghost use Rattle.schedule.specs.Choices.{choices_of};
     ghost use Rattle.schedule.specs.Lanes.{AreReady, IsKept, laned, whole};
+    ghost use Rattle.schedule.specs.Picks.{IsPicked, choice_of};
 
     /// How many choices there are: the length of the list that [`choices`](crate::choices) gives of this rest.
     pub fn count(&self, world: &World, cores: &Cores) -> u64
@@ -30,19 +33,45 @@ impl<'s, A: Allocator, B: Allocator> Lanes<'s, A, B> {
         requires ready { AreReady world.now.tables world.now.state cores.now (laned self.now) }
         ensures { result ≡ slice_get (choices_of world.now.tables world.now.state cores.now (whole (laned self.now))) k }
     {
+        let pick = self.pick(world, cores, k)?;
+        Some(self.choice_of(pick))
+    }
+
+    /// The k-th choice of that list, counted from 0, if it has so many. Of an offer it is found where it is, and not its number.
+    pub fn pick(&self, world: &World, cores: &Cores, k: u64) -> Option<Pick>
+        requires kept { IsKept (laned self.now) }
+        requires ready { AreReady world.now.tables world.now.state cores.now (laned self.now) }
+        ensures choice { option_map (choice_of (laned self.now)) result
+            ≡ slice_get (choices_of world.now.tables world.now.state cores.now (whole (laned self.now))) k }
+        ensures there { IfSome result (λ pick. IsPicked pick (laned self.now)) }
+    {
         if world.broken() {
             return None;
         }
         let offers = self.ready.total();
         if k < offers {
             let found = self.ready.find(k);
-            let first = self.lengths.front(found.place) as usize;
-            return self.lanes[found.place]
-                .asks
-                .choice(cores, first, found.rest);
+            let lane = found.place;
+            let (place, ask) = self.lanes[lane].asks.find(cores, found.rest)?;
+            return Some(Pick::Offer { lane, place, ask });
         }
         let step = world.enabled_at(k - offers)?;
-        Some(Choice::Deliver(step))
+        Some(Pick::Deliver(step))
+    }
+
+    /// The choice that a pick is.
+    fn choice_of(&self, pick: Pick) -> Choice
+        requires kept { IsKept (laned self.now) }
+        requires picked { IsPicked pick (laned self.now) }
+        ensures { result ≡ choice_of (laned self.now) pick }
+    {
+        match pick {
+            Pick::Offer { lane, place, ask } => {
+                let first = self.lengths.front(lane) as usize;
+                Choice::Offer(first + place, ask)
+            }
+            Pick::Deliver(step) => Choice::Deliver(step),
+        }
     }
 
     /// Whether nothing is offered.

@@ -1,0 +1,36 @@
+use Rattle.std.proofs.Common.{ℕ, ◌∙◌, ap, subst, sym, arith}
+use Rattle.std.proofs.lemmas.Grind.{common_steps}
+use Rattle.base.specs.Steps.{block_of}
+use Rattle.schedule.specs.Lanes.{AgreeBut, laned}
+use Rattle.schedule.proofs.Counting.{all-counted, counted-at-all}
+use Rattle.schedule.proofs.lanes.Lanes.follow_pick.Goals as goal
+
+pub returns-clause-ready : goal.returns-clause-ready
+returns-clause-ready g c before cb sound ready agree =
+    let now = c.args.world.now.state in
+    let were = c.in_ok-taken.ensures.were before cb sound ready in
+    let there : AgreeBut c.args.at c.block.result.0 before now cb c.args.cores.now =
+    subst (λ (b : ℕ). AgreeBut c.args.at b before now cb c.args.cores.now) (sym (c.block.ensures ∙ ap block_of (c.step.ensures (laned c.args.self.now)))) agree in
+    all-counted c.args.world.now.tables before now cb c.args.cores.now c.in_ok-taken.taken.lane c.args.at c.block.result.0 (laned c.take_picked.new.self)
+    (laned c.mark_again.new.self) (laned c.count_at.new.self) (laned c.count_taken.new.self) c.in_ok-taken.ensures.kept sound were c.mark_again.ensures.same
+    (λ sn. c.mark_again.ensures.marked before cb c.args.cores.now c.in_ok-taken.taken.lane sound sn were there) c.count_at.ensures.counts
+    c.count_at.ensures.each c.count_taken.ensures.counts c.count_taken.ensures.each there
+
+pub returns-in_err-taken-clause-rest : goal.returns-in_err-taken-clause-rest
+returns-in_err-taken-clause-rest g c = grind (arith, common_steps)
+
+pub returns-in_err-taken-clause-kept : goal.returns-in_err-taken-clause-kept
+returns-in_err-taken-clause-kept g c = grind (arith, common_steps)
+
+pub returns-in_err-taken-clause-ready : goal.returns-in_err-taken-clause-ready
+returns-in_err-taken-clause-ready g c = grind (arith, common_steps)
+
+pub returns-clause-rest : goal.returns-clause-rest
+returns-clause-rest g c = grind (arith, common_steps)
+
+pub returns-clause-kept : goal.returns-clause-kept
+returns-clause-kept g c = grind (arith, common_steps)
+
+pub count_taken-requires-clause-counted : goal.count_taken-requires-clause-counted
+count_taken-requires-clause-counted g c =
+    counted-at-all c.args.cores.now c.args.at (laned c.mark_again.new.self) (laned c.count_at.new.self) c.count_at.ensures.counts c.count_at.ensures.each
