@@ -10,6 +10,7 @@ pub mod MarkChanges
 pub mod CountChanges
 pub mod Writers
 pub mod Sends
+pub mod States
 pub mod Writes
 pub mod TestedMarks
 pub mod Holding

@@ -1,5 +1,6 @@
 pub mod Asking
 pub mod Kept
+pub mod LineStates
 pub mod Marking
 pub mod Messages
 pub mod Looks

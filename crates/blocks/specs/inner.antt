@@ -3,4 +3,5 @@ pub mod Held
 pub mod Tested
 pub mod Placed
 pub mod Linking
+pub mod Leaving
 pub mod Asked

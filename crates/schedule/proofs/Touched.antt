@@ -181,7 +181,7 @@ other-blocks-stay tables s step core block sound ne =
 abbrev pub asked : Tables → CoreAsk → Option Line → Bool
 asked tables ask line = is_held (decided_outcome (at_ask tables.cache ask.core ask.ask line))
 
-outcome-is : (d : Decision) (b : BlockState) → (carried_out d b).outcome ≡ decided_outcome d
+pub outcome-is : (d : Decision) (b : BlockState) → (carried_out d b).outcome ≡ decided_outcome d
 outcome-is (Refused what) b = refl
 outcome-is (AtLine cache line input state actions from) b = refl
 outcome-is (AtHome input state actions from) b = refl

@@ -160,7 +160,7 @@ fn take_only(
     let ask = Step::read(b"ask 0 0 load").expect(rt, "a step");
     same(rt, &pick.step(), &ask);
     lanes
-        .follow_pick(alloc, pick, None, world, cores)
+        .follow_pick(alloc, pick, None, false, world, cores)
         .expect(rt, "memory");
     same(rt, &lanes.is_done(), &true);
 }

@@ -116,6 +116,24 @@ fn nothing_is_wrong(rt: HostRuntime) {
 }
 
 #[test]
+fn a_line_that_changes_is_told(rt: HostRuntime) {
+    let mut world = opened(&rt, rt.alloc(), CacheTable::baseline());
+    let rows = [
+        ("ask 0 0 load", true),
+        ("request 0 0", false),
+        ("ask 0 0 load", false),
+        ("response 0 0", true),
+        ("ask 0 0 load", false),
+        ("ask 0 0 replace", true),
+    ];
+    for (made, changed) in &rows {
+        let step = Step::read(made.as_bytes()).expect(&rt, "a step");
+        let went = world.go(step).expect(&rt, "memory");
+        same_at(&rt, &went.changed, changed, made);
+    }
+}
+
+#[test]
 fn an_inv_that_is_answered_at_once(rt: HostRuntime) {
     let table = acting(
         &rt,

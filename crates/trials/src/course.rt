@@ -142,10 +142,11 @@ impl<'s, 'b, A: Allocator, N: Notes> Course<'s, 'b, A, N> {
     {
         let step = pick.step();
         let went = self.world.go(step)?;
-        let (outcome, at) = (went.outcome, went.at);
+        let outcome = went.outcome;
         note(&mut self.cores, step, outcome);
         let (world, cores) = (&self.world, &self.cores);
-        self.lanes.follow_pick(arena, pick, at, world, cores)?;
+        self.lanes
+            .follow_pick(arena, pick, went.at, went.changed, world, cores)?;
         self.notes.add(Entry { step, outcome })?;
         Ok(self.watch.see_went(&self.world, step, &went))
     }

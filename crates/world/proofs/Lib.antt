@@ -8,6 +8,7 @@ pub mod Copying
 pub mod Marking
 pub mod Counted
 pub mod Crowds
+pub mod LineStates
 pub mod QuietMarks
 pub mod Spotted
 pub mod Delivering

@@ -1,7 +1,8 @@
-ghost use Rattle.std.specs.Prelude.{◌≡◌, ◌<◌, ◌≤◌, IfNone, IfOk, IfSome, IsOk, IsSome, None, OnErr, OnOk, Some, false, true, length, slice_set};
+ghost use Rattle.std.specs.Prelude.{◌≡◌, ◌<◌, ◌≤◌, ◌↔◌, IfNone, IfOk, IfSome, IsOk, IsSome, None, OnErr, OnOk, Some, false, true, length, slice_set};
 ghost use Rattle.machine.specs.Transition.{decision_of, messages_of, transition};
 ghost use Rattle.machine.specs.declared.decision.Decision.TheVariants.{Refused};
 ghost use Rattle.blocks.specs.Kept.{acts, moved_to};
+ghost use Rattle.blocks.specs.LineStates.{states_in};
 ghost use Rattle.blocks.specs.Looks.{place_in};
 ghost use Rattle.blocks.specs.Passing.{ResponsesPass};
 ghost use Rattle.world.specs.Crowds.{IsCrowdedIn, IsUncrowdedIn};
@@ -26,6 +27,8 @@ pub struct Visited {
     pub at: Option<Place>,
     /// Whether a cache may write the block after it, and another one may read it.
     pub crowded: bool,
+    /// Whether a line is in another state than before.
+    pub changed: bool,
 }
 
 /// Keeps a block that a step acts at, or answers the outcome of a step that no cell acts on there.
@@ -122,6 +125,9 @@ pub fn step_at(
     ensures ok { IfOk result (λ visit. transition tables.now step (state_or caches value (kept_at blocks.old.items number))
         ≡ moved_to (state_or caches value (kept_at blocks.new.items number)) visit.made.outcome) }
     ensures at { IfOk result (λ visit. visit.at ≡ place_in step (state_or caches value (kept_at blocks.old.items number))) }
+    ensures changed { IfOk result (λ visit. (visit.changed ≡ false) ↔
+        (states_in (state_or caches value (kept_at blocks.new.items number)).lines
+        ≡ states_in (state_or caches value (kept_at blocks.old.items number)).lines)) }
     ensures crowded { IfOk result (λ visit. visit.crowded ≡ true → IsCrowdedIn (state_or caches value (kept_at blocks.new.items number))) }
     ensures uncrowded { IfOk result (λ visit. visit.crowded ≡ false → IsUncrowdedIn (state_or caches value (kept_at blocks.new.items number))) }
     ensures tested { IfOk result (λ visit. IsTested tables.now (state_or caches value (kept_at blocks.old.items number))
@@ -143,6 +149,7 @@ pub fn step_at(
             made,
             at,
             crowded: false,
+            changed: false,
         });
     }
     let Some(block) = blocks.get_mut(number) else {
@@ -153,6 +160,7 @@ pub fn step_at(
         made: visit.made,
         at: visit.at,
         crowded: block.crowded_writer().is_some(),
+        changed: visit.changed,
     })
 }
 

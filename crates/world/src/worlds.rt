@@ -44,6 +44,8 @@ pub struct Went {
     pub at: Option<Place>,
     /// Whether its block is crowded after it: a cache is in M, and another one is in S, SM^AD, SM^A or M.
     pub crowded: bool,
+    /// Whether a line, that of the cache that it went to, is in another state than before.
+    pub changed: bool,
 }
 
 /// A world of caches and blocks, with the tables of its controllers.
@@ -93,6 +95,7 @@ impl World {
     ghost use Rattle.machine.specs.Machine.{IsHistory, next, opened, sent_by};
     ghost use Rattle.world.specs.Coherent.{HasBeenSafe, IsUnstuck};
     ghost use Rattle.world.specs.Crowds.{IsCrowded, IsUncrowded};
+    ghost use Rattle.world.specs.LineStates.{line_states};
     ghost use Rattle.world.specs.Looks.{place_at};
     ghost use Rattle.world.specs.Messages.{messages_at, raised};
     ghost use Rattle.world.specs.View.{HasRoomToStep, LeadsOn, stepped, wakes};
@@ -161,11 +164,13 @@ impl World {
         Ok(outcome)
     }
 
-    /// Makes one step as [`step`](World::step) does, and answers where it went too, and whether its block is crowded after it.
+    /// Makes one step as [`step`](World::step) does, and answers where it went too, whether its block is crowded after it, and whether
+    /// a line's state changed.
     /// Where memory is refused nothing has changed.
     pub fn go(&mut self, step: Step) -> Result<Went, NoMemory>
         ensures ok { IfOk result (λ went. next self.old.tables self.old.state step ≡ stepped self.new.state went.outcome) }
         ensures at { IfOk result (λ went. went.at ≡ place_at self.old.state step) }
+        ensures changed { IfOk result (λ went. (went.changed ≡ false) ↔ (line_states self.new.state ≡ line_states self.old.state)) }
         ensures crowded { IfOk result (λ went. went.crowded ≡ true → IsCrowded self.new.state (block_of step)) }
         ensures uncrowded { IfOk result (λ went. went.crowded ≡ false → IsUncrowded self.new.state (block_of step)) }
         ensures history { OnOk result (LeadsOn self.old (step ∷ []) self.new) }
@@ -258,6 +263,7 @@ impl World {
         ensures within { IsWithinLimits self.new.shape }
         ensures ok { IfOk result (λ went. next self.old.tables self.old.state step ≡ stepped self.new.state went.outcome) }
         ensures at { IfOk result (λ went. went.at ≡ place_at self.old.state step) }
+        ensures changed { IfOk result (λ went. (went.changed ≡ false) ↔ (line_states self.new.state ≡ line_states self.old.state)) }
         ensures crowded { IfOk result (λ went. went.crowded ≡ true → IsCrowded self.new.state (block_of step)) }
         ensures uncrowded { IfOk result (λ went. went.crowded ≡ false → IsUncrowded self.new.state (block_of step)) }
         ensures shape { self.new.shape ≡ self.old.shape }
@@ -274,6 +280,7 @@ impl World {
                 outcome: Outcome::Broken,
                 at: self.at(step),
                 crowded: self.crowded_writer(step.block()).is_some(),
+                changed: false,
             });
         }
         let number = step.block().0;
@@ -282,6 +289,7 @@ impl World {
                 outcome: Outcome::Absent,
                 at: None,
                 crowded: false,
+                changed: false,
             });
         };
         let visit = step_at(
@@ -300,6 +308,7 @@ impl World {
             outcome: visit.made.outcome,
             at: visit.at,
             crowded: visit.crowded,
+            changed: visit.changed,
         })
     }
 }

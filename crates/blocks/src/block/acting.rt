@@ -33,12 +33,24 @@ pub struct Made {
 pub struct Visit {
     pub made: Made,
     pub at: Option<Place>,
+    /// Whether a line is in another state than before.
+    pub changed: bool,
+}
+
+/// What carrying a decision out came to.
+#[derive(Clone, Copy)]
+struct Carried {
+    outcome: Outcome,
+    /// Whether the line that a cell acted at is in another state than before.
+    changed: bool,
 }
 
 impl Block {
-    ghost use Rattle.std.specs.Prelude.{◌≡◌, ◌≤◌, [], IfOk, IsOk, OnOk, OnErr, false, true, length, take};
+    ghost use Rattle.std.specs.Prelude.{◌≡◌, ◌≤◌, ◌↔◌, [], IfOk, IsOk, OnOk, OnErr, false, true, length, take};
     ghost use Rattle.base.specs.declared.ids.CacheId.{CacheId};
+    ghost use Rattle.blocks.specs.LineStates.{states_in};
     ghost use Rattle.blocks.specs.Looks.{place_in};
+    ghost use Rattle.blocks.specs.inner.Leaving.{LeavesState};
     ghost use Rattle.blocks.specs.inner.Linking.{IsAtOwn, IsRelinked};
     ghost use Rattle.blocks.specs.Passing.{ResponsesPass};
     ghost use Rattle.machine.specs.Transition.{Fits, Transition, carried_out, decision_of, messages_of, transition};
@@ -101,11 +113,12 @@ impl Block {
 
     /// Does what was decided, where there is room for it.
     #[inline(always)]
-    fn carry_out(&mut self, decision: &Decision) -> Outcome
+    fn carry_out(&mut self, decision: &Decision) -> Carried
         requires fits { Fits decision.now self.old.state }
         requires names { DecisionNames self.old.space.lines decision.now }
         requires room { HasSpaceFor decision.now self.old.state self.old.space }
-        ensures done { carried_out decision.now self.old.state ≡ moved_to self.new.state result }
+        ensures done { carried_out decision.now self.old.state ≡ moved_to self.new.state result.outcome }
+        ensures changed { (result.changed ≡ false) ↔ LeavesState decision.now }
         ensures links { (cache : CacheId) → IsAtOwn decision.now cache →
             IsRelinked cache.0 self.old.marks.links self.old.state.traffic.links self.new.marks.links self.new.state.traffic.links }
         ensures requests { (cache : CacheId) → IsAtOwn decision.now cache →
@@ -113,7 +126,10 @@ impl Block {
     {
         self.counted = None;
         match *decision {
-            Decision::Refused(outcome) => outcome,
+            Decision::Refused(outcome) => Carried {
+                outcome,
+                changed: false,
+            },
             Decision::AtLine {
                 cache,
                 line,
@@ -129,7 +145,10 @@ impl Block {
                 self.access.readers.set(cache.0, may_read(after.state));
                 self.access.writers.set(cache.0, may_write(after.state));
                 self.latest = latest_value(done, self.latest);
-                completion_outcome(cache, origin, done)
+                Carried {
+                    outcome: completion_outcome(cache, origin, done),
+                    changed: after.state != line.state,
+                }
             }
             Decision::AtHome {
                 input,
@@ -139,7 +158,10 @@ impl Block {
             } => {
                 take(&mut self.wires, origin);
                 home_perform(&mut self.home, input, next, actions, &mut self.wires);
-                Outcome::Moved
+                Carried {
+                    outcome: Outcome::Moved,
+                    changed: false,
+                }
             }
         }
     }
@@ -161,12 +183,13 @@ impl Block {
     }
 
     /// Makes a step as [`step`](Block::step) does, under tables of which it may be known that no response is ever held, and
-    /// answers where it went too. Where memory is refused nothing has changed.
+    /// answers where it went too, and whether a line's state changed. Where memory is refused nothing has changed.
     pub fn visit(&mut self, tables: &Tables, pass: bool, step: Step) -> Result<Visit, NoMemory>
         requires marks { self.old.marks ≡ marks_of tables.now self.old.state }
         requires pass { pass ≡ true → ResponsesPass tables.now }
         ensures ok { IfOk result (λ visit. transition tables.now step self.old.state ≡ moved_to self.new.state visit.made.outcome) }
         ensures at { IfOk result (λ visit. visit.at ≡ place_in step self.old.state) }
+        ensures changed { IfOk result (λ visit. (visit.changed ≡ false) ↔ (states_in self.new.state.lines ≡ states_in self.old.state.lines)) }
         ensures marks { self.new.marks ≡ marks_of tables.now self.new.state }
         ensures tested { IfOk result (λ visit. IsTested tables.now self.old.state self.new.state visit.made.tested) }
         ensures sent { IfOk result (λ visit. (length (messages_of (decision_of tables.now step self.old.state) self.old.state) ≤ tested_in visit.made.tested)) }
@@ -182,20 +205,28 @@ impl Block {
                 tested: None,
             };
             let at = self.place(step);
-            return Ok(Visit { made, at });
+            return Ok(Visit {
+                made,
+                at,
+                changed: false,
+            });
         }
         let at = decided_place(&decision);
         let others = self.others(&decision);
         if let Err(refused) = self.prepare(&decision) {
             return Err(refused);
         }
-        let outcome = self.carry_out(&decision);
+        let carried = self.carry_out(&decision);
         let tested = self.test_after(tables, pass, others);
         let made = Made {
-            outcome,
+            outcome: carried.outcome,
             tested: Some(tested),
         };
-        Ok(Visit { made, at })
+        Ok(Visit {
+            made,
+            at,
+            changed: carried.changed,
+        })
     }
 }
 

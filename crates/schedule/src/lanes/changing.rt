@@ -32,6 +32,7 @@ impl<'s, A: Allocator, B: Allocator + Clone> Lanes<'s, A, B> {
     ghost use Rattle.base.specs.Steps.{block_of};
     ghost use Rattle.cores.specs.Cores.{Core};
     ghost use Rattle.machine.specs.Machine.{State};
+    ghost use Rattle.world.specs.LineStates.{line_states};
     ghost use Rattle.scenario.specs.Alike.{Alike};
     ghost use Rattle.schedule.specs.Choices.{IsOffered, chosen_step, rest_after};
     ghost use Rattle.schedule.specs.Lanes.{AgreeBut, AreReady, IsKept, IsLevel, IsListed, laned, lanes_of, listed_at, offers_at, whole};
@@ -63,10 +64,12 @@ impl<'s, A: Allocator, B: Allocator + Clone> Lanes<'s, A, B> {
             AreReady world.now.tables world.now.state cores.now (laned self.new)) }
     {
         let pick = self.pick_of(choice);
-        self.follow_pick(alloc, pick, at, world, cores)
+        self.follow_pick(alloc, pick, at, true, world, cores)?;
+        Ok(())
     }
 
-    /// Follows a pick that was made, as [`follow`](Lanes::follow) does a choice. The offer is taken from its lane by its place.
+    /// Follows a pick that was made, as [`follow`](Lanes::follow) does a choice. The offer is taken from its lane by its place,
+    /// and nothing is marked again where the step changed no line's state.
     ///
     /// Where memory is refused, the lanes are of no more use.
     pub fn follow_pick(
@@ -74,6 +77,7 @@ impl<'s, A: Allocator, B: Allocator + Clone> Lanes<'s, A, B> {
         alloc: B,
         pick: Pick,
         at: Option<Place>,
+        changed: bool,
         world: &World,
         cores: &Cores,
     ) -> Result<(), NoMemory>
@@ -84,10 +88,11 @@ impl<'s, A: Allocator, B: Allocator + Clone> Lanes<'s, A, B> {
         ensures ready { OnOk result ((before : State) (cores_before : List Core) → before.broken ≡ false →
             AreReady world.now.tables before cores_before (laned self.old) →
             AgreeBut at (block_of (chosen_step (choice_of (laned self.old) pick))) before world.now.state cores_before cores.now →
+            (changed ≡ false → line_states world.now.state ≡ line_states before) →
             AreReady world.now.tables world.now.state cores.now (laned self.new)) }
     {
         let taken = self.take_picked(alloc, pick, world)?;
-        self.mark_again(taken.marked, at, pick.step().block(), world);
+        self.mark_again(taken.marked, at, pick.step().block(), changed, world);
         self.count_at(at, cores);
         self.count_taken(taken.lane, at, cores);
         Ok(())

@@ -15,17 +15,19 @@ impl<'s, A: Allocator, B: Allocator + Clone> Lanes<'s, A, B> {
     ghost use Rattle.std.specs.Prelude.{◌≡◌, ◌<◌, ℕ, List, Option, IfSome, false, true, length};
     ghost use Rattle.cores.specs.Cores.{Core};
     ghost use Rattle.machine.specs.Machine.{State};
+    ghost use Rattle.world.specs.LineStates.{line_states};
     ghost use Rattle.schedule.specs.Lanes.{AgreeBut, IsKept, laned, lanes_of, listed_at};
     ghost use Rattle.schedule.specs.Listed.{IsMarked};
     ghost use Rattle.schedule.specs.inner.Changes.{AreMarked, IsMarkedIn, Marks, WereReady, marked_in};
 
     /// Marks again what a step about a block changed, which went to a controller, but for a lane that is marked already, if there
-    /// is one.
+    /// is one. Where no line's state has changed there is nothing to mark.
     pub(super) fn mark_again(
         &mut self,
         done: Option<usize>,
         at: Option<Place>,
         block: BlockId,
+        changed: bool,
         world: &World,
     )
         requires kept { IsKept (laned self.old) }
@@ -34,8 +36,12 @@ impl<'s, A: Allocator, B: Allocator + Clone> Lanes<'s, A, B> {
         ensures same { Marks (laned self.old) (laned self.new) }
         ensures marked { (before : State) (cores_before cores_now : List Core) (but : Option ℕ) → before.broken ≡ false →
             world.now.state.broken ≡ false → WereReady world.now.tables before cores_before world.now.state but (laned self.old) →
-            AgreeBut at block.0 before world.now.state cores_before cores_now → AreMarked world.now.tables world.now.state (laned self.new) }
+            AgreeBut at block.0 before world.now.state cores_before cores_now →
+            (changed ≡ false → line_states world.now.state ≡ line_states before) → AreMarked world.now.tables world.now.state (laned self.new) }
     {
+        if !changed {
+            return;
+        }
         if let Some(core) = cache_of(at) {
             self.mark_core(done, core, block, world);
         }

@@ -6,14 +6,14 @@ use Rattle.schedule.proofs.Counting.{all-counted, counted-at-all}
 use Rattle.schedule.proofs.lanes.Lanes.follow_pick.Goals as goal
 
 pub returns-clause-ready : goal.returns-clause-ready
-returns-clause-ready g c before cb sound ready agree =
+returns-clause-ready g c before cb sound ready agree stay =
     let now = c.args.world.now.state in
     let were = c.in_ok-taken.ensures.were before cb sound ready in
     let there : AgreeBut c.args.at c.block.result.0 before now cb c.args.cores.now =
     subst (λ (b : ℕ). AgreeBut c.args.at b before now cb c.args.cores.now) (sym (c.block.ensures ∙ ap block_of (c.step.ensures (laned c.args.self.now)))) agree in
     all-counted c.args.world.now.tables before now cb c.args.cores.now c.in_ok-taken.taken.lane c.args.at c.block.result.0 (laned c.take_picked.new.self)
     (laned c.mark_again.new.self) (laned c.count_at.new.self) (laned c.count_taken.new.self) c.in_ok-taken.ensures.kept sound were c.mark_again.ensures.same
-    (λ sn. c.mark_again.ensures.marked before cb c.args.cores.now c.in_ok-taken.taken.lane sound sn were there) c.count_at.ensures.counts
+    (λ sn. c.mark_again.ensures.marked before cb c.args.cores.now c.in_ok-taken.taken.lane sound sn were there stay) c.count_at.ensures.counts
     c.count_at.ensures.each c.count_taken.ensures.counts c.count_taken.ensures.each there
 
 pub returns-in_err-taken-clause-rest : goal.returns-in_err-taken-clause-rest

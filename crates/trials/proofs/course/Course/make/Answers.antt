@@ -42,5 +42,6 @@ returns-clause-counted g c = record {
       (subst (λ (s : Step). AgreeBut c.in_ok-went.went.at (block_of s) c.args.self.now.world.state c.go.new.self.state c.args.self.now.cores c.note.new.cores)
       (c.step-step.ensures (laned c.args.self.now.lanes))
       (agree-but c.args.self.now.world.tables c.args.self.now.world.state c.go.new.self.state c.step-step.result c.in_ok-went.went.outcome c.in_ok-went.went.at
-      c.args.self.now.cores c.note.new.cores made before c.in_ok-went.ensures.at c.note.ensures)));
+      c.args.self.now.cores c.note.new.cores made before c.in_ok-went.ensures.at c.note.ensures))
+      c.in_ok-went.ensures.changed.0);
 }

@@ -8,6 +8,7 @@ use Rattle.blocks.specs.Looks.{place_in}
 use Rattle.world.specs.View.{states}
 use Rattle.world.proofs.Crowds.{block-crowded, block-uncrowded}
 use Rattle.world.proofs.Keeping.{state-there, states-stay}
+use Rattle.world.proofs.LineStates.{lines-left}
 use Rattle.world.proofs.Stepping.{below-places, light-in, next-is, room-at, tests-block, tests-sent, world-stays, world-stepped}
 use Rattle.world.proofs.worlds.World.go_on.Goals as goal
 
@@ -194,6 +195,13 @@ returns-clause-at c =
     ∙ rw (← c.self.view_is)
     (ap (option_and_then (place_in c.args.step))
     (sym (state-there c.self.inside.shape.caches c.self.inside.opening.items c.self.inside.blocks.items (block_of c.args.step) c.in-Some.value (at-2 c))))
+
+pub returns-clause-changed : goal.returns-clause-changed
+returns-clause-changed c =
+    let told = rw (c.block-number.ensures, c.caches.ensures.value) at c.in_ok-visit.ensures.changed in
+    let left = lines-left c.self.inside.shape.caches c.self.inside.opening.items c.self.inside.blocks.items c.step_at.new.blocks.items
+    (block_of c.args.step) c.in-Some.value (at-2 c) (below-2 c) (rw c.block-number.ensures at c.in_ok-visit.ensures.others) in
+    rw (← c.self.view_is) (λ no. left.0 (told.0 no), λ same. told.1 (left.1 same))
 
 pub returns-clause-crowded : goal.returns-clause-crowded
 returns-clause-crowded c e =
