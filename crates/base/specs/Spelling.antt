@@ -110,6 +110,18 @@ IsNoOutcome line = (o : Outcome) → FitsOutcome o → words line ≢ outcome_wo
 abbrev pub IsNoPair : ℕ → ℕ → List ℕ → Type 0
 IsNoPair first second line = (a b : ℕ) → a < 2 ^ first → b < 2 ^ second → words line ≢ decimal a ∷ decimal b ∷ []
 
+-- the line isn't what a core asks
+abbrev pub IsNoAsk : List ℕ → Type 0
+IsNoAsk line = (ask : Ask) → FitsAsk ask → words line ≢ ask_words ask
+
+-- behind the word, the line spells the step
+abbrev pub IsStepBehind : List ℕ → List ℕ → Step → Type 0
+IsStepBehind word line s = word ∷ words line ≡ step_words s
+
+-- behind the word, the line spells no step
+abbrev pub IsNoStepBehind : List ℕ → List ℕ → Type 0
+IsNoStepBehind word line = (s : Step) → FitsStep s → word ∷ words line ≢ step_words s
+
 -- the one word spells the outcome
 abbrev pub IsOutcomeWord : List ℕ → Outcome → Type 0
 IsOutcomeWord word o = word ∷ [] ≡ outcome_words o
