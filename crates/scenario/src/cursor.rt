@@ -3,7 +3,7 @@
 ghost use Rattle.std.specs.Prelude.{◌≡◌, true};
 ghost use Rattle.scenario.specs.Turns.{chooses};
 
-use crate::part::{Part, Place, part_chooses, part_next, part_repeats, pass_at_once, take_from};
+use crate::part::{Part, Place, is_in_turns, part_next, part_repeats, pass_at_once, take_from};
 use crate::seeking::find_offer;
 use crate::telling::Next;
 use crate::tree::Scenario;
@@ -73,6 +73,7 @@ impl<'t, A: Allocator, B: Allocator + Clone> Cursor<'t, A, B> {
     ghost use Rattle.std.specs.Prelude.{◌<◌, ◌≤◌, IfOk, OnErr, OnOk, length};
     ghost use Rattle.scenario.specs.Alike.{Alike, Takes};
     ghost use Rattle.scenario.specs.Cursors.{most_nodes, remaining, standing};
+    ghost use Rattle.scenario.specs.Repeats.{Repeats};
     ghost use Rattle.scenario.specs.Taking.{left, offers};
 
     /// Takes offer `at`, counted from 0 in the order of [`Rest::offers`](crate::Rest::offers): answers its ask, and what is
@@ -103,10 +104,27 @@ impl<'t, A: Allocator, B: Allocator + Clone> Cursor<'t, A, B> {
         if pass_at_once(&mut self.root, self.in_turns, at) {
             return Ok(());
         }
-        let begins = matches!(self.root.place(), Place::Whole(_));
         self.in_turns = false;
         take_from(&mut self.root, &alloc, at)?;
-        self.in_turns = begins && part_chooses(&self.root);
         Ok(())
+    }
+
+    /// Takes offer `at` as [`pass`](Cursor::pass) does, and answers what [`repeats`](Cursor::repeats) did before. Of turns of a
+    /// choice it keeps in mind that they are, so that in those behind this one no child is looked at.
+    ///
+    /// What is made anew is `alloc`'s. Where memory is refused, what is left is as before.
+    pub fn pass_on(&mut self, alloc: B, at: usize) -> Result<bool, NoMemory>
+        requires { at < length (offers (remaining self.old)) }
+        ensures ok { OnOk result (Alike (remaining self.new) (left (remaining self.old) at)) }
+        ensures repeats { IfOk result (λ repeats. repeats ≡ true → Repeats (remaining self.old)) }
+        ensures err { OnErr result (remaining self.new ≡ remaining self.old) }
+        ensures nodes { most_nodes (standing self.new) ≤ most_nodes (standing self.old) }
+    {
+        let repeats = part_repeats(&self.root, self.in_turns);
+        if repeats && is_in_turns(&self.root) {
+            self.in_turns = true;
+        }
+        self.pass(alloc, at)?;
+        Ok(repeats)
     }
 }

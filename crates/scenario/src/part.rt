@@ -10,7 +10,7 @@ mod telling;
 use crate::tree::Scenario;
 pub(crate) use looking::part_may_end;
 pub(crate) use passing::pass_at_once;
-pub(crate) use repeating::{part_chooses, part_repeats};
+pub(crate) use repeating::{is_in_turns, part_repeats};
 use std::alloc::{AllocError, Allocator};
 pub(crate) use taking::take_from;
 pub(crate) use telling::part_next;

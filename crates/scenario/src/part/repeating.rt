@@ -5,7 +5,7 @@ ghost use Rattle.scenario.specs.Cursors.{Nothing, first_part, progress};
 ghost use Rattle.scenario.specs.Parts.{part_left, parts_of};
 ghost use Rattle.scenario.specs.Repeats.{Repeats};
 ghost use Rattle.scenario.specs.Tree.{plain, plain_all};
-ghost use Rattle.scenario.specs.Turns.{all_asks, chooses, is_ask, is_choice};
+ghost use Rattle.scenario.specs.Turns.{all_asks, chooses, in_turns, is_ask, is_choice};
 
 use super::{Part, Place};
 use crate::tree::Scenario;
@@ -16,7 +16,8 @@ use std::alloc::Allocator;
 #[tactic(auto, using(crate::proofs::Cursors::parts))]
 pub(crate) fn part_repeats<A: Allocator, B: Allocator>(part: &Part<'_, A, B>, known: bool) -> bool
     requires { known ≡ true → chooses part.now ≡ true }
-    ensures { result ≡ true → Repeats (part_left part.now) }
+    ensures repeats { result ≡ true → Repeats (part_left part.now) }
+    ensures chooses { result ≡ true → in_turns part.now ≡ true → chooses part.now ≡ true }
 {
     match part.place() {
         Place::Whole(tree) => tree_repeats(tree),
@@ -25,15 +26,12 @@ pub(crate) fn part_repeats<A: Allocator, B: Allocator>(part: &Part<'_, A, B>, kn
     }
 }
 
-/// Whether a part is in turns of a choice of asks.
+/// Whether a part is in turns.
 #[tactic(auto, using(crate::proofs::Cursors::parts))]
-pub(crate) fn part_chooses<A: Allocator, B: Allocator>(part: &Part<'_, A, B>) -> bool
-    ensures { result ≡ chooses part.now }
+pub(crate) fn is_in_turns<A: Allocator, B: Allocator>(part: &Part<'_, A, B>) -> bool
+    ensures { result ≡ in_turns part.now }
 {
-    match part.place() {
-        Place::InTimes(_, child) => is_choice(child),
-        Place::Nothing | Place::Whole(_) | Place::InSeq(_) | Place::InBoth(_) => false,
-    }
+    matches!(part.place(), Place::InTimes(..))
 }
 
 /// Whether nothing is left of the first part.

@@ -206,8 +206,7 @@ impl<'s, A: Allocator, B: Allocator + Clone> Lanes<'s, A, B> {
         ensures marks { IfOk result (λ anew. IsMarkedIf world.now.tables world.now.state anew
             (listed_at (laned self.old) lane) (listed_at (laned self.new) lane)) }
     {
-        let repeats = self.lanes[lane].rest.repeats();
-        self.lanes[lane].rest.pass(alloc, place)?;
+        let repeats = self.lanes[lane].rest.pass_on(alloc, place)?;
         if repeats {
             return Ok(false);
         }

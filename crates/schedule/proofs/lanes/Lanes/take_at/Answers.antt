@@ -22,17 +22,17 @@ finds : (g : given.Over) (c : Start g) →
     Finds c.args.self.now.lengths (sum (take c.args.lane c.args.self.now.lengths) + c.args.place) c.args.lane c.args.place
 finds g c = lane-finds (laned c.args.self.now) c.args.lane c.args.place c.requires.kept c.requires.there c.requires.offered
 
-pub pass-requires : goal.pass-requires
-pass-requires g c =
+pub pass_on-requires : goal.pass_on-requires
+pass_on-requires g c =
     subst (λ t. c.args.place < length (offers t))
     (sym (lane-tree c.args.self.now.lanes.items c.args.lane c.index_mut.result.now (lane-low c.args.self.now c.args.lane c.requires.there)
     c.index_mut.ensures.value))
     (found-offered c.args.lane (sum (take c.args.lane c.args.self.now.lengths) + c.args.place) c.args.place (laned c.args.self.now) c.requires.kept
-    (finds g (goal.at.pass-requires g c).Start))
+    (finds g (goal.at.pass_on-requires g c).Start))
 
 -- the lane that the offer was taken from, before it is listed, and the lanes with it
 abbrev taken : (g : given.Over) → goal.In_ok-anew g → Lane g.row.A.Denot g.row.B.Denot
-taken g c = record { rest = c.pass.new.self; asks = c.index_mut.result.now.asks }
+taken g c = record { rest = c.pass_on.new.self; asks = c.index_mut.result.now.asks }
 
 abbrev mid : (g : given.Over) → goal.In_ok-anew g → Lanes g.row.A.Denot g.row.B.Denot
 mid g c = record {
@@ -43,33 +43,34 @@ mid g c = record {
 }
 
 -- another tree is left of that lane, and nothing else has changed
-steps : (g : given.Over) (c : goal.In_ok-anew g) → Steps c.args.lane (remaining c.pass.new.self) (laned c.args.self.now) (laned (mid g c))
+steps : (g : given.Over) (c : goal.In_ok-anew g) → Steps c.args.lane (remaining c.pass_on.new.self) (laned c.args.self.now) (laned (mid g c))
 steps g c =
     lane-steps c.args.self.now (mid g c) c.args.lane c.index_mut.result.now (taken g c) c.index_mut.ensures.value refl refl refl refl refl
 
 -- the same of a lane that offers the same again, which isn't listed
 abbrev again : (g : given.Over) → goal.Then-repeats g → Lanes g.row.A.Denot g.row.B.Denot
 again g c = record {
-  lanes = with_item c.args.self.now.lanes c.args.lane (record { rest = c.pass.new.self; asks = c.index_mut.result.now.asks });
+  lanes = with_item c.args.self.now.lanes c.args.lane (record { rest = c.pass_on.new.self; asks = c.index_mut.result.now.asks });
   lengths = c.args.self.now.lengths;
   ready = c.args.self.now.ready;
   reached = c.args.self.now.reached;
 }
 
-again-steps : (g : given.Over) (c : goal.Then-repeats g) → Steps c.args.lane (remaining c.pass.new.self) (laned c.args.self.now) (laned (again g c))
+again-steps : (g : given.Over) (c : goal.Then-repeats g) → Steps c.args.lane (remaining c.pass_on.new.self) (laned c.args.self.now) (laned (again g c))
 again-steps g c =
-    lane-steps c.args.self.now (again g c) c.args.lane c.index_mut.result.now (record { rest = c.pass.new.self; asks = c.index_mut.result.now.asks })
+    lane-steps c.args.self.now (again g c) c.args.lane c.index_mut.result.now (record { rest = c.pass_on.new.self; asks = c.index_mut.result.now.asks })
     c.index_mut.ensures.value refl refl refl refl refl
 
 pub returns-then-repeats-clause-takes : goal.returns-then-repeats-clause-takes
 returns-then-repeats-clause-takes g c =
     let lane = c.args.lane in
     let there = lane-low c.args.self.now lane c.requires.there in
-    takes-again lane (sum (take lane c.args.self.now.lengths) + c.args.place) c.args.place (remaining c.pass.new.self) (laned c.args.self.now)
+    takes-again lane (sum (take lane c.args.self.now.lengths) + c.args.place) c.args.place (remaining c.pass_on.new.self) (laned c.args.self.now)
     (laned (again g c)) c.requires.kept (finds g (goal.at.returns-then-repeats-clause-takes g c).Start)
-    (subst (λ t. Alike (remaining c.pass.new.self) (left t c.args.place))
-    (lane-tree c.args.self.now.lanes.items lane c.index_mut.result.now there c.index_mut.ensures.value) c.in_ok-pass.ensures.ok)
-    (subst Repeats (lane-tree c.args.self.now.lanes.items lane c.index.result.now there c.index.ensures) (c.repeats-repeats.ensures c.if-repeats.true))
+    (subst (λ t. Alike (remaining c.pass_on.new.self) (left t c.args.place))
+    (lane-tree c.args.self.now.lanes.items lane c.index_mut.result.now there c.index_mut.ensures.value) c.in_ok-repeats.ensures.ok)
+    (subst Repeats (lane-tree c.args.self.now.lanes.items lane c.index_mut.result.now there c.index_mut.ensures.value)
+    (c.in_ok-repeats.ensures.repeats c.if-repeats.true))
     (again-steps g c)
 
 pub returns-then-repeats-clause-marks : goal.returns-then-repeats-clause-marks
@@ -78,11 +79,11 @@ returns-then-repeats-clause-marks g c = ap (λ ls. get_or ls c.args.lane nothing
 pub returns-clause-takes : goal.returns-clause-takes
 returns-clause-takes g c =
     let lane = c.args.lane in
-    takes-from lane (sum (take lane c.args.self.now.lengths) + c.args.place) c.args.place (remaining c.pass.new.self) (laned c.args.self.now)
+    takes-from lane (sum (take lane c.args.self.now.lengths) + c.args.place) c.args.place (remaining c.pass_on.new.self) (laned c.args.self.now)
     (laned (mid g c)) (laned c.list.new.self) c.requires.kept (finds g (goal.at.returns-clause-takes g c).Start)
-    (subst (λ t. Alike (remaining c.pass.new.self) (left t c.args.place))
+    (subst (λ t. Alike (remaining c.pass_on.new.self) (left t c.args.place))
     (lane-tree c.args.self.now.lanes.items lane c.index_mut.result.now (lane-low c.args.self.now lane c.requires.there) c.index_mut.ensures.value)
-    c.in_ok-pass.ensures.ok)
+    c.in_ok-repeats.ensures.ok)
     (steps g c) c.in_ok-anew.ensures.trees c.in_ok-anew.ensures.level c.in_ok-anew.ensures.listed c.in_ok-anew.ensures.others
 
 pub returns-clause-marks : goal.returns-clause-marks
