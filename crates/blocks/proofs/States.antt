@@ -1,6 +1,8 @@
 -- What a step leaves of the states of its block's lines.
 use Rattle.std.proofs.Common.{◌≡◌, ℕ, zero, suc, List, [], ◌∷◌, Option, Some, None, true, false, if◌then◌else◌}
-use Rattle.std.proofs.Common.{slice_get, slice_set, refl, sym, ap, ◌∙◌, subst}
+use Rattle.std.proofs.Common.{map, slice_get, slice_set, refl, sym, ap, ◌∙◌, subst}
+use Rattle.std.proofs.Math.Seq.{map-set_same}
+use Rattle.std.proofs.lemmas.Option.{get_or_from_slice_get}
 use Rattle.base.specs.declared.ids.CacheId.{CacheId}
 use Rattle.base.specs.declared.ids.Place.TheVariants.{Dir, Cache}
 use Rattle.base.specs.declared.step.Ask.{Ask}
@@ -88,38 +90,35 @@ acts-there tables (step.Request block i) b = request-acts tables.directory i b.h
 acts-there tables (step.Forward block cache) b = forward-acts tables.cache cache b.lines (slice_get (link b.traffic cache.0) 0)
 acts-there tables (step.Response block i) b = response-acts tables i b (slice_get b.traffic.responses i)
 
--- ---- one line is another one
+-- ---- one of a list is another one
 
-same-line : (x y : Line) → Some x ≡ Some y → x ≡ y
-same-line x y e = cc e
+same-head : {X : Type 0} (x y : X) (xs ys : List X) → x ∷ xs ≡ y ∷ ys → x ≡ y
+same-head x y xs ys e = cc e
 
-set-leaves : (lines : List Line) (i : ℕ) (line new : Line) → Some line ≡ slice_get lines i → new.state ≡ line.state →
-    states_in (slice_set lines i new) ≡ states_in lines
-set-leaves [] i line new e same = refl
-set-leaves (x ∷ xs) zero line new e same = ap (λ s. s ∷ states_in xs) (same ∙ ap (λ (l : Line). l.state) (same-line line x e))
-set-leaves (x ∷ xs) (suc i) line new e same = ap (λ ss. x.state ∷ ss) (set-leaves xs i line new e same)
+same-tail : {X : Type 0} (x y : X) (xs ys : List X) → x ∷ xs ≡ y ∷ ys → xs ≡ ys
+same-tail x y xs ys e = cc e
 
-first-state : {X : Type 0} (x y : X) (xs ys : List X) → x ∷ xs ≡ y ∷ ys → x ≡ y
-first-state x y xs ys e = cc e
+-- where something of it is the same, that of all is
+pub set-leaves : {X Y : Type 0} (f : X → Y) (xs : List X) (i : ℕ) (x new : X) → slice_get xs i ≡ Some x → f new ≡ f x →
+    map f (slice_set xs i new) ≡ map f xs
+set-leaves f xs i x new there same = map-set_same f xs i new x (same ∙ ap f (sym (get_or_from_slice_get xs i x x there)))
 
-other-states : {X : Type 0} (x y : X) (xs ys : List X) → x ∷ xs ≡ y ∷ ys → xs ≡ ys
-other-states x y xs ys e = cc e
-
-set-left : (lines : List Line) (i : ℕ) (line new : Line) → Some line ≡ slice_get lines i → states_in (slice_set lines i new) ≡ states_in lines →
-    new.state ≡ line.state
-set-left [] i line new e same = absurd (cc e)
-set-left (x ∷ xs) zero line new e same = first-state new.state x.state _ _ same ∙ ap (λ (l : Line). l.state) (sym (same-line line x e))
-set-left (x ∷ xs) (suc i) line new e same = set-left xs i line new e (other-states x.state x.state _ _ same)
+-- and only there
+pub set-left : {X Y : Type 0} (f : X → Y) (xs : List X) (i : ℕ) (x new : X) → slice_get xs i ≡ Some x →
+    map f (slice_set xs i new) ≡ map f xs → f new ≡ f x
+set-left f [] i x new there same = absurd (cc there)
+set-left f (y ∷ ys) zero x new there same = let is : y ≡ x = cc there in same-head (f new) (f y) _ _ same ∙ ap f is
+set-left f (y ∷ ys) (suc i) x new there same = set-left f ys i x new there (same-tail (f y) (f y) _ _ same)
 
 -- ---- a step
 
 leaves : (d : Decision) (b : BlockState) → ActsThere d b.lines → LeavesState d → states_in (carried_out d b).block.lines ≡ states_in b.lines
-leaves (AtLine cache line input next actions from) b there same = set-leaves b.lines cache.0 line (line_after input next line) there same
+leaves (AtLine cache line input next actions from) b there same = set-leaves (λ (l : Line). l.state) b.lines cache.0 line (line_after input next line) (sym there) same
 leaves (AtHome input next actions from) b there same = refl
 leaves (Refused what) b there same = refl
 
 left : (d : Decision) (b : BlockState) → ActsThere d b.lines → states_in (carried_out d b).block.lines ≡ states_in b.lines → LeavesState d
-left (AtLine cache line input next actions from) b there same = set-left b.lines cache.0 line (line_after input next line) there same
+left (AtLine cache line input next actions from) b there same = set-left (λ (l : Line). l.state) b.lines cache.0 line (line_after input next line) (sym there) same
 left (AtHome input next actions from) b there same = tt
 left (Refused what) b there same = tt
 
