@@ -1,9 +1,11 @@
 -- The least cache that may write.
 use Rattle.std.proofs.Common.{◌≡◌, ℕ, ◌<◌, ◌+◌, List, [], ◌∷◌, Some, None, Bool}
 use Rattle.std.proofs.Common.{true, false, if◌then◌else◌, refl, ap, sym, ◌∙◌, zero, suc, arith}
-use Rattle.std.proofs.Common.{get_or, replicate, true≢false}
+use Rattle.std.proofs.Common.{get_or, replicate, true≢false, ◌≤◌, IsSome, count_by, inl, inr}
+use Rattle.std.proofs.lemmas.Bool.{cases_Bool}
+use Rattle.std.proofs.lemmas.List.Sums.{sum_by-cons}
 use Rattle.control.specs.declared.line.Line.{Line}
-use Rattle.control.specs.LineEffect.{opened_line}
+use Rattle.control.specs.LineEffect.{is_writer, opened_line}
 use Rattle.rows.specs.Flags.{IsFirstFrom, NoneFrom}
 use Rattle.blocks.specs.Looks.{writer_from, writer_in}
 use Rattle.blocks.specs.inner.Held.{writers_in}
@@ -39,3 +41,30 @@ writer-none lines h = none-from lines 0 (λ k. h.none k (omega arith))
 pub writer-opened : (n i : ℕ) → None ≡ writer_from i (replicate n opened_line)
 writer-opened zero i = refl
 writer-opened (suc n) i = writer-opened n (i + 1)
+
+-- how many of these lines' caches may write
+abbrev writing : List Line → ℕ
+writing lines = count_by (λ line. is_writer line.state) lines
+
+writing-cons : (line : Line) (lines : List Line) (writes : Bool) → is_writer line.state ≡ writes →
+    writing (line ∷ lines) ≡ (if writes then 1 else 0) + writing lines
+writing-cons line lines writes e =
+    sum_by-cons (λ (l : Line). if is_writer l.state then 1 else 0) line lines ∙ ap (λ (b : Bool). (if b then 1 else 0) + writing lines) e
+
+-- where somebody writes there is one
+pub writer-counted : (lines : List Line) (i : ℕ) → 0 < writing lines → IsSome (writer_from i lines)
+writer-counted [] i some = absurd (omega arith)
+writer-counted (line ∷ lines) i some =
+    elim (cases_Bool (is_writer line.state)) [
+      | inl writes ↦ rw writes refl
+      | inr reads ↦ rw reads (writer-counted lines (i + 1) (omega (arith, some, writing-cons line lines false reads)))
+    ]
+
+-- and where nobody does there is none
+pub writer-uncounted : (lines : List Line) (i : ℕ) → writing lines ≤ 0 → None ≡ writer_from i lines
+writer-uncounted [] i none = refl
+writer-uncounted (line ∷ lines) i none =
+    elim (cases_Bool (is_writer line.state)) [
+      | inl writes ↦ absurd (omega (arith, none, writing-cons line lines true writes))
+      | inr reads ↦ rw reads (writer-uncounted lines (i + 1) (omega (arith, none, writing-cons line lines false reads)))
+    ]

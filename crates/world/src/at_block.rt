@@ -159,7 +159,7 @@ pub fn step_at(
     Ok(Visited {
         made: visit.made,
         at: visit.at,
-        crowded: block.crowded_writer().is_some(),
+        crowded: block.is_crowded(),
         changed: visit.changed,
     })
 }

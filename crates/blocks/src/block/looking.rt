@@ -15,9 +15,9 @@ use machine::Decision;
 use network::{Forward, Message, Response};
 
 impl Block {
-    ghost use Rattle.std.specs.Prelude.{◌≡◌, ◌<◌, ◌≤◌, ◌⊎◌, IfNone, IfSome, None, Some, count_by, slice_get};
+    ghost use Rattle.std.specs.Prelude.{◌≡◌, ◌<◌, ◌≤◌, ◌⊎◌, IfNone, IfSome, IsSome, None, Some, count_by, false, slice_get, true};
     ghost use Rattle.network.specs.Traffic.{is_quiet, link};
-    ghost use Rattle.control.specs.LineEffect.{is_reader};
+    ghost use Rattle.control.specs.LineEffect.{is_reader, is_writer};
     ghost use Rattle.machine.specs.Transition.{transition};
     ghost use Rattle.blocks.specs.Looks.{cache_place, message_in, place_in, response_place, writer_in};
     ghost use Rattle.blocks.specs.Looks.{held_in};
@@ -63,6 +63,22 @@ impl Block {
             return None;
         }
         self.writer()
+    }
+
+    /// Whether more than one cache may read the block, and one may write it. It is told by two counts.
+    pub fn is_crowded(&self) -> bool
+        ensures many { result ≡ true → 1 < count_by (λ line. is_reader line.state) self.now.state.lines }
+        ensures writer { result ≡ true → IsSome (writer_in self.now.state.lines) }
+        ensures uncrowded { result ≡ false → (count_by (λ line. is_reader line.state) self.now.state.lines ≤ 1) ⊎ (None ≡ writer_in self.now.state.lines) }
+    {
+        self.readers() > 1 && self.writers() > 0
+    }
+
+    /// How many caches may write the block.
+    fn writers(&self) -> u32
+        ensures { result ≡ count_by (λ line. is_writer line.state) self.now.state.lines }
+    {
+        self.access.writers.ones()
     }
 
     /// The controller that a step goes to, if cache and message are there.
