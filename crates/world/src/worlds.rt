@@ -255,6 +255,9 @@ impl World {
         ensures succeeds { HasRoomToStep self.old step → IsOk result }
         ensures sends_nothing { sent_by self.old.tables self.old.state step ≡ [] → wakes self.old step ≡ false → IsOk result }
     {
+        if self.met_blank {
+            return Ok(Outcome::Broken);
+        }
         let went = self.go_on(step)?;
         Ok(went.outcome)
     }
