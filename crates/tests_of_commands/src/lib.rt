@@ -10,7 +10,11 @@ mod certificates;
 #[cfg(test)]
 mod charted;
 #[cfg(test)]
+mod lines;
+#[cfg(test)]
 mod pictures;
+#[cfg(test)]
+mod plain_lines;
 #[cfg(test)]
 mod replaying;
 #[cfg(test)]
