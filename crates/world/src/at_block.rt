@@ -9,9 +9,8 @@ ghost use Rattle.world.specs.Crowds.{IsCrowdedIn, IsUncrowdedIn};
 ghost use Rattle.world.specs.View.{HasSpaceAt, space_of, state_or};
 ghost use Rattle.world.specs.inner.Held.{kept_at, IsLight, OthersStay};
 ghost use Rattle.world.specs.inner.Tests.{IsMarked};
-ghost use Rattle.blocks.specs.Tests.{IsTested, tested_in};
+ghost use Rattle.blocks.specs.Tests.{IsTested, IsToldIf, tested_in};
 
-use crate::looks::place_opened;
 use base::{NoMemory, Outcome, Place, Step};
 use blocks::{Block, Made, decide_opened};
 use both_tables::Tables;
@@ -23,12 +22,27 @@ use std::alloc::Global;
 #[derive(Clone, Copy)]
 pub struct Visited {
     pub made: Made,
-    /// The controller that it went to, if cache and message were there.
+    /// The controller at which its cell acted, if one did.
     pub at: Option<Place>,
     /// Whether a cache may write the block after it, and another one may read it.
     pub crowded: bool,
     /// Whether a line is in another state than before.
     pub changed: bool,
+}
+
+/// What a step came to that no cell acted on.
+pub fn refused(outcome: Outcome, crowded: bool) -> Visited
+    ensures { result ≡ record { made = record { outcome = outcome; tested = None }; at = None; crowded = crowded; changed = false } }
+{
+    Visited {
+        made: Made {
+            outcome,
+            tested: None,
+        },
+        at: None,
+        crowded,
+        changed: false,
+    }
 }
 
 /// Keeps a block that a step acts at, or answers the outcome of a step that no cell acts on there.
@@ -124,7 +138,7 @@ pub fn step_at(
     ensures marked { IsMarked tables.now (kept_at blocks.new.items number) }
     ensures ok { IfOk result (λ visit. transition tables.now step (state_or caches value (kept_at blocks.old.items number))
         ≡ moved_to (state_or caches value (kept_at blocks.new.items number)) visit.made.outcome) }
-    ensures at { IfOk result (λ visit. visit.at ≡ place_in step (state_or caches value (kept_at blocks.old.items number))) }
+    ensures at { IfOk result (λ visit. IsToldIf visit.made.tested visit.at (place_in step (state_or caches value (kept_at blocks.old.items number)))) }
     ensures changed { IfOk result (λ visit. (visit.changed ≡ false) ↔
         (states_in (state_or caches value (kept_at blocks.new.items number)).lines
         ≡ states_in (state_or caches value (kept_at blocks.old.items number)).lines)) }
@@ -140,17 +154,7 @@ pub fn step_at(
     ensures light { IsLight tables.now step (state_or caches value (kept_at blocks.old.items number)) → IsOk result }
 {
     if let Some(outcome) = touch(alloc, blocks, caches, value, number, tables, step)? {
-        let made = Made {
-            outcome,
-            tested: None,
-        };
-        let at = place_opened(caches, step);
-        return Ok(Visited {
-            made,
-            at,
-            crowded: false,
-            changed: false,
-        });
+        return Ok(refused(outcome, false));
     }
     let Some(block) = blocks.get_mut(number) else {
         unreachable!();

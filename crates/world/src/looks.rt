@@ -269,7 +269,7 @@ fn is_quiet_at(blocks: &Sparse<Block>, number: u32) -> bool
 }
 
 /// The controller that a step goes to in a block that isn't kept, if the cache is one of so many.
-pub(crate) fn place_opened(caches: u32, step: Step) -> Option<Place>
+fn place_opened(caches: u32, step: Step) -> Option<Place>
     ensures { (value : ℕ) → result ≡ place_in step (opened_block caches value) }
 {
     match step {

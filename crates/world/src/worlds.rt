@@ -4,7 +4,7 @@ ghost use Rattle.world.specs.Messages.{raised};
 ghost use Rattle.world.specs.inner.Tests.{counted};
 ghost use Rattle.blocks.specs.Tests.{tested_in};
 
-use crate::at_block::{ready_at, step_at};
+use crate::at_block::{Visited, ready_at, refused, step_at};
 use crate::counts::Counts;
 use base::{NoMemory, Outcome, Place, Shape, Step};
 use blocks::{Block, Made, responses_pass};
@@ -89,7 +89,8 @@ impl Model for World {
 }
 
 impl World {
-    ghost use Rattle.std.specs.Prelude.{◌≡◌, ◌≢◌, ◌↔◌, ◌≤◌, ◌∷◌, [], false, true, IfOk, IsOk, IsErrOf, OnErr, OnOk, length};
+    ghost use Rattle.std.specs.Prelude.{◌≡◌, ◌≢◌, ◌↔◌, ◌≤◌, ◌∷◌, [], None, false, true, IfOk, IsOk, IsErrOf, OnErr, OnOk, length};
+    ghost use Rattle.blocks.specs.Tests.{IsToldIf};
     ghost use Rattle.base.specs.Extent.{IsWithinLimits};
     ghost use Rattle.base.specs.Steps.{block_of};
     ghost use Rattle.machine.specs.Machine.{IsHistory, next, opened, sent_by};
@@ -185,8 +186,17 @@ impl World {
         ensures succeeds { HasRoomToStep self.old step → IsOk result }
         ensures sends_nothing { sent_by self.old.tables self.old.state step ≡ [] → wakes self.old step ≡ false → IsOk result }
     {
-        let went = self.go_on(step)?;
-        Ok(went)
+        let visit = self.go_on(step)?;
+        let at = match visit.made.tested {
+            Some(_) => visit.at,
+            None => self.at(step),
+        };
+        Ok(Went {
+            outcome: visit.made.outcome,
+            at,
+            crowded: visit.crowded,
+            changed: visit.changed,
+        })
     }
 
     /// Makes the room that a step wants, changes nothing else, and answers the outcome that the step will have.
@@ -258,17 +268,19 @@ impl World {
         if self.met_blank {
             return Ok(Outcome::Broken);
         }
-        let went = self.go_on(step)?;
-        Ok(went.outcome)
+        let visit = self.go_on(step)?;
+        Ok(visit.made.outcome)
     }
 
-    fn go_on(&mut self, step: Step) -> Result<Went, NoMemory>
+    /// Makes one step, and answers where its cell acted, if one did. Of another step it isn't told where it goes, which few ask.
+    fn go_on(&mut self, step: Step) -> Result<Visited, NoMemory>
         ensures within { IsWithinLimits self.new.shape }
-        ensures ok { IfOk result (λ went. next self.old.tables self.old.state step ≡ stepped self.new.state went.outcome) }
-        ensures at { IfOk result (λ went. went.at ≡ place_at self.old.state step) }
-        ensures changed { IfOk result (λ went. (went.changed ≡ false) ↔ (line_states self.new.state ≡ line_states self.old.state)) }
-        ensures crowded { IfOk result (λ went. went.crowded ≡ true → IsCrowded self.new.state (block_of step)) }
-        ensures uncrowded { IfOk result (λ went. went.crowded ≡ false → IsUncrowded self.new.state (block_of step)) }
+        ensures ok { IfOk result (λ visit. next self.old.tables self.old.state step ≡ stepped self.new.state visit.made.outcome) }
+        ensures at { IfOk result (λ visit. IsToldIf visit.made.tested visit.at (place_at self.old.state step)) }
+        ensures refused { IfOk result (λ visit. visit.made.tested ≡ None → place_at self.new.state step ≡ place_at self.old.state step) }
+        ensures changed { IfOk result (λ visit. (visit.changed ≡ false) ↔ (line_states self.new.state ≡ line_states self.old.state)) }
+        ensures crowded { IfOk result (λ visit. visit.crowded ≡ true → IsCrowded self.new.state (block_of step)) }
+        ensures uncrowded { IfOk result (λ visit. visit.crowded ≡ false → IsUncrowded self.new.state (block_of step)) }
         ensures shape { self.new.shape ≡ self.old.shape }
         ensures tables { self.new.tables ≡ self.old.tables }
         ensures err { OnErr result (self.new.state ≡ self.old.state) }
@@ -279,21 +291,12 @@ impl World {
         ensures sends_nothing { sent_by self.old.tables self.old.state step ≡ [] → wakes self.old step ≡ false → IsOk result }
     {
         if self.met_blank {
-            return Ok(Went {
-                outcome: Outcome::Broken,
-                at: self.at(step),
-                crowded: self.crowded_writer(step.block()).is_some(),
-                changed: false,
-            });
+            let is_crowded = self.crowded_writer(step.block()).is_some();
+            return Ok(refused(Outcome::Broken, is_crowded));
         }
         let number = step.block().0;
         let Some(value) = opening_value(self.opening.as_slice(), number) else {
-            return Ok(Went {
-                outcome: Outcome::Absent,
-                at: None,
-                crowded: false,
-                changed: false,
-            });
+            return Ok(refused(Outcome::Absent, false));
         };
         let visit = step_at(
             self.alloc,
@@ -307,12 +310,7 @@ impl World {
         )?;
         self.tested = note(&mut self.counts, self.tested, number, &visit.made);
         self.met_blank = breaks(visit.made.outcome);
-        Ok(Went {
-            outcome: visit.made.outcome,
-            at: visit.at,
-            crowded: visit.crowded,
-            changed: visit.changed,
-        })
+        Ok(visit)
     }
 }
 

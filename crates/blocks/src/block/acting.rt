@@ -28,10 +28,11 @@ pub struct Made {
     pub tested: Option<Tested>,
 }
 
-/// What a step came to at its block, and the controller that it went to, if cache and message were there.
+/// What a step came to at its block.
 #[derive(Clone, Copy)]
 pub struct Visit {
     pub made: Made,
+    /// The controller at which its cell acted, if one did.
     pub at: Option<Place>,
     /// Whether a line is in another state than before.
     pub changed: bool,
@@ -57,7 +58,7 @@ impl Block {
     ghost use Rattle.blocks.specs.Kept.{moved_to, wakes_line, HasSpaceFor};
     ghost use Rattle.blocks.specs.Marking.{marks_of};
     ghost use Rattle.blocks.specs.inner.Named.{DecisionNames};
-    ghost use Rattle.blocks.specs.Tests.{IsTested, tested_in};
+    ghost use Rattle.blocks.specs.Tests.{IsTested, IsToldIf, tested_in};
 
     /// Makes the room that a decision wants. Where it is refused nothing has changed.
     #[inline(always)]
@@ -183,12 +184,12 @@ impl Block {
     }
 
     /// Makes a step as [`step`](Block::step) does, under tables of which it may be known that no response is ever held, and
-    /// answers where it went too, and whether a line's state changed. Where memory is refused nothing has changed.
+    /// answers where its cell acted too, and whether a line's state changed. Where memory is refused nothing has changed.
     pub fn visit(&mut self, tables: &Tables, pass: bool, step: Step) -> Result<Visit, NoMemory>
         requires marks { self.old.marks ≡ marks_of tables.now self.old.state }
         requires pass { pass ≡ true → ResponsesPass tables.now }
         ensures ok { IfOk result (λ visit. transition tables.now step self.old.state ≡ moved_to self.new.state visit.made.outcome) }
-        ensures at { IfOk result (λ visit. visit.at ≡ place_in step self.old.state) }
+        ensures at { IfOk result (λ visit. IsToldIf visit.made.tested visit.at (place_in step self.old.state)) }
         ensures changed { IfOk result (λ visit. (visit.changed ≡ false) ↔ (states_in self.new.state.lines ≡ states_in self.old.state.lines)) }
         ensures marks { self.new.marks ≡ marks_of tables.now self.new.state }
         ensures tested { IfOk result (λ visit. IsTested tables.now self.old.state self.new.state visit.made.tested) }
@@ -204,10 +205,9 @@ impl Block {
                 outcome,
                 tested: None,
             };
-            let at = self.place(step);
             return Ok(Visit {
                 made,
-                at,
+                at: None,
                 changed: false,
             });
         }

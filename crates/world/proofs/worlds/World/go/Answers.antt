@@ -7,44 +7,44 @@ use Rattle.world.proofs.worlds.World.go.Goals as goal
 
 pub returns-clause-history : goal.returns-clause-history
 returns-clause-history c opening before h =
-    history-append c.args.self.now c.go_on.new.self opening before (c.args.step ∷ []) h c.in_ok-went.ensures.shape c.in_ok-went.ensures.tables
-    (ap (λ (n : Next). n.state) (sym c.in_ok-went.ensures.ok))
+    history-append c.args.self.now c.go_on.new.self opening before (c.args.step ∷ []) h c.in_ok-visit.ensures.shape c.in_ok-visit.ensures.tables
+    (ap (λ (n : Next). n.state) (sym c.in_ok-visit.ensures.ok))
 
 pub returns-clause-safe : goal.returns-clause-safe
 returns-clause-safe c = been-safe _ _ _ c.go_on.ensures.within
 
-pub returns-in_err-went-clause-safe : goal.returns-in_err-went-clause-safe
-returns-in_err-went-clause-safe c = been-safe _ _ _ c.go_on.ensures.within
+pub returns-in_err-visit-clause-safe : goal.returns-in_err-visit-clause-safe
+returns-in_err-visit-clause-safe c = been-safe _ _ _ c.go_on.ensures.within
 
 pub returns-clause-unstuck : goal.returns-clause-unstuck
 returns-clause-unstuck c = not-stuck _ _ _ c.go_on.ensures.within
 
-pub returns-in_err-went-clause-unstuck : goal.returns-in_err-went-clause-unstuck
-returns-in_err-went-clause-unstuck c = not-stuck _ _ _ c.go_on.ensures.within
+pub returns-in_err-visit-clause-unstuck : goal.returns-in_err-visit-clause-unstuck
+returns-in_err-visit-clause-unstuck c = not-stuck _ _ _ c.go_on.ensures.within
 
-pub returns-in_err-went-clause-ok : goal.returns-in_err-went-clause-ok
-returns-in_err-went-clause-ok c = grind (arith, common_steps)
+pub returns-in_err-visit-clause-ok : goal.returns-in_err-visit-clause-ok
+returns-in_err-visit-clause-ok c = grind (arith, common_steps)
 
-pub returns-in_err-went-clause-history : goal.returns-in_err-went-clause-history
-returns-in_err-went-clause-history c = grind (arith, common_steps)
+pub returns-in_err-visit-clause-history : goal.returns-in_err-visit-clause-history
+returns-in_err-visit-clause-history c = grind (arith, common_steps)
 
-pub returns-in_err-went-clause-shape : goal.returns-in_err-went-clause-shape
-returns-in_err-went-clause-shape c = grind (arith, common_steps)
+pub returns-in_err-visit-clause-shape : goal.returns-in_err-visit-clause-shape
+returns-in_err-visit-clause-shape c = grind (arith, common_steps)
 
-pub returns-in_err-went-clause-tables : goal.returns-in_err-went-clause-tables
-returns-in_err-went-clause-tables c = grind (arith, common_steps)
+pub returns-in_err-visit-clause-tables : goal.returns-in_err-visit-clause-tables
+returns-in_err-visit-clause-tables c = grind (arith, common_steps)
 
-pub returns-in_err-went-clause-err : goal.returns-in_err-went-clause-err
-returns-in_err-went-clause-err c = grind (arith, common_steps)
+pub returns-in_err-visit-clause-err : goal.returns-in_err-visit-clause-err
+returns-in_err-visit-clause-err c = grind (arith, common_steps)
 
-pub returns-in_err-went-clause-err_tested : goal.returns-in_err-went-clause-err_tested
-returns-in_err-went-clause-err_tested c = grind (arith, common_steps)
+pub returns-in_err-visit-clause-err_tested : goal.returns-in_err-visit-clause-err_tested
+returns-in_err-visit-clause-err_tested c = grind (arith, common_steps)
 
-pub returns-in_err-went-clause-succeeds : goal.returns-in_err-went-clause-succeeds
-returns-in_err-went-clause-succeeds c = grind (arith, common_steps)
+pub returns-in_err-visit-clause-succeeds : goal.returns-in_err-visit-clause-succeeds
+returns-in_err-visit-clause-succeeds c = grind (arith, common_steps)
 
-pub returns-in_err-went-clause-sends_nothing : goal.returns-in_err-went-clause-sends_nothing
-returns-in_err-went-clause-sends_nothing c = grind (arith, common_steps)
+pub returns-in_err-visit-clause-sends_nothing : goal.returns-in_err-visit-clause-sends_nothing
+returns-in_err-visit-clause-sends_nothing c = grind (arith, common_steps)
 
 pub returns-clause-ok : goal.returns-clause-ok
 returns-clause-ok c = grind (arith, common_steps)
@@ -73,5 +73,5 @@ returns-clause-succeeds c = grind (arith, common_steps)
 pub returns-clause-sends_nothing : goal.returns-clause-sends_nothing
 returns-clause-sends_nothing c = grind (arith, common_steps)
 
-pub returns-in_err-went-clause-at : goal.returns-in_err-went-clause-at
-returns-in_err-went-clause-at c = grind (arith, common_steps)
+pub returns-in_err-visit-clause-at : goal.returns-in_err-visit-clause-at
+returns-in_err-visit-clause-at c = grind (arith, common_steps)

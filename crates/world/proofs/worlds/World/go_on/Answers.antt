@@ -1,11 +1,13 @@
-use Rattle.std.proofs.Common.{◌∙◌, ◌<◌, length, ◌≡◌, Some, ap, sym, slice_get, true≢false, List, arith}
+use Rattle.std.proofs.Common.{◌∙◌, ◌<◌, length, ◌≡◌, Some, ap, sym, subst, slice_get, true≢false, List, arith}
 use Rattle.std.proofs.lemmas.Grind.{common_steps}
 use Rattle.base.specs.Steps.{block_of}
 use Rattle.machine.specs.Block.{BlockState}
 use Rattle.network.proofs.Waits.{on_err}
 use Rattle.std.specs.Option.{option_and_then}
 use Rattle.blocks.specs.Looks.{place_in}
-use Rattle.world.specs.View.{states}
+use Rattle.blocks.specs.Tests.{IsTested, IsToldIf}
+use Rattle.world.specs.View.{state_or, states}
+use Rattle.world.specs.inner.Held.{kept_at}
 use Rattle.world.proofs.Crowds.{block-crowded, block-uncrowded}
 use Rattle.world.proofs.Keeping.{state-there, states-stay}
 use Rattle.world.proofs.LineStates.{lines-left}
@@ -15,7 +17,7 @@ use Rattle.world.proofs.worlds.World.go_on.Goals as goal
 at : (c : goal.After-from_residual) → Some c.in-Some.value ≡ slice_get c.self.inside.opening.items (block_of c.args.step)
 at c = rw (c.as_slice.ensures.value, c.block-number.ensures) at c.in-Some.ensures
 
-at-2 : (c : goal.After-result-1) → Some c.in-Some.value ≡ slice_get c.self.inside.opening.items (block_of c.args.step)
+at-2 : (c : goal.After-self-2-1) → Some c.in-Some.value ≡ slice_get c.self.inside.opening.items (block_of c.args.step)
 at-2 c = rw (c.as_slice.ensures.value, c.block-number.ensures) at c.in-Some.ensures
 
 below : (c : goal.After-from_residual) → block_of c.args.step < length c.self.inside.blocks.items
@@ -23,7 +25,7 @@ below c =
     below-places c.self.inside.shape c.self.inside.tables c.self.inside.opening.items c.self.inside.blocks.items c.self.inside.counts _
     (block_of c.args.step) c.in-Some.value c.self.invariant.0 (at c)
 
-below-2 : (c : goal.After-result-1) → block_of c.args.step < length c.self.inside.blocks.items
+below-2 : (c : goal.After-self-2-1) → block_of c.args.step < length c.self.inside.blocks.items
 below-2 c =
     below-places c.self.inside.shape c.self.inside.tables c.self.inside.opening.items c.self.inside.blocks.items c.self.inside.counts _
     (block_of c.args.step) c.in-Some.value c.self.invariant.0 (at-2 c)
@@ -191,10 +193,24 @@ returns-clause-sends_nothing c = grind (arith, common_steps)
 
 pub returns-clause-at : goal.returns-clause-at
 returns-clause-at c =
-    (rw (c.block-number.ensures, c.caches.ensures.value) at c.in_ok-visit.ensures.at)
-    ∙ rw (← c.self.view_is)
+    subst (IsToldIf c.in_ok-visit.visit.made.tested c.in_ok-visit.visit.at)
+    (rw (← c.self.view_is)
     (ap (option_and_then (place_in c.args.step))
-    (sym (state-there c.self.inside.shape.caches c.self.inside.opening.items c.self.inside.blocks.items (block_of c.args.step) c.in-Some.value (at-2 c))))
+    (sym (state-there c.self.inside.shape.caches c.self.inside.opening.items c.self.inside.blocks.items (block_of c.args.step) c.in-Some.value (at-2 c)))))
+    (rw (c.block-number.ensures, c.caches.ensures.value) at c.in_ok-visit.ensures.at)
+
+pub returns-clause-refused : goal.returns-clause-refused
+returns-clause-refused c none =
+    let of = option_and_then (place_in c.args.step) in
+    let caches = c.self.inside.shape.caches in
+    let values = c.self.inside.opening.items in
+    let i = block_of c.args.step in
+    let same = subst (λ t. IsTested c.self.inside.tables (state_or caches c.in-Some.value (kept_at c.self.inside.blocks.items i))
+    (state_or caches c.in-Some.value (kept_at c.step_at.new.blocks.items i)) t) none
+    (rw (c.block-number.ensures, c.caches.ensures.value) at c.in_ok-visit.ensures.tested) in
+    rw (← c.self.view_is)
+    (ap of (state-there caches values c.step_at.new.blocks.items i c.in-Some.value (at-2 c)) ∙ ap (place_in c.args.step) same
+    ∙ ap of (sym (state-there caches values c.self.inside.blocks.items i c.in-Some.value (at-2 c))))
 
 pub returns-clause-changed : goal.returns-clause-changed
 returns-clause-changed c =
