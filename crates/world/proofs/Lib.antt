@@ -1,3 +1,4 @@
+pub mod Asked
 pub mod Keeping
 pub mod Histories
 pub mod Coherence

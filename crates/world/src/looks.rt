@@ -230,10 +230,26 @@ impl World {
     pub fn at(&self, step: Step) -> Option<Place>
         ensures { result ≡ place_at self.now.state step }
     {
+        if let Step::Ask { cache, block, .. } = step {
+            return self.place_asked(cache, block);
+        }
         match self.find(step.block().0)? {
             Found::Kept(block) => block.place(step),
             Found::Opened(_) => place_opened(self.shape.caches(), step),
         }
+    }
+
+    /// The controller that an ask goes to: that of the core's cache, if cache and block are there. No look-up is needed.
+    fn place_asked(&self, cache: CacheId, block: BlockId) -> Option<Place>
+        ensures { (ask : Ask) → result ≡ place_at self.now.state (step.Ask cache block ask) }
+    {
+        if cache.0 >= self.shape.caches() {
+            return None;
+        }
+        if block.0 >= self.shape.blocks() {
+            return None;
+        }
+        Some(Place::Cache(cache))
     }
 
     /// The message that a delivery would serve, whether or not it would be held. There is none where block or message isn't
