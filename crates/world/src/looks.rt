@@ -164,7 +164,8 @@ impl World {
         self.met_blank
     }
 
-    /// How many messages the steps since the world was opened have tested for being held; it stays at `u64::MAX`.
+    /// How many messages the steps since the world was opened have tested for being held; it stays at `u64::MAX`. A step whose cell
+    /// acts counts each message of its block, also where it knows the mark without a test: so it makes no more tests than that.
     pub fn tested(&self) -> u64
         ensures { result ≡ self.now.tested }
     {

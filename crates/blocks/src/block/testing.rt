@@ -1,4 +1,5 @@
-//! Tests of messages. A message is tested when it is asked whether the cell that it goes to is a stall.
+//! Tests of messages. A message is tested when it is asked whether the cell that it goes to is a stall. It counts as tested too
+//! where its mark is made right, or known to be right still, without that question.
 ghost use Rattle.std.specs.Prelude.{◌≡◌, ◌≤◌, ◌<◌, ◌+◌, ◌*◌, ◌-◌, ◌^◌, true, length, slice_get, slice_set};
 ghost use Rattle.blocks.specs.Passing.{ResponsesPass};
 ghost use Rattle.std.specs.List.{sum_by};
@@ -29,7 +30,7 @@ pub struct Tested {
     pub heads: u32,
     /// How many responses wouldn't be held.
     pub responses: u32,
-    /// How many messages there are.
+    /// How many messages there are, all of which count as tested.
     pub messages: u64,
 }
 
