@@ -15,23 +15,40 @@ const PIECES: [usize; 8] = [1, 7, 199, 200, 201, 4096, 8192, 20000];
 
 /// An input that brings so many bytes at a time, and fails at its end or just ends.
 #[derive(Drop)]
-struct Pieces<'a> {
-    left: &'a [u8],
+struct Pieces {
+    /// What is left of it, the last byte first.
+    left: Vec<u8>,
     most: usize,
     fails: bool,
 }
 
-impl<'a> Read for Pieces<'a> {
+impl Read for Pieces {
     fn read(&mut self, buffer: &mut [u8]) -> io::Result<usize> {
         if self.left.is_empty() && self.fails {
             return Err(io::Error::from(io::ErrorKind::BrokenPipe));
         }
-        let count = buffer.len().min(self.most).min(self.left.len());
-        let (now, left) = self.left.split_at(count);
-        buffer[..count].copy_from_slice(now);
-        self.left = left;
+        let most = buffer.len().min(self.most);
+        let mut count = 0;
+        while count < most {
+            let Some(byte) = self.left.pop() else {
+                break;
+            };
+            buffer[count] = byte;
+            count += 1;
+        }
         Ok(count)
     }
+}
+
+/// An input of these bytes.
+fn pieces_of(rt: &impl Abort, alloc: Global, text: &[u8], most: usize, fails: bool) -> Pieces {
+    let mut left = Vec::new(alloc);
+    let mut at = text.len();
+    while at > 0 {
+        at -= 1;
+        left.push(text[at]).expect(rt, "memory");
+    }
+    Pieces { left, most, fails }
 }
 
 /// Seventy lines of lengths that follow from a number, more bytes than are read ahead at once.
@@ -51,18 +68,10 @@ fn text_of(rt: &impl Abort, alloc: Global, number: u32) -> Vec<u8> {
 
 /// Reads an input by both, line by line.
 fn compare(rt: &impl Abort, alloc: Global, text: &[u8], most: usize, fails: bool) {
-    let input = Pieces {
-        left: text,
-        most,
-        fails,
-    };
+    let input = pieces_of(rt, alloc, text, most, fails);
     let mut plain = plain_lines::Lines::new(alloc, input).expect(rt, "memory");
-    let input = Pieces {
-        left: text,
-        most,
-        fails,
-    };
-    let mut lines = Lines::new(alloc, input).expect(rt, "memory");
+    let again = pieces_of(rt, alloc, text, most, fails);
+    let mut lines = Lines::new(alloc, again).expect(rt, "memory");
     for _ in 0..=text.len() {
         assert_eq!(rt; lines.may_wait(), plain.may_wait());
         let told = plain.advance().ok();
@@ -70,10 +79,8 @@ fn compare(rt: &impl Abort, alloc: Global, text: &[u8], most: usize, fails: bool
         if told != Some(true) {
             break;
         }
-        assert_eq!(rt;
-            (lines.number(), lines.line()),
-            (plain.number(), plain.line())
-        );
+        assert_eq!(rt; lines.number(), plain.number());
+        assert_eq!(rt; lines.line(), plain.line());
     }
 }
 
