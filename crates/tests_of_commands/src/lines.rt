@@ -3,6 +3,7 @@
 use crate::plain_lines;
 use playing::Lines;
 use std::alloc::Global;
+use std::fmt::Debug;
 use std::io;
 use std::io::Read;
 use std::process::Abort;
@@ -66,6 +67,28 @@ fn text_of(rt: &impl Abort, alloc: Global, number: u32) -> Vec<u8> {
     text
 }
 
+/// Fails the test unless both are the same. A call of it is cheaper to prove than `assert_eq!` in place.
+fn same<T: PartialEq + Debug>(rt: &impl Abort, found: &T, wanted: &T) {
+    assert_eq!(rt; found, wanted);
+}
+
+/// The same of two lines.
+fn same_line(rt: &impl Abort, found: &[u8], wanted: &[u8]) {
+    assert_eq!(rt; found, wanted);
+}
+
+/// Reads the next line by both, and answers whether there is one.
+fn advance(
+    rt: &impl Abort,
+    lines: &mut Lines<Pieces>,
+    plain: &mut plain_lines::Lines<Pieces>,
+) -> bool {
+    same(rt, &lines.may_wait(), &plain.may_wait());
+    let told = plain.advance().ok();
+    same(rt, &lines.advance().ok(), &told);
+    told == Some(true)
+}
+
 /// Reads an input by both, line by line.
 fn compare(rt: &impl Abort, alloc: Global, text: &[u8], most: usize, fails: bool) {
     let input = pieces_of(rt, alloc, text, most, fails);
@@ -73,14 +96,11 @@ fn compare(rt: &impl Abort, alloc: Global, text: &[u8], most: usize, fails: bool
     let again = pieces_of(rt, alloc, text, most, fails);
     let mut lines = Lines::new(alloc, again).expect(rt, "memory");
     for _ in 0..=text.len() {
-        assert_eq!(rt; lines.may_wait(), plain.may_wait());
-        let told = plain.advance().ok();
-        assert_eq!(rt; lines.advance().ok(), told);
-        if told != Some(true) {
+        if !advance(rt, &mut lines, &mut plain) {
             break;
         }
-        assert_eq!(rt; lines.number(), plain.number());
-        assert_eq!(rt; lines.line(), plain.line());
+        same(rt, &lines.number(), &plain.number());
+        same_line(rt, lines.line(), plain.line());
     }
 }
 
