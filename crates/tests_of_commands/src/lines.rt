@@ -17,39 +17,38 @@ const PIECES: [usize; 8] = [1, 7, 199, 200, 201, 4096, 8192, 20000];
 /// An input that brings so many bytes at a time, and fails at its end or just ends.
 #[derive(Drop)]
 struct Pieces {
-    /// What is left of it, the last byte first.
-    left: Vec<u8>,
+    text: Vec<u8>,
+    /// How many bytes were brought.
+    at: usize,
     most: usize,
     fails: bool,
 }
 
 impl Read for Pieces {
     fn read(&mut self, buffer: &mut [u8]) -> io::Result<usize> {
-        if self.left.is_empty() && self.fails {
-            return Err(io::Error::from(io::ErrorKind::BrokenPipe));
+        if self.at >= self.text.len() {
+            if self.fails {
+                return Err(io::Error::from(io::ErrorKind::BrokenPipe));
+            }
+            return Ok(0);
         }
-        let most = buffer.len().min(self.most);
-        let mut count = 0;
-        while count < most {
-            let Some(byte) = self.left.pop() else {
-                break;
-            };
-            buffer[count] = byte;
-            count += 1;
-        }
+        let left = &self.text.as_slice()[self.at..];
+        let count = buffer.len().min(self.most).min(left.len());
+        buffer[..count].copy_from_slice(&left[..count]);
+        self.at = self.at.saturating_add(count);
         Ok(count)
     }
 }
 
 /// An input of these bytes.
 fn pieces_of(rt: &impl Abort, alloc: Global, text: &[u8], most: usize, fails: bool) -> Pieces {
-    let mut left = Vec::new(alloc);
-    let mut at = text.len();
-    while at > 0 {
-        at -= 1;
-        left.push(text[at]).expect(rt, "memory");
+    let text = Vec::from_slice(alloc, text).expect(rt, "memory");
+    Pieces {
+        text,
+        at: 0,
+        most,
+        fails,
     }
-    Pieces { left, most, fails }
 }
 
 /// Seventy lines of lengths that follow from a number, more bytes than are read ahead at once.
