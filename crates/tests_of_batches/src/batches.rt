@@ -13,8 +13,9 @@ const ONE_LOAD_TEXT: &str =
 fn a_racing_pair(rt: HostRuntime) {
     let alloc = rt.alloc();
     let six = "msi trial --caches 2 --seed 42 --number 54 --limit 6";
-    let recording =
-        "msi-recording 1\nshape 2 1\nopening 0\ncells 0\nentries 6\nask 1 0 store 9 = sent\nrequest 0 0 = moved\nask 0 0 load = sent\nresponse 0 0 = store 1 9\nrequest 0 0 = moved\nforward 0 1 = moved\nend\n";
+    let recording = "msi-recording 1\nshape 2 1\nopening 0\ncells 0\nentries 6\n\
+         ask 1 0 store 9 = sent\nrequest 0 0 = moved\nask 0 0 load = sent\n\
+         response 0 0 = store 1 9\nrequest 0 0 = moved\nforward 0 1 = moved\nend\n";
     let served = run(&rt, alloc, six, RACING_PAIR).expect(&rt, "served");
     served_as(&rt, &served, 0, recording, "verdict cut 6\n");
     let hundred = "msi trial --caches 2 --seed 42 --number 54 --limit 100";

@@ -54,8 +54,10 @@ fn take_all_turns<'b>(rt: &impl Abort, heap: Global, cursor: &mut InArena<'_, 'b
     same(rt, &(bump.allocated_bytes() < 4096), &true);
 }
 
-const MANY_TURNS: &str =
-    r#"{"times":50000,"of":{"any":[{"seq":[{"op":"load","core":0,"block":0},{"op":"store","core":0,"block":0,"value":5}]},{"both":[{"op":"load","core":0,"block":0},{"op":"store","core":0,"block":0,"value":5}]}]}}"#;
+const MANY_TURNS: &str = r#"{"times":50000,"of":{"any":[
+    {"seq":[{"op":"load","core":0,"block":0},{"op":"store","core":0,"block":0,"value":5}]},
+    {"both":[{"op":"load","core":0,"block":0},{"op":"store","core":0,"block":0,"value":5}]}
+]}}"#;
 
 #[test]
 fn many_turns_take_little_memory(rt: HostRuntime) {
@@ -207,8 +209,10 @@ const CHOICE: &str =
 const THREE_CHOICES: &str =
     r#"{"times":3,"of":{"any":[{"op":"load","core":0,"block":0},{"op":"store","core":0,"block":0,"value":5}]}}"#;
 
-const CHOICES_AND_ONE: &str =
-    r#"{"both":[{"times":3,"of":{"any":[{"op":"load","core":0,"block":0},{"op":"store","core":0,"block":0,"value":5}]}},{"any":[{"op":"load","core":0,"block":0},{"op":"store","core":0,"block":0,"value":5}]}]}"#;
+const CHOICES_AND_ONE: &str = r#"{"both":[
+    {"times":3,"of":{"any":[{"op":"load","core":0,"block":0},{"op":"store","core":0,"block":0,"value":5}]}},
+    {"any":[{"op":"load","core":0,"block":0},{"op":"store","core":0,"block":0,"value":5}]}
+]}"#;
 
 #[test]
 fn turns_of_a_choice_offer_the_same_up_to_the_last(rt: HostRuntime) {

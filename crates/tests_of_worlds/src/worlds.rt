@@ -81,38 +81,52 @@ const WORKED: [(u32, &str, &str); 9] = [
     ),
     (
         2,
-        "ask 0 0 store 7,request 0 0,response 0 0,ask 1 0 load,request 0 0,forward 0 0,response 0 0,response 0 0",
+        "ask 0 0 store 7,request 0 0,response 0 0,ask 1 0 load,request 0 0,forward 0 0,\
+         response 0 0,response 0 0",
         "sent,moved,store 0 7,sent,moved,moved,load 1 7,moved",
     ),
     (
         2,
-        "ask 0 0 store 7,request 0 0,ask 1 0 load,request 0 0,forward 0 0,response 0 0,forward 0 0,response 0 0,response 0 0",
+        "ask 0 0 store 7,request 0 0,ask 1 0 load,request 0 0,forward 0 0,response 0 0,\
+         forward 0 0,response 0 0,response 0 0",
         "sent,moved,sent,moved,held,store 0 7,moved,load 1 7,moved",
     ),
     (
         2,
-        "ask 0 0 load,request 0 0,ask 1 0 store 5,request 0 0,forward 0 0,response 0 0,forward 0 0,response 0 1,response 0 0",
+        "ask 0 0 load,request 0 0,ask 1 0 store 5,request 0 0,forward 0 0,response 0 0,\
+         forward 0 0,response 0 1,response 0 0",
         "sent,moved,sent,moved,held,load 0 0,moved,moved,store 1 5",
     ),
     (
         2,
-        "ask 0 0 store 7,request 0 0,response 0 0,ask 0 0 replace,ask 1 0 store 8,request 0 1,request 0 0,forward 0 0,forward 0 0,response 0 0",
+        "ask 0 0 store 7,request 0 0,response 0 0,ask 0 0 replace,ask 1 0 store 8,request 0 1,\
+         request 0 0,forward 0 0,forward 0 0,response 0 0",
         "sent,moved,store 0 7,sent,sent,moved,moved,moved,moved,store 1 8",
     ),
     (
         3,
-        "ask 0 0 load,request 0 0,response 0 0,ask 0 0 replace,ask 1 0 store 9,request 0 1,forward 0 0,response 0 0,response 0 0,ask 2 0 load,request 0 1,forward 0 1,response 0 0,response 0 0,ask 1 0 replace,request 0 1,forward 0 1,request 0 0,forward 0 0,ask 1 0 store 3,request 0 0,forward 0 2,response 0 1,response 0 0",
-        "sent,moved,load 0 0,sent,sent,moved,moved,moved,store 1 9,sent,moved,moved,load 2 9,moved,sent,moved,moved,moved,moved,sent,moved,moved,moved,store 1 3",
+        "ask 0 0 load,request 0 0,response 0 0,ask 0 0 replace,ask 1 0 store 9,request 0 1,\
+         forward 0 0,response 0 0,response 0 0,ask 2 0 load,request 0 1,forward 0 1,response 0 0,\
+         response 0 0,ask 1 0 replace,request 0 1,forward 0 1,request 0 0,forward 0 0,\
+         ask 1 0 store 3,request 0 0,forward 0 2,response 0 1,response 0 0",
+        "sent,moved,load 0 0,sent,sent,moved,moved,moved,store 1 9,sent,moved,moved,load 2 9,\
+         moved,sent,moved,moved,moved,moved,sent,moved,moved,moved,store 1 3",
     ),
     (
         2,
-        "ask 0 0 store 7,request 0 0,response 0 0,ask 0 0 replace,ask 1 0 load,request 0 1,forward 0 0,response 0 1,response 0 0,ask 1 0 replace,request 0 1,forward 0 1,request 0 0,forward 0 0,ask 1 0 store 4,request 0 0,response 0 0",
-        "sent,moved,store 0 7,sent,sent,moved,moved,moved,load 1 7,sent,moved,moved,moved,moved,sent,moved,store 1 4",
+        "ask 0 0 store 7,request 0 0,response 0 0,ask 0 0 replace,ask 1 0 load,request 0 1,\
+         forward 0 0,response 0 1,response 0 0,ask 1 0 replace,request 0 1,forward 0 1,\
+         request 0 0,forward 0 0,ask 1 0 store 4,request 0 0,response 0 0",
+        "sent,moved,store 0 7,sent,sent,moved,moved,moved,load 1 7,sent,moved,moved,moved,moved,\
+         sent,moved,store 1 4",
     ),
     (
         2,
-        "ask 0 0 load,request 0 0,response 0 0,ask 1 0 load,request 0 0,response 0 0,ask 0 0 store 1,ask 1 0 store 2,request 0 0,request 0 0,forward 0 0,forward 0 1,response 0 0,ask 0 0 load,response 0 0,forward 0 0,response 0 0",
-        "sent,moved,load 0 0,sent,moved,load 1 0,sent,sent,moved,moved,held,moved,moved,load 0 0,store 0 1,moved,store 1 2",
+        "ask 0 0 load,request 0 0,response 0 0,ask 1 0 load,request 0 0,response 0 0,\
+         ask 0 0 store 1,ask 1 0 store 2,request 0 0,request 0 0,forward 0 0,forward 0 1,\
+         response 0 0,ask 0 0 load,response 0 0,forward 0 0,response 0 0",
+        "sent,moved,load 0 0,sent,moved,load 1 0,sent,sent,moved,moved,held,moved,moved,load 0 0,\
+         store 0 1,moved,store 1 2",
     ),
     (
         2,
@@ -155,8 +169,8 @@ fn copy_has_loaded(rt: &impl Abort, alloc: Global, world: &World) {
 
 #[test]
 fn a_putm_meets_a_load(rt: HostRuntime) {
-    let race =
-        "ask 0 0 store 7,request 0 0,response 0 0,ask 0 0 replace,ask 1 0 load,request 0 1,request 0 0,forward 0 0,forward 0 0,response 0 0,response 0 0";
+    let race = "ask 0 0 store 7,request 0 0,response 0 0,ask 0 0 replace,ask 1 0 load,request 0 1,\
+         request 0 0,forward 0 0,forward 0 0,response 0 0,response 0 0";
     let world = after(&rt, rt.alloc(), 2, race);
     copy_has_loaded(&rt, rt.alloc(), &world);
 }
@@ -172,8 +186,8 @@ fn has_no_sharers(rt: &impl Abort, world: &World) {
 
 #[test]
 fn a_putm_meets_a_load_and_waits(rt: HostRuntime) {
-    let late =
-        "ask 0 0 store 7,request 0 0,response 0 0,ask 0 0 replace,ask 1 0 load,request 0 1,forward 0 0,response 0 1,response 0 0,ask 1 0 replace,request 0 1,forward 0 1,request 0 0";
+    let late = "ask 0 0 store 7,request 0 0,response 0 0,ask 0 0 replace,ask 1 0 load,request 0 1,\
+         forward 0 0,response 0 1,response 0 0,ask 1 0 replace,request 0 1,forward 0 1,request 0 0";
     let world = after(&rt, rt.alloc(), 2, late);
     has_no_sharers(&rt, &world);
 }
@@ -226,8 +240,8 @@ fn a_stored_line_is_the_writer(rt: HostRuntime) {
 
 /// Makes the steps behind which an Inv is held for good.
 fn gets_stuck(rt: &impl Abort, alloc: Global, world: &mut World) {
-    let made =
-        "ask 0 0 load,request 0 0,response 0 0,ask 0 0 replace,ask 1 0 store 5,request 0 1,response 0 0,request 0 0,forward 0 0";
+    let made = "ask 0 0 load,request 0 0,response 0 0,ask 0 0 replace,ask 1 0 store 5,request 0 1,\
+         response 0 0,request 0 0,forward 0 0";
     let came = "sent,moved,load 0 0,sent,sent,moved,moved,moved,held";
     runs(rt, alloc, world, made, came);
     enables(rt, alloc, world, &[]);
