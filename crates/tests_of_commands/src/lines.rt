@@ -71,11 +71,6 @@ fn same<T: PartialEq + Debug>(rt: &impl Abort, found: &T, wanted: &T) {
     assert_eq!(rt; found, wanted);
 }
 
-/// The same of two lines.
-fn same_line(rt: &impl Abort, found: &[u8], wanted: &[u8]) {
-    assert_eq!(rt; found, wanted);
-}
-
 /// Reads the next line by both, and answers whether there is one.
 fn advance(
     rt: &impl Abort,
@@ -99,7 +94,7 @@ fn compare(rt: &impl Abort, alloc: Global, text: &[u8], most: usize, fails: bool
             break;
         }
         same(rt, &lines.number(), &plain.number());
-        same_line(rt, lines.line(), plain.line());
+        same(rt, &lines.line(), &plain.line());
     }
 }
 
