@@ -27,7 +27,6 @@ pub use testing::Tested;
 /// One block: its line in each cache, its home, its wires, and the value of the last store to it.
 ///
 /// Only lines that a cell has acted at are kept; the others are as they open.
-#[derive(Drop)]
 pub struct Block {
     lines: Sparse<Line>,
     home: Home,
@@ -36,6 +35,20 @@ pub struct Block {
     access: Access,
     // What the last test of all messages counted, where nothing has changed since.
     counted: Option<Counts>,
+}
+
+impl Drop for Block {
+    fn drop(self) {
+        // Whoever drops one has a call to prove, and not the drops of all its parts.
+        let Block {
+            lines: _,
+            home: _,
+            wires: _,
+            latest: _,
+            access: _,
+            counted: _,
+        } = self;
+    }
 }
 
 impl Model for Block {

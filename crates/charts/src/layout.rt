@@ -28,7 +28,6 @@ const NARROWEST: i64 = 110;
 const DOT: i64 = 5;
 
 /// Where the parts of a picture stand.
-#[derive(Drop)]
 pub struct Layout {
     pub lanes: Lanes,
     /// The first lifeline.
@@ -47,6 +46,24 @@ pub struct Layout {
     tail: i64,
     pub legend: i64,
     pub size: Point,
+}
+
+impl Drop for Layout {
+    fn drop(self) {
+        // Whoever drops one has a call to prove, and not the drops of all its parts.
+        let Layout {
+            lanes: _,
+            first: _,
+            spacing: _,
+            steps: _,
+            rows: _,
+            plates: _,
+            starts: _,
+            tail: _,
+            legend: _,
+            size: _,
+        } = self;
+    }
 }
 
 /// The longest texts of a picture, in letters.

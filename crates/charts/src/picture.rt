@@ -7,7 +7,6 @@ use std::alloc::Global;
 use story::{Cut, Happening, List, Part, Shown, Sight, Story, Trip, look};
 
 /// What is drawn of a part of a recording.
-#[derive(Drop)]
 pub struct Picture {
     rows: List<Happening>,
     /// The numbers of the rows' steps.
@@ -18,6 +17,20 @@ pub struct Picture {
     looked_at: Vec<bool>,
     /// What controllers are at the part's start, but for lines in I where there are several blocks.
     starts: List<Start>,
+}
+
+impl Drop for Picture {
+    fn drop(self) {
+        // Whoever drops one has a call to prove, and not the drops of all its parts.
+        let Picture {
+            rows: _,
+            numbers: _,
+            arrows: _,
+            blocks: _,
+            looked_at: _,
+            starts: _,
+        } = self;
+    }
 }
 
 /// A message, with the number of the step that served it, if one did.

@@ -24,11 +24,21 @@ use std::marker::Model;
 /// memory for it.
 ///
 /// Beside each message stands a mark, which its user sets and reads: `false` once the message was sent.
-#[derive(Drop)]
 pub struct Wires {
     requests: Wire<Request>,
     links: Links,
     responses: Wire<Response>,
+}
+
+impl Drop for Wires {
+    fn drop(self) {
+        // Whoever drops one has a call to prove, and not the drops of all its parts.
+        let Wires {
+            requests: _,
+            links: _,
+            responses: _,
+        } = self;
+    }
 }
 
 impl Model for Wires {

@@ -30,12 +30,23 @@ pub enum PushFault {
 /// at most 1,000,000.
 ///
 /// That the outcomes are those that the steps have isn't known of it: a replay tells.
-#[derive(Drop)]
 pub struct Recording {
     shape: Shape,
     tables: Tables,
     opening: Vec<u64>,
     entries: Vec<Entry>,
+}
+
+impl Drop for Recording {
+    fn drop(self) {
+        // Whoever drops one has a call to prove, and not the drops of all its parts.
+        let Recording {
+            shape: _,
+            tables: _,
+            opening: _,
+            entries: _,
+        } = self;
+    }
 }
 
 impl Model for Recording {

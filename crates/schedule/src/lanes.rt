@@ -17,7 +17,6 @@ use std::alloc::Allocator;
 /// that core the offers about the step's block are marked again, and what can be put of these lanes is counted by the marks.
 ///
 /// A lane has at most 4,294,967,295 offers at once, which would take over 100 GB: more of them are refused for want of memory.
-#[derive(Drop)]
 pub struct Lanes<'s, A: Allocator, B: Allocator> {
     lanes: Vec<Lane<'s, A, B>>,
     // Of each lane how many offers it has, and how many of them can be put.
@@ -25,6 +24,18 @@ pub struct Lanes<'s, A: Allocator, B: Allocator> {
     ready: Sums,
     // For each core the lanes that may offer an ask of it. A lane too many costs a count.
     reached: Vec<Vec<u32>>,
+}
+
+impl<'s, A: Allocator, B: Allocator> Drop for Lanes<'s, A, B> {
+    fn drop(self) {
+        // Whoever drops one has a call to prove, and not the drops of all its parts.
+        let Lanes {
+            lanes: _,
+            lengths: _,
+            ready: _,
+            reached: _,
+        } = self;
+    }
 }
 
 /// One of the trees that go on at once: what is left of it, and what that offers.

@@ -10,13 +10,25 @@ use std::alloc::Global;
 use world::World;
 
 /// A recording whose steps are made again, one after the other, with what is seen of each.
-#[derive(Drop)]
 pub struct Story {
     world: World,
     watch: Watch,
     flights: Flights,
     sent: List<Trip>,
     number: u64,
+}
+
+impl Drop for Story {
+    fn drop(self) {
+        // Whoever drops one has a call to prove, and not the drops of all its parts.
+        let Story {
+            world: _,
+            watch: _,
+            flights: _,
+            sent: _,
+            number: _,
+        } = self;
+    }
 }
 
 /// A controller, as it is in one block.

@@ -23,7 +23,6 @@ use world::World;
 
 /// A trial on its way. Lanes, with the parts of their cursors in an arena, say what is left of its scenario, and notes
 /// what it has done.
-#[derive(Drop)]
 pub(crate) struct Course<'s, 'b, A: Allocator, N: Notes> {
     world: World,
     watch: Watch,
@@ -31,6 +30,20 @@ pub(crate) struct Course<'s, 'b, A: Allocator, N: Notes> {
     lanes: Lanes<'s, A, &'b Bump>,
     dice: Dice,
     notes: N,
+}
+
+impl<'s, 'b, A: Allocator, N: Notes> Drop for Course<'s, 'b, A, N> {
+    fn drop(self) {
+        // Whoever drops one has a call to prove, and not the drops of all its parts.
+        let Course {
+            world: _,
+            watch: _,
+            cores: _,
+            lanes: _,
+            dice: _,
+            notes: _,
+        } = self;
+    }
 }
 
 impl<'s, 'b, A: Allocator, N: Notes> Course<'s, 'b, A, N> {
@@ -174,7 +187,15 @@ impl<'s, 'b, A: Allocator, N: Notes> Course<'s, 'b, A, N> {
     pub(crate) fn into_notes(self) -> N
         ensures { result ≡ self.entry.notes }
     {
-        self.notes
+        let Course {
+            world: _,
+            watch: _,
+            cores: _,
+            lanes: _,
+            dice: _,
+            notes,
+        } = self;
+        notes
     }
 }
 

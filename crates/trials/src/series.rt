@@ -18,7 +18,6 @@ use scenario::Scenario;
 use std::alloc::{Allocator, Global};
 
 /// Trials of one scenario under one setup, each of which is made in the memory that the one before it has left.
-#[derive(Drop)]
 pub struct Series<'s, 'b, A: Allocator> {
     alloc: Global,
     arena: &'b Bump,
@@ -26,6 +25,19 @@ pub struct Series<'s, 'b, A: Allocator> {
     setup: &'s Setup,
     // The last trial, if there was one.
     course: Option<Course<'s, 'b, A, Tally>>,
+}
+
+impl<'s, 'b, A: Allocator> Drop for Series<'s, 'b, A> {
+    fn drop(self) {
+        // Whoever drops one has a call to prove, and not the drops of all its parts.
+        let Series {
+            alloc: _,
+            arena: _,
+            scenario: _,
+            setup: _,
+            course: _,
+        } = self;
+    }
 }
 
 impl<'s, 'b, A: Allocator> Series<'s, 'b, A> {

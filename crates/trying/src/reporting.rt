@@ -28,7 +28,6 @@ pub struct BatchPlan {
 /// in the order in which the kinds came first. Where progress is asked for, it is told on the errors.
 ///
 /// Its first fault is noted: no trial is printed any more from then on, and the fault is told at the end.
-#[derive(Drop)]
 pub struct Report<O: Write + Drop, E: Write + Drop> {
     printer: Printer<O>,
     errors: E,
@@ -41,6 +40,23 @@ pub struct Report<O: Write + Drop, E: Write + Drop> {
     done: u32,
     steps: u64,
     broke: u32,
+}
+
+impl<O: Write + Drop, E: Write + Drop> Drop for Report<O, E> {
+    fn drop(self) {
+        // Whoever drops one has a call to prove, and not the drops of all its parts.
+        let Report {
+            printer: _,
+            errors: _,
+            fault: _,
+            waiting: _,
+            tally: _,
+            plan: _,
+            done: _,
+            steps: _,
+            broke: _,
+        } = self;
+    }
 }
 
 impl<O: Write + Drop, E: Write + Drop> Report<O, E> {
@@ -61,7 +77,18 @@ impl<O: Write + Drop, E: Write + Drop> Report<O, E> {
 
     /// The errors again.
     pub fn into_errors(self) -> E {
-        self.errors
+        let Report {
+            printer: _,
+            errors,
+            fault: _,
+            waiting: _,
+            tally: _,
+            plan: _,
+            done: _,
+            steps: _,
+            broke: _,
+        } = self;
+        errors
     }
 
     /// How many trials the batch has.

@@ -52,7 +52,6 @@ pub struct Went {
 ///
 /// Only blocks that a cell has acted at, or that [`ready`](World::ready) has made room for such an act at, are kept; the
 /// others are as they open.
-#[derive(Drop)]
 pub struct World {
     alloc: Global,
     pub(crate) shape: Shape,
@@ -64,6 +63,23 @@ pub struct World {
     pub(crate) counts: Counts,
     pub(crate) met_blank: bool,
     pub(crate) tested: u64,
+}
+
+impl Drop for World {
+    fn drop(self) {
+        // Whoever drops one has a call to prove, and not the drops of all its parts.
+        let World {
+            alloc: _,
+            shape: _,
+            tables: _,
+            pass: _,
+            opening: _,
+            blocks: _,
+            counts: _,
+            met_blank: _,
+            tested: _,
+        } = self;
+    }
 }
 
 impl Model for World {

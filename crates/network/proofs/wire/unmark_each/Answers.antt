@@ -2,6 +2,7 @@ use Rattle.std.proofs.Common.{◌≡◌, ap, arith, length, map, refl, ◌∙◌
 use Rattle.std.proofs.Math.Seq.{map-set_same}
 use Rattle.std.proofs.lemmas.List.{length-set, with_items_is}
 use Rattle.network.proofs.Counted.{all-taken, one-taken}
+use Rattle.std.proofs.lemmas.Grind.{common_steps}
 use Rattle.network.proofs.wire.unmark_each.Goals as goal
 
 pub loop-one-preserved : goal.loop-one-preserved
@@ -18,3 +19,18 @@ returns-clause-marks g c =
     ap (map (λ m. m.held)) (with_items_is c.args.marked.now c.loop-one.one-items long)
     ∙ all-taken (λ m. m.held) (λ m. m.message) c.args.marked.now.items c.loop-one.one-items c.loop-one.invariant.messages
     (λ i within. c.loop-one.invariant.done i (omega (arith, c.loop-one-test.false, c.loop-one.auto.one-items)))
+
+pub loop-one-init : goal.loop-one-init
+loop-one-init g c = grind (arith, common_steps)
+
+pub offset_bounds-one-items-one-index : goal.offset_bounds-one-items-one-index
+offset_bounds-one-items-one-index g c = grind (arith, common_steps)
+
+pub returns-clause-messages : goal.returns-clause-messages
+returns-clause-messages g c = grind (arith, common_steps)
+
+pub returns-clause-room : goal.returns-clause-room
+returns-clause-room g c = grind (arith, common_steps)
+
+pub returns-clause-count : goal.returns-clause-count
+returns-clause-count g c = grind (arith, common_steps)

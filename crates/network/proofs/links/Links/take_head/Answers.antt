@@ -102,3 +102,6 @@ returns-clause-none c = grind (arith, common_steps)
 
 pub returns-clause-none_marks : goal.returns-clause-none_marks
 returns-clause-none_marks c = grind (arith, common_steps)
+
+pub set-requires : goal.set-requires
+set-requires c = grind (arith, common_steps)

@@ -2,6 +2,7 @@ use Rattle.std.proofs.Common.{◌<◌, ap, refl, length, arith}
 use Rattle.std.proofs.Math.Seq.{map-set_same}
 use Rattle.std.proofs.lemmas.List.{map-set}
 use Rattle.network.proofs.Counted.{counted-set, mark-below, mark-fits}
+use Rattle.std.proofs.lemmas.Grind.{common_steps}
 use Rattle.network.proofs.wire.Wire.mark.Goals as goal
 
 pub recounted-self-inside-requires-clause-there : goal.recounted-self-inside-requires-clause-there
@@ -29,3 +30,24 @@ returns-in-Some-clause-messages g c =
 
 pub returns-in-Some-clause-marks : goal.returns-in-Some-clause-marks
 returns-in-Some-clause-marks g c = rw (← c.self.view_is) (map-set (λ m. m.held) c.self.inside.marked.items c.args.index _)
+
+pub invariant_of-self-in_default : goal.invariant_of-self-in_default
+invariant_of-self-in_default g c = grind (arith, common_steps)
+
+pub returns-in-Some-clause-room : goal.returns-in-Some-clause-room
+returns-in-Some-clause-room g c = grind (arith, common_steps)
+
+pub returns-in-Some-clause-as_many : goal.returns-in-Some-clause-as_many
+returns-in-Some-clause-as_many g c = grind (arith, common_steps)
+
+pub returns-in_default-clause-messages : goal.returns-in_default-clause-messages
+returns-in_default-clause-messages g c = grind (arith, common_steps)
+
+pub returns-in_default-clause-marks : goal.returns-in_default-clause-marks
+returns-in_default-clause-marks g c = grind (arith, common_steps)
+
+pub returns-in_default-clause-room : goal.returns-in_default-clause-room
+returns-in_default-clause-room g c = grind (arith, common_steps)
+
+pub returns-in_default-clause-as_many : goal.returns-in_default-clause-as_many
+returns-in_default-clause-as_many g c = grind (arith, common_steps)

@@ -1,6 +1,7 @@
 use Rattle.std.proofs.Common.{◌<◌, ap, length, map, ◌∙◌, arith}
 use Rattle.network.proofs.Counted.{counted-taken, mark-below, taken-is}
 use Rattle.network.proofs.Marked.{map-remove}
+use Rattle.std.proofs.lemmas.Grind.{common_steps, elements}
 use Rattle.network.proofs.wire.Wire.take.Goals as goal
 
 pub recounted-self-inside-requires-clause-there : goal.recounted-self-inside-requires-clause-there
@@ -29,3 +30,42 @@ returns-clause-some g c =
 pub returns-clause-some_marks : goal.returns-clause-some_marks
 returns-clause-some_marks g c =
     rw (← c.self.view_is) (ap (map (λ m. m.held)) c.remove-taken.ensures.items ∙ map-remove (λ m. m.held) c.self.inside.marked.items c.args.index)
+
+pub returns-then-index-len-clause-taken : goal.returns-then-index-len-clause-taken
+returns-then-index-len-clause-taken g c = grind (arith, elements)
+
+pub returns-then-index-len-clause-some : goal.returns-then-index-len-clause-some
+returns-then-index-len-clause-some g c = grind (arith, common_steps)
+
+pub returns-then-index-len-clause-some_marks : goal.returns-then-index-len-clause-some_marks
+returns-then-index-len-clause-some_marks g c = grind (arith, common_steps)
+
+pub returns-then-index-len-clause-none : goal.returns-then-index-len-clause-none
+returns-then-index-len-clause-none g c = grind (arith, common_steps)
+
+pub returns-then-index-len-clause-none_marks : goal.returns-then-index-len-clause-none_marks
+returns-then-index-len-clause-none_marks g c = grind (arith, common_steps)
+
+pub returns-then-index-len-clause-room : goal.returns-then-index-len-clause-room
+returns-then-index-len-clause-room g c = grind (arith, common_steps)
+
+pub returns-then-index-len-clause-as_many : goal.returns-then-index-len-clause-as_many
+returns-then-index-len-clause-as_many g c = grind (arith, common_steps)
+
+pub remove-taken-requires : goal.remove-taken-requires
+remove-taken-requires g c = grind (arith, common_steps)
+
+pub recounted-self-inside-requires-clause-fits : goal.recounted-self-inside-requires-clause-fits
+recounted-self-inside-requires-clause-fits g c = grind (arith, common_steps)
+
+pub returns-clause-none : goal.returns-clause-none
+returns-clause-none g c = grind (arith, common_steps)
+
+pub returns-clause-none_marks : goal.returns-clause-none_marks
+returns-clause-none_marks g c = grind (arith, common_steps)
+
+pub returns-clause-room : goal.returns-clause-room
+returns-clause-room g c = grind (arith, common_steps)
+
+pub returns-clause-as_many : goal.returns-clause-as_many
+returns-clause-as_many g c = grind (arith, common_steps)

@@ -1,5 +1,5 @@
 use Rattle.std.proofs.Common.{◌∙◌, arith}
-use Rattle.std.proofs.lemmas.Grind.{common_steps}
+use Rattle.std.proofs.lemmas.Grind.{common_steps, elements}
 use Rattle.rows.proofs.Held.{items-at}
 use Rattle.rows.proofs.sparse.Sparse.nth.Goals as goal
 
@@ -9,3 +9,9 @@ returns-clause-item g c =
 
 pub returns-in_err-at-clause-item : goal.returns-in_err-at-clause-item
 returns-in_err-at-clause-item g c = grind (arith, common_steps)
+
+pub returns-in_err-at-clause-place : goal.returns-in_err-at-clause-place
+returns-in_err-at-clause-place g c = grind (arith, elements)
+
+pub returns-clause-place : goal.returns-clause-place
+returns-clause-place g c = grind (arith, elements)

@@ -4,6 +4,7 @@ use Rattle.std.proofs.lemmas.List.{get_or_default, length-set}
 use Rattle.rows.specs.inner.Tree.{IsSummed}
 use Rattle.rows.proofs.Rising.{other, rising-end, rising-start, rising-step, written}
 use Rattle.rows.proofs.Tree.{numbers-length, size-is}
+use Rattle.std.proofs.lemmas.Grind.{common_steps, elements}
 use Rattle.rows.proofs.sums.Sums.set.Goals as goal
 
 pub loop-node-init : goal.loop-node-init
@@ -137,3 +138,18 @@ returns c =
     (λ i h. c.loop-node.invariant.leaves i (rw same h) ∙ ap (λ n. slice_index (set tree (n + c.args.at) c.args.value) i) size)
     (subst (λ n. IsSummed new (2 ^ n)) same summed) in
     rw (← c.self.view_is) (rw (same, c.loop-node.invariant.count) done.numbers)
+
+pub overflow_shl-node : goal.overflow_shl-node
+overflow_shl-node c = grind (arith, common_steps)
+
+pub overflow_add-node : goal.overflow_add-node
+overflow_add-node c = grind (arith, common_steps)
+
+pub index-before-requires : goal.index-before-requires
+index-before-requires c = grind (arith, common_steps)
+
+pub returns-then-before-after : goal.returns-then-before-after
+returns-then-before-after c = grind (arith, elements)
+
+pub index_mut-requires : goal.index_mut-requires
+index_mut-requires c = grind (arith, common_steps)

@@ -9,3 +9,6 @@ returns-else-is_empty-clause-ended g c done =
     let some : 0 < length c.in-Begun.parts.items = grind (arith, common_steps) in
     let first = first-set c.in-Begun.parts.items c.move_to.new.self some in
     grind (arith, common_steps, parts, first)
+
+pub enum_noted-parts : goal.enum_noted-parts
+enum_noted-parts g c = grind (arith, parts)

@@ -25,3 +25,6 @@ make_whole_but-requires-clause-part g c = grind (arith, common_steps)
 
 pub unreachable-unreachable : goal.unreachable-unreachable
 unreachable-unreachable g c = grind (arith, common_steps)
+
+pub enum_noted-parts : goal.enum_noted-parts
+enum_noted-parts g c = grind (arith, parts)

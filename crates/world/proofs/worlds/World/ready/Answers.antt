@@ -1,5 +1,5 @@
 use Rattle.std.proofs.Common.{◌<◌, length, ◌≡◌, ◌∙◌, List, Some, ap, sym, slice_get, arith}
-use Rattle.std.proofs.lemmas.Grind.{common_steps}
+use Rattle.std.proofs.lemmas.Grind.{common_steps, elements}
 use Rattle.std.proofs.lemmas.Result.{IfOk-weaker, on_ok_weaker}
 use Rattle.base.specs.Steps.{block_of}
 use Rattle.machine.specs.Block.{BlockState}
@@ -118,3 +118,12 @@ returns-clause-tables c = grind (arith, common_steps)
 
 pub returns-clause-tested : goal.returns-clause-tested
 returns-clause-tested c = grind (arith, common_steps)
+
+pub returns-in_default-clause-outcome : goal.returns-in_default-clause-outcome
+returns-in_default-clause-outcome c = grind (arith, elements)
+
+pub returns-in_default-clause-room : goal.returns-in_default-clause-room
+returns-in_default-clause-room c = grind (arith, elements)
+
+pub ready_at-requires : goal.ready_at-requires
+ready_at-requires c = grind (arith, elements)
