@@ -12,7 +12,7 @@ FUNCTION = re.compile(r"^( *)(?:pub(?:\([^)]*\))? )?(?:const )?(?:unsafe )?fn (\
 
 @dataclass(frozen=True)
 class Place:
-    """A function: its file, its name, and its lines in that file, the first and the last."""
+    """A function: its file, its name, and its lines in that file, from its attributes to the last."""
 
     file: str
     name: str
@@ -67,14 +67,18 @@ def edits_of(folder):
 
 
 def functions_in(file, text):
-    """The functions of a file, each from its head to the brace that closes it."""
+    """The functions of a file, each from its attributes to the brace that closes it."""
     lines, found = text.split("\n"), []
     for at, line in enumerate(lines):
         head = FUNCTION.match(line)
         if head:
             closing = (number for number in range(at, len(lines)) if lines[number] in (f"{head[1]}}}", f"{head[1]}}},"))
             last = at if line.rstrip().endswith("}") else next(closing, at)
-            found.append(Place(file, head[2], at + 1, last + 1))
+            # (a goal of the whole function is told where its attributes begin)
+            first = at
+            while first > 0 and lines[first - 1].startswith(f"{head[1]}#["):
+                first -= 1
+            found.append(Place(file, head[2], first + 1, last + 1))
     return found
 
 

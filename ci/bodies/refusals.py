@@ -11,8 +11,8 @@ ANSWER = re.compile(r"^(?:\./)?(proofs/\S+?):(\d+):\d+: error: (?:`([^`]*)`: )?(
 CALLS = re.compile(r"^fn (\S+): no proof: it calls ", re.M)
 # What is said of an answer where a tactic was left with a goal that doesn't hold, or that it couldn't close.
 TACTIC = re.compile(r"^`(omega|grind|search|simp|decide)\b")
-# What is said of an answer that names a goal or a fact that isn't there in the changed body.
-NAMES = re.compile(r"is not in scope|has no field|has no `|was not admitted|is no name")
+# What is said of an answer that names a goal or a fact that isn't there in the changed body, without the names themselves.
+NAMES = re.compile(r"is not in scope|has no field|has no (?=[ ,;:.(]|$)|was not admitted|is no name")
 # What is said of answers that lean on one of which something else is said.
 LEANS = re.compile(r"^\d+ declarations? that depends? on .* which was rejected")
 
