@@ -1,0 +1,57 @@
+"""What the engines of campaigns have in common: a command of a shell, and what `parallel` notes of its jobs."""
+
+import os
+import signal
+import subprocess
+from contextlib import suppress
+
+from engines.daemons import Unready
+from engines.document import SEEDS, TOP
+
+SECONDS = 600
+
+
+class Engine:
+    """Makes campaigns by a command of the document, in a room for its files, with an environment."""
+
+    name, wants, sums_up = "", (), False
+    """What it is called, the programs that it wants, and whether it sums up."""
+    broke, refused = 0, (0, [2] * len(SEEDS))
+    """What its command ends with where trials broke; and it and its jobs where the folder has other words."""
+    cuts = {"ended": signal.SIGTERM, "killed": signal.SIGKILL}
+    """How it is cut off, by which signal. Killed, an engine can't end its jobs."""
+
+    def __init__(self, room, environment):
+        self.room, self.environment, self.begun = room, environment, None
+
+    def start(self, stack):
+        """Starts what the engine needs; the stack stops it, and first what is under way."""
+        stack.callback(self.leave)
+        return "nothing to start"
+
+    def leave(self):
+        with suppress(OSError, subprocess.SubprocessError, Unready):
+            self.cut(signal.SIGTERM)
+
+    def begin(self, command, environment):
+        streams = {"stdin": subprocess.DEVNULL, "stdout": subprocess.PIPE, "stderr": subprocess.PIPE, "text": True}
+        environment = {**self.environment, **environment}
+        # (in a group of its own, as a shell that has a terminal starts it)
+        self.begun = subprocess.Popen(["sh", "-c", command], cwd=TOP, env=environment, preexec_fn=os.setsid, **streams)
+
+    def end(self, folder):
+        """What the command ends with, and what it told, once all has ended that holds its streams."""
+        _, told = self.begun.communicate(timeout=SECONDS)
+        return self.begun.returncode, told
+
+    def cut(self, number):
+        """Sends the signal to the command and all that is in its group, as a terminal does."""
+        if self.begun and self.begun.returncode is None:
+            os.killpg(self.begun.pid, number)
+            self.begun.communicate(timeout=SECONDS)
+
+    def logged(self, folder):
+        """What the jobs of the folder ended with, by the log of the engine."""
+        log = folder / "log"
+        lines = log.read_text().splitlines() if log.exists() else []
+        return [int(line.split("\t")[6]) for line in lines if line[0].isdigit()]
