@@ -1,4 +1,4 @@
-use Rattle.std.specs.Prelude.{◌≡◌, ◌≢◌, ℕ, ◌<◌, ◌^◌, ⊤, Bool, ◌&&◌, leb, ltb, List, [], ◌∷◌, ◌++◌, Option, codes, eqb, length}
+use Rattle.std.specs.Prelude.{◌≡◌, ◌≢◌, ℕ, ◌<◌, ◌^◌, ⊤, Bool, ◌&&◌, leb, ltb, List, [], ◌∷◌, ◌++◌, Option, codes, ◌==◌, length}
 use Rattle.std.specs.List.{find, flat_map, list_all, slice_split}
 use Rattle.std.specs.Str.{bytes_eq}
 use Rattle.std.specs.Fmt.{decimal}
@@ -13,7 +13,7 @@ use Rattle.base.specs.declared.step.Outcome.TheVariants as outcome
 
 -- the words of a line, which stand between its blanks
 abbrev pub words : List ℕ → List (List ℕ)
-words line = slice_split (λ b. eqb b 32) line
+words line = slice_split (λ b. b == 32) line
 
 -- words with a blank before each
 abbrev pub spaced : List (List ℕ) → List ℕ

@@ -5,7 +5,7 @@ mod standard;
 
 ghost use Rattle.std.specs.Prelude.{◌≡◌, ◌≤◌, ◌<◌, ℕ, List, Bool, Option, length, take, IfOk, IfErr, OnOk};
 ghost use Rattle.std.specs.Io.KnownBytes.{Appends, WriteAppends, ReadConsumes};
-ghost use Rattle.base.specs.Ends.{Marks};
+ghost use Rattle.base.specs.Ends.{MarksFault};
 
 pub use memory::{Buffer, Faltering};
 pub use standard::{FromRead, ToWrite};
@@ -32,7 +32,7 @@ pub trait Source {
     fn pull(&mut self, buffer: &mut [u8]) -> Result<usize, Failed>
         ensures within { IfOk result (λ n. n ≤ length buffer.new) }
         ensures bytes { ReadConsumes (left self.old) (left self.new) result buffer.new }
-        ensures mark { Marks (has_failed self.old) result (has_failed self.new) };
+        ensures mark { MarksFault (has_failed self.old) result (has_failed self.new) };
 }
 
 /// Where bytes go.
@@ -52,7 +52,7 @@ pub trait Sink {
         ensures within { IfOk result (λ n. n ≤ length bytes.now) }
         ensures some { IfOk result (λ n. 0 < length bytes.now → 0 < n) }
         ensures bytes { WriteAppends (taken self.old) (taken self.new) result bytes.now }
-        ensures mark { Marks (has_failed self.old) result (has_failed self.new) };
+        ensures mark { MarksFault (has_failed self.old) result (has_failed self.new) };
 }
 
 /// A sink failed before it had taken all of a text.
@@ -70,7 +70,7 @@ pub fn put_all<S: Sink>(sink: &mut S, bytes: &[u8]) -> Result<(), PutFault>
     ensures ok { OnOk result (Appends (S.taken sink.old) (S.taken sink.new) bytes.now) }
     ensures err { IfErr result (λ fault. Appends (S.taken sink.old) (S.taken sink.new) (take fault.written bytes.now)) }
     ensures short { IfErr result (λ fault. fault.written < length bytes.now) }
-    ensures mark { Marks (S.has_failed sink.old) result (S.has_failed sink.new) }
+    ensures mark { MarksFault (S.has_failed sink.old) result (S.has_failed sink.new) }
 {
     let mut written = 0usize;
     while written < bytes.len() {

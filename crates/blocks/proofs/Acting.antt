@@ -16,8 +16,8 @@ use Rattle.machine.specs.declared.decision.Origin.{Origin}
 use Rattle.machine.specs.Block.{BlockState, IsBlockAmong}
 use Rattle.machine.specs.Transition.{without}
 use Rattle.machine.proofs.Whole.{whole-at_line, whole-at_home}
-use Rattle.blocks.specs.Kept.{line_or}
-use Rattle.blocks.specs.inner.Held.{IsHeld, kept_lines, lines_of}
+use Rattle.blocks.specs.View.{line_or}
+use Rattle.blocks.specs.inner.Lined.{IsHeld, kept_lines, lines_of}
 use Rattle.blocks.specs.inner.Named.{HomeNames, IsKept, IsKeptIf}
 use Rattle.blocks.proofs.Naming.{home-more, more-set, moved-names, traffic-home_sent, traffic-line_sent, traffic-more, traffic-without}
 

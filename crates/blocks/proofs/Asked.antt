@@ -21,7 +21,7 @@ use Rattle.machine.specs.declared.decision.Decision.{Decision}
 use Rattle.machine.specs.declared.decision.Decision.TheVariants.{Refused, AtLine, AtHome}
 use Rattle.machine.specs.declared.decision.Origin.{Origin}
 use Rattle.machine.specs.declared.decision.Origin.TheVariants as origin
-use Rattle.blocks.specs.Kept.{moved_to}
+use Rattle.blocks.specs.View.{moved_to}
 use Rattle.blocks.specs.Marking.{home_stalls, marks_of, unmarked_count}
 use Rattle.blocks.specs.inner.Asked.{AreFirstRight}
 use Rattle.blocks.specs.inner.Linking.{IsAtOwn, IsOwn}

@@ -36,8 +36,8 @@ use Rattle.machine.specs.declared.decision.Decision.TheVariants.{AtLine}
 use Rattle.both_tables.specs.Tables.{Tables}
 use Rattle.machine.specs.Block.{BlockState}
 use Rattle.machine.specs.Transition.{by_line_entry, by_home_entry, at_line, at_home, at_ask, at_request, at_forward, at_response, decision_of, is_idle}
-use Rattle.blocks.specs.Kept.{wakes_line}
-use Rattle.blocks.specs.inner.Held.{kept_lines, lines_of}
+use Rattle.blocks.specs.View.{wakes_line}
+use Rattle.blocks.specs.inner.Lined.{kept_lines, lines_of}
 use Rattle.blocks.specs.inner.Named.{Each, IsKept, IsKeptIf, NamesOnLink, NamesReceiver, NamesSender, TrafficNames, DecisionNames}
 use Rattle.blocks.proofs.Lines.{line-kept_unless}
 

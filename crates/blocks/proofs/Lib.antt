@@ -1,3 +1,4 @@
+pub mod Beside
 pub mod Naming
 pub mod Lines
 pub mod Deciding

@@ -4,8 +4,8 @@ use Rattle.std.proofs.Common.{length, get_or, replicate, slice_get, is_some, tru
 use Rattle.control.specs.declared.line.Line.{Line}
 use Rattle.control.specs.LineEffect.{opened_line}
 use Rattle.rows.specs.Flags.{is_set}
-use Rattle.blocks.specs.Kept.{is_invalid, line_or}
-use Rattle.blocks.specs.inner.Held.{lines_of, kept_lines}
+use Rattle.blocks.specs.View.{is_invalid, line_or}
+use Rattle.blocks.specs.inner.Lined.{lines_of, kept_lines}
 use Rattle.blocks.specs.inner.Named.{IsKept}
 
 -- a line that is kept

@@ -23,7 +23,8 @@ use Rattle.control.specs.declared.home.HomeInput.TheVariants as home_input
 use Rattle.both_tables.specs.Tables.{Tables}
 use Rattle.machine.specs.Block.{BlockState}
 use Rattle.machine.proofs.Places.{slice_get-set_other}
-use Rattle.blocks.specs.Marking.{AreBeside, home_stalls, line_stalls, response_stalls, link_stalls, links_stall, marks_of}
+use Rattle.blocks.specs.Marking.{home_stalls, line_stalls, response_stalls, link_stalls, links_stall, marks_of}
+use Rattle.blocks.proofs.Beside.{AreBeside}
 use Rattle.blocks.proofs.UnmarkedHeads.{links_stall-length, link-marks}
 
 -- ---- place by place

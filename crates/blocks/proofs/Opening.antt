@@ -6,7 +6,7 @@ use Rattle.network.specs.Traffic.{link, quiet}
 use Rattle.control.specs.LineEffect.{opened_line}
 use Rattle.control.proofs.HomeSends.{no-flag}
 use Rattle.machine.specs.Block.{opened_block}
-use Rattle.blocks.specs.inner.Held.{IsHeld, kept_lines, lines_of}
+use Rattle.blocks.specs.inner.Lined.{IsHeld, kept_lines, lines_of}
 use Rattle.blocks.specs.inner.Named.{Each, NamesOnLink}
 
 -- each element of a list is made the same

@@ -35,7 +35,7 @@ use Rattle.blocks.proofs.CountChanges.{one_free}
 use Rattle.machine.specs.declared.decision.Decision.{Decision}
 use Rattle.machine.specs.declared.decision.Decision.TheVariants.{Refused, AtLine, AtHome}
 use Rattle.machine.specs.declared.decision.Origin.{Origin}
-use Rattle.blocks.specs.Kept.{acts}
+use Rattle.blocks.specs.View.{acts}
 use Rattle.blocks.specs.Looks.{place_in, cache_place, forward_place, request_place, response_place}
 use Rattle.blocks.specs.Marking.{unmarked_count}
 use Rattle.blocks.specs.inner.Placed.{decided_place}

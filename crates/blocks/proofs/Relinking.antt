@@ -25,7 +25,7 @@ use Rattle.machine.specs.Block.{BlockState}
 use Rattle.machine.specs.Transition.{Transition, carried_out}
 use Rattle.machine.specs.declared.decision.Decision.{Decision}
 use Rattle.machine.specs.declared.decision.Decision.TheVariants.{Refused, AtLine, AtHome}
-use Rattle.blocks.specs.Kept.{moved_to}
+use Rattle.blocks.specs.View.{moved_to}
 use Rattle.network.specs.Marks.{Marks, mark_at}
 use Rattle.blocks.proofs.UnmarkedPlaces.{count-below}
 use Rattle.blocks.proofs.MarkChanges.{links-other, links_stall-set}

@@ -9,7 +9,8 @@ use Rattle.cache_table.specs.Table as cache_table
 use Rattle.control.specs.declared.line.Line.{Line}
 use Rattle.both_tables.specs.Tables.{Tables}
 use Rattle.machine.specs.Block.{BlockState}
-use Rattle.blocks.specs.Marking.{AreBeside, link_stalls, links_stall, marks_of, unmarked_heads}
+use Rattle.blocks.specs.Marking.{link_stalls, links_stall, marks_of, unmarked_heads}
+use Rattle.blocks.proofs.Beside.{AreBeside}
 use Rattle.blocks.proofs.CountChanges.{one_free}
 use Rattle.blocks.proofs.UnmarkedHeads.{heads-free, heads-held, heads-next, heads-none, links_stall-at, links_stall-length, marks-beside}
 use Rattle.blocks.proofs.UnmarkedHeads.{kth-head-behind, kth-head-held, kth-head-here, kth-head-none}

@@ -11,7 +11,8 @@ use Rattle.cache_table.specs.Table as cache_table
 use Rattle.control.specs.declared.line.Line.{Line}
 use Rattle.both_tables.specs.Tables.{Tables}
 use Rattle.machine.specs.Block.{BlockState}
-use Rattle.blocks.specs.Marking.{AreBeside, is_stopped, link_stalls, links_stall, marks_of, unmarked, unmarked_heads}
+use Rattle.blocks.specs.Marking.{is_stopped, link_stalls, links_stall, marks_of, unmarked, unmarked_heads}
+use Rattle.blocks.proofs.Beside.{AreBeside}
 use Rattle.blocks.proofs.UnmarkedPlaces.{unmarked-held, unmarked-free, unmarked-end}
 
 -- ---- as many marks as messages

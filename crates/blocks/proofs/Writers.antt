@@ -8,7 +8,7 @@ use Rattle.control.specs.declared.line.Line.{Line}
 use Rattle.control.specs.LineEffect.{is_writer, opened_line}
 use Rattle.rows.specs.Flags.{IsFirstFrom, NoneFrom}
 use Rattle.blocks.specs.Looks.{writer_from, writer_in}
-use Rattle.blocks.specs.inner.Held.{writers_in}
+use Rattle.blocks.specs.inner.Lined.{writers_in}
 
 first-from : (lines : List Line) (i at : ℕ) (flag : Bool) → get_or (writers_in lines) at false ≡ true →
     ((k : ℕ) → k < at → get_or (writers_in lines) k false ≡ false) → Some (record { 0 = i + at }) ≡ writer_from i lines

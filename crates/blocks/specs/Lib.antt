@@ -1,5 +1,5 @@
 pub mod Asking
-pub mod Kept
+pub mod View
 pub mod LineStates
 pub mod Marking
 pub mod Messages

@@ -1,14 +1,13 @@
 -- Which messages on their way are held by a stall: their marks, the places without a mark, and how many these are.
-use Rattle.std.specs.Prelude.{◌≡◌, ℕ, ◌+◌, List, [], ◌∷◌, Option, Some, None}
-use Rattle.std.specs.Prelude.{Bool, true, false, not, if◌then◌else◌, map, length, slice_get, count_by}
+use Rattle.std.specs.Prelude.{ℕ, ◌+◌, List, [], ◌∷◌, Option, Some, None}
+use Rattle.std.specs.Prelude.{Bool, true, false, not, if◌then◌else◌, map, slice_get, count_by}
 use Rattle.base.specs.declared.controller.entry.Entry.{Entry}
 use Rattle.base.specs.declared.controller.entry.Entry.TheVariants as table_entry
 use Rattle.base.specs.declared.ids.Place.TheVariants.{Dir, Cache}
 use Rattle.network.specs.declared.message.Forward.{Forward}
 use Rattle.network.specs.declared.message.Response.{Response}
 use Rattle.network.specs.declared.message.Response.TheVariants.{Data, InvAck}
-use Rattle.network.specs.Marks.{Marks, link_marks}
-use Rattle.network.specs.Traffic.{Traffic, link}
+use Rattle.network.specs.Marks.{Marks}
 use Rattle.cache_table.specs.Table as cache_table
 use Rattle.directory_table.specs.Table as directory_table
 use Rattle.control.specs.declared.line.Line.{Line}
@@ -65,13 +64,6 @@ marks_of tables b = record {
   links = links_stall tables.cache b.lines 0 b.traffic.links;
   responses = map (response_stalls tables b) b.traffic.responses;
 }
-
--- marks beside a traffic: one for each of its messages
-pub record AreBeside (w : Traffic) (m : Marks) : Type 0 where
-  pub requests : length m.requests ≡ length w.requests
-  pub links : length m.links ≡ length w.links
-  pub each : (cache : ℕ) → length (link_marks m cache) ≡ length (link w cache)
-  pub responses : length m.responses ≡ length w.responses
 
 -- the places whose mark isn't set, where the marks are those of the places from a number on
 abbrev pub unmarked : ℕ → List Bool → List ℕ

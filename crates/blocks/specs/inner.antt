@@ -1,5 +1,5 @@
 pub mod Named
-pub mod Held
+pub mod Lined
 pub mod Tested
 pub mod Placed
 pub mod Linking

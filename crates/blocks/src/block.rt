@@ -16,7 +16,7 @@ use control::{Home, Line};
 use counting::Counts;
 pub use deciding::{decide_opened, opened_line};
 use directory_table::DirectoryState;
-pub use looking::{foreseen, is_held_opened, is_stall};
+pub use looking::{foreseen, is_held_opened};
 use network::Wires;
 pub use passing::responses_pass;
 use rows::{Sparse, TryClone};
@@ -55,10 +55,10 @@ impl Model for Block {
     ghost use Rattle.std.specs.Prelude.{◌≡◌, IfSome};
     ghost use Rattle.blocks.specs.Marking.{unmarked_count};
     ghost use Rattle.blocks.specs.inner.Linking.{AreCounted};
-    ghost use Rattle.blocks.specs.Kept.{Kept};
-    ghost use Rattle.blocks.specs.inner.Held.{IsHeld, kept_lines, lines_of};
+    ghost use Rattle.blocks.specs.View.{BlockView};
+    ghost use Rattle.blocks.specs.inner.Lined.{IsHeld, kept_lines, lines_of};
 
-    ghost Value = { Kept };
+    ghost Value = { BlockView };
 
     ghost view = { λ b. record {
       state = record { lines = lines_of b.lines.items; home = b.home; traffic = b.wires.traffic; latest = b.latest };

@@ -5,5 +5,5 @@ mod block;
 
 pub use block::{
     Block, HeldAsks, Made, Tested, Visit, decide_opened, foreseen, held_asks_opened,
-    is_held_opened, is_stall, opened_line, responses_pass,
+    is_held_opened, opened_line, responses_pass,
 };

@@ -4,8 +4,10 @@ ghost use Rattle.std.specs.Prelude.{◌≡◌, ◌↔◌, ℕ, List, length, IfN
 ghost use Rattle.base.specs.Extent.{Extent, IsWithinLimits};
 ghost use Rattle.base.specs.declared.step.Step.{Step};
 ghost use Rattle.certify.specs.Standings.{IsAdmitted, IsFirstOpen};
-ghost use Rattle.machine.specs.Coherence.{Safe};
-ghost use Rattle.machine.specs.Restraint.{Restrains};
+ghost use Rattle.both_tables.specs.Tables.{baseline};
+ghost use Rattle.machine.specs.Coherence.{Met, Safe};
+ghost use Rattle.machine.specs.Machine.{after, opened};
+ghost use Rattle.machine.specs.Restraint.{AreRestrained};
 
 use crate::cells::{CELLS, Cell, cell_at};
 use crate::standings::{Standing, standing_of};
@@ -13,20 +15,23 @@ use both_tables::Tables;
 use machine::restrained_tables_are_safe;
 
 /// The first cell that isn't admitted, in the order of [`Cell::at`]. `None` comes exactly where all are: then each run
-/// under these tables is safe, for any number of caches and blocks, though it can get stuck. Tables with a cell that isn't
-/// admitted may be safe too.
+/// under these tables is safe, for any number of caches and blocks, though it can get stuck, and no step of it comes to a
+/// cell where the protocol's own entry is blank. Tables with a cell that isn't admitted may be safe too.
 pub fn certify(tables: &Tables) -> Option<Cell>
-    ensures restrained { IsNone result ↔ Restrains tables.now }
+    ensures restrained { IsNone result ↔ AreRestrained tables.now }
     ensures first { IfSome result (λ cell. IsFirstOpen tables.now cell) }
     ensures safe { IfNone result ((shape : Extent) (opening : List ℕ) (steps : List Step) → IsWithinLimits shape →
         length opening ≡ shape.blocks → Safe shape tables.now opening steps) }
+    ensures never_met { IfNone result ((shape : Extent) (opening : List ℕ) (steps : List Step) (step : Step) →
+        IsWithinLimits shape → length opening ≡ shape.blocks →
+        ¬ Met baseline (after tables.now (opened shape opening) steps).state step) }
 {
     restrained_tables_are_safe();
     first_open(tables)
 }
 
 fn first_open(tables: &Tables) -> Option<Cell>
-    ensures none { IfNone result (Restrains tables.now) }
+    ensures none { IfNone result (AreRestrained tables.now) }
     ensures some { IfSome result (λ cell. IsFirstOpen tables.now cell) }
 {
     for number in 0..CELLS {

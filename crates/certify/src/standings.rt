@@ -17,7 +17,7 @@ pub enum Standing {
     Own,
     /// It holds a stall.
     Stall,
-    /// The protocol's own entry is blank: no run meets the cell.
+    /// The protocol's own entry is blank: no run under restrained tables meets the cell.
     NeverMet,
     /// It is one of the cells that act in another way and are proved.
     Proved,

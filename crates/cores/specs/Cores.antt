@@ -1,5 +1,5 @@
 -- What each core has outstanding, and how much it has issued and finished.
-use Rattle.std.specs.Prelude.{◌≡◌, ◌+◌, ◌-◌, ◌^◌, ℕ, Bool, ⊤, min, is_none, if◌then◌else◌, ◌<◌, nat_lt, List, length, get_or, slice_set, Option, Some, None}
+use Rattle.std.specs.Prelude.{◌+◌, ◌-◌, ◌^◌, ℕ, Bool, ⊤, min, is_none, if◌then◌else◌, nat_lt, List, length, slice_index_or, slice_set, Option, Some, None}
 use Rattle.base.specs.declared.step.Ask.{Ask}
 use Rattle.base.specs.declared.step.Ask.TheVariants.{Load, Store, Replace}
 
@@ -25,21 +25,13 @@ issuing ask core = record { outstanding = Some ask; issued = one_more core.issue
 abbrev pub finishing : Core → Core
 finishing core = record { outstanding = None; issued = core.issued; finished = one_more core.finished }
 
--- what was issued is finished, but for the ask that is outstanding
-abbrev pub IsCounted : Core → Type 0
-IsCounted core = core.issued ≡ if is_none core.outstanding then core.finished else one_more core.finished
-
--- each of the cores is counted so
-abbrev pub AreCounted : List Core → Type 0
-AreCounted cores = (number : ℕ) → number < length cores → IsCounted (get_or cores number idle)
-
 -- one core becomes another, and the others stay; where it isn't there, all stay
 abbrev pub with_core : List Core → ℕ → (Core → Core) → List Core
-with_core cores number becomes = if nat_lt number (length cores) then slice_set cores number (becomes (get_or cores number idle)) else cores
+with_core cores number becomes = if nat_lt number (length cores) then slice_set cores number (becomes (slice_index_or cores number idle)) else cores
 
 -- nothing of the core is outstanding, as of any core that isn't there
 abbrev pub is_free : List Core → ℕ → Bool
-is_free cores number = is_none (get_or cores number idle).outstanding
+is_free cores number = is_none (slice_index_or cores number idle).outstanding
 
 -- a load or a store, which completes later; a replacement is done at once
 abbrev pub Completes : Ask → Type 0

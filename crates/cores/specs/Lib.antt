@@ -1,1 +1,2 @@
 pub mod Cores
+pub mod inner

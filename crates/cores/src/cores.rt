@@ -66,17 +66,18 @@ impl Core {
 impl Model for Cores {
     ghost use Rattle.std.specs.Prelude.{List};
     ghost use Rattle.cores.specs.Cores as spec;
+    ghost use Rattle.cores.specs.inner.Counted.{AreCounted};
 
     ghost Value = { List spec.Core };
 
     ghost view = { λ c. c.cores.items };
 
-    ghost invariant = { λ c. spec.AreCounted c.cores.items };
+    ghost invariant = { λ c. AreCounted c.cores.items };
 }
 
 impl Cores {
-    ghost use Rattle.std.specs.Prelude.{◌≡◌, ◌≤◌, ◌+◌, ◌↔◌, ℕ, true, false, IfOk, OnOk, get_or, replicate};
-    ghost use Rattle.cores.specs.Cores.{AreCounted, Completes, finishing, idle, is_free, issuing, with_core};
+    ghost use Rattle.std.specs.Prelude.{◌≡◌, ◌≤◌, ◌+◌, ◌↔◌, ℕ, true, false, IfOk, OnOk, slice_index_or, replicate};
+    ghost use Rattle.cores.specs.Cores.{Completes, finishing, idle, is_free, issuing, with_core};
 
     /// So many cores, none of which has asked anything.
     pub fn open(alloc: Global, n: u32) -> Result<Cores, NoMemory>
@@ -92,7 +93,7 @@ impl Cores {
     /// Whatever they have asked, there are so many cores from now on, none of which has asked anything. It takes memory only
     /// where there are more of them than there were.
     ///
-    /// Where memory is refused, they are of no more use.
+    /// Where memory is refused, they are of no use until they are reset again.
     pub fn reset(&mut self, n: u32) -> Result<(), NoMemory>
         ensures { OnOk result (self.new ≡ replicate n idle) }
     {
@@ -147,8 +148,8 @@ impl Cores {
     /// How many loads and stores the core has issued, and how many of them have finished, each counted up to
     /// `u64::MAX`. They differ by one at most. A core that isn't there has issued none.
     pub fn counts(&self, core: CacheId) -> (u64, u64)
-        ensures issued { result.0 ≡ (get_or self.now core.0 idle).issued }
-        ensures finished { result.1 ≡ (get_or self.now core.0 idle).finished }
+        ensures issued { result.0 ≡ (slice_index_or self.now core.0 idle).issued }
+        ensures finished { result.1 ≡ (slice_index_or self.now core.0 idle).finished }
         ensures one_apart { (result.1 ≤ result.0) × (result.0 ≤ result.1 + 1) }
     {
         let number = core.0 as usize;

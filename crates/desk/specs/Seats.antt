@@ -35,7 +35,8 @@ HasClaimed seat number = 0 < times number seat.claimed
 abbrev pub HasPosted : SeatView → ℕ → Type 0
 HasPosted seat number = slice_index_or seat.posted number false ≡ true
 
--- the seat has posted or found this result of the number
+-- the seat has posted or found this result of the number. That it is of this number is said beside it: a cell's type says whose
+-- trial's result lies in it, and not of which number
 abbrev pub Knows : SeatView → ℕ → TrialResult → Type 0
 Knows seat number result = (slice_index_or seat.known number None ≡ Some result) × (result.number ≡ number)
 

@@ -4,7 +4,7 @@
 ghost use Rattle.std.specs.Prelude.{◌≡◌, ◌<◌, length, map, replicate, slice_index_or, slice_set, MatchOption, IfOk, Some, None, true, false};
 ghost use Rattle.once_cell.specs.Once.{cell_name, Agrees};
 
-use crate::jobs::Naming;
+use crate::jobs::Planned;
 use base::NoMemory;
 use once_cell::race::{Note, OnceBox};
 use std::alloc::Global;
@@ -13,12 +13,12 @@ use trials::TrialResult;
 
 /// A result that is its trial's.
 #[derive(Drop)]
-pub(crate) struct Posted<D: Naming> {
+pub(crate) struct Posted<D: Planned> {
     pub(crate) result: TrialResult,
     pub(crate) of: PhantomData<D>,
 }
 
-impl<D: Naming> Model for Posted<D> {
+impl<D: Planned> Model for Posted<D> {
     ghost use Rattle.trials.specs.declared.verdict.TrialResult.{TrialResult};
     ghost use Rattle.desk.specs.Plans.{IsResultOf};
 
@@ -35,7 +35,7 @@ pub(crate) type Cell<D> = OnceBox<Posted<D>>;
 /// What a seat knows of a cell.
 pub(crate) type CellNote<D> = Note<Posted<D>>;
 
-pub(crate) fn make_cells<D: Naming>(alloc: Global, count: usize) -> Result<Vec<Cell<D>>, NoMemory>
+pub(crate) fn make_cells<D: Planned>(alloc: Global, count: usize) -> Result<Vec<Cell<D>>, NoMemory>
     ensures { IfOk result (λ cells. length cells.items ≡ count) }
 {
     let mut cells = Vec::with_capacity(alloc, count)?;
@@ -45,7 +45,7 @@ pub(crate) fn make_cells<D: Naming>(alloc: Global, count: usize) -> Result<Vec<C
     Ok(cells)
 }
 
-pub(crate) fn make_notes<D: Naming>(
+pub(crate) fn make_notes<D: Planned>(
     alloc: Global,
     cells: &Vec<Cell<D>>,
 ) -> Result<Vec<CellNote<D>>, NoMemory>
@@ -60,7 +60,7 @@ pub(crate) fn make_notes<D: Naming>(
 }
 
 /// Sets a cell, and answers whether that was done. Then its note knows the result; else nothing changed.
-pub(crate) fn set_at<D: Naming>(
+pub(crate) fn set_at<D: Planned>(
     cells: &Vec<Cell<D>>,
     notes: &mut Vec<CellNote<D>>,
     place: usize,
@@ -82,7 +82,7 @@ pub(crate) fn set_at<D: Naming>(
 }
 
 /// What stands in a cell, which its note then knows.
-pub(crate) fn get_at<'a, D: Naming>(
+pub(crate) fn get_at<'a, D: Planned>(
     cells: &'a Vec<Cell<D>>,
     notes: &mut Vec<CellNote<D>>,
     place: usize,
@@ -100,7 +100,7 @@ pub(crate) fn get_at<'a, D: Naming>(
 }
 
 /// What stands in a cell. The notes stay as they are.
-pub(crate) fn peek_at<'a, D: Naming>(
+pub(crate) fn peek_at<'a, D: Planned>(
     cells: &'a Vec<Cell<D>>,
     notes: &mut Vec<CellNote<D>>,
     place: usize,

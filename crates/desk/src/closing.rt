@@ -11,12 +11,12 @@ ghost use Rattle.desk.specs.inner.Keeping.{Collects};
 use crate::cells::{Cell, peek_at};
 use crate::desks::Desk;
 use crate::faults::CloseFault;
-use crate::jobs::Naming;
+use crate::jobs::Planned;
 use crate::seats::DeskSeat;
 use crate::word::{Token, Word, count_all, merge_token};
 use trials::TrialResult;
 
-impl<'j, D: Naming> Desk<'j, D> {
+impl<'j, D: Planned> Desk<'j, D> {
     ghost use Rattle.std.specs.Prelude.{◌≡◌, ◌<◌, ◌≤◌, ◌↔◌, List, All, length, map, true, Some, IfOk, OnOk, IfErr, IsErrAnd};
     ghost use Rattle.trials.specs.Trial.{AreResults};
     ghost use Rattle.trials.specs.declared.verdict.TrialResult.{TrialResult};
@@ -37,7 +37,7 @@ impl<'j, D: Naming> Desk<'j, D> {
     ) -> Result<Vec<Option<TrialResult>>, (CloseFault, Desk<'j, D>, Vec<DeskSeat<D>>)>
         requires { All (λ seat. seat.desk ≡ self.id) seats.items }
         ensures missing { length seats.items < self.entry.seats → IsErrAnd result (λ refused. refused.0 ≡ CloseFault.SeatMissing) }
-        ensures room { self.entry.seats ≤ length seats.items → IfErr result (λ refused. refused.0 ≡ CloseFault.NoMemory) }
+        ensures else_memory { self.entry.seats ≤ length seats.items → IfErr result (λ refused. refused.0 ≡ CloseFault.NoMemory) }
         ensures back { IfErr result (λ refused. (refused.1 ≡ self.entry) × (refused.2.items ≡ seats.items)) }
         ensures claims { OnOk result (AreClaimed (numbers_of self.entry.id) seats.items) }
         ensures places { IfOk result (λ places. ArePlaces D.plan (numbers_of self.entry.id) seats.items places.items) }
@@ -56,7 +56,7 @@ impl<'j, D: Naming> Desk<'j, D> {
 }
 
 /// Puts what all seats posted into its places.
-fn end<'j, D: Naming>(
+fn end<'j, D: Planned>(
     desk: Desk<'j, D>,
     mut seats: Vec<DeskSeat<D>>,
     mut places: Vec<Option<TrialResult>>,
@@ -76,7 +76,7 @@ fn end<'j, D: Naming>(
 }
 
 /// Puts what the seat posted into its places.
-fn collect<D: Naming>(
+fn collect<D: Planned>(
     cells: &Vec<Cell<D>>,
     seat: &mut DeskSeat<D>,
     places: &mut Vec<Option<TrialResult>>,
@@ -96,7 +96,7 @@ fn collect<D: Naming>(
 }
 
 /// The result that the seat posted.
-fn result_at<D: Naming>(
+fn result_at<D: Planned>(
     cells: &Vec<Cell<D>>,
     seat: &mut DeskSeat<D>,
     place: usize,
@@ -114,7 +114,7 @@ fn result_at<D: Naming>(
 }
 
 /// All seats' tokens together say which numbers were claimed.
-fn settle<D: Naming>(word: &Word, mut seats: Vec<DeskSeat<D>>)
+fn settle<D: Planned>(word: &Word, mut seats: Vec<DeskSeat<D>>)
     requires one { word.now.shared.table_id.words ≡ 1 }
     requires these { All (λ s. (s.desk.table ≡ word.now.shared.table_id) × (numbers_of s.desk ≡ word.now.shared.key.count)) seats.items }
     requires enough { (0 < word.now.shared.key.parts) × (word.now.shared.key.parts ≤ length seats.items) }
@@ -131,7 +131,7 @@ fn settle<D: Naming>(word: &Word, mut seats: Vec<DeskSeat<D>>)
     count_all(word, &mut token);
 }
 
-fn into_token<D: Naming>(seat: DeskSeat<D>) -> Token
+fn into_token<D: Planned>(seat: DeskSeat<D>) -> Token
     ensures table { result.table_id ≡ seat.desk.table }
     ensures me { result.me ≡ (record { parts = 1; count = numbers_of seat.desk; drawn = seat.claimed; over = seat.told }, []) }
 {

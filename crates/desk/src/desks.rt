@@ -8,7 +8,7 @@ ghost use Rattle.desk.specs.Seats.{new_seat, numbers_of};
 
 use crate::cells::{Cell, Posted, get_at, make_cells, make_notes, set_at};
 use crate::faults::{DeskFault, PostFault};
-use crate::jobs::{Job, Naming};
+use crate::jobs::{Job, Planned};
 use crate::seats::{DeskSeat, Stage, make_stages};
 use crate::word::{Size, Token, Word, deal_part, draw_number, new_word};
 use base::NoMemory;
@@ -22,7 +22,7 @@ pub const MOST_SEATS: u32 = 64;
 /// Where the trials of a batch are shared out: their numbers are claimed, and their results are posted. No call waits
 /// for anybody.
 #[derive(Drop)]
-pub struct Desk<'j, D: Naming> {
+pub struct Desk<'j, D: Planned> {
     pub(crate) alloc: Global,
     pub(crate) job: &'j Job,
     pub(crate) seats: u32,
@@ -30,7 +30,7 @@ pub struct Desk<'j, D: Naming> {
     pub(crate) cells: Vec<Cell<D>>,
 }
 
-impl<'j, D: Naming> Model for Desk<'j, D> {
+impl<'j, D: Planned> Model for Desk<'j, D> {
     ghost use Rattle.std.specs.Prelude.{map, length};
     ghost use Rattle.once_cell.specs.Once.{cell_name};
     ghost use Rattle.desk.specs.Plans.{plan_of};
@@ -44,7 +44,7 @@ impl<'j, D: Naming> Model for Desk<'j, D> {
     ghost invariant = { λ d. IsDesk D.plan (plan_of d.job.now) d.word.shared.table_id d.word.shared.key (length d.cells.items) d.seats };
 }
 
-impl<'j, D: Naming> Desk<'j, D> {
+impl<'j, D: Planned> Desk<'j, D> {
     ghost use Rattle.std.specs.Prelude.{◌≡◌, ◌<◌, ◌≤◌, ◌↔◌, ℕ, replicate, All, slice_index_or, Some, None, true, false};
     ghost use Rattle.std.specs.Prelude.{IfOk, OnOk, IfErr, IfSome, IfNone, IsErrOf, IsErrAnd, IsSome};
     ghost use Rattle.std.specs.List.Sorted.{IsStrictlyIncreasing};
@@ -93,7 +93,7 @@ impl<'j, D: Naming> Desk<'j, D> {
         ensures some { IfSome result (λ number. seat.new ≡ with_claim seat.old number) }
         ensures within { IfSome result (λ number. number < numbers_of self.now.id) }
         ensures next { IfSome result (λ number. (claimed : ℕ) → HasClaimed seat.old claimed → claimed < number) }
-        ensures open { IfSome result (λ number. ¬ HasPosted seat.new number) }
+        ensures unposted { IfSome result (λ number. ¬ HasPosted seat.new number) }
         ensures none { IfNone result (seat.new ≡ told_no_more seat.old) }
         ensures told { seat.old.told ≡ true → (result ≡ None) × (seat.new ≡ seat.old) }
         ensures rises { IsStrictlyIncreasing seat.new.claimed }
@@ -131,7 +131,7 @@ impl<'j, D: Naming> Desk<'j, D> {
         requires made { IsResultOf D.plan number made }
         ensures not_yours { ¬ HasClaimed seat.old number → IsErrAnd result (λ refused. refused.0 ≡ PostFault.NotYours) }
         ensures already { HasClaimed seat.old number → HasPosted seat.old number → IsErrAnd result (λ refused. refused.0 ≡ PostFault.Already) }
-        ensures room { HasClaimed seat.old number → ¬ HasPosted seat.old number → IfErr result (λ refused. refused.0 ≡ PostFault.NoMemory) }
+        ensures else_memory { HasClaimed seat.old number → ¬ HasPosted seat.old number → IfErr result (λ refused. refused.0 ≡ PostFault.NoMemory) }
         ensures ok { OnOk result (seat.new ≡ with_post seat.old number made) }
         ensures posted { OnOk result (HasPosted seat.new number) }
         ensures known { OnOk result (Knows seat.new number made) }
@@ -189,6 +189,7 @@ impl<'j, D: Naming> Desk<'j, D> {
         if place >= seat.notes.len() {
             return None;
         }
+        // The number never differs. A cell's type doesn't say of which number its result is, so this comparison does.
         match get_at(&self.cells, &mut seat.notes, place) {
             Some(posted) if posted.result.number == number => Some(posted.result),
             _ => None,
@@ -197,7 +198,7 @@ impl<'j, D: Naming> Desk<'j, D> {
 }
 
 /// The desk and its seats, where the numbers are within the limits.
-fn open_all<'j, D: Naming>(
+fn open_all<'j, D: Planned>(
     alloc: Global,
     job: &'j Job,
     n: u32,
@@ -215,7 +216,7 @@ fn open_all<'j, D: Naming>(
 }
 
 /// The desk, and a token with a part for each seat.
-fn make_desk<'j, D: Naming>(
+fn make_desk<'j, D: Planned>(
     alloc: Global,
     job: &'j Job,
     n: u32,
@@ -244,7 +245,10 @@ fn make_desk<'j, D: Naming>(
 }
 
 /// A seat for each part of a token that nothing was drawn with.
-fn deal_seats<D: Naming>(desk: &Desk<'_, D>, mut token: Token) -> Result<Vec<DeskSeat<D>>, NoMemory>
+fn deal_seats<D: Planned>(
+    desk: &Desk<'_, D>,
+    mut token: Token,
+) -> Result<Vec<DeskSeat<D>>, NoMemory>
     requires table { token.table_id ≡ desk.now.id.table }
     requires me { token.me ≡ (fresh desk.now.seats (numbers_of desk.now.id), []) }
     ensures { IfOk result (λ row. row.items ≡ replicate desk.now.seats (new_seat desk.now.id)) }
@@ -258,7 +262,7 @@ fn deal_seats<D: Naming>(desk: &Desk<'_, D>, mut token: Token) -> Result<Vec<Des
 }
 
 /// A seat that has claimed nothing, with a token that has one part.
-fn make_seat<D: Naming>(
+fn make_seat<D: Planned>(
     alloc: Global,
     token: Token,
     cells: &Vec<Cell<D>>,

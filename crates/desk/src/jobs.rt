@@ -13,13 +13,13 @@ pub struct Job {
 }
 
 /// What a desk's trials are. `Desk` and `DeskSeat` name it by a type with this trait, mostly `Brand`.
-pub trait Naming {
+pub trait Planned {
     ghost use Rattle.trials.specs.Terms.{Plan};
 
     ghost plan: { Plan };
 }
 
-impl Naming for Brand {
+impl Planned for Brand {
     ghost use Rattle.desk.specs.Plans.{no_plan};
 
     ghost plan = { no_plan };

@@ -13,6 +13,6 @@ mod working;
 
 pub use desks::{Desk, MOST_SEATS};
 pub use faults::{CloseFault, DeskFault, PostFault};
-pub use jobs::{Job, Naming};
+pub use jobs::{Job, Planned};
 pub use seats::DeskSeat;
 pub use working::work;

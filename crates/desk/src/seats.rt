@@ -5,7 +5,7 @@ ghost use Rattle.desk.specs.declared.seats.Stage.TheVariants.{Free};
 
 use crate::cells::CellNote;
 use crate::faults::PostFault;
-use crate::jobs::Naming;
+use crate::jobs::Planned;
 use crate::word::Token;
 use base::NoMemory;
 use std::alloc::Global;
@@ -31,14 +31,14 @@ pub(crate) fn make_stages(alloc: Global, count: usize) -> Result<Vec<Stage>, NoM
 
 /// One who claims numbers at a desk and posts their results.
 #[derive(Drop)]
-pub struct DeskSeat<D: Naming> {
+pub struct DeskSeat<D: Planned> {
     pub(crate) token: Token,
     pub(crate) told: bool,
     pub(crate) stages: Vec<Stage>,
     pub(crate) notes: Vec<CellNote<D>>,
 }
 
-impl<D: Naming> Model for DeskSeat<D> {
+impl<D: Planned> Model for DeskSeat<D> {
     ghost use Rattle.std.specs.Prelude.{map, length};
     ghost use Rattle.desk.specs.Seats.{SeatView};
     ghost use Rattle.desk.specs.inner.Keeping.{IsSeat, is_claimed, is_posted};
@@ -57,7 +57,7 @@ impl<D: Naming> Model for DeskSeat<D> {
         (map is_claimed s.stages.items) (map is_posted s.stages.items) (map (λ n. n.known) s.notes.items) };
 }
 
-impl<D: Naming> DeskSeat<D> {
+impl<D: Planned> DeskSeat<D> {
     ghost use Rattle.std.specs.Prelude.{◌≡◌, slice_index_or, Some, None, IfNone, false};
     ghost use Rattle.desk.specs.Seats.{HasClaimed, HasPosted};
 

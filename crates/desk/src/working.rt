@@ -2,10 +2,10 @@
 
 ghost use Rattle.std.specs.Prelude.{◌≡◌, ℕ, List, length, true, IfOk, OnOk, OnErr};
 ghost use Rattle.desk.specs.Working.{Stops, Works};
-ghost use Rattle.trials.specs.Making.{CanGoOn, planned};
+ghost use Rattle.trials.specs.Series.{planned};
 
 use crate::desks::Desk;
-use crate::jobs::Naming;
+use crate::jobs::Planned;
 use crate::seats::DeskSeat;
 use base::NoMemory;
 use bumpalo::Bump;
@@ -16,7 +16,7 @@ use trials::Series;
 /// posted, which are all that it claimed. It waits for nobody.
 ///
 /// Where it is refused, what was posted stands, and the one number that it was at is claimed and not posted.
-pub fn work<D: Naming>(desk: &Desk<'_, D>, seat: &mut DeskSeat<D>) -> Result<u32, NoMemory>
+pub fn work<D: Planned>(desk: &Desk<'_, D>, seat: &mut DeskSeat<D>) -> Result<u32, NoMemory>
     requires { seat.old.desk ≡ desk.now.id }
     ensures ok { IfOk result (λ count. (numbers : List ℕ) × (length numbers ≡ count) × Works seat.old seat.new numbers) }
     ensures told { OnOk result (seat.new.told ≡ true) }
@@ -29,14 +29,13 @@ pub fn work<D: Naming>(desk: &Desk<'_, D>, seat: &mut DeskSeat<D>) -> Result<u32
 }
 
 /// Works with the trials of the desk's job.
-fn work_off<D: Naming>(
+fn work_off<D: Planned>(
     desk: &Desk<'_, D>,
     seat: &mut DeskSeat<D>,
     series: &mut Series<'_, '_, Global>,
 ) -> Result<u32, NoMemory>
     requires seat { seat.old.desk ≡ desk.now.id }
     requires plan { planned series.old ≡ D.plan }
-    requires can_go_on { CanGoOn series.old }
     ensures ok { IfOk result (λ count. (numbers : List ℕ) × (length numbers ≡ count) × Works seat.old seat.new numbers) }
     ensures told { OnOk result (seat.new.told ≡ true) }
     ensures err { OnErr result (Stops seat.old seat.new) }

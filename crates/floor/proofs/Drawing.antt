@@ -10,14 +10,14 @@ use Rattle.world.specs.Enabled.{enabled_steps}
 use Rattle.world.specs.View.{View}
 use Rattle.monitor.specs.declared.violation.Violation.{Violation}
 use Rattle.record.specs.declared.recording.Entry.{Entry}
-use Rattle.record.specs.Kept.{Kept}
+use Rattle.record.specs.View.{RecordingView}
 use Rattle.floor.specs.Belonging.{ready_for}
 use Rattle.floor.specs.FloorId.{FloorId}
 use Rattle.floor.specs.Turning.{Draws, is_its, its_ready, state_of}
 use Rattle.floor.specs.inner.Keeping.{IsKeptUp}
 
 -- the step that a word draws among those that are ready for a seat, and it is the seat's
-pub drawn : (f : FloorId) (world : View) (watch : List ℕ) (recording : Kept) (os : List ℕ) (violation : Option (ℕ × Violation))
+pub drawn : (f : FloorId) (world : View) (watch : List ℕ) (recording : RecordingView) (os : List ℕ) (violation : Option (ℕ × Violation))
     (seats : ℕ) (es : List Entry) (number seat word : ℕ)
     (steps : List Step) (s : Step) → IsKeptUp f world watch recording os violation →
     recording.entries ≡ es → number ≡ seat → seats ≡ f.seats →

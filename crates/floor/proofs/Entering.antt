@@ -16,7 +16,7 @@ use Rattle.monitor.specs.Violations.{AnswersFirst}
 use Rattle.monitor.specs.Watching.{HasSeen, LeadTo, AnswersHistory, SeesNext, AreDue, made_after, scene_after}
 use Rattle.monitor.proofs.FirstViolations.{first_seen, first-push}
 use Rattle.record.specs.declared.recording.Entry.{Entry}
-use Rattle.record.specs.Kept.{Kept, opened_recording, steps_of, with_entry}
+use Rattle.record.specs.View.{RecordingView, opened_recording, steps_of, with_entry}
 use Rattle.trials.specs.Terms.{Terms}
 use Rattle.floor.specs.FloorId.{FloorId}
 use Rattle.floor.specs.Turning.{recorded, is_its}
@@ -58,7 +58,7 @@ owned_push f es os e o h lt mine = record {
 }
 
 -- one entry more, made by a step of the world that its watch has seen
-kept_push : (f : FloorId) (world new : View) (watch watch' : List ℕ) (recording : Kept) (os : List ℕ) (violation : Option (ℕ × Violation)) (e : Entry) (o : ℕ)
+kept_push : (f : FloorId) (world new : View) (watch watch' : List ℕ) (recording : RecordingView) (os : List ℕ) (violation : Option (ℕ × Violation)) (e : Entry) (o : ℕ)
     (seen : Option Violation) →
     IsKeptUp f world watch recording os violation → o < f.seats → is_its f recording.entries o e.step ≡ true →
     next world.tables world.state e.step ≡ stepped new.state e.outcome → new.shape ≡ world.shape → new.tables ≡ world.tables →
@@ -111,7 +111,7 @@ as_told world mid new step told (Ok what) tables state is ok made =
     here ∙ ap (stepped new.state) (sym (is ∙ ap (λ (n : Next). n.outcome) here))
 as_told world mid new step told (Err fault) tables state is ok made = absurd (cc ok)
 
-pub kept_more : (f : FloorId) (world new : View) (watch watch' : List ℕ) (recording recording' : Kept) (os os' : List ℕ)
+pub kept_more : (f : FloorId) (world new : View) (watch watch' : List ℕ) (recording recording' : RecordingView) (os os' : List ℕ)
     (violation violation' : Option (ℕ × Violation))
     (step : Step) (e : Entry) (o n : ℕ) (seen : Option Violation) →
     IsKeptUp f world watch recording os violation → o < f.seats → is_its f recording.entries o step ≡ true →
@@ -127,24 +127,24 @@ kept_more f world new watch watch' recording recording' os os' violation violati
     (subst (λ (s : Step). next world.tables world.state s ≡ stepped new.state e.outcome) is a.made) a.shape a.tables
     (subst (λ (s : Step). AnswersHistory new watch s e.outcome seen) is answers)
     (subst (λ (s : Step). SeesNext new watch s e.outcome watch') is sees) in
-    let same : recording' ≡ recorded f.setup (recording.entries ++ e ∷ []) = a.recorded ∙ ap (λ (k : Kept). with_entry k e) h.recorded_is in
+    let same : recording' ≡ recorded f.setup (recording.entries ++ e ∷ []) = a.recorded ∙ ap (λ (k : RecordingView). with_entry k e) h.recorded_is in
     rw (same, same_owners, same_violation, number) kept
 
 -- there was room for one entry more
-pub fits_more : (recording recording' : Kept) (es : List Entry) (e : Entry) (capacity : ℕ) → recording' ≡ with_entry recording e →
+pub fits_more : (recording recording' : RecordingView) (es : List Entry) (e : Entry) (capacity : ℕ) → recording' ≡ with_entry recording e →
     recording.entries ≡ es → length es < capacity →
     length recording'.entries ≤ capacity
 fits_more recording recording' es e capacity same is room =
     let count : length recording'.entries ≡ length recording.entries + 1 =
-    ap (λ (k : Kept). length k.entries) same ∙ length-append recording.entries (e ∷ []) in
+    ap (λ (k : RecordingView). length k.entries) same ∙ length-append recording.entries (e ∷ []) in
     let low : length recording.entries < capacity = subst (λ (l : List Entry). length l < capacity) (sym is) room in
     omega (arith, count, low)
 
 -- a world, a watch and a recording that are opened under the floor's setup are kept up
-pub kept_first : (f : FloorId) (world : View) (watch : List ℕ) (recording : Kept) → IsStart f.setup world →
+pub kept_first : (f : FloorId) (world : View) (watch : List ℕ) (recording : RecordingView) → IsStart f.setup world →
     ((w : View) → HasSeen w f.setup.opening [] watch) → recording ≡ opened_recording f.setup.shape f.setup.tables f.setup.opening →
     IsKeptUp f world watch recording [] None
-kept_first f world watch recording starts seen opens = subst (λ (r : Kept). IsKeptUp f world watch r [] None) (sym opens) (record {
+kept_first f world watch recording starts seen opens = subst (λ (r : RecordingView). IsKeptUp f world watch r [] None) (sym opens) (record {
   recorded_is = refl;
   legal = refl;
   shape = starts.shape;

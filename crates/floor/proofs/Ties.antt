@@ -8,7 +8,7 @@ use Rattle.atomic_table.specs.Table.{Me, step, keeps, Allows, Splits, Joins, ope
 use Rattle.record.specs.declared.recording.Entry.{Entry}
 use Rattle.floor.specs.declared.tokens.TokenView.{TokenView}
 use Rattle.floor.specs.Histories.{history, owned_from}
-use Rattle.floor.specs.inner.Tokens.{keeper, sitting, idle, Fits, Fitting, seated, stood, risen, dealt, newcomer, grown, Adds, Compares}
+use Rattle.floor.specs.inner.Tokens.{keeper, sitting, idle, FitsRule, Fitting, seated, stood, risen, dealt, newcomer, grown, Adds, Compares}
 
 set_get : (views : List TokenView) (id by : ℕ) (w v : TokenView) → get_elem? (slice_set views id w) by ≡ some v →
     ((by ≡ id) × (v ≡ w)) ⊎ ((by ≢ id) × (get_elem? views by ≡ some v))
@@ -99,7 +99,7 @@ opens = record {
 
 pub sits : (id other : ℕ) (v w : TokenView) → w.sits ≡ true → Joins Fitting id v other w (seated v w) idle
 sits id other v w sit s h at apart got =
-    let told : Fits h.by h.place h.es h.os h.n other w = elim (set_get s.views id other (seated v w) w got) [
+    let told : FitsRule h.by h.place h.es h.os h.n other w = elim (set_get s.views id other (seated v w) w got) [
       | inl q ↦ absurd (apart q.0)
       | inr q ↦ h.fits other w q.1
     ] in

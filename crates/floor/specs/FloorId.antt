@@ -1,4 +1,4 @@
--- What names a floor.
+-- What floor_id a floor.
 use Rattle.std.specs.Prelude.{ℕ, []}
 use Rattle.atomic_table.specs.Seated.{TableId}
 use Rattle.both_tables.specs.Tables.{baseline}
@@ -12,11 +12,11 @@ pub record FloorId : Type 0 where
   pub capacity : ℕ
 
 -- the floor on this ground
-abbrev pub names : TableId → Terms → ℕ → ℕ → FloorId
-names ground setup seats capacity = record { ground = ground; setup = setup; seats = seats; capacity = capacity }
+abbrev pub floor_id : TableId → Terms → ℕ → ℕ → FloorId
+floor_id ground setup seats capacity = record { ground = ground; setup = setup; seats = seats; capacity = capacity }
 
 -- a name that no floor has
 abbrev pub no_floor : FloorId
 no_floor =
-    names (record { words = 0; slots = 0; views_name = 0; atom = 0; block = 0; offset = 0; slot_names = [] })
+    floor_id (record { words = 0; slots = 0; views_name = 0; atom = 0; block = 0; offset = 0; slot_names = [] })
     (record { shape = record { caches = 0; blocks = 0 }; tables = baseline; opening = []; seed = 0; limit = 0 }) 0 0

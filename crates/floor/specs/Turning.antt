@@ -1,17 +1,17 @@
 -- What a hall and a seat are to a contract, and what a turn does to both.
-use Rattle.std.specs.Prelude.{◌≡◌, ◌%◌, ℕ, List, [], ◌∷◌, ◌++◌, Option, Some, Bool, length, slice_get}
+use Rattle.std.specs.Prelude.{◌≡◌, ◌%◌, ℕ, List, [], ◌∷◌, ◌++◌, Option, Some, Bool, false, true, length, slice_get}
 use Rattle.base.specs.declared.step.Step.{Step}
 use Rattle.machine.specs.Machine.{State, next, opened, state_after}
 use Rattle.monitor.specs.declared.violation.Violation.{Violation}
 use Rattle.monitor.specs.Violations.{AnswersFirst}
 use Rattle.record.specs.declared.recording.Entry.{Entry}
-use Rattle.record.specs.Kept.{Kept, steps_of}
+use Rattle.record.specs.View.{RecordingView, steps_of}
 use Rattle.trials.specs.Terms.{Terms}
 use Rattle.floor.specs.Belonging.{belongs, ready_for}
 use Rattle.floor.specs.FloorId.{FloorId}
 
 -- a hall: the entries, the owner of each, and the first violation with the number of its entry
-pub record Story : Type 0 where
+pub record HallView : Type 0 where
   pub entries : List Entry
   pub owners : List ℕ
   pub violation : Option (ℕ × Violation)
@@ -30,7 +30,7 @@ abbrev pub with_receipt : SeatView → ℕ × Entry → SeatView
 with_receipt seat receipt = record { number = seat.number; made = seat.made ++ receipt ∷ [] }
 
 -- the recording of entries that were made under a setup
-abbrev pub recorded : Terms → List Entry → Kept
+abbrev pub recorded : Terms → List Entry → RecordingView
 recorded setup entries = record { shape = setup.shape; tables = setup.tables; opening = setup.opening; entries = entries }
 
 -- the state that a setup's world is in after these entries
@@ -53,8 +53,29 @@ its_ready floor entries seat = ready_for floor.seats floor.setup.shape.caches fl
 abbrev pub Draws : FloorId → List Entry → ℕ → ℕ → Step → Type 0
 Draws floor entries seat word step = slice_get (its_ready floor entries seat) (word % length (its_ready floor entries seat)) ≡ Some step
 
+-- nothing was ready for a seat, after some entries
+abbrev pub HadNone : FloorId → ℕ → Type 0
+HadNone floor seat = (before : List Entry) × (its_ready floor before seat ≡ [])
+
+-- a step didn't belong to a seat, after some entries
+abbrev pub WasForeign : FloorId → ℕ → Step → Type 0
+WasForeign floor seat step = (before : List Entry) × (is_its floor before seat step ≡ false)
+
+-- a receipt's entry stands behind these: its step was made in the state that they led to
+pub record Follows (floor : FloorId) (before : List Entry) (receipt : ℕ × Entry) : Type 0 where
+  pub number : receipt.0 ≡ length before
+  pub outcome : receipt.1.outcome ≡ (next floor.setup.tables (state_of floor.setup before) receipt.1.step).outcome
+
+-- a receipt is of a step that belonged to a seat when it was made
+abbrev pub WasIts : FloorId → ℕ → ℕ × Entry → Type 0
+WasIts floor seat receipt = (before : List Entry) × Follows floor before receipt × (is_its floor before seat receipt.1.step ≡ true)
+
+-- a receipt is of the step that a word drew among those that were ready for a seat
+abbrev pub WasDrawn : FloorId → ℕ → ℕ → ℕ × Entry → Type 0
+WasDrawn floor seat word receipt = (before : List Entry) × Follows floor before receipt × Draws floor before seat word receipt.1.step
+
 -- a turn: the machine's next step is one entry more, which the seat owns and has a receipt of
-pub record Turns (floor : FloorId) (old new : Story) (seat turned : SeatView) (step : Step) (receipt : ℕ × Entry) : Type 0 where
+pub record Turns (floor : FloorId) (old new : HallView) (seat turned : SeatView) (step : Step) (receipt : ℕ × Entry) : Type 0 where
   pub number : receipt.0 ≡ length old.entries
   pub entry : receipt.1 ≡ record { step = step; outcome = (next floor.setup.tables (state_of floor.setup old.entries) step).outcome }
   pub entries : new.entries ≡ old.entries ++ receipt.1 ∷ []

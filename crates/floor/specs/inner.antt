@@ -1,3 +1,4 @@
 pub mod Tokens
 pub mod Keeping
 pub mod Ways
+pub mod Wishes

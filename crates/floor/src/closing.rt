@@ -1,8 +1,8 @@
 //! The end of a floor.
 
 ghost use Rattle.std.specs.Prelude.{◌≡◌, ◌≢◌, ◌<◌, None, All, MatchBool};
-ghost use Rattle.machine.specs.Restraint.{Restrains};
-ghost use Rattle.record.specs.Kept.{IsLegal};
+ghost use Rattle.machine.specs.Restraint.{AreRestrained};
+ghost use Rattle.record.specs.View.{IsLegal};
 ghost use Rattle.floor.specs.Turning.{IsFirstOf, recorded};
 ghost use Rattle.floor.specs.Closing.{AllThere, AreHistories, HaveOwners, IsMissing, IsThere};
 
@@ -65,7 +65,7 @@ pub(crate) fn end<F: Naming>(mut hall: Hall<F>, mut seats: Vec<Seat<F>>) -> Clos
     ensures owners { HaveOwners F.floor result.recording.entries result.owners.items }
     ensures histories { AreHistories result.recording.entries result.owners.items seats.items }
     ensures violation { IsFirstOf F.floor.setup result.recording.entries result.violation }
-    ensures clean { Restrains F.floor.setup.tables → result.violation ≡ None }
+    ensures clean { AreRestrained F.floor.setup.tables → result.violation ≡ None }
     ensures seats { result.seats.items ≡ seats.items }
 {
     no_violation_under_restrained_tables();

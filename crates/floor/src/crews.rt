@@ -1,7 +1,8 @@
 //! Crews: a thread for each seat.
 
-ghost use Rattle.std.specs.Prelude.{◌≡◌, ◌≤◌, [], length, map, vec_capacity, IfOk, IfErr};
+ghost use Rattle.std.specs.Prelude.{◌≡◌, ◌≤◌, [], length, map, vec_capacity, IfOk, IfErr, OnErr};
 ghost use Rattle.floor.specs.Crews.{ComeBack, GoesOn};
+ghost use Rattle.floor.specs.inner.Wishes.{Meets};
 
 use crate::floors::Floor;
 use crate::grounds::Naming;
@@ -57,7 +58,9 @@ fn fulfil<F: Naming>(
     seat: &mut Seat<F>,
     wish: Wish,
 ) -> Result<Option<Receipt<F>>, TurnFault>
-    ensures { GoesOn seat.old seat.new }
+    ensures met { IfOk result (λ made. Meets F.floor wish seat.old seat.new made) }
+    ensures err { OnErr result (seat.new ≡ seat.old) }
+    ensures goes_on { GoesOn seat.old seat.new }
 {
     match wish {
         Wish::Any(word) => floor.turn_any(rt, seat, word),
@@ -74,13 +77,11 @@ fn run_seat<F: Naming, R: Wait, G: Gate, C: Chooser<F> + Drop>(
     floor: &Floor<F>,
     gate: &G,
     refused: &AtomicBool,
-    seat: Seat<F>,
-    chooser: C,
+    mut seat: Seat<F>,
+    mut chooser: C,
 ) -> (Seat<F>, Option<TurnFault>)
     ensures { GoesOn seat result.0 }
 {
-    let mut seat = seat;
-    let mut chooser = chooser;
     if refused.load(Ordering::SeqCst) {
         return (seat, Some(TurnFault::NoMemory));
     }
@@ -190,16 +191,14 @@ fn start_all<
     floor: &'s Floor<F>,
     gate: &'s G,
     flags: &'s [AtomicBool],
-    members: Vec<(Seat<F>, C)>,
-    running: Vec<Running<F>>,
+    mut members: Vec<(Seat<F>, C)>,
+    mut running: Vec<Running<F>>,
 ) -> Vec<Running<F>>
     requires flags { length flags.now ≡ length members.items }
     requires none { running.items ≡ [] }
     requires room { length members.items ≤ vec_capacity running }
     ensures { result.items ≡ map (λ m. m.0) members.items }
 {
-    let mut members = members;
-    let mut running = running;
     for flag in flags {
         let (seat, chooser) = members.remove(0);
         running.push_reserved(start(scope, rt, floor, gate, flag, seat, chooser));
@@ -219,15 +218,13 @@ fn finish<F: Naming, R: Threads>(rt: &R, running: Running<F>) -> (Seat<F>, Optio
 
 fn finish_all<F: Naming, R: Threads>(
     rt: &R,
-    running: Vec<Running<F>>,
-    back: Vec<(Seat<F>, Option<TurnFault>)>,
+    mut running: Vec<Running<F>>,
+    mut back: Vec<(Seat<F>, Option<TurnFault>)>,
 ) -> Vec<(Seat<F>, Option<TurnFault>)>
     requires none { back.items ≡ [] }
     requires room { length running.items ≤ vec_capacity back }
     ensures { ComeBack running.items result.items }
 {
-    let mut running = running;
-    let mut back = back;
     while !running.is_empty() {
         let one = running.remove(0);
         back.push_reserved(finish(rt, one));

@@ -2,12 +2,12 @@
 
 ghost use Rattle.std.specs.Prelude.{◌≡◌, ◌<◌, [], map, IfOk, OnOk};
 ghost use Rattle.std.specs.List.{range_with_len};
-ghost use Rattle.floor.specs.FloorId.{names};
+ghost use Rattle.floor.specs.FloorId.{floor_id};
 ghost use Rattle.floor.specs.Turning.{new_seat};
 ghost use Rattle.floor.specs.inner.Keeping.{IsStart};
 ghost use Rattle.floor.specs.inner.Tokens.{keeper};
 ghost use Rattle.monitor.specs.Watching.{HasSeen};
-ghost use Rattle.record.specs.Kept.{opened_recording};
+ghost use Rattle.record.specs.View.{opened_recording};
 ghost use Rattle.world.specs.View.{View};
 
 use crate::closing::{CloseFault, Closed, all_there, end};
@@ -56,10 +56,10 @@ pub struct Floor<F: Naming> {
 impl<F: Naming> Floor<F> {
     ghost use Rattle.std.specs.Prelude.{◌≡◌, ◌<◌, ◌≤◌, ◌++◌, ◌∷◌, ◌↔◌, ℕ, None, map, IfErr, IfNone, IfOk, IfSome, IsErrOf, MatchResult, OnErr};
     ghost use Rattle.std.specs.List.{range_with_len};
-    ghost use Rattle.machine.specs.Restraint.{Restrains};
-    ghost use Rattle.record.specs.Kept.{IsLegal};
-    ghost use Rattle.floor.specs.FloorId.{names};
-    ghost use Rattle.floor.specs.Turning.{IsFirstOf, new_seat, recorded, with_receipt};
+    ghost use Rattle.machine.specs.Restraint.{AreRestrained};
+    ghost use Rattle.record.specs.View.{IsLegal};
+    ghost use Rattle.floor.specs.FloorId.{floor_id};
+    ghost use Rattle.floor.specs.Turning.{HadNone, IsFirstOf, WasDrawn, WasForeign, WasIts, new_seat, recorded, with_receipt};
     ghost use Rattle.floor.specs.Closing.{AllReceived, AllStand, AllThere, AreHistories, HaveOwners, IsMissing};
 
     /// Opens a world under a setup, with so many seats round it and room for so many entries. The seats come in the order of
@@ -74,7 +74,7 @@ impl<F: Naming> Floor<F> {
         seats: u32,
         capacity: u32,
     ) -> Result<(Floor<F>, Vec<Seat<F>>), FloorFault>
-        requires { F.floor ≡ names ground setup.now seats capacity }
+        requires { F.floor ≡ floor_id ground setup.now seats capacity }
         ensures no_seats { IsErrOf result FloorFault.NoSeats ↔ (seats ≡ 0) }
         ensures too_many_seats { IsErrOf result FloorFault.TooManySeats ↔ (64 < seats) }
         ensures over_limit { IsErrOf result FloorFault.OverLimit ↔ ((0 < seats) × (seats ≤ 64) × (1000000 < capacity)) }
@@ -95,7 +95,7 @@ impl<F: Naming> Floor<F> {
         }
     }
 
-    /// Takes the lock, and makes the hall's [`turn`](Hall::turn).
+    /// Takes the lock, and makes the hall's [`turn`](Hall::turn): one step of the seat's, after whatever entries stand there by then.
     pub fn turn(
         &self,
         wait: &impl Wait,
@@ -103,19 +103,24 @@ impl<F: Naming> Floor<F> {
         step: Step,
     ) -> Result<Receipt<F>, TurnFault>
         ensures step { IfOk result (λ receipt. receipt.1.step ≡ step) }
+        ensures its { IfOk result (λ receipt. WasIts F.floor seat.old.number receipt) }
+        ensures foreign { IsErrOf result TurnFault.NotYours → WasForeign F.floor seat.old.number step }
         ensures added { IfOk result (λ receipt. seat.new ≡ with_receipt seat.old receipt) }
         ensures err { OnErr result (seat.new ≡ seat.old) }
     {
         self.hall.lock(wait).turn(seat, step)
     }
 
-    /// Takes the lock, and makes the hall's [`turn_any`](Hall::turn_any).
+    /// Takes the lock, and makes the hall's [`turn_any`](Hall::turn_any): the step that the word draws, after whatever entries
+    /// stand there by then.
     pub fn turn_any(
         &self,
         wait: &impl Wait,
         seat: &mut Seat<F>,
         word: u32,
     ) -> Result<Option<Receipt<F>>, TurnFault>
+        ensures drawn { IfOk result (λ made. IfSome made (λ receipt. WasDrawn F.floor seat.old.number word receipt)) }
+        ensures idle { IfOk result (λ made. IfNone made (HadNone F.floor seat.old.number)) }
         ensures added { IfOk result (λ made. IfSome made (λ receipt. seat.new ≡ with_receipt seat.old receipt)) }
         ensures none { IfOk result (λ made. IfNone made (seat.new ≡ seat.old)) }
         ensures err { OnErr result (seat.new ≡ seat.old) }
@@ -125,7 +130,7 @@ impl<F: Naming> Floor<F> {
 
     /// Ends the floor, where all its seats are handed in. It waits for nobody, and takes no memory.
     ///
-    /// It is refused `SeatMissing` exactly where a seat is missing. Then floor and seats come back as they were.
+    /// It is refused `SeatMissing` exactly where a seat is missing. Then the seats come back as they were, with the floor.
     pub fn close(
         self,
         seats: Vec<Seat<F>>,
@@ -139,7 +144,7 @@ impl<F: Naming> Floor<F> {
         ensures stand { IfOk result (λ closed. AllStand closed.recording.entries seats.items) }
         ensures received { IfOk result (λ closed. AllReceived closed.recording.entries seats.items) }
         ensures violation { IfOk result (λ closed. IsFirstOf F.floor.setup closed.recording.entries closed.violation) }
-        ensures clean { Restrains F.floor.setup.tables → IfOk result (λ closed. closed.violation ≡ None) }
+        ensures clean { AreRestrained F.floor.setup.tables → IfOk result (λ closed. closed.violation ≡ None) }
         ensures seats { IfOk result (λ closed. closed.seats.items ≡ seats.items) }
     {
         if !all_there(&seats, self.seats) {
@@ -158,7 +163,7 @@ fn open_all<F: Naming>(
     seats: u32,
     capacity: u32,
 ) -> Result<(Floor<F>, Vec<Seat<F>>), NoMemory>
-    requires name { F.floor ≡ names ground setup.now seats capacity }
+    requires name { F.floor ≡ floor_id ground setup.now seats capacity }
     requires some { 0 < seats }
     ensures { IfOk result (λ opened. opened.1.items ≡ map new_seat (range_with_len 0 seats)) }
 {

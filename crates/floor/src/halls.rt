@@ -46,10 +46,10 @@ pub struct Hall<F: Naming> {
 }
 
 impl<F: Naming> Model for Hall<F> {
-    ghost use Rattle.floor.specs.Turning.{Story};
+    ghost use Rattle.floor.specs.Turning.{HallView};
     ghost use Rattle.floor.specs.inner.Keeping.{IsHall, IsKeptUp};
 
-    ghost Value = { Story };
+    ghost Value = { HallView };
 
     ghost view = { λ h. record { entries = h.recording.entries; owners = h.owners.items; violation = h.violation } };
 
@@ -71,7 +71,7 @@ impl<F: Naming> Hall<F> {
         ensures not_yours { is_its F.floor self.old.entries seat.old.number step ≡ false → IsErrOf result TurnFault.NotYours }
         ensures full { is_its F.floor self.old.entries seat.old.number step ≡ true → length self.old.entries ≡ F.floor.capacity →
             IsErrOf result TurnFault.Full }
-        ensures room { is_its F.floor self.old.entries seat.old.number step ≡ true → length self.old.entries < F.floor.capacity →
+        ensures else_memory { is_its F.floor self.old.entries seat.old.number step ≡ true → length self.old.entries < F.floor.capacity →
             IsOkUnless result TurnFault.NoMemory }
         ensures within { length self.old.entries ≤ F.floor.capacity }
         ensures ok { IfOk result (λ receipt. Turns F.floor self.old self.new seat.old seat.new step receipt) }
@@ -97,7 +97,7 @@ impl<F: Naming> Hall<F> {
         word: u32,
     ) -> Result<Option<Receipt<F>>, TurnFault>
         ensures full { length self.old.entries ≡ F.floor.capacity → IsErrOf result TurnFault.Full }
-        ensures room { length self.old.entries < F.floor.capacity → IsOkUnless result TurnFault.NoMemory }
+        ensures else_memory { length self.old.entries < F.floor.capacity → IsOkUnless result TurnFault.NoMemory }
         ensures within { length self.old.entries ≤ F.floor.capacity }
         ensures none { IfOk result (λ made. IfNone made (its_ready F.floor self.old.entries seat.old.number ≡ [])) }
         ensures unturned { IfOk result (λ made. IfNone made ((self.new ≡ self.old) × (seat.new ≡ seat.old))) }
@@ -125,7 +125,7 @@ impl<F: Naming> Hall<F> {
     fn enter(&mut self, seat: &mut Seat<F>, step: Step) -> Result<Receipt<F>, TurnFault>
         requires yours { is_its F.floor self.old.entries seat.old.number step ≡ true }
         requires room { length self.old.entries < F.floor.capacity }
-        ensures room { IsOkUnless result TurnFault.NoMemory }
+        ensures else_memory { IsOkUnless result TurnFault.NoMemory }
         ensures ok { IfOk result (λ receipt. Turns F.floor self.old self.new seat.old seat.new step receipt) }
         ensures err { OnErr result ((self.new ≡ self.old) × (seat.new ≡ seat.old)) }
     {

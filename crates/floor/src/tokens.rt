@@ -22,6 +22,7 @@ pub struct TokenView {
     pub made: LinkedList<(u64, Entry)>,
 }
 
+/// The rule of the word: to each token fits what the hall's knows of the recording.
 pub struct Counted;
 
 impl TableRule<Entry, TokenView, ()> for Counted {
@@ -33,6 +34,7 @@ impl TableRule<Entry, TokenView, ()> for Counted {
     ghost first = { λ _. keeper [] [] 0 };
 }
 
+/// An entry is added for a seat: the hall's token, which the seat's has joined, has it in both lists.
 pub struct Add;
 
 impl Play<Entry, TokenView> for Add {
@@ -41,6 +43,7 @@ impl Play<Entry, TokenView> for Add {
     ghost then = { Adds };
 }
 
+/// A seat's receipts are compared with the recording: nothing changes.
 pub struct Compare;
 
 impl Play<Entry, TokenView> for Compare {
@@ -49,6 +52,7 @@ impl Play<Entry, TokenView> for Compare {
     ghost then = { Compares };
 }
 
+/// A token for a new seat splits off the hall's.
 pub struct Deal;
 
 impl Split<TokenView> for Deal {
@@ -59,6 +63,7 @@ impl Split<TokenView> for Deal {
     ghost right = { newcomer };
 }
 
+/// A seat's token splits off the hall's again, after a turn.
 pub struct Stand;
 
 impl Split<TokenView> for Stand {
@@ -69,6 +74,7 @@ impl Split<TokenView> for Stand {
     ghost right = { risen };
 }
 
+/// A token that knows nothing splits off, to stand where a seat's token was taken from.
 pub struct Spare;
 
 impl Split<TokenView> for Spare {
@@ -79,6 +85,7 @@ impl Split<TokenView> for Spare {
     ghost right = { λ _. idle };
 }
 
+/// A seat's token joins the hall's, for a turn.
 pub struct Sit;
 
 impl Join<TokenView> for Sit {

@@ -41,7 +41,7 @@ use Rattle.machine.specs.declared.decision.Decision.{Decision}
 use Rattle.both_tables.specs.Tables.{Tables, baseline}
 use Rattle.machine.specs.Block.{BlockState}
 use Rattle.machine.specs.Transition.{Transition, transition, decision_of, carried_out, by_line_entry, by_home_entry, at_line, at_home, at_ask, at_request, at_forward, at_response, is_idle}
-use Rattle.machine.specs.Restraint.{Restrains, proved_homes, line_cell, home_cell}
+use Rattle.machine.specs.Restraint.{AreRestrained, proved_homes, line_cell, home_cell}
 use Rattle.machine.proofs.Views.{View, Local}
 use Rattle.machine.proofs.Seen.{seen}
 use Rattle.machine.proofs.Sound.{Sound, Fine, local-at}
@@ -108,7 +108,7 @@ left n b i r x e at h v =
     (record { fine = puts-fine n b i r home.S e.0 h at; right = puts-right n b i r home.S e.0 h v at })
 
 -- a line's input goes as under the own tables, or by a proved cell
-line-goes : (n : ℕ) (tables : Tables) (b : BlockState) (cache : CacheId) (input : LineInput) (from : Origin) (found : Option Line) → Restrains tables →
+line-goes : (n : ℕ) (tables : Tables) (b : BlockState) (cache : CacheId) (input : LineInput) (from : Origin) (found : Option Line) → AreRestrained tables →
     ((line : Line) (c : CacheChange) → found ≡ Some line → line.state ≡ c.state → event_at_line line.acks input ≡ c.event → Proved c →
     Passes n b (carried_out (by_line_entry c.entry cache line input from) b)) →
     Goes n b (at_line baseline.cache cache input from found) (at_line tables.cache cache input from found)
@@ -119,7 +119,7 @@ line-goes n tables b cache input from (Some line) r other =
       | inr at ↦ inr (other line (line_cell tables line.state (event_at_line line.acks input)) refl refl refl (proved _ at))
     ]
 
-home-goes : (n : ℕ) (tables : Tables) (b : BlockState) (input : HomeInput) (from : Origin) → Restrains tables →
+home-goes : (n : ℕ) (tables : Tables) (b : BlockState) (input : HomeInput) (from : Origin) → AreRestrained tables →
     ((x : DirectoryEntry) → Stays b.home.state (event_at_home b.home.owner b.home.sharers input) x → Passes n b (carried_out (by_home_entry x input from) b)) →
     Goes n b (at_home baseline.directory input from b.home) (at_home tables.directory input from b.home)
 home-goes n tables b input from r other =
@@ -133,7 +133,7 @@ if-goes : (n : ℕ) (b : BlockState) (test : Bool) (x own d : Decision) → Goes
 if-goes n b true x own d h = inl (inl refl)
 if-goes n b false x own d h = h
 
-ask-goes : (n : ℕ) (tables : Tables) (b : BlockState) (cache : CacheId) (a : Ask) (found : Option Line) → found ≡ slice_get b.lines cache.0 → Restrains tables →
+ask-goes : (n : ℕ) (tables : Tables) (b : BlockState) (cache : CacheId) (a : Ask) (found : Option Line) → found ≡ slice_get b.lines cache.0 → AreRestrained tables →
     Sound n b → Valued b → Goes n b (at_ask baseline.cache cache a found) (at_ask tables.cache cache a found)
 ask-goes n tables b cache a None e r h v = inl (inl refl)
 ask-goes n tables b cache a (Some line) e r h v = if-goes n b (is_idle a line.state) _ _ _
@@ -174,27 +174,27 @@ requested n b i request.GetM r x at h v e = let no : home_event.GetM ≡ home_ev
 requested n b i request.PutS r x at h v e = left n b i r x (last-sole (is_sole r.0 b.home.sharers) x b.home.state e) at h v
 requested n b i (request.PutM value) r x at h v e = absurd (no-putm (owns b.home.owner r) e.1)
 
-request-goes : (n : ℕ) (tables : Tables) (b : BlockState) (i : ℕ) (found : Option Request) → found ≡ slice_get b.traffic.requests i → Restrains tables → Sound n b → Valued b → Goes n b (at_request baseline.directory i b.home found) (at_request tables.directory i b.home found)
+request-goes : (n : ℕ) (tables : Tables) (b : BlockState) (i : ℕ) (found : Option Request) → found ≡ slice_get b.traffic.requests i → AreRestrained tables → Sound n b → Valued b → Goes n b (at_request baseline.directory i b.home found) (at_request tables.directory i b.home found)
 request-goes n tables b i None e r h v = inl (inl refl)
 request-goes n tables b i (Some m) e r h v = home-goes n tables b (home_input.Request m) (origin.Request i) r (λ x p. requested n b i m.kind m.from x e h v p)
 
-forward-goes : (n : ℕ) (tables : Tables) (b : BlockState) (cache : CacheId) (found : Option Forward) → Restrains tables → Goes n b (at_forward baseline.cache cache b.lines found) (at_forward tables.cache cache b.lines found)
+forward-goes : (n : ℕ) (tables : Tables) (b : BlockState) (cache : CacheId) (found : Option Forward) → AreRestrained tables → Goes n b (at_forward baseline.cache cache b.lines found) (at_forward tables.cache cache b.lines found)
 forward-goes n tables b cache None r = inl (inl refl)
 forward-goes n tables b cache (Some m) r = line-goes n tables b cache (line_input.Forward m) (origin.Head cache) (slice_get b.lines cache.0) r (λ l c same s t p. absurd (no-ask _ c (no-forward m.kind) t p))
 
-response-goes : (n : ℕ) (tables : Tables) (b : BlockState) (i : ℕ) (found : Option Response) → Restrains tables → Goes n b (at_response baseline i b found) (at_response tables i b found)
+response-goes : (n : ℕ) (tables : Tables) (b : BlockState) (i : ℕ) (found : Option Response) → AreRestrained tables → Goes n b (at_response baseline i b found) (at_response tables i b found)
 response-goes n tables b i None r = inl (inl refl)
 response-goes n tables b i (Some (Data from Dir value acks)) r = home-goes n tables b (home_input.Data value) (origin.Response i) r (λ x p. let no : home_event.Data ≡ home_event.PutSLast = p.1 in absurd (cc))
 response-goes n tables b i (Some (Data from (Cache to) value acks)) r = line-goes n tables b to (line_input.Response (Data from (Cache to) value acks)) (origin.Response i) (slice_get b.lines to.0) r (λ l c same s t p. absurd (no-ask _ c (no-response l.acks (Data from (Cache to) value acks)) t p))
 response-goes n tables b i (Some (InvAck from to)) r = line-goes n tables b to (line_input.Response (InvAck from to)) (origin.Response i) (slice_get b.lines to.0) r (λ l c same s t p. absurd (no-ask _ c (no-response l.acks (InvAck from to)) t p))
 
-step-goes : (n : ℕ) (tables : Tables) (s : Step) (b : BlockState) → Restrains tables → Sound n b → Valued b → Goes n b (decision_of baseline s b) (decision_of tables s b)
+step-goes : (n : ℕ) (tables : Tables) (s : Step) (b : BlockState) → AreRestrained tables → Sound n b → Valued b → Goes n b (decision_of baseline s b) (decision_of tables s b)
 step-goes n tables (step.Ask cache block a) b r h v = ask-goes n tables b cache a (slice_get b.lines cache.0) refl r h v
 step-goes n tables (step.Request block i) b r h v = request-goes n tables b i (slice_get b.traffic.requests i) refl r h v
 step-goes n tables (step.Forward block cache) b r h v = forward-goes n tables b cache (slice_get (link b.traffic cache.0) 0) r
 step-goes n tables (step.Response block i) b r h v = response-goes n tables b i (slice_get b.traffic.responses i) r
 
-pub step-passes : (n : ℕ) (tables : Tables) (s : Step) (b : BlockState) → Restrains tables → Sound n b → Valued b → Passes n b (transition tables s b)
+pub step-passes : (n : ℕ) (tables : Tables) (s : Step) (b : BlockState) → AreRestrained tables → Sound n b → Valued b → Passes n b (transition tables s b)
 step-passes n tables s b r h v = elim (step-goes n tables s b r h v) [
   | inl e ↦ as-decided (Passes n b) b (decision_of baseline s b) (decision_of tables s b) e (record { fine = transition-fine n s b h; right = transition-right n s b h v })
       (record { fine = record { sound = h; met = λ x. absurd (cc) }; right = record { valued = v; fits = refl } }) (transition-fine n s b h).met
@@ -206,7 +206,7 @@ pub record Holding (n : ℕ) (b : BlockState) : Type 0 where
   pub sound : Sound n b
   pub valued : Valued b
 
-pub restrained-guards : (tables : Tables) (n : ℕ) → Restrains tables → n ≤ 4294967296 → Guards (Holding n) tables n
+pub restrained-guards : (tables : Tables) (n : ℕ) → AreRestrained tables → n ≤ 4294967296 → Guards (Holding n) tables n
 restrained-guards tables n r few =
     let g : Guards (Keeps n) baseline n = guards n few in
     record {
@@ -216,5 +216,5 @@ restrained-guards tables n r few =
       unmet = λ s b h. (step-passes n tables s b r h.sound h.valued).fine.met;
     }
 
-pub restrained-fits : (tables : Tables) (n : ℕ) → Restrains tables → (s : Step) (b : BlockState) → Holding n b → FitsLatest (transition tables s b).outcome b.latest (transition tables s b).block.latest
+pub restrained-fits : (tables : Tables) (n : ℕ) → AreRestrained tables → (s : Step) (b : BlockState) → Holding n b → FitsLatest (transition tables s b).outcome b.latest (transition tables s b).block.latest
 restrained-fits tables n r s b h = (step-passes n tables s b r h.sound h.valued).right.fits

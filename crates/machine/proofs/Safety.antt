@@ -2,14 +2,14 @@
 use Rattle.std.proofs.Common.{ℕ, inl, refl, ◌≤◌, List, [], subst, arith}
 use Rattle.base.specs.Extent.{Extent, IsWithinLimits}
 use Rattle.base.specs.declared.step.Step.{Step}
-use Rattle.machine.specs.Machine.{opened, outcomes_of}
+use Rattle.machine.specs.Machine.{opened, after, outcomes_of}
 use Rattle.both_tables.specs.Tables.{Tables, baseline}
 use Rattle.machine.specs.Block.{BlockState}
 use Rattle.machine.specs.Transition.{transition}
-use Rattle.machine.specs.Restraint.{Restrains}
+use Rattle.machine.specs.Restraint.{AreRestrained}
 use Rattle.machine.specs.Completions.{completions}
-use Rattle.machine.specs.Coherence.{Safe}
-use Rattle.machine.proofs.Runs.{Guards, guarded, guarded-single, guarded-unmet}
+use Rattle.machine.specs.Coherence.{Safe, Met}
+use Rattle.machine.proofs.Runs.{Guards, guarded, guarded-single, guarded-unmet, guarded-unmet-under}
 use Rattle.machine.proofs.Completing.{Follows, followed-explained}
 use Rattle.machine.proofs.Following.{followed-from, latests-opened}
 use Rattle.machine.proofs.LineValues.{FitsLatest}
@@ -30,15 +30,22 @@ guarded-safe P tables shape opening steps g fits = record {
 }
 
 -- under restrained tables all runs are safe
-pub restrained-safe : (tables : Tables) (shape : Extent) (opening : List ℕ) (steps : List Step) → Restrains tables → IsWithinLimits shape →
+pub restrained-safe : (tables : Tables) (shape : Extent) (opening : List ℕ) (steps : List Step) → AreRestrained tables → IsWithinLimits shape →
     Safe shape tables opening steps
 restrained-safe tables shape opening steps r within =
     guarded-safe (Holding shape.caches) tables shape opening steps (restrained-guards tables shape.caches r (few-enough shape within))
     (restrained-fits tables shape.caches r)
 
 -- the own tables are restrained
-pub own-restrained : Restrains baseline
+pub own-restrained : AreRestrained baseline
 own-restrained = record { cache = λ s e. inl refl; directory = λ s e. inl refl }
+
+-- and no step of a run under restrained tables comes to a cell that the own tables leave blank
+pub restrained-never-met : (tables : Tables) (shape : Extent) (opening : List ℕ) (steps : List Step) (step : Step) → AreRestrained tables → IsWithinLimits shape →
+    ¬ Met baseline (after tables (opened shape opening) steps).state step
+restrained-never-met tables shape opening steps step r within =
+    guarded-unmet-under (Holding shape.caches) tables baseline shape (restrained-guards tables shape.caches r (few-enough shape within))
+    (restrained-guards baseline shape.caches own-restrained (few-enough shape within)) opening steps step
 
 -- so under them all runs are safe
 pub safe : (shape : Extent) (opening : List ℕ) (steps : List Step) → IsWithinLimits shape → Safe shape baseline opening steps

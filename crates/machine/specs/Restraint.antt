@@ -66,6 +66,6 @@ abbrev pub home_cell : Tables → DirectoryState → DirectoryEvent → Director
 home_cell tables state event = record { state = state; event = event; entry = directory_table.cell tables.directory state event }
 
 -- each cell holds what it may hold
-pub record Restrains (tables : Tables) : Type 0 where
+pub record AreRestrained (tables : Tables) : Type 0 where
   pub cache : (state : CacheState) (event : CacheEvent) → Admits proved_lines (cache_table.cell baseline.cache state event) (line_cell tables state event)
   pub directory : (state : DirectoryState) (event : DirectoryEvent) → Admits proved_homes (directory_table.cell baseline.directory state event) (home_cell tables state event)

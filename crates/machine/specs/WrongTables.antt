@@ -22,7 +22,7 @@ use Rattle.directory_table.specs.Table.{DirectoryEntry}
 use Rattle.directory_table.specs.declared.actions.DirectoryAction.TheVariants as directory_action
 use Rattle.both_tables.specs.Tables.{Tables, baseline}
 use Rattle.machine.specs.Machine.{opened, after}
-use Rattle.machine.specs.Restraint.{Restrains}
+use Rattle.machine.specs.Restraint.{AreRestrained}
 use Rattle.machine.specs.Coherence.{Safe}
 use Rattle.machine.specs.Unstuck.{Unstuck}
 use Rattle.machine.specs.Rows.{cache, block, load, store, request, forward, response}
@@ -103,4 +103,4 @@ DeafSharerIsStuck = ¬ Unstuck deaf_sharer (after deaf_sharer (opened two_by_one
 
 -- yet all that its table does is stall where the own one acts
 abbrev pub DeafSharerIsRestrained : Type 0
-DeafSharerIsRestrained = Restrains deaf_sharer
+DeafSharerIsRestrained = AreRestrained deaf_sharer

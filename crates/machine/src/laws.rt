@@ -5,8 +5,8 @@ ghost use Rattle.base.specs.declared.step.Outcome.{Outcome};
 ghost use Rattle.base.specs.declared.step.Step.{Step};
 ghost use Rattle.machine.specs.declared.decision.Decision.{Decision};
 ghost use Rattle.both_tables.specs.Tables.{Tables, baseline};
-ghost use Rattle.machine.specs.Coherence.{Safe};
-ghost use Rattle.machine.specs.Restraint.{Restrains};
+ghost use Rattle.machine.specs.Coherence.{Met, Safe};
+ghost use Rattle.machine.specs.Restraint.{AreRestrained};
 ghost use Rattle.machine.specs.Unstuck.{Unstuck};
 ghost use Rattle.machine.specs.CoherenceRows.{StoreThenLoad, StaleLoadIsRefused, EarlyLoadIsRefused, OneWriterOrManyReaders};
 ghost use Rattle.machine.specs.WrongTables.{HastyReaderIsUnsafe, HastyLoadIsUnsafe, BlankCacheIsUnsafe, HastyWriterIsUnsafe, SecondWriterIsUnsafe};
@@ -78,10 +78,13 @@ pub fn unstuck()
 
 /// Every run is safe too under restrained tables: each of their cells holds the protocol's own
 /// entry, or a stall, or stands where the own one is blank, or is one of those that were proved.
+/// No step of such a run comes to a cell where the own entry is blank.
 pub fn restrained_tables_are_safe()
-    ensures own { Restrains baseline }
-    ensures safe { (tables : Tables) (shape : Extent) (opening : List ℕ) (steps : List Step) → Restrains tables → IsWithinLimits shape →
+    ensures own { AreRestrained baseline }
+    ensures safe { (tables : Tables) (shape : Extent) (opening : List ℕ) (steps : List Step) → AreRestrained tables → IsWithinLimits shape →
         length opening ≡ shape.blocks → Safe shape tables opening steps }
+    ensures never_met { (tables : Tables) (shape : Extent) (opening : List ℕ) (steps : List Step) (step : Step) → AreRestrained tables →
+        IsWithinLimits shape → length opening ≡ shape.blocks → ¬ Met baseline (after tables (opened shape opening) steps).state step }
 {}
 
 /// A run under restrained tables can get stuck all the same.

@@ -15,7 +15,7 @@ use Rattle.world.specs.Looks.{readers_of, writer_of}
 use Rattle.blocks.specs.Looks.{writer_from, writer_in}
 use Rattle.monitor.specs.declared.violation.Violation.TheVariants.{Blank, SecondWriter, WriterBesideReader, StaleLoad}
 use Rattle.monitor.specs.Scenes.{Scene}
-use Rattle.monitor.specs.inner.Finding.{IsLeastFrom, NoneFrom, ShowsNone}
+use Rattle.monitor.specs.inner.Finding.{IsLeastFrom, HoldsForNoneFrom, ShowsNone}
 use Rattle.monitor.proofs.Singles.{writes-reads}
 
 -- the line at a place may write
@@ -65,7 +65,7 @@ answered i (line ∷ lines) = elim (cases_Bool (is_writer line.state)) [
 ]
 
 in-lines : (lines : List Line) (found : Option CacheId) → Answered 0 lines found →
-    MatchOption found (NoneFrom (WritesIn lines) 0) (λ cache. IsLeastFrom (WritesIn lines) 0 cache.0)
+    MatchOption found (HoldsForNoneFrom (WritesIn lines) 0) (λ cache. IsLeastFrom (WritesIn lines) 0 cache.0)
 in-lines lines None none = λ n le. none n
 in-lines lines (Some cache) first = record {
   not_below = omega arith;
@@ -75,13 +75,13 @@ in-lines lines (Some cache) first = record {
 
 -- the writer of a block is the least cache that may write it
 pub writer-is : (s : State) (block : ℕ) →
-    MatchOption (writer_of s block) (NoneFrom (λ c. Writes s c block) 0) (λ cache. IsLeastFrom (λ c. Writes s c block) 0 cache.0)
+    MatchOption (writer_of s block) (HoldsForNoneFrom (λ c. Writes s c block) 0) (λ cache. IsLeastFrom (λ c. Writes s c block) 0 cache.0)
 writer-is s block = by-block (slice_get s.blocks block)
   where
     may-write : Option BlockState → ℕ → Type 0
     may-write o c = IsSomeAnd (option_and_then (λ b. slice_get b.lines c) o) (λ line. IsTrue (is_writer line.state))
 
-    by-block : (o : Option BlockState) → MatchOption (option_and_then (λ b. writer_in b.lines) o) (NoneFrom (may-write o) 0)
+    by-block : (o : Option BlockState) → MatchOption (option_and_then (λ b. writer_in b.lines) o) (HoldsForNoneFrom (may-write o) 0)
         (λ cache. IsLeastFrom (may-write o) 0 cache.0)
     by-block None = λ n le w. w
     by-block (Some b) = in-lines b.lines (writer_in b.lines) (answered 0 b.lines)
@@ -136,7 +136,7 @@ none-shared scene few (WriterBesideReader block writer reader) low high s =
 none-shared scene few (StaleLoad block got due) low high s = absurd (omega (arith, high))
 
 -- where no cache may write, there is neither a second writer nor a reader beside one
-pub none-writes : (scene : Scene) → NoneFrom (λ c. Writes scene.state c (block_of scene.step)) 0 → ShowsNone scene 1 3
+pub none-writes : (scene : Scene) → HoldsForNoneFrom (λ c. Writes scene.state c (block_of scene.step)) 0 → ShowsNone scene 1 3
 none-writes scene none (Blank at block) low high s = absurd (omega (arith, low))
 none-writes scene none (SecondWriter block first second) low high s = none first.0 (omega arith) s.1.least.holds
 none-writes scene none (WriterBesideReader block writer reader) low high s = none writer.0 (omega arith) s.1.writes.holds
@@ -147,11 +147,11 @@ pub crowded-some : (s : State) (block : ℕ) (found : Option CacheId) → IfSome
     IfSome found (λ cache. IsLeastFrom (λ c. Writes s c block) 0 cache.0)
 crowded-some s block None h = tt
 crowded-some s block (Some cache) h =
-    subst (λ o. MatchOption o (NoneFrom (λ c. Writes s c block) 0) (λ cache. IsLeastFrom (λ c. Writes s c block) 0 cache.0)) (sym h) (writer-is s block)
+    subst (λ o. MatchOption o (HoldsForNoneFrom (λ c. Writes s c block) 0) (λ cache. IsLeastFrom (λ c. Writes s c block) 0 cache.0)) (sym h) (writer-is s block)
 
 pub crowded-none : (s : State) (block : ℕ) (found : Option CacheId) → IfNone found ((readers_of s block ≤ 1) ⊎ (None ≡ writer_of s block)) →
-    IfNone found ((readers_of s block ≤ 1) ⊎ NoneFrom (λ c. Writes s c block) 0)
+    IfNone found ((readers_of s block ≤ 1) ⊎ HoldsForNoneFrom (λ c. Writes s c block) 0)
 crowded-none s block None (inl few) = inl few
 crowded-none s block None (inr none) =
-    inr (subst (λ o. MatchOption o (NoneFrom (λ c. Writes s c block) 0) (λ cache. IsLeastFrom (λ c. Writes s c block) 0 cache.0)) (sym none) (writer-is s block))
+    inr (subst (λ o. MatchOption o (HoldsForNoneFrom (λ c. Writes s c block) 0) (λ cache. IsLeastFrom (λ c. Writes s c block) 0 cache.0)) (sym none) (writer-is s block))
 crowded-none s block (Some cache) h = tt

@@ -5,7 +5,7 @@ ghost use Rattle.base.specs.declared.step.Outcome.{Outcome};
 ghost use Rattle.machine.specs.Machine.{State};
 ghost use Rattle.machine.specs.Coherence.{Reads, Writes, line_at};
 ghost use Rattle.monitor.specs.Scenes.{Answers, IsLookedAt, scene_in};
-ghost use Rattle.monitor.specs.inner.Finding.{AnswersWithin, IsLeastFrom, NoneFrom};
+ghost use Rattle.monitor.specs.inner.Finding.{AnswersWithin, IsLeastFrom, HoldsForNoneFrom};
 
 use crate::violation::Violation;
 use base::{BlockId, CacheId, Outcome, Place, Step};
@@ -113,7 +113,7 @@ pub(crate) fn find_stale(step: Step, outcome: Outcome, due: Option<u64>) -> Opti
 /// The least cache that may write a block which more than one may read.
 fn crowded_writer(world: &World, block: BlockId) -> Option<CacheId>
     ensures some { IfSome result (λ cache. IsLeastFrom (λ c. Writes world.now.state c block.0) 0 cache.0) }
-    ensures none { IfNone result ((readers_of world.now.state block.0 ≤ 1) ⊎ NoneFrom (λ c. Writes world.now.state c block.0) 0) }
+    ensures none { IfNone result ((readers_of world.now.state block.0 ≤ 1) ⊎ HoldsForNoneFrom (λ c. Writes world.now.state c block.0) 0) }
 {
     world.crowded_writer(block)
 }
@@ -121,7 +121,7 @@ fn crowded_writer(world: &World, block: BlockId) -> Option<CacheId>
 /// The least cache behind one that may write a block.
 fn writer_behind(world: &World, block: BlockId, first: CacheId) -> Option<CacheId>
     ensures { MatchOption result
-        (NoneFrom (λ c. Writes world.now.state c block.0) (first.0 + 1))
+        (HoldsForNoneFrom (λ c. Writes world.now.state c block.0) (first.0 + 1))
         (λ cache. IsLeastFrom (λ c. Writes world.now.state c block.0) (first.0 + 1) cache.0) }
 {
     for number in first.0..caches_of(world, block) {
@@ -135,7 +135,7 @@ fn writer_behind(world: &World, block: BlockId, first: CacheId) -> Option<CacheI
 /// The least cache but one that may read a block.
 fn reader_beside(world: &World, block: BlockId, writer: CacheId) -> Option<CacheId>
     ensures { MatchOption result
-        (NoneFrom (λ c. (c ≢ writer.0) × Reads world.now.state c block.0) 0)
+        (HoldsForNoneFrom (λ c. (c ≢ writer.0) × Reads world.now.state c block.0) 0)
         (λ cache. IsLeastFrom (λ c. (c ≢ writer.0) × Reads world.now.state c block.0) 0 cache.0) }
 {
     for number in 0..caches_of(world, block) {

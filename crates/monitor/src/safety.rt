@@ -4,7 +4,7 @@ ghost use Rattle.std.specs.Prelude.{◌≡◌, ◌↔◌, ◌+◌, ◌++◌, ◌
 ghost use Rattle.base.specs.Extent.{Extent, IsWithinLimits};
 ghost use Rattle.base.specs.declared.step.Step.{Step};
 ghost use Rattle.machine.specs.Coherence.{Safe};
-ghost use Rattle.machine.specs.Restraint.{Restrains};
+ghost use Rattle.machine.specs.Restraint.{AreRestrained};
 ghost use Rattle.both_tables.specs.Tables.{Tables};
 ghost use Rattle.monitor.specs.Scenes.{HasNone, IsViolation};
 ghost use Rattle.monitor.specs.Watching.{scene_after};
@@ -30,10 +30,10 @@ pub fn violations_are_what_isnt_safe()
 
 /// Under restrained tables, of which the protocol's own are some, no steps have a violation.
 pub fn no_violation_under_restrained_tables()
-    ensures none { (shape : Extent) (tables : Tables) (opening : List ℕ) (steps : List Step) → Restrains tables → IsWithinLimits shape →
+    ensures none { (shape : Extent) (tables : Tables) (opening : List ℕ) (steps : List Step) → AreRestrained tables → IsWithinLimits shape →
         length opening ≡ shape.blocks → HasNoViolation shape tables opening steps }
     ensures answer { (shape : Extent) (tables : Tables) (opening : List ℕ) (steps : List Step) (found : Option (ℕ × Violation)) →
-        Restrains tables → IsWithinLimits shape → length opening ≡ shape.blocks → AnswersFirst shape tables opening steps found → found ≡ None }
+        AreRestrained tables → IsWithinLimits shape → length opening ≡ shape.blocks → AnswersFirst shape tables opening steps found → found ≡ None }
 {
     machine::restrained_tables_are_safe();
     violations_are_what_isnt_safe();

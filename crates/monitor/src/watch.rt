@@ -42,7 +42,7 @@ impl Watch {
     /// Whatever it has seen, it is a watch to whose blocks nothing has happened from now on, and which have these opening
     /// values. It takes memory only where there are more of them than there were.
     ///
-    /// Where memory is refused it is of no more use.
+    /// Where memory is refused it is of no use until it is reset again.
     pub fn reset(&mut self, opening: &[u64]) -> Result<(), NoMemory>
         ensures values { OnOk result (self.new ≡ opening.now) }
         ensures seen { OnOk result ((world : View) → HasSeen world opening.now [] self.new) }

@@ -7,7 +7,7 @@ use Rattle.std.proofs.lemmas.List.{ext_get_or, get_or-map, get_or-set_other, len
 use Rattle.std.proofs.lemmas.Option.{slice_get-get_or, slice_get-map}
 use Rattle.std.proofs.lemmas.List.Edits.{length-remove}
 use Rattle.rows.specs.Flags.{set_count}
-use Rattle.network.specs.Links.{one, IsCounted}
+use Rattle.network.specs.inner.Links.{one, IsCounted}
 use Rattle.network.specs.Marks.{unset}
 use Rattle.network.proofs.Marked.{map-remove}
 

@@ -7,7 +7,7 @@ use Rattle.std.proofs.Math.Seq.{map-set_same}
 use Rattle.std.proofs.lemmas.Bool.{cases_eq, cases_lt, ne_eqb}
 use Rattle.std.proofs.lemmas.List.Sums.{sum_by-cons}
 use Rattle.std.proofs.lemmas.List.{map-set, length-map, get_or_past, get_or-set_same, get_or-set_other}
-use Rattle.network.specs.Links.{AreMarked, KeepsRoom, UsesOnePlace, Wired, on_link, marks_on, room_on, waiting_of}
+use Rattle.network.specs.inner.Links.{AreMarked, KeepsRoom, UsesOneLink, Wired, on_link, marks_on, room_on, waiting_of}
 use Rattle.network.specs.Traffic.{all_nil, is_nil}
 use Rattle.network.specs.declared.message.Forward.{Forward}
 use Rattle.rows.specs.Flags.{set_count}
@@ -81,7 +81,7 @@ room-other os i k new ne =
 
 -- one place on one link went
 pub one_place-used : (os : List (Option (Wired Forward))) (i : ℕ) (old : Option (Wired Forward)) (new : Wired Forward) → i < length os →
-    old ≡ get_or os i None → room_on old ≤ new.room + 1 → UsesOnePlace i (map room_on os) (map room_on (set os i (Some new)))
+    old ≡ get_or os i None → room_on old ≤ new.room + 1 → UsesOneLink i (map room_on os) (map room_on (set os i (Some new)))
 one_place-used os i old new h is_old less = record {
   here =
       let before : get_or (map room_on os) i 0 ≡ room_on old = get_or-map room_on os i None ∙ ap room_on (sym is_old) in
@@ -118,7 +118,7 @@ room-same os ps same = record {
   each = λ k. omega (arith, ap (λ xs. get_or (map room_on xs) k 0) same);
 }
 
-pub none-used : (os ps : List (Option (Wired Forward))) (i : ℕ) → ps ≡ os → UsesOnePlace i (map room_on os) (map room_on ps)
+pub none-used : (os ps : List (Option (Wired Forward))) (i : ℕ) → ps ≡ os → UsesOneLink i (map room_on os) (map room_on ps)
 none-used os ps i same = record {
   here = omega (arith, ap (λ xs. get_or (map room_on xs) i 0) same);
   others = λ k ne. omega (arith, ap (λ xs. get_or (map room_on xs) k 0) same);

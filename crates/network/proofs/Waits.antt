@@ -2,7 +2,7 @@
 use Rattle.std.proofs.Common.{◌≡◌, ℕ, Option, None, Some, Result, Ok, Err, Bool, true, false, not, refl, sym, ◌∙◌}
 use Rattle.std.specs.Prelude.{IfSome, IfNone, OnErr}
 use Rattle.network.proofs.Linked.{nil-is, waiting-at}
-use Rattle.network.specs.Links.{waiting_of}
+use Rattle.network.specs.inner.Links.{waiting_of}
 use Rattle.network.specs.Traffic.{IsNextWaiting, NoneWaits, Traffic, is_nil, link}
 use Rattle.rows.specs.Flags.{IsFirstFrom, NoneFrom}
 

@@ -3,7 +3,7 @@ ghost use Rattle.std.specs.Prelude.{ℕ, length, map, remove, replicate, false};
 ghost use Rattle.std.specs.Prelude.{slice_get, slice_index, slice_index_or, slice_set};
 ghost use Rattle.network.specs.Marks.{mark_at};
 ghost use Rattle.network.specs.Traffic.{all_nil};
-ghost use Rattle.network.specs.Links.{AreMarked, KeepsRoom, UsesOnePlace, marks_on, on_link, room_on, waiting_of};
+ghost use Rattle.network.specs.inner.Links.{AreMarked, KeepsRoom, UsesOneLink, marks_on, on_link, room_on, waiting_of};
 ghost use Rattle.rows.specs.Flags.{IsFirstFrom, NoneFrom, is_set};
 
 use crate::message::Forward;
@@ -24,7 +24,7 @@ pub struct Links {
 
 impl Model for Links {
     ghost use Rattle.std.specs.Prelude.{map};
-    ghost use Rattle.network.specs.Links.{AreLinked, Linked, marks_on, on_link, room_on};
+    ghost use Rattle.network.specs.inner.Links.{AreLinked, Linked, marks_on, on_link, room_on};
 
     ghost Value = { Linked };
 
@@ -166,7 +166,7 @@ impl Links {
         ensures err_marks { OnErr result (self.new.marks ≡ self.old.marks) }
         ensures back { IfErr result (λ back. back ≡ forward) }
         ensures succeeds { 0 < slice_index self.old.room cache.0 → IsOk result }
-        ensures room { UsesOnePlace cache.0 self.old.room self.new.room }
+        ensures room { UsesOneLink cache.0 self.old.room self.new.room }
     {
         send_on(self.alloc, &mut self.links, cache, forward)?;
         self.waiting.set(cache.0, true);
@@ -229,7 +229,7 @@ fn send_on(
     ensures err_marks { OnErr result (map marks_on links.new.items ≡ map marks_on links.old.items) }
     ensures back { IfErr result (λ back. back ≡ forward) }
     ensures succeeds { 0 < slice_index (map room_on links.old.items) cache.0 → IsOk result }
-    ensures room { UsesOnePlace cache.0 (map room_on links.old.items) (map room_on links.new.items) }
+    ensures room { UsesOneLink cache.0 (map room_on links.old.items) (map room_on links.new.items) }
     ensures marked { AreMarked links.old.items → AreMarked links.new.items }
 {
     if let Some(link) = links.get_mut(cache.0) {

@@ -3,7 +3,7 @@ ghost use Rattle.std.specs.Prelude.{length, remove, slice_get, slice_set, false}
 ghost use Rattle.std.specs.Prelude.{map, vec_len};
 ghost use Rattle.std.specs.Vec.{vec_capacity};
 ghost use Rattle.network.specs.Marks.{mark_at, unset};
-ghost use Rattle.network.specs.Links.{one};
+ghost use Rattle.network.specs.inner.Links.{one};
 
 use base::NoMemory;
 use rows::TryClone;
@@ -31,7 +31,7 @@ pub struct Wire<M> {
 impl<M> Model for Wire<M> {
     ghost use Rattle.std.specs.Prelude.{◌-◌, ◌^◌, map, min, vec_len};
     ghost use Rattle.std.specs.Vec.{vec_capacity};
-    ghost use Rattle.network.specs.Links.{IsCounted, Wired};
+    ghost use Rattle.network.specs.inner.Links.{IsCounted, Wired};
 
     ghost Value = { Wired M };
 

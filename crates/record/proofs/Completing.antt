@@ -19,7 +19,7 @@ use Rattle.record.specs.declared.cells.Cell.{Cell}
 use Rattle.record.specs.declared.cells.Cell.TheVariants as cell
 use Rattle.record.specs.declared.recording.Entry.{Entry}
 use Rattle.record.specs.Cells.{all_spots, cell_at, cell_words, spot_number, spot_of, FitsCell}
-use Rattle.record.specs.Kept.{Kept}
+use Rattle.record.specs.View.{RecordingView}
 use Rattle.record.specs.Text.{text, line, header_words, shape_words, opening_words, cells_words, entries_words, entry_words, end_words, changed, changed_cells}
 use Rattle.record.specs.declared.due.Due.{Due}
 use Rattle.record.specs.declared.due.Due.TheVariants.{Header, ShapeLine, OpeningLine, CellCount, CellLine, EntryCount, EntryLine, EndLine, Nothing}
@@ -194,7 +194,7 @@ entries-of (suc n) ls f =
 -- ---- whole texts
 
 -- a recording whose text is these bytes
-abbrev IsTextOf : List ℕ → Kept → Type 0
+abbrev IsTextOf : List ℕ → RecordingView → Type 0
 IsTextOf bytes r = IsRecordable r × (bytes ≡ text r)
 
 tail_text : List Cell → List Entry → List ℕ
@@ -228,14 +228,14 @@ tail-of ls f =
           ∙ ap (λ l. line (entries_words (length e.entries)) ++ l) e.bytes)),
     )
 
-lines-text : (ls : List (List ℕ)) → Follow Header ls Nothing → (r : Kept) × IsTextOf (flat_map ended ls) r
+lines-text : (ls : List (List ℕ)) → Follow Header ls Nothing → (r : RecordingView) × IsTextOf (flat_map ended ls) r
 lines-text ls f =
     let a = begins-of Header ls Nothing (λ e. cc) f in
     let b = begins-of ShapeLine a.rest Nothing (λ e. cc) (turned a.next _ a.rest Nothing a.leads.1 a.follow) in
     let d = begins-of (OpeningLine b.leads.0) b.rest Nothing (λ e. cc) (turned b.next _ b.rest Nothing b.leads.3 b.follow) in
     let rest = tail-of d.rest (turned d.next _ d.rest Nothing d.leads.3 d.follow) in
     let made = made-of rest.0 rest.2 in
-    let r : Kept = record { shape = b.leads.0; tables = made.tables; opening = d.leads.0; entries = rest.1 } in
+    let r : RecordingView = record { shape = b.leads.0; tables = made.tables; opening = d.leads.0; entries = rest.1 } in
     let tail : flat_map ended d.rest ≡ tail_text (changed_cells made.tables) rest.1 = rest.5 ∙ ap (λ cs. tail_text cs rest.1) (sym made.just) in (
       r,
       (
@@ -247,7 +247,7 @@ lines-text ls f =
       ),
     )
 
-pub whole-text_of : (bytes : List ℕ) → IsWellFormed (Some bytes) (Some []) → (r : Kept) × IsRecordable r × (bytes ≡ text r)
+pub whole-text_of : (bytes : List ℕ) → IsWellFormed (Some bytes) (Some []) → (r : RecordingView) × IsRecordable r × (bytes ≡ text r)
 whole-text_of bytes w =
     let found = lines-text w.lines w.follow in
     (found.0, found.1.0, w.read ∙ append-nil (flat_map ended w.lines) ∙ found.1.1)

@@ -15,7 +15,7 @@ use Rattle.record.specs.declared.reader.Reader.{Reader}
 use Rattle.record.specs.declared.recording.Entry.{Entry}
 use Rattle.record.specs.Cells.{cell_at, cell_words, spot_of, spot_number}
 use Rattle.record.specs.Grammar.{cells_due, entries_due, AreValues, FitsEntry, IsListed, Leads}
-use Rattle.record.specs.Kept.{Kept}
+use Rattle.record.specs.View.{RecordingView}
 use Rattle.record.specs.Recordable.{AreWhole}
 use Rattle.record.specs.Text.{header_words, shape_words, opening_words, changed_cells, cells_words, entries_words, entry_words}
 use Rattle.record.specs.inner.Drafts.{kept, head_lines, lines_to_cells, lines_to_entries, lines_before, lines_left, IsBaselineFrom, IsReadTo, IsTaken}
@@ -27,22 +27,22 @@ use Rattle.record.proofs.Steps.{fewer-left}
 
 -- ---- what is due behind a count, and behind one of so many
 
-cells-before : (n from : ℕ) (r : Kept) → lines_before (cells_due n from) r ≡ lines_to_cells r (length (changed_cells r.tables) + n)
+cells-before : (n from : ℕ) (r : RecordingView) → lines_before (cells_due n from) r ≡ lines_to_cells r (length (changed_cells r.tables) + n)
 cells-before zero from r = ap (lines_to_cells r) (omega arith)
 cells-before (suc n) from r = refl
 
-entries-before : (n : ℕ) (r : Kept) → lines_before (entries_due n) r ≡ lines_to_entries r (length r.entries + n)
+entries-before : (n : ℕ) (r : RecordingView) → lines_before (entries_due n) r ≡ lines_to_entries r (length r.entries + n)
 entries-before zero r = ap (lines_to_entries r) (omega arith)
 entries-before (suc n) r = refl
 
-cells-read : (n from : ℕ) (r : Kept) → IsWithinLimits r.shape → AreWhole r.tables → AreValues r.shape r.opening → r.entries ≡ [] → from ≤ 160 →
+cells-read : (n from : ℕ) (r : RecordingView) → IsWithinLimits r.shape → AreWhole r.tables → AreValues r.shape r.opening → r.entries ≡ [] → from ≤ 160 →
     IsBaselineFrom from r.tables → All FitsEntry r.entries → IsReadTo (cells_due n from) r
 cells-read zero from r shape tables opening entries low plain fits =
     record { shape = shape; tables = tables; fits = fits; opening = opening; cells = tt; entries = entries }
 cells-read (suc n) from r shape tables opening entries low plain fits =
     record { shape = shape; tables = tables; fits = fits; opening = opening; cells = (omega arith, low, plain); entries = entries }
 
-entries-read : (n : ℕ) (r : Kept) → IsWithinLimits r.shape → AreWhole r.tables → AreValues r.shape r.opening → length r.entries + n ≤ 1000000 →
+entries-read : (n : ℕ) (r : RecordingView) → IsWithinLimits r.shape → AreWhole r.tables → AreValues r.shape r.opening → length r.entries + n ≤ 1000000 →
     All FitsEntry r.entries → IsReadTo (entries_due n) r
 entries-read zero r shape tables opening few fits =
     record { shape = shape; tables = tables; fits = fits; opening = opening; cells = tt; entries = omega (arith, few) }
@@ -54,7 +54,7 @@ baseline-changed = sym (listed-all baseline 0 (omega arith) (λ s high. refl))
 
 -- ---- lines that leave the recording as it is
 
-at-cell_count : (r : Kept) (line : List (List ℕ)) (next : Due) → IsReadTo CellCount r → Leads CellCount line next →
+at-cell_count : (r : RecordingView) (line : List (List ℕ)) (next : Due) → IsReadTo CellCount r → Leads CellCount line next →
     IsTaken CellCount r line next r
 at-cell_count r line next h leads =
     let none : changed_cells r.tables ≡ [] = ap changed_cells h.cells ∙ baseline-changed in
@@ -70,7 +70,7 @@ at-cell_count r line next h leads =
           (cells-read leads.0 0 r h.shape h.tables h.opening h.entries (omega arith) plain h.fits);
     }
 
-at-entry_count : (r : Kept) (line : List (List ℕ)) (next : Due) → IsReadTo EntryCount r → Leads EntryCount line next →
+at-entry_count : (r : RecordingView) (line : List (List ℕ)) (next : Due) → IsReadTo EntryCount r → Leads EntryCount line next →
     IsTaken EntryCount r line next r
 at-entry_count r line next h leads =
     let n : length r.entries + leads.0 ≡ leads.0 = omega (arith, ap length h.entries) in
@@ -83,19 +83,19 @@ at-entry_count r line next h leads =
       read = subst (λ d. IsReadTo d r) (sym leads.3) (entries-read leads.0 r h.shape h.tables h.opening (omega (arith, n, leads.1)) h.fits);
     }
 
-pub cell_count-taken : (due : Due) (r : Kept) (line : List (List ℕ)) (next : Due) → due ≡ CellCount → IsReadTo due r → Leads CellCount line next →
+pub cell_count-taken : (due : Due) (r : RecordingView) (line : List (List ℕ)) (next : Due) → due ≡ CellCount → IsReadTo due r → Leads CellCount line next →
     IsTaken due r line next r
 cell_count-taken due r line next is h leads =
     subst (λ d. IsTaken d r line next r) (sym is) (at-cell_count r line next (subst (λ d. IsReadTo d r) is h) leads)
 
-pub entry_count-taken : (due : Due) (r : Kept) (line : List (List ℕ)) (next : Due) → due ≡ EntryCount → IsReadTo due r → Leads EntryCount line next →
+pub entry_count-taken : (due : Due) (r : RecordingView) (line : List (List ℕ)) (next : Due) → due ≡ EntryCount → IsReadTo due r → Leads EntryCount line next →
     IsTaken due r line next r
 entry_count-taken due r line next is h leads =
     subst (λ d. IsTaken d r line next r) (sym is) (at-entry_count r line next (subst (λ d. IsReadTo d r) is h) leads)
 
 -- ---- one cell or one entry more
 
-pub cell-taken : (r s : Kept) (left from : ℕ) (cell : Cell) (line : List (List ℕ)) (next : Due) → IsReadTo (CellLine left from) r →
+pub cell-taken : (r s : RecordingView) (left from : ℕ) (cell : Cell) (line : List (List ℕ)) (next : Due) → IsReadTo (CellLine left from) r →
     IsListed from cell → line ≡ cell_words cell → s.shape ≡ r.shape → s.opening ≡ r.opening → s.entries ≡ r.entries → AreWhole s.tables →
     cell_at s.tables (spot_of cell) ≡ cell → ((spot : Spot) → spot ≢ spot_of cell → cell_at s.tables spot ≡ cell_at r.tables spot) →
     next ≡ cells_due (left - 1) (spot_number (spot_of cell) + 1) → IsTaken (CellLine left from) r line next s
@@ -126,22 +126,22 @@ cell-taken r s left from cell line next h listed spelled shape opening entries w
           (subst (All FitsEntry) (sym entries) h.fits));
     }
   where
-    heads-same : (r s : Kept) → s.shape ≡ r.shape → s.opening ≡ r.opening → head_lines s ≡ head_lines r
+    heads-same : (r s : RecordingView) → s.shape ≡ r.shape → s.opening ≡ r.opening → head_lines s ≡ head_lines r
     heads-same r s shape opening =
         ap (λ x. header_words ∷ shape_words x ∷ opening_words s.opening ∷ []) shape
         ∙ ap (λ o. header_words ∷ shape_words r.shape ∷ opening_words o ∷ []) opening
 
 -- a recording with these entries, made so
-pub entries-set : (r : Kept) (entries more : List Entry) → entries ≡ more →
-    (let s : Kept = record { shape = r.shape; tables = r.tables; opening = r.opening; entries = entries } in s)
+pub entries-set : (r : RecordingView) (entries more : List Entry) → entries ≡ more →
+    (let s : RecordingView = record { shape = r.shape; tables = r.tables; opening = r.opening; entries = entries } in s)
     ≡ record { shape = r.shape; tables = r.tables; opening = r.opening; entries = more }
-entries-set r entries more is = ap (λ es. let s : Kept = record { shape = r.shape; tables = r.tables; opening = r.opening; entries = es } in s) is
+entries-set r entries more is = ap (λ es. let s : RecordingView = record { shape = r.shape; tables = r.tables; opening = r.opening; entries = es } in s) is
 
-pub entry-taken : (r s : Kept) (left : ℕ) (e : Entry) (line : List (List ℕ)) (next : Due) → IsReadTo (EntryLine left) r → FitsEntry e →
+pub entry-taken : (r s : RecordingView) (left : ℕ) (e : Entry) (line : List (List ℕ)) (next : Due) → IsReadTo (EntryLine left) r → FitsEntry e →
     line ≡ entry_words e → s ≡ record { shape = r.shape; tables = r.tables; opening = r.opening; entries = r.entries ++ e ∷ [] } →
     next ≡ entries_due (left - 1) → IsTaken (EntryLine left) r line next s
 entry-taken r s left e line next h fits spelled is due =
-    let t : Kept = record { shape = r.shape; tables = r.tables; opening = r.opening; entries = r.entries ++ e ∷ [] } in
+    let t : RecordingView = record { shape = r.shape; tables = r.tables; opening = r.opening; entries = r.entries ++ e ∷ [] } in
     let n : length t.entries + (left - 1) ≡ length r.entries + left = omega (arith, length_push r.entries e, h.entries.0) in
     let count : ℕ = length r.entries + left in
     let cells = lines_to_cells r (length (changed_cells r.tables)) in

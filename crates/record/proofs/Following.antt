@@ -9,7 +9,7 @@ use Rattle.record.specs.declared.cells.Spot.TheVariants as spot
 use Rattle.record.specs.declared.cells.Cell.{Cell}
 use Rattle.record.specs.declared.recording.Entry.{Entry}
 use Rattle.record.specs.Cells.{all_spots, cell_at, cell_words, is_same, spot_of, spot_number}
-use Rattle.record.specs.Kept.{Kept}
+use Rattle.record.specs.View.{RecordingView}
 use Rattle.base.specs.Spelling.{joined}
 use Rattle.record.specs.Text.{text, lines, entries_words, entry_words, end_words, is_changed, changed, changed_cells}
 use Rattle.record.specs.declared.due.Due.{Due}
@@ -107,7 +107,7 @@ entries-followed (e ∷ es) h =
 
 -- ---- the whole text
 
-lines-followed : (r : Kept) → IsRecordable r → Followed Header (lines r) Nothing
+lines-followed : (r : RecordingView) → IsRecordable r → Followed Header (lines r) Nothing
 lines-followed r h =
     let entries : Followed EntryCount (entries_words (length r.entries) ∷ map entry_words r.entries ++ end_words ∷ []) Nothing =
     (entries_due (length r.entries), (length r.entries, h.few, refl, refl), entries-followed r.entries (recursion_from_All FitsEntry r.entries h.fits)) in
@@ -125,11 +125,11 @@ lines-followed r h =
       ),
     )
 
-pub recorded-lines : (r : Kept) → IsRecordable r → AllByRecursion IsLine (lines r)
+pub recorded-lines : (r : RecordingView) → IsRecordable r → AllByRecursion IsLine (lines r)
 recorded-lines r h = followed-lines Header Nothing (lines r) tt (lines-followed r h)
 
 -- the text of a recording is well formed from the first line to the last
-pub text-whole : (r : Kept) → IsRecordable r → IsWellFormed (Some (text r)) (Some [])
+pub text-whole : (r : RecordingView) → IsRecordable r → IsWellFormed (Some (text r)) (Some [])
 text-whole r h = record {
   lines = map joined (lines r);
   follow = followed-follow Header Nothing (lines r) tt (lines-followed r h);
@@ -141,5 +141,5 @@ short-all : (xs : List (List (List ℕ))) → AllByRecursion IsLine xs → AllBy
 short-all [] h = tt
 short-all (x ∷ xs) h = (joined-short x h.0, short-all xs h.1)
 
-pub lines-short : (r : Kept) → IsRecordable r → All (λ ws. length (joined ws) ≤ 90000) (lines r)
+pub lines-short : (r : RecordingView) → IsRecordable r → All (λ ws. length (joined ws) ≤ 90000) (lines r)
 lines-short r h = All-from_recursion (λ ws. length (joined ws) ≤ 90000) (lines r) (short-all (lines r) (recorded-lines r h))

@@ -17,7 +17,7 @@ use Rattle.record.specs.declared.cells.Spot.{Spot}
 use Rattle.record.specs.declared.cells.Cell.{Cell}
 use Rattle.record.specs.declared.recording.Entry.{Entry}
 use Rattle.record.specs.Cells.{all_spots, cell_at, cell_words, spot_number}
-use Rattle.record.specs.Kept.{Kept}
+use Rattle.record.specs.View.{RecordingView}
 use Rattle.base.specs.Spelling.{joined}
 use Rattle.record.specs.Text.{text, line, lines, shape_words, opening_words, cells_words, entries_words, entry_words, end_words, is_changed}
 use Rattle.record.specs.Text.{changed, changed_cells}
@@ -170,20 +170,20 @@ cells-agree t u h k e s =
 
 -- ---- recordings
 
-kept : Extent → Tables → List ℕ → List Entry → Kept
+kept : Extent → Tables → List ℕ → List Entry → RecordingView
 kept shape tables opening entries = record { shape = shape; tables = tables; opening = opening; entries = entries }
 
-parts-same : (r s : Kept) → r.shape ≡ s.shape → r.tables ≡ s.tables → r.opening ≡ s.opening → r.entries ≡ s.entries → r ≡ s
+parts-same : (r s : RecordingView) → r.shape ≡ s.shape → r.tables ≡ s.tables → r.opening ≡ s.opening → r.entries ≡ s.entries → r ≡ s
 unfolding kept
 parts-same r s a b c d =
     ap (λ x. kept x r.tables r.opening r.entries) a ∙ ap (λ x. kept s.shape x r.opening r.entries) b ∙ ap (λ x. kept s.shape s.tables x r.entries) c
     ∙ ap (λ x. kept s.shape s.tables s.opening x) d
 
-rest_of : Kept → List (List (List ℕ))
+rest_of : RecordingView → List (List (List ℕ))
 rest_of r = map cell_words (changed_cells r.tables) ++ (entries_words (length r.entries) ∷ map entry_words r.entries ++ end_words ∷ [])
 
 -- a text is the text of one recording
-pub recording-one : (r s : Kept) → IsRecordable r → IsRecordable s → text r ≡ text s → r ≡ s
+pub recording-one : (r s : RecordingView) → IsRecordable r → IsRecordable s → text r ≡ text s → r ≡ s
 unfolding rest_of
 recording-one r s h k e =
     let all : lines r ≡ lines s = lines-same (lines r) (lines s) (recorded-lines r h) (recorded-lines s k) e in
@@ -213,13 +213,13 @@ recording-one r s h k e =
     behind_four xs = behind_one (behind_one (behind_one (behind_one xs)))
 
 -- and no text is the beginning of another
-pub recording-alone : (r s : Kept) (more : List ℕ) → IsRecordable r → IsRecordable s → text r ≡ text s ++ more → (r ≡ s) × (more ≡ [])
+pub recording-alone : (r s : RecordingView) (more : List ℕ) → IsRecordable r → IsRecordable s → text r ≡ text s ++ more → (r ≡ s) × (more ≡ [])
 recording-alone r s more h k e =
     let none : more ≡ [] = whole-alone (text r) (text s) more (text-whole r h) (text-whole s k) e in
     (recording-one r s h k (e ∙ ap (λ l. text s ++ l) none ∙ append-nil (text s)), none)
 
 -- what was read of a recording's text is that recording
-pub read-back : (before after : Option (List ℕ)) (r s : Kept) → IsRecordable r → IsRecordable s → before ≡ Some (text r) →
+pub read-back : (before after : Option (List ℕ)) (r s : RecordingView) → IsRecordable r → IsRecordable s → before ≡ Some (text r) →
     Consumes before after (text s) → s ≡ r
 read-back before after r s h k is read = read-text after (subst (λ b. Consumes b after (text s)) is read)
   where
@@ -228,7 +228,7 @@ read-back before after r s h k is read = read-text after (subst (λ b. Consumes 
     read-text (Some left) read = sym (recording-alone r s left h k read).0
 
 -- and it is refused only for want of memory or by a device
-pub refused-outside : (before end : Option (List ℕ)) (line : ℕ) (kind : ReadKind) (r : Kept) → IsRecordable r → before ≡ Some (text r) →
+pub refused-outside : (before end : Option (List ℕ)) (line : ℕ) (kind : ReadKind) (r : RecordingView) → IsRecordable r → before ≡ Some (text r) →
     IsRefused before end 0 Header line kind → IsOutside kind
 refused-outside before end line kind r h is refused =
     whole-refused (text r) (Some []) end line kind (text-whole r h) (subst (λ b. IsRefused b end 0 Header line kind) is refused)

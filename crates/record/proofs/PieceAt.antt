@@ -9,7 +9,7 @@ use Rattle.record.specs.Grammar.{FitsEntry}
 use Rattle.record.specs.declared.cells.Spot.{Spot}
 use Rattle.record.specs.declared.recording.Entry.{Entry}
 use Rattle.record.specs.Cells.{all_spots}
-use Rattle.record.specs.Kept.{Kept}
+use Rattle.record.specs.View.{RecordingView}
 use Rattle.record.specs.Text.{changed_cells}
 use Rattle.record.specs.inner.Pieces.{pieces, value_piece, cells_piece, cell_piece, entries_piece, entry_piece, end_piece}
 
@@ -26,52 +26,52 @@ among f xs rest i d low =
     get_or_append_left (map f xs) rest [] i (omega (arith, low, length-map xs f)) ∙ get_or-map f xs i d [] low
 
 -- what stands behind the pieces of the opening values, and behind those of the cells
-abbrev behind_cells : Kept → List (List ℕ)
+abbrev behind_cells : RecordingView → List (List ℕ)
 behind_cells r = entries_piece (length r.entries) ∷ map entry_piece r.entries ++ end_piece ∷ []
 
-abbrev behind_values : Kept → List (List ℕ)
+abbrev behind_values : RecordingView → List (List ℕ)
 behind_values r = map (cell_piece r.tables) all_spots ++ behind_cells r
 
-next : (r : Kept) (n i : ℕ) → n ≡ i + 1 →
+next : (r : RecordingView) (n i : ℕ) → n ≡ i + 1 →
     get_or (pieces r) n [] ≡ get_or (map value_piece r.opening ++ cells_piece (length (changed_cells r.tables)) ∷ behind_values r) i []
 next r n i e = let is : n ≡ suc i = omega (arith, e) in ap (λ k. get_or (pieces r) k []) is
 
-past-values : (r : Kept) (n i : ℕ) → n ≡ length r.opening + 2 + i → get_or (pieces r) n [] ≡ get_or (behind_values r) i []
+past-values : (r : RecordingView) (n i : ℕ) → n ≡ length r.opening + 2 + i → get_or (pieces r) n [] ≡ get_or (behind_values r) i []
 past-values r n i e =
     let count = length-map r.opening value_piece in
     next r n (length r.opening + 1 + i) (omega (arith, e))
     ∙ past (map value_piece r.opening) (cells_piece (length (changed_cells r.tables))) (behind_values r) (length r.opening + 1 + i) i [] (omega (arith, count))
 
-past-cells : (r : Kept) (n i : ℕ) → n ≡ length r.opening + 163 + i → get_or (pieces r) n [] ≡ get_or (map entry_piece r.entries ++ end_piece ∷ []) i []
+past-cells : (r : RecordingView) (n i : ℕ) → n ≡ length r.opening + 163 + i → get_or (pieces r) n [] ≡ get_or (map entry_piece r.entries ++ end_piece ∷ []) i []
 past-cells r n i e =
     let count = length-map all_spots (cell_piece r.tables) in
     past-values r n (161 + i) (omega (arith, e))
     ∙ past (map (cell_piece r.tables) all_spots) (entries_piece (length r.entries)) (map entry_piece r.entries ++ end_piece ∷ []) (161 + i) i []
     (omega (arith, count))
 
-pub value-at : (r : Kept) (n i : ℕ) (d : ℕ) → n ≡ i + 1 → i < length r.opening → get_or (pieces r) n [] ≡ value_piece (get_or r.opening i d)
+pub value-at : (r : RecordingView) (n i : ℕ) (d : ℕ) → n ≡ i + 1 → i < length r.opening → get_or (pieces r) n [] ≡ value_piece (get_or r.opening i d)
 value-at r n i d e low = next r n i e ∙ among value_piece r.opening _ i d low
 
-pub cells-at : (r : Kept) (n : ℕ) → n ≡ length r.opening + 1 → get_or (pieces r) n [] ≡ cells_piece (length (changed_cells r.tables))
+pub cells-at : (r : RecordingView) (n : ℕ) → n ≡ length r.opening + 1 → get_or (pieces r) n [] ≡ cells_piece (length (changed_cells r.tables))
 cells-at r n e =
     let count = length-map r.opening value_piece in
     next r n (length r.opening) e
     ∙ seam (map value_piece r.opening) (cells_piece (length (changed_cells r.tables))) (behind_values r) (length r.opening) [] (omega (arith, count))
 
-pub cell-at : (r : Kept) (n i : ℕ) (d : Spot) → n ≡ length r.opening + 2 + i → i < 160 → get_or (pieces r) n [] ≡ cell_piece r.tables (get_or all_spots i d)
+pub cell-at : (r : RecordingView) (n i : ℕ) (d : Spot) → n ≡ length r.opening + 2 + i → i < 160 → get_or (pieces r) n [] ≡ cell_piece r.tables (get_or all_spots i d)
 cell-at r n i d e low = past-values r n i e ∙ among (cell_piece r.tables) all_spots (behind_cells r) i d low
 
-pub entries-at : (r : Kept) (n : ℕ) → n ≡ length r.opening + 162 → get_or (pieces r) n [] ≡ entries_piece (length r.entries)
+pub entries-at : (r : RecordingView) (n : ℕ) → n ≡ length r.opening + 162 → get_or (pieces r) n [] ≡ entries_piece (length r.entries)
 entries-at r n e =
     let count = length-map all_spots (cell_piece r.tables) in
     past-values r n 160 (omega (arith, e))
     ∙ seam (map (cell_piece r.tables) all_spots) (entries_piece (length r.entries)) (map entry_piece r.entries ++ end_piece ∷ []) 160 [] (omega (arith, count))
 
-pub entry-at : (r : Kept) (n i : ℕ) (d : Entry) → n ≡ length r.opening + 163 + i → i < length r.entries →
+pub entry-at : (r : RecordingView) (n i : ℕ) (d : Entry) → n ≡ length r.opening + 163 + i → i < length r.entries →
     get_or (pieces r) n [] ≡ entry_piece (get_or r.entries i d)
 entry-at r n i d e low = past-cells r n i e ∙ among entry_piece r.entries (end_piece ∷ []) i d low
 
-pub end-at : (r : Kept) (n : ℕ) → n ≡ length r.opening + 163 + length r.entries → get_or (pieces r) n [] ≡ end_piece
+pub end-at : (r : RecordingView) (n : ℕ) → n ≡ length r.opening + 163 + length r.entries → get_or (pieces r) n [] ≡ end_piece
 end-at r n e =
     let count = length-map r.entries entry_piece in
     past-cells r n (length r.entries) e ∙ seam (map entry_piece r.entries) end_piece [] (length r.entries) [] (omega (arith, count))

@@ -13,7 +13,7 @@ use Rattle.monitor.specs.Scenes.{Answers}
 use Rattle.machine.specs.Completions.{completions_of}
 use Rattle.monitor.specs.Watching.{HasSeen, LeadTo, AnswersHistory, SeesNext, AreDue, made_after, scene_after}
 use Rattle.record.specs.declared.recording.Entry.{Entry}
-use Rattle.record.specs.Kept.{Kept, steps_of}
+use Rattle.record.specs.View.{RecordingView, steps_of}
 use Rattle.record.specs.Replaying.{IsFirstToDiffer}
 use Rattle.monitor.specs.Violations.{AnswersFirst}
 use Rattle.monitor.proofs.FirstViolations.{first_seen, first-push}
@@ -36,7 +36,7 @@ get-map f (x ∷ xs) zero d low = refl
 get-map f (x ∷ xs) (suc k) d low = get-map f xs k d (omega (arith, low))
 
 -- the outcome that a step has behind those so far
-found-here : (r : Kept) (done : List Entry) (world new : View) (watch : List ℕ) (violation : Option (ℕ × Violation))
+found-here : (r : RecordingView) (done : List Entry) (world new : View) (watch : List ℕ) (violation : Option (ℕ × Violation))
     (step : Step) (what : Outcome) →
     IsSoFar r done world watch violation → next world.tables world.state step ≡ stepped new.state what →
     next r.tables (state_after r.tables (opened r.shape r.opening) (steps_in done)) step ≡ stepped new.state what
@@ -45,7 +45,7 @@ found-here r done world new watch violation step what h made =
     ∙ ap (λ (s : State). next world.tables s step) (sym h.state) ∙ made
 
 -- the first entry that differs
-pub differs-here : (r : Kept) (k : ℕ) (d : Entry) (world new : View) (watch : List ℕ) (violation : Option (ℕ × Violation))
+pub differs-here : (r : RecordingView) (k : ℕ) (d : Entry) (world new : View) (watch : List ℕ) (violation : Option (ℕ × Violation))
     (what : Outcome) →
     k < length r.entries → IsSoFar r (take k r.entries) world watch violation →
     next world.tables world.state (get_or r.entries k d).step ≡ stepped new.state what → what ≢ (get_or r.entries k d).outcome →
@@ -74,7 +74,7 @@ outcomes-push tables s [] step = refl
 outcomes-push tables s (x ∷ xs) step = ap (λ os. (next tables s x).outcome ∷ os) (outcomes-push tables (next tables s x).state xs step)
 
 -- one entry more, whose outcome is as told
-pub push-so-far : (r : Kept) (done : List Entry) (e : Entry) (world new : View) (old_watch watch : List ℕ)
+pub push-so-far : (r : RecordingView) (done : List Entry) (e : Entry) (world new : View) (old_watch watch : List ℕ)
     (violation : Option (ℕ × Violation)) (seen : Option Violation) (what : Outcome) (n : ℕ) →
     n ≡ length done → IsSoFar r done world old_watch violation → next world.tables world.state e.step ≡ stepped new.state what →
     new.shape ≡ world.shape → new.tables ≡ world.tables → what ≡ e.outcome →
@@ -109,7 +109,7 @@ push-so-far r done e world new old_watch watch violation seen what n is h made s
           (first-push r.shape r.tables r.opening (steps_in done) e.step n violation seen (is ∙ sym (length-map done (λ (e : Entry). e.step))) h.first scene);
     }
 
-pub one-more : (r : Kept) (k : ℕ) (d : Entry) (world new : View) (old_watch watch : List ℕ)
+pub one-more : (r : RecordingView) (k : ℕ) (d : Entry) (world new : View) (old_watch watch : List ℕ)
     (violation : Option (ℕ × Violation)) (seen : Option Violation) (what : Outcome) →
     k < length r.entries → IsSoFar r (take k r.entries) world old_watch violation → next world.tables world.state
     (get_or r.entries k d).step ≡ stepped new.state what → new.shape ≡ world.shape → new.tables ≡ world.tables → what ≡
@@ -124,7 +124,7 @@ one-more r k d world new old_watch watch violation seen what low h made shape ta
     (sym (length-take-le k r.entries (omega (arith, low)))) h made shape tables told answers sees)
 
 -- the same, of equal entries
-pub differs-told : (r : Kept) (told : List Entry) → told ≡ r.entries →
+pub differs-told : (r : RecordingView) (told : List Entry) → told ≡ r.entries →
     (k : ℕ) (d : Entry) (world new : View) (watch : List ℕ) (violation : Option (ℕ × Violation)) (what : Outcome) →
     k < length told → IsSoFar r (take k told) world watch violation →
     next world.tables world.state (get_or told k d).step ≡ stepped new.state what → what ≢ (get_or told k d).outcome →
@@ -136,7 +136,7 @@ differs-told r told is =
     (get_or told k d).step ≡ stepped new.state what → what ≢ (get_or told k d).outcome → IsFirstToDiffer r k (get_or told k d).outcome what)
     (sym is) (differs-here r)
 
-pub one-more-told : (r : Kept) (told : List Entry) → told ≡ r.entries →
+pub one-more-told : (r : RecordingView) (told : List Entry) → told ≡ r.entries →
     (k : ℕ) (d : Entry) (world new : View) (old_watch watch : List ℕ) (violation : Option (ℕ × Violation))
     (seen : Option Violation) (what : Outcome) →
     k < length told → IsSoFar r (take k told) world old_watch violation → next world.tables world.state
@@ -152,6 +152,6 @@ one-more-told r told is =
     AnswersHistory new old_watch (get_or told k d).step what seen → SeesNext new old_watch (get_or told k d).step what watch →
     IsSoFar r (take (k + 1) told) new watch (first_seen violation k seen)) (sym is) (one-more r)
 
-pub same-so-far : (r : Kept) (done : List Entry) (world : View) (watch : List ℕ) (violation v : Option (ℕ × Violation)) →
+pub same-so-far : (r : RecordingView) (done : List Entry) (world : View) (watch : List ℕ) (violation v : Option (ℕ × Violation)) →
     v ≡ violation → IsSoFar r done world watch violation → IsSoFar r done world watch v
 same-so-far r done world watch violation v f h = subst (λ (x : Option (ℕ × Violation)). IsSoFar r done world watch x) (sym f) h

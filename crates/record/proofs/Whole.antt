@@ -6,7 +6,7 @@ use Rattle.std.proofs.lemmas.List.{append-nil, length-map}
 use Rattle.std.proofs.lemmas.Grind.{flat_map-append}
 use Rattle.std.specs.List.{flat_map}
 use Rattle.std.specs.Fmt.{decimal}
-use Rattle.record.specs.Kept.{Kept}
+use Rattle.record.specs.View.{RecordingView}
 use Rattle.record.specs.Cells.{all_spots, cell_words}
 use Rattle.record.specs.Text.{text, line, header_words, shape_words, opening_words, cells_words, changed_cells, entries_words, entry_words, end_words}
 use Rattle.record.specs.inner.Pieces.{IsOut, IsCutOff, pieces, head_piece, value_piece, cells_piece, cell_piece, entries_piece, entry_piece, end_piece}
@@ -31,7 +31,7 @@ regroup : (h s o os c cs e es end : List ℕ) →
 regroup h s o os c cs e es end = simp (append_assoc, append-nil)
 
 -- the pieces make the text
-pub whole-text : (r : Kept) → flat (pieces r) ≡ text r
+pub whole-text : (r : RecordingView) → flat (pieces r) ≡ text r
 whole-text r =
     let cells : List (List (List ℕ)) = map cell_words (changed_cells r.tables) in
     let entries : List (List (List ℕ)) = map entry_words r.entries in
@@ -62,7 +62,7 @@ whole-text r =
     ∙ sym (flat_map-append line cells (entries_words (length r.entries) ∷ entries ++ end_words ∷ [])))
 
 -- how many pieces there are
-pub pieces-count : (r : Kept) → length (pieces r) ≡ length r.opening + 164 + length r.entries
+pub pieces-count : (r : RecordingView) → length (pieces r) ≡ length r.opening + 164 + length r.entries
 pieces-count r =
     let behind : List (List ℕ) = entries_piece (length r.entries) ∷ map entry_piece r.entries ++ end_piece ∷ [] in
     omega (
@@ -76,7 +76,7 @@ pieces-count r =
     )
 
 -- where a sink failed, exactly a front of the text went out
-pub cut-text : (r : Kept) (b n : Option (List ℕ)) (to : ℕ) → IsCutOff b n (flat (pieces r)) 0 to →
+pub cut-text : (r : RecordingView) (b n : Option (List ℕ)) (to : ℕ) → IsCutOff b n (flat (pieces r)) 0 to →
     Appends b n (take to (text r)) × (to < length (text r))
 cut-text r b n to cut =
     let whole : IsCutOff b n (text r) 0 to = cut-same b n _ (text r) 0 to (whole-text r) cut in
@@ -84,5 +84,5 @@ cut-text r b n to cut =
     (subst (λ (k : ℕ). Appends b n (take k (text r))) is whole.front, subst (λ (k : ℕ). k < length (text r)) is whole.short)
 
 -- else all of it did
-pub out-text : (r : Kept) (b n : Option (List ℕ)) (to : ℕ) → IsOut b n (flat (pieces r)) 0 to → Appends b n (text r)
+pub out-text : (r : RecordingView) (b n : Option (List ℕ)) (to : ℕ) → IsOut b n (flat (pieces r)) 0 to → Appends b n (text r)
 out-text r b n to out = (out-same b n _ (text r) 0 to (whole-text r) out).all

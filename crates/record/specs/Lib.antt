@@ -1,4 +1,4 @@
-pub mod Kept
+pub mod View
 pub mod Cells
 pub mod Text
 pub mod Replaying

@@ -1,18 +1,18 @@
 -- What a replay finds: the first entry that differs.
 use Rattle.std.specs.Prelude.{◌≡◌, ◌≢◌, ℕ, Some, slice_get, take}
 use Rattle.base.specs.declared.step.Outcome.{Outcome}
-use Rattle.record.specs.Kept.{Kept, told_by, found_by}
+use Rattle.record.specs.View.{RecordingView, told_by, found_by}
 use Rattle.record.specs.declared.replaying.ReplayFault.{ReplayFault}
 use Rattle.record.specs.declared.replaying.ReplayFault.TheVariants.{Differs, NoMemory}
 
 -- this entry is the first whose outcome isn't that of its step: another one is told than is found, and those before it are as told
-pub record IsFirstToDiffer (r : Kept) (entry : ℕ) (told found : Outcome) : Type 0 where
+pub record IsFirstToDiffer (r : RecordingView) (entry : ℕ) (told found : Outcome) : Type 0 where
   pub is_told : slice_get (told_by r) entry ≡ Some told
   pub is_found : slice_get (found_by r) entry ≡ Some found
   pub differs : told ≢ found
   pub first : take entry (told_by r) ≡ take entry (found_by r)
 
 -- a replay is refused so: the first entry that differs, or want of memory
-abbrev pub FaultOf : Kept → ReplayFault → Type 0
+abbrev pub FaultOf : RecordingView → ReplayFault → Type 0
 FaultOf r (Differs entry told found) = IsFirstToDiffer r entry told found
 FaultOf r NoMemory = Unit {0}

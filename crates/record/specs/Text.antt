@@ -9,7 +9,7 @@ use Rattle.record.specs.declared.recording.Entry.{Entry}
 use Rattle.record.specs.declared.cells.Spot.{Spot}
 use Rattle.record.specs.declared.cells.Cell.{Cell}
 use Rattle.record.specs.Cells.{all_spots, cell_at, cell_words, is_same}
-use Rattle.record.specs.Kept.{Kept}
+use Rattle.record.specs.View.{RecordingView}
 
 -- a line of these words, with its end
 abbrev pub line : List (List ℕ) → List ℕ
@@ -56,12 +56,12 @@ abbrev pub changed_cells : Tables → List Cell
 changed_cells tables = changed tables all_spots
 
 -- the lines of a recording
-abbrev pub lines : Kept → List (List (List ℕ))
+abbrev pub lines : RecordingView → List (List (List ℕ))
 lines r =
     header_words ∷ shape_words r.shape ∷ opening_words r.opening ∷
     cells_words (length (changed_cells r.tables)) ∷ map cell_words (changed_cells r.tables) ++
     (entries_words (length r.entries) ∷ map entry_words r.entries ++ end_words ∷ [])
 
 -- the text of a recording
-abbrev pub text : Kept → List ℕ
+abbrev pub text : RecordingView → List ℕ
 text r = flat_map line (lines r)

@@ -1,7 +1,7 @@
-ghost use Rattle.std.specs.Prelude.{◌≡◌, ◌≤◌, ◌<◌, ◌+◌, ◌-◌, ◌^◌, ◌∷◌, ◌++◌, [], drop, get_or, length, take, IfOk, IfErr, OnOk, OnErr};
+ghost use Rattle.std.specs.Prelude.{◌≡◌, ◌≤◌, ◌<◌, ◌+◌, ◌-◌, ◌^◌, ◌∷◌, ◌++◌, [], drop, slice_index_or, length, take, IfOk, IfErr, OnOk, OnErr};
 ghost use Rattle.std.specs.Io.KnownBytes.{Consumes, IsAtEnd};
 ghost use Rattle.std.specs.Vec.{vec_capacity};
-ghost use Rattle.base.specs.Ends.{Marks};
+ghost use Rattle.base.specs.Ends.{MarksFault};
 ghost use Rattle.record.specs.Refused.{HasNoEnd, IsTooLong};
 ghost use Rattle.record.specs.inner.Reading.{Gathered, AreSomeIf, BeginsWithEnd, IsTakenOff, IsWholeIf, pending};
 
@@ -102,7 +102,7 @@ impl Lines {
     fn bytes_of_line(&self) -> usize
         ensures within { result ≤ length self.now.ahead }
         ensures open { HasNoEnd (take result self.now.ahead) }
-        ensures end { result < length self.now.ahead → get_or self.now.ahead result 0 ≡ 10 }
+        ensures end { result < length self.now.ahead → slice_index_or self.now.ahead result 0 ≡ 10 }
     {
         let ahead = &self.buffer[self.at..self.end];
         memchr(b'\n', ahead).unwrap_or(ahead.len())
@@ -118,7 +118,7 @@ impl Lines {
         ensures err { OnErr result (self.new.ahead ≡ []) }
         ensures line { self.new.line ≡ self.old.line }
         ensures number { self.new.number ≡ self.old.number }
-        ensures mark { Marks (S.has_failed source.old) result (S.has_failed source.new) }
+        ensures mark { MarksFault (S.has_failed source.old) result (S.has_failed source.new) }
     {
         self.at = 0;
         self.end = 0;

@@ -6,7 +6,7 @@ ghost use Rattle.record.specs.declared.cells.Spot as cells_spot;
 ghost use Rattle.record.specs.declared.due.Due.TheVariants.{Header};
 ghost use Rattle.record.specs.Cells.{cell_at, cell_words, spot_of, FitsCell};
 ghost use Rattle.record.specs.Grammar.{IsListed};
-ghost use Rattle.record.specs.Kept.{Kept};
+ghost use Rattle.record.specs.View.{RecordingView};
 ghost use Rattle.record.specs.Recordable.{AreWhole, IsRecordable};
 ghost use Rattle.record.specs.Refused.{IsOutside, IsRefused, IsWellFormed};
 ghost use Rattle.record.specs.Text.{text};
@@ -32,7 +32,7 @@ impl Recording {
         ensures fault { IfErr result (λ fault. IsRefused (S.left source.old) (S.left source.new) 0 Header fault.line fault.kind) }
         ensures device { IfErr result (λ fault. fault.kind ≡ ReadKind.Device → S.has_failed source.new ≡ true) }
         ensures recordable { IfOk result IsRecordable }
-        ensures back { (r : Kept) → IsRecordable r → S.left source.old ≡ Some (text r) →
+        ensures back { (r : RecordingView) → IsRecordable r → S.left source.old ≡ Some (text r) →
             MatchResult result (λ recording. recording ≡ r) (λ fault. IsOutside fault.kind) }
     {
         let Ok(mut reader) = Reader::open(alloc) else {

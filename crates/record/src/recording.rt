@@ -50,9 +50,9 @@ impl Drop for Recording {
 }
 
 impl Model for Recording {
-    ghost use Rattle.record.specs.Kept.{Kept, IsKept};
+    ghost use Rattle.record.specs.View.{RecordingView, IsKept};
 
-    ghost Value = { Kept };
+    ghost Value = { RecordingView };
 
     ghost view = { λ r. record { shape = r.shape; tables = r.tables; opening = r.opening.items; entries = r.entries.items } };
 
@@ -62,7 +62,7 @@ impl Model for Recording {
 impl Recording {
     ghost use Rattle.std.specs.Prelude.{◌≡◌, ◌≢◌, ◌≤◌, ◌↔◌, ◌∷◌, ◌++◌, [], IfOk, IsErrOf, OnErr, OnOk, length};
     ghost use Rattle.base.specs.Extent.{IsWithinLimits};
-    ghost use Rattle.record.specs.Kept.{opened_recording, with_entry};
+    ghost use Rattle.record.specs.View.{opened_recording, with_entry};
     ghost use Rattle.world.specs.declared.worlds.OpenFault.TheVariants as fault;
 
     /// A recording of a world to which nothing has happened, with one opening value for each block. It takes no memory.
@@ -124,13 +124,6 @@ impl Recording {
             Ok(()) => Ok(()),
             Err(_) => Err(PushFault::NoMemory),
         }
-    }
-
-    /// Takes out all entries, and keeps the memory for as many.
-    pub fn clear(&mut self)
-        ensures { self.new ≡ opened_recording self.old.shape self.old.tables self.old.opening }
-    {
-        self.entries.clear();
     }
 
     /// How many caches and blocks the world has.

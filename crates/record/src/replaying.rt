@@ -1,7 +1,7 @@
 ghost use Rattle.std.specs.Prelude.{◌≡◌, ◌↔◌, [], None, IfOk, IfErr, OnOk};
 ghost use Rattle.machine.specs.Coherence.{Safe};
-ghost use Rattle.machine.specs.Restraint.{Restrains};
-ghost use Rattle.record.specs.Kept.{IsLegal, steps_of};
+ghost use Rattle.machine.specs.Restraint.{AreRestrained};
+ghost use Rattle.record.specs.View.{IsLegal, steps_of};
 ghost use Rattle.monitor.specs.Violations.{AnswersFirst};
 ghost use Rattle.record.specs.Replaying.{FaultOf};
 ghost use Rattle.record.specs.inner.SoFar.{IsSoFar};
@@ -53,7 +53,7 @@ pub fn replay(alloc: Global, recording: &Recording) -> Result<Replayed, ReplayFa
         (steps_of recording.now) replayed.violation) }
     ensures safe { IfOk result (λ replayed. replayed.violation ≡ None ↔ Safe recording.now.shape recording.now.tables recording.now.opening
         (steps_of recording.now)) }
-    ensures clean { Restrains recording.now.tables → IfOk result (λ replayed. replayed.violation ≡ None) }
+    ensures clean { AreRestrained recording.now.tables → IfOk result (λ replayed. replayed.violation ≡ None) }
     ensures differs { IfErr result (FaultOf recording.now) }
 {
     let violation = first_violation(alloc, recording)?;
@@ -74,7 +74,7 @@ pub fn first_violation(
         (steps_of recording.now) violation) }
     ensures safe { IfOk result (λ violation. violation ≡ None ↔ Safe recording.now.shape recording.now.tables recording.now.opening
         (steps_of recording.now)) }
-    ensures clean { Restrains recording.now.tables → IfOk result (λ violation. violation ≡ None) }
+    ensures clean { AreRestrained recording.now.tables → IfOk result (λ violation. violation ≡ None) }
     ensures differs { IfErr result (FaultOf recording.now) }
 {
     violations_are_what_isnt_safe();

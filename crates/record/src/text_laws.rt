@@ -1,7 +1,7 @@
 //! What ties recordings and their texts together.
 
 ghost use Rattle.std.specs.Prelude.{◌++◌, ◌≡◌, ◌≤◌, [], All, List, Option, Some, length, ℕ};
-ghost use Rattle.record.specs.Kept.{Kept};
+ghost use Rattle.record.specs.View.{RecordingView};
 ghost use Rattle.base.specs.Spelling.{joined};
 ghost use Rattle.record.specs.Text.{lines, text};
 ghost use Rattle.record.specs.declared.due.Due.TheVariants.{Header};
@@ -12,21 +12,21 @@ ghost use Rattle.record.specs.declared.fault.ReadKind.{ReadKind};
 /// A recording's text is well formed from the first line to the last, each line has at most 90,000 bytes, and only want of
 /// memory or a device that fails keeps it from being read.
 pub fn a_text_is_read()
-    ensures whole { (r : Kept) → IsRecordable r → IsWellFormed (Some (text r)) (Some []) }
-    ensures short { (r : Kept) → IsRecordable r → All (λ words. length (joined words) ≤ 90000) (lines r) }
-    ensures refused { (r : Kept) (end : Option (List ℕ)) (line : ℕ) (kind : ReadKind) →
+    ensures whole { (r : RecordingView) → IsRecordable r → IsWellFormed (Some (text r)) (Some []) }
+    ensures short { (r : RecordingView) → IsRecordable r → All (λ words. length (joined words) ≤ 90000) (lines r) }
+    ensures refused { (r : RecordingView) (end : Option (List ℕ)) (line : ℕ) (kind : ReadKind) →
         IsRecordable r → IsRefused (Some (text r)) end 0 Header line kind → IsOutside kind }
 {}
 
 /// Bytes that are well formed from the first line to the last are the text of a recording.
 pub fn well_formed_bytes_are_a_text()
-    ensures { (bytes : List ℕ) → IsWellFormed (Some bytes) (Some []) → (r : Kept) × IsRecordable r × (bytes ≡ text r) }
+    ensures { (bytes : List ℕ) → IsWellFormed (Some bytes) (Some []) → (r : RecordingView) × IsRecordable r × (bytes ≡ text r) }
 {}
 
 /// A text is the text of one recording at most, and no text is the beginning of another.
 pub fn a_text_is_of_one_recording()
-    ensures one { (r s : Kept) → IsRecordable r → IsRecordable s → text r ≡ text s → r ≡ s }
-    ensures alone { (r s : Kept) (rest : List ℕ) →
+    ensures one { (r s : RecordingView) → IsRecordable r → IsRecordable s → text r ≡ text s → r ≡ s }
+    ensures alone { (r s : RecordingView) (rest : List ℕ) →
         IsRecordable r → IsRecordable s → text r ≡ text s ++ rest → (r ≡ s) × (rest ≡ []) }
 {}
 

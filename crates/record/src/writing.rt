@@ -1,9 +1,9 @@
-ghost use Rattle.std.specs.Prelude.{◌≡◌, ◌≤◌, ◌<◌, ◌+◌, ◌^◌, [], IfOk, IfErr, OnOk, get_or, length, take};
+ghost use Rattle.std.specs.Prelude.{◌≡◌, ◌≤◌, ◌<◌, ◌+◌, ◌^◌, [], IfOk, IfErr, OnOk, slice_index_or, length, take};
 ghost use Rattle.std.specs.Io.KnownBytes.{Appends};
-ghost use Rattle.base.specs.Ends.{Marks};
+ghost use Rattle.base.specs.Ends.{MarksFault};
 ghost use Rattle.both_tables.specs.Tables.{baseline};
 ghost use Rattle.record.specs.Cells.{cell_at, FitsCell};
-ghost use Rattle.record.specs.Kept.{IsKept};
+ghost use Rattle.record.specs.View.{IsKept};
 ghost use Rattle.record.specs.Recordable.{AreWhole, IsRecordable};
 ghost use Rattle.record.specs.Text.{text, changed_cells, is_changed};
 ghost use Rattle.record.specs.inner.Pieces.{pieces, head_piece, value_piece, cells_piece, cell_piece, entries_piece, end_piece};
@@ -33,7 +33,7 @@ impl Recording {
         ensures ok { OnOk result (Appends (S.taken sink.old) (S.taken sink.new) (text self.now)) }
         ensures err { IfErr result (λ fault. Appends (S.taken sink.old) (S.taken sink.new) (take fault.written (text self.now))) }
         ensures short { IfErr result (λ fault. fault.written < length (text self.now)) }
-        ensures mark { Marks (S.has_failed sink.old) result (S.has_failed sink.new) }
+        ensures mark { MarksFault (S.has_failed sink.old) result (S.has_failed sink.new) }
         ensures recordable { OnOk result (IsRecordable self.now) }
     {
         let own = Tables::baseline();
@@ -61,7 +61,7 @@ impl Recording {
         requires own { own.now ≡ baseline }
         requires within { number < length (pieces self.now) }
         requires changed { changed ≡ length (changed_cells self.now.tables) }
-        ensures piece { result ≡ get_or (pieces self.now) number [] }
+        ensures piece { result ≡ slice_index_or (pieces self.now) number [] }
         ensures short { length result ≤ 192 }
         ensures fits { PieceFits self.now number }
     {
@@ -162,7 +162,7 @@ fn put_piece<S: Sink>(sink: &mut S, already: u64, piece: &[u8]) -> Result<u64, W
     requires { already + length piece.now < 2 ^ 64 }
     ensures ok { IfOk result (λ total. IsOut (S.taken sink.old) (S.taken sink.new) piece.now already total) }
     ensures err { IfErr result (λ fault. IsCutOff (S.taken sink.old) (S.taken sink.new) piece.now already fault.written) }
-    ensures mark { Marks (S.has_failed sink.old) result (S.has_failed sink.new) }
+    ensures mark { MarksFault (S.has_failed sink.old) result (S.has_failed sink.new) }
 {
     match put_all(sink, piece) {
         Ok(()) => Ok(already + piece.len() as u64),

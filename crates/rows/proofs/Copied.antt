@@ -8,7 +8,7 @@ use Rattle.std.proofs.lemmas.List.{get_or_append_left, length-append, map-append
 use Rattle.std.proofs.lemmas.Map.Keys.{apart_from_distinct}
 use Rattle.std.proofs.lemmas.Option.{get_or_from_slice_get, slice_get_within}
 use Rattle.std.proofs.Math.Seq.{get_or-append_seam}
-use Rattle.rows.specs.inner.Held.{items_of, seen_entries}
+use Rattle.rows.specs.inner.Items.{items_of, seen_entries}
 use Rattle.rows.proofs.Held.{listed}
 
 module _ {T S : Type 0} (seen : T → S) where

@@ -11,7 +11,7 @@ use Rattle.std.proofs.lemmas.Nat.{and_mask, mod-pow-add, mod_below, one_shl, one
 use Rattle.std.proofs.Math.Nat.{mod-eq_of_lt}
 use Rattle.std.proofs.lemmas.Nat.Bits.{bit_at-lt, bit_at-zero}
 use Rattle.rows.specs.Flags.{IsFirstFrom, IsKth, NoneFrom, set_count}
-use Rattle.rows.specs.inner.Words.{IsWhole, below, bit, flags_of, low}
+use Rattle.rows.specs.inner.Words.{IsRowOfWords, below, bit, flags_of, low}
 use Rattle.rows.proofs.Words.{bit-lt, counts_bit, flag-at, flag-below, flags-length, set_is, unset}
 
 -- the next bit of a word
@@ -106,7 +106,7 @@ low-half word at half h =
 -- ---- places in the row
 
 -- a bit that is set stands in the row
-pub bit-inside : (words : List ℕ) (places ones at : ℕ) → IsWhole words places ones → bit words at ≡ 1 → at < places
+pub bit-inside : (words : List ℕ) (places ones at : ℕ) → IsRowOfWords words places ones → bit words at ≡ 1 → at < places
 bit-inside words places ones at whole one =
     elim (cases_lt at places) [
       | inl h ↦ h
@@ -132,7 +132,7 @@ none-more words at i from before here q h l =
     ]
 
 -- no bit beyond the words
-pub none-left : (words : List ℕ) (places ones at i from : ℕ) → IsWhole words places ones → length words ≤ i →
+pub none-left : (words : List ℕ) (places ones at i from : ℕ) → IsRowOfWords words places ones → length words ≤ i →
     ((q : ℕ) → at ≤ q → q < 64 * i + from → bit words q ≡ 0) → NoneFrom (flags_of words places) at
 none-left words places ones at i from whole past before = record {
   none = λ q h. flag-at words places ones q whole ∙ unset (bit words q) (at_bit q h);
@@ -145,7 +145,7 @@ none-left words places ones at i from whole past before = record {
           | inr b ↦ ap (λ (w : ℕ). bit_at w (q % 64)) (get_or_past words (q / 64) 0 (omega arith)) ∙ bit_at-zero (q % 64)
         ]
 
-pub first-found : (words : List ℕ) (places ones at i from b : ℕ) → IsWhole words places ones → at ≤ 64 * i + from →
+pub first-found : (words : List ℕ) (places ones at i from b : ℕ) → IsRowOfWords words places ones → at ≤ 64 * i + from →
     ((q : ℕ) → at ≤ q → q < 64 * i + from → bit words q ≡ 0) → from ≤ b → b < 64 → bit_at (slice_index words i) b ≡ 1 →
     ((k : ℕ) → from ≤ k → k < b → bit_at (slice_index words i) k ≡ 0) → IsFirstFrom (flags_of words places) at (64 * i + b)
 first-found words places ones at i from b whole near before behind within one first = record {
@@ -165,7 +165,7 @@ first-found words places ones at i from b whole near before behind within one fi
         ]
 
 -- there is no k-th flag that is set
-pub none-kth : (words : List ℕ) (places ones i left k : ℕ) → IsWhole words places ones → below words (64 * i) + left ≡ k → length words ≤ i →
+pub none-kth : (words : List ℕ) (places ones i left k : ℕ) → IsRowOfWords words places ones → below words (64 * i) + left ≡ k → length words ≤ i →
     k < set_count (flags_of words places) → ⊥
 none-kth words places ones i left k whole placed past few =
     let grows = below-grows words places (64 * i) (let long = whole.long in omega arith) in
@@ -179,7 +179,7 @@ word-next words i fits =
     ∙ below-word words i 64 (omega arith)
     ∙ ap (λ n. below words (64 * i) + n) (low-whole (slice_index words i) fits)
 
-pub kth-found : (words : List ℕ) (places ones i b left k : ℕ) → IsWhole words places ones → below words (64 * i) + left ≡ k →
+pub kth-found : (words : List ℕ) (places ones i b left k : ℕ) → IsRowOfWords words places ones → below words (64 * i) + left ≡ k →
     b < 64 → bit_at (slice_index words i) b ≡ 1 → low (slice_index words i) b ≡ left → IsKth (flags_of words places) k (64 * i + b)
 kth-found words places ones i b left k whole placed within one before =
     let here : bit words (64 * i + b) ≡ 1 = bit-of words i b within ∙ one in
@@ -192,7 +192,7 @@ kth-found words places ones i b left k whole placed within one before =
           ∙ (let e : below words (64 * i) + low (slice_index words i) b ≡ k = omega arith in e);
     }
 
-pub kth-few : (words : List ℕ) (places ones i b left k : ℕ) → IsWhole words places ones → below words (64 * i) + left ≡ k →
+pub kth-few : (words : List ℕ) (places ones i b left k : ℕ) → IsRowOfWords words places ones → below words (64 * i) + left ≡ k →
     b < 64 → bit_at (slice_index words i) b ≡ 1 → low (slice_index words i) b ≡ left → k < set_count (flags_of words places)
 kth-few words places ones i b left k whole placed within one before =
     let here : bit words (64 * i + b) ≡ 1 = bit-of words i b within ∙ one in
@@ -201,7 +201,7 @@ kth-few words places ones i b left k whole placed within one before =
     omega (arith, below-word words i b (omega arith), count-all words places)
 
 -- a found place fits a `u32`
-pub place-fits : (words : List ℕ) (places ones i b : ℕ) → IsWhole words places ones → b < 64 → bit_at (slice_index words i) b ≡ 1 →
+pub place-fits : (words : List ℕ) (places ones i b : ℕ) → IsRowOfWords words places ones → b < 64 → bit_at (slice_index words i) b ≡ 1 →
     64 * i + b < 2 ^ 32
 place-fits words places ones i b whole within one =
     let inside : 64 * i + b < places = bit-inside words places ones (64 * i + b) whole (bit-of words i b within ∙ one) in

@@ -16,7 +16,7 @@ use Rattle.std.proofs.lemmas.Option.{slice_get-get_or}
 use Rattle.indexmap.proofs.CallerLemmas.{updates-with_value_at}
 use Rattle.indexmap.specs.IndexMap.{IndexMap, IsUnique, keys, values, with_value_at}
 use Rattle.rows.specs.Row.{AreTouched}
-use Rattle.rows.specs.inner.Held.{IsWithin, items_of}
+use Rattle.rows.specs.inner.Items.{IsWithin, items_of}
 use borrow.Follows.Closed.{read_of}
 
 -- there are so many places

@@ -12,7 +12,7 @@ use Rattle.std.proofs.lemmas.Nat.Bits.{bit_at-lt, bit_at-trailing_zeros, bit_at-
 use Rattle.std.proofs.lemmas.Nat.Bits.{bit_at_mask_below, bit_at_mask_inside, bit_at_set_other, bit_at_set_same, ones_shl}
 use Rattle.std.proofs.Math.Bool.{beq}
 use Rattle.rows.specs.Flags.{is_set, set_count}
-use Rattle.rows.specs.inner.Words.{IsWhole, bit, flags_of}
+use Rattle.rows.specs.inner.Words.{IsRowOfWords, bit, flags_of}
 
 -- there are so many flags
 pub flags-length : (words : List ℕ) (places : ℕ) → length (flags_of words places) ≡ places
@@ -23,7 +23,7 @@ pub flag-below : (words : List ℕ) (places at : ℕ) → at < places → get_or
 flag-below words places at h = get_or-map-range_with_len (λ q. bit words q == 1) 0 places at at false h (omega arith)
 
 -- the flag at any place
-pub flag-at : (words : List ℕ) (places ones at : ℕ) → IsWhole words places ones → get_or (flags_of words places) at false ≡ (bit words at == 1)
+pub flag-at : (words : List ℕ) (places ones at : ℕ) → IsRowOfWords words places ones → get_or (flags_of words places) at false ≡ (bit words at == 1)
 flag-at words places ones at whole =
     elim (cases_lt at places) [
       | inl h ↦ flag-below words places at h
@@ -69,7 +69,7 @@ count-none zero = refl
 count-none (suc n) = count-none n
 
 -- words that are all 0 hold a row with no flag set
-pub whole-none : (n places : ℕ) → places ≤ 64 * n → places < 2 ^ 32 → IsWhole (replicate n 0) places 0
+pub whole-none : (n places : ℕ) → places ≤ 64 * n → places < 2 ^ 32 → IsRowOfWords (replicate n 0) places 0
 whole-none n places long few = record {
   few = few;
   long = omega (arith, length-replicate {A = ℕ} n 0);
@@ -97,9 +97,9 @@ bit-other words at w q h same ne =
 -- what a changed bit makes of the row
 pub record IsChanged (words : List ℕ) (places at w ones : ℕ) (value : Bool) : Type 0 where
   pub flags : flags_of (set words (at / 64) w) places ≡ set (flags_of words places) at value
-  pub whole : IsWhole (set words (at / 64) w) places ones
+  pub whole : IsRowOfWords (set words (at / 64) w) places ones
 
-pub changed : (words : List ℕ) (places ones at w new : ℕ) (value : Bool) → IsWhole words places ones → at < places →
+pub changed : (words : List ℕ) (places ones at w new : ℕ) (value : Bool) → IsRowOfWords words places ones → at < places →
     ((k : ℕ) → k < 64 → k ≢ at % 64 → bit_at w k ≡ bit_at (slice_index words (at / 64)) k) → (bit_at w (at % 64) == 1) ≡ value →
     new + cond {A = ℕ} (is_set (flags_of words places) at) 1 0 ≡ ones + cond value 1 0 → IsChanged words places at w new value
 changed words places ones at w new value whole inside same here count = record {
@@ -140,7 +140,7 @@ changed words places ones at w new value whole inside same here count = record {
     counted = sum_by-set (λ flag. cond flag 1 0) (flags_of words places) at value false (omega (arith, flags-length words places))
 
 -- there is room for one more where a flag isn't set
-pub count-lt : (words : List ℕ) (places ones at : ℕ) → IsWhole words places ones → at < places →
+pub count-lt : (words : List ℕ) (places ones at : ℕ) → IsRowOfWords words places ones → at < places →
     is_set (flags_of words places) at ≡ false → ones < places
 count-lt words places ones at whole inside not =
     let flags = flags_of words places in
@@ -151,7 +151,7 @@ count-lt words places ones at whole inside not =
     omega (arith, more, none, most, length-set flags at true, flags-length words places, whole.counted)
 
 -- and there is one to take away where it is
-pub count-pos : (words : List ℕ) (places ones at : ℕ) → IsWhole words places ones → at < places →
+pub count-pos : (words : List ℕ) (places ones at : ℕ) → IsRowOfWords words places ones → at < places →
     is_set (flags_of words places) at ≡ true → 0 < ones
 count-pos words places ones at whole inside there =
     let flags = flags_of words places in
@@ -161,7 +161,7 @@ count-pos words places ones at whole inside there =
     omega (arith, less, one, whole.counted)
 
 -- the row once a flag was set
-pub set-on : (words : List ℕ) (places ones at word : ℕ) → IsWhole words places ones → at < places → word ≡ get_or words (at / 64) word →
+pub set-on : (words : List ℕ) (places ones at word : ℕ) → IsRowOfWords words places ones → at < places → word ≡ get_or words (at / 64) word →
     is_set (flags_of words places) at ≡ false → IsChanged words places at (bit_or word (1 * 2 ^ (at % 64) % 2 ^ 64)) (ones + 1) true
 set-on words places ones at word whole inside is not =
     let there : word ≡ slice_index words (at / 64) = is ∙ get_or_default words (at / 64) word 0 (omega (arith, whole.long)) in
@@ -171,7 +171,7 @@ set-on words places ones at word whole inside is not =
     (let none : cond {A = ℕ} (is_set (flags_of words places) at) 1 0 ≡ 0 = ap (λ b. cond b 1 0) not in omega arith)
 
 -- and once it was taken back
-pub set-off : (words : List ℕ) (places ones at word : ℕ) → IsWhole words places ones → at < places → word ≡ get_or words (at / 64) word →
+pub set-off : (words : List ℕ) (places ones at word : ℕ) → IsRowOfWords words places ones → at < places → word ≡ get_or words (at / 64) word →
     is_set (flags_of words places) at ≡ true → IsChanged words places at (bit_and word (bit_not w64 (1 * 2 ^ (at % 64) % 2 ^ 64))) (ones - 1) false
 set-off words places ones at word whole inside is set =
     let there : word ≡ slice_index words (at / 64) = is ∙ get_or_default words (at / 64) word 0 (omega (arith, whole.long)) in

@@ -1,3 +1,3 @@
-pub mod Held
+pub mod Items
 pub mod Words
 pub mod Tree

@@ -18,13 +18,13 @@ pub struct Bits {
 
 impl Model for Bits {
     ghost use Rattle.std.specs.Prelude.{Bool, List};
-    ghost use Rattle.rows.specs.inner.Words.{flags_of, IsWhole};
+    ghost use Rattle.rows.specs.inner.Words.{flags_of, IsRowOfWords};
 
     ghost Value = { List Bool };
 
     ghost view = { λ b. flags_of b.words.items b.places };
 
-    ghost invariant = { λ b. IsWhole b.words.items b.places b.ones };
+    ghost invariant = { λ b. IsRowOfWords b.words.items b.places b.ones };
 }
 
 impl Bits {

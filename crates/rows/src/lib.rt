@@ -9,10 +9,7 @@ mod sums;
 mod try_clone;
 
 pub use bits::Bits;
-pub use laws::{
-    found_place_is_the_first, joined_lists_have_what_is_found, only_one_is_found,
-    two_lists_have_what_each_has,
-};
+pub use laws::{found_place_is_the_first, only_one_is_found};
 pub use sparse::Sparse;
 pub use sums::{Found, Sums};
 pub use try_clone::TryClone;

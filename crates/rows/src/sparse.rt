@@ -5,7 +5,7 @@ ghost use Rattle.std.specs.Borrow.{sem};
 ghost use Rattle.std.specs.Option.{option_copied, option_copied_mut, option_map};
 ghost use Rattle.rows.specs.Lends.{lends_item};
 ghost use Rattle.indexmap.specs.IndexMap.{IsEmpty, get, keys, values};
-ghost use Rattle.rows.specs.inner.Held.{seen_entries};
+ghost use Rattle.rows.specs.inner.Items.{seen_entries};
 ghost use Rattle.rows.specs.Row.{item, keys_with, AreTouched, UsesOnePlace};
 
 use crate::try_clone::TryClone;
@@ -27,7 +27,7 @@ pub struct Sparse<T> {
 impl<T> Model for Sparse<T> {
     ghost use Rattle.indexmap.specs.IndexMap.{keys, spare};
     ghost use Rattle.rows.specs.Row.{Row};
-    ghost use Rattle.rows.specs.inner.Held.{IsWithin, items_of};
+    ghost use Rattle.rows.specs.inner.Items.{IsWithin, items_of};
 
     ghost Value = { Row T };
 

@@ -14,15 +14,3 @@ pub trait TryClone: Sized {
     fn try_clone(&self, alloc: Global) -> Result<Self, NoMemory>
         ensures { IfOk result (λ copy. seen copy ≡ seen self.now) };
 }
-
-impl<T: Copy> TryClone for Vec<T> {
-    ghost use Rattle.std.specs.Prelude.{List};
-
-    ghost Seen = { List T };
-
-    ghost seen = { λ v. v.items };
-
-    fn try_clone(&self, alloc: Global) -> Result<Vec<T>, NoMemory> {
-        Ok(Vec::from_slice(alloc, self.as_slice())?)
-    }
-}

@@ -6,10 +6,10 @@ use Rattle.serde_json.specs.Data.{Data, no_items, item}
 use Rattle.base.specs.Extent.{Extent}
 use Rattle.scenario.specs.Tree.{Tree}
 use Rattle.scenario.specs.Says.{IsJson, IsTextOf}
-use Rattle.scenario.specs.Limits.{Fits, IsWithin, Throughout, longest}
+use Rattle.scenario.specs.Limits.{FitsTypes, IsWithin, Throughout, longest}
 use Rattle.scenario.specs.Nodes.{Node, one, seq, any, times, both, node_of, or_else}
 use Rattle.scenario.specs.Refusals.{fault_of, fault_at, is_in_shape, Visit, visited, first_some, first_fault, IsRefusal}
-use Rattle.scenario.specs.Walk.{tree_at, Gives}
+use Rattle.scenario.specs.inner.Walk.{tree_at, Gives}
 use Rattle.scenario.specs.declared.reading.ScenarioFault.{ScenarioFault}
 use Rattle.scenario.specs.declared.reading.ScenarioFault.TheVariants.{NotJson, BadShape, EmptyAny, TooDeep, TooLong, OutOfShape, NoMemory}
 use Rattle.scenario.proofs.Visits.{HasFault, walk-fault}
@@ -80,7 +80,7 @@ pub too_long : (shape : Extent) (bytes : List ℕ) (d : Data) (t : Tree) → IsJ
 too_long shape bytes d t json is long = (d, t, json, (built-of shape d t is).0, fault-of shape d (Ok t) is, long)
 
 -- and else the tree is within the limits
-pub within : (shape : Extent) (d : Data) (t : Tree) → tree_at shape 48 d ≡ Ok t → longest t ≤ 1000000 → Throughout Fits t → IsWithin shape t
+pub within : (shape : Extent) (d : Data) (t : Tree) → tree_at shape 48 d ≡ Ok t → longest t ≤ 1000000 → Throughout FitsTypes t → IsWithin shape t
 within shape d t is few fits =
     let built = built-of shape d t is in record {
       shallow = built.1;

@@ -11,7 +11,7 @@ use Rattle.scenario.specs.Limits.{depth, deepest, Throughout, InEach, HasChoice,
 use Rattle.scenario.specs.Nodes.{Node, one, seq, any, times, both, node_of}
 use Rattle.scenario.specs.Says.{Says, SayEach}
 use Rattle.scenario.specs.Refusals.{is_in_shape}
-use Rattle.scenario.specs.Walk.{tree_at, tree_of, trees_behind, over}
+use Rattle.scenario.specs.inner.Walk.{tree_at, tree_of, trees_behind, over}
 use Rattle.scenario.specs.declared.reading.ScenarioFault.{ScenarioFault}
 use Rattle.scenario.specs.declared.reading.ScenarioFault.TheVariants.{OutOfShape}
 

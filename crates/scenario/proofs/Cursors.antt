@@ -13,10 +13,11 @@ use Rattle.base.specs.declared.step.CoreAsk.{CoreAsk}
 use Rattle.scenario.specs.Tree.{trees_of}
 use Rattle.scenario.specs.Taking.{ends, all_end, offers, offers_of_all}
 use Rattle.scenario.specs.Cursors.{Progress, first_parts, progress, progress_at, progress_row, tree_left, trees_left}
-use Rattle.scenario.specs.Parts.{all_left, behind, count_at, height, height_of_all, highest, part_left, parts_of, place_of, sought}
+use Rattle.scenario.specs.inner.Parts.{all_left, behind, count_at, height, height_of_all, highest, part_left, parts_of, place_of, sought}
 use Rattle.scenario.proofs.Places.{drop_here}
 use Rattle.scenario.proofs.Sought.{found-all, passed-all, sought-front, sought-behind}
 use Rattle.scenario.proofs.Flat.{and_true, append-neither}
+use Rattle.scenario.proofs.Stock.{stock-Begun, stock-row}
 
 row_items : (A B : Type 0) {n : _} (k : Row_of-Part A B n) → progress_row k ≡ map progress (items-the_row-Part A B n k)
 row_items A B end_of-Part = refl
@@ -35,7 +36,7 @@ pub progress-is : {A B : Type 0} (p : Part A B) → progress p ≡ progress_at (
 progress-is (Fresh at) = refl
 progress-is (Begun' at shape row) = refl
 
-pub ruleset parts = (parts-Begun, parts-row, place-Begun, progress-is)
+pub ruleset parts = (parts-Begun, parts-row, place-Begun, progress-is, stock-Begun, stock-row)
 
 -- ---- how far the parts of a cursor go down
 

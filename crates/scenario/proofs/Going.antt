@@ -1,4 +1,4 @@
--- What is left, and how many nodes are to come, once an offer is taken of a part, or of what is behind the parts in use.
+-- What is left, and which parts are wanted, once an offer is taken of a part, or of what is behind the parts in use.
 use Rattle.std.proofs.Common.{◌≡◌, ℕ, zero, suc, ◌+◌, ◌-◌, ◌<◌, ◌≤◌, ◌==◌, ◌⊎◌, inl, inr, List, [], ◌∷◌, ◌++◌}
 use Rattle.std.proofs.Common.{Some, Bool, true, false, cond, length, take, map, slice_get, slice_set, refl, sym, ap, ◌∙◌, subst, arith, length-append}
 use Rattle.std.proofs.lemmas.Bool.Decides.{nat_tests}
@@ -9,13 +9,15 @@ use Rattle.scenario.specs.declared.part.Place.TheVariants as place
 use Rattle.scenario.specs.Tree as tree
 use Rattle.scenario.specs.Tree.{Tree, Trees, plain, plain_all, trees_of}
 use Rattle.scenario.specs.Taking.{offers, offers_of_all, all_end}
-use Rattle.scenario.specs.Rests.{flat, flats, rest, rest_in_turn, rest_of_all, row_of}
+use Rattle.scenario.specs.inner.Rests.{flat, flats, rest, rest_in_turn, rest_of_all, row_of}
 use Rattle.scenario.specs.Cursors.{Progress, first_parts, progress, progress_at}
-use Rattle.scenario.specs.Cursors.{tree_left, trees_left, most_nodes, total_most_nodes}
-use Rattle.scenario.specs.Parts.{Leads, LeadsPart, IsOfferOf, all_left, behind, count_at, highest, height, most_behind, part_left, parts_of, place_of}
+use Rattle.scenario.specs.Cursors.{tree_left, trees_left}
+use Rattle.scenario.specs.Stock.{Stock, Empty, With, Within, room_in_turn, room, wants, wants_of_all}
+use Rattle.scenario.specs.inner.Parts.{MovesTo, MovesPart, IsOfferOf, all_left, behind, count_at, highest, height, part_left, parts_of, place_of, wants_at, wants_behind}
 use Rattle.scenario.proofs.Cursors.{cursor-offers, map-left, progress-is}
 use Rattle.scenario.proofs.Flat.{flat-row}
 use Rattle.scenario.proofs.Places.{is_below, isnt_below}
+use Rattle.scenario.proofs.Stock.{behind-wanted, union-more, wants-part, within-same, within-through}
 
 -- a row's first child offers it
 here : (t : Tree) (ts : Trees) (i : ℕ) → i < length (offers t) → rest_in_turn (tree.Cons t ts) i ≡ row_of (tree.Cons (rest t i) ts)
@@ -28,25 +30,25 @@ later t ts i k e =
     ∙ ap (rest_in_turn ts) (omega (arith, e))
 
 -- what is left, where it is behind the parts in use
-pub leads-behind : {A : Type 0} (at : Place A) (ps : List Progress) (i k : ℕ) (new : Progress) → k < length (offers (behind at))
-    → i ≡ length (offers_of_all (all_left (take (count_at at) ps))) + k → Leads (behind at) k (most_behind at) new
-    → Leads (tree_left (progress_at at ps)) i (most_nodes (progress_at at ps)) new
-leads-behind place.Nothing ps i k new h e l = absurd (omega (arith, h))
-leads-behind (place.Whole t) [] i k new h e l = let is : i ≡ k = omega (arith, e) in rw is l
-leads-behind (place.Whole t) (p ∷ ps) i k new h e l = let is : i ≡ k = omega (arith, e) in rw is l
-leads-behind (place.InSeq ts) [] i k new h e l =
-    (l.0 ∙ sym (ap flat (later (tree.Seq tree.Nil) (plain_all ts.now) i k (omega (arith, e)))), omega (arith, l.1))
-leads-behind (place.InSeq ts) (p ∷ ps) i k new h e l =
+pub moves-behind : {A : Type 0} (at : Place A) (ps : List Progress) (i k : ℕ) (new : Progress) → k < length (offers (behind at))
+    → i ≡ length (offers_of_all (all_left (take (count_at at) ps))) + k → MovesTo (behind at) k (wants_behind at) new
+    → MovesTo (tree_left (progress_at at ps)) i (wants (progress_at at ps)) new
+moves-behind place.Nothing ps i k new h e l = absurd (omega (arith, h))
+moves-behind (place.Whole t) [] i k new h e l = let is : i ≡ k = omega (arith, e) in rw is l
+moves-behind (place.Whole t) (p ∷ ps) i k new h e l = let is : i ≡ k = omega (arith, e) in rw is l
+moves-behind (place.InSeq ts) [] i k new h e l =
+    (l.0 ∙ sym (ap flat (later (tree.Seq tree.Nil) (plain_all ts.now) i k (omega (arith, e)))), within-through (wants new) _ _ l.1 (behind-wanted (place.InSeq ts) []))
+moves-behind (place.InSeq ts) (p ∷ ps) i k new h e l =
     let long = length-append (offers (tree_left p)) [] in
-    (l.0 ∙ sym (ap flat (later (tree_left p) (plain_all ts.now) i k (omega (arith, e, long)))), omega (arith, l.1))
-leads-behind (place.InTimes n t) [] i k new h e l =
+    (l.0 ∙ sym (ap flat (later (tree_left p) (plain_all ts.now) i k (omega (arith, e, long)))), within-through (wants new) _ _ l.1 (behind-wanted (place.InSeq ts) (p ∷ ps)))
+moves-behind (place.InTimes n t) [] i k new h e l =
     let all = later (tree.Seq tree.Nil) (tree.Cons (tree.Times n (plain t.now)) tree.Nil) i k (omega (arith, e)) in
-    (l.0 ∙ sym (ap flat (all ∙ here (tree.Times n (plain t.now)) tree.Nil k h)), omega (arith, l.1))
-leads-behind (place.InTimes n t) (p ∷ ps) i k new h e l =
+    (l.0 ∙ sym (ap flat (all ∙ here (tree.Times n (plain t.now)) tree.Nil k h)), within-through (wants new) _ _ l.1 (behind-wanted (place.InTimes n t) []))
+moves-behind (place.InTimes n t) (p ∷ ps) i k new h e l =
     let long = length-append (offers (tree_left p)) [] in
     let all = later (tree_left p) (tree.Cons (tree.Times n (plain t.now)) tree.Nil) i k (omega (arith, e, long)) in
-    (l.0 ∙ sym (ap flat (all ∙ here (tree.Times n (plain t.now)) tree.Nil k h)), omega (arith, l.1))
-leads-behind (place.InBoth n) ps i k new h e l = absurd (omega (arith, h))
+    (l.0 ∙ sym (ap flat (all ∙ here (tree.Times n (plain t.now)) tree.Nil k h)), within-through (wants new) _ _ l.1 (behind-wanted (place.InTimes n t) (p ∷ ps)))
+moves-behind (place.InBoth n) ps i k new h e l = absurd (omega (arith, h))
 
 -- the same, where it is one of the parts of a `both`
 both-flat : (n : ℕ) (ps : List Progress) (i j k : ℕ) (p q : Progress) → slice_get ps j ≡ Some p → j < n → k < length (offers (tree_left p))
@@ -70,50 +72,49 @@ both-flat (suc n) (r ∷ ps) i (suc j) k p q e within h is l =
     let more = both-flat n ps (i - length (offers (tree_left r))) j k p q e (omega (arith, within)) h (omega (arith, is, long)) l in
     ap (tree.Cons (flat (tree_left r))) more ∙ sym (ap flats one)
 
-both-most : (n : ℕ) (ps : List Progress) (j : ℕ) (p q : Progress) → slice_get ps j ≡ Some p → most_nodes q ≤ most_nodes p
-    → total_most_nodes (first_parts n (slice_set ps j q)) ≤ total_most_nodes (first_parts n ps)
+both-most : (n : ℕ) (ps : List Progress) (j : ℕ) (p q : Progress) → slice_get ps j ≡ Some p → Within (wants q) (wants p)
+    → Within (wants_of_all (first_parts n (slice_set ps j q))) (wants_of_all (first_parts n ps))
 both-most zero [] j p q e h = absurd (cc e)
-both-most zero (r ∷ ps) zero p q e h = omega arith
-both-most zero (r ∷ ps) (suc j) p q e h = omega arith
+both-most zero (r ∷ ps) zero p q e h = tt
+both-most zero (r ∷ ps) (suc j) p q e h = tt
 both-most (suc n) [] j p q e h = absurd (cc e)
 both-most (suc n) (r ∷ ps) zero p q e h =
     let e' : r ≡ p = cc e in
-    let h' : most_nodes q ≤ most_nodes r = rw e' h in
-    omega (arith, h')
-both-most (suc n) (r ∷ ps) (suc j) p q e h = let more = both-most n ps j p q e h in omega (arith, more)
+    (subst (λ x. Within (wants q) (wants x)) (sym e') h, within-same (wants_of_all (first_parts n ps)))
+both-most (suc n) (r ∷ ps) (suc j) p q e h = (within-same (wants r), both-most n ps j p q e h)
 
-pub leads-part : {A : Type 0} (at : Place A) (ps : List Progress) (i j k : ℕ) (p q : Progress) → slice_get ps j ≡ Some p → j < count_at at
-    → k < length (offers (tree_left p)) → i ≡ length (offers_of_all (all_left (take j ps))) + k → Leads (tree_left p) k (most_nodes p) q
-    → Leads (tree_left (progress_at at ps)) i (most_nodes (progress_at at ps)) (progress_at at (slice_set ps j q))
-leads-part place.Nothing ps i j k p q e within h is l = absurd (omega (arith, within))
-leads-part (place.Whole t) ps i j k p q e within h is l = absurd (omega (arith, within))
-leads-part at [] i j k p q e within h is l = absurd (cc e)
-leads-part (place.InSeq ts) (r ∷ ps) i zero k p q e within h is l =
+pub moves-part : {A : Type 0} (at : Place A) (ps : List Progress) (i j k : ℕ) (p q : Progress) → slice_get ps j ≡ Some p → j < count_at at
+    → k < length (offers (tree_left p)) → i ≡ length (offers_of_all (all_left (take j ps))) + k → MovesTo (tree_left p) k (wants p) q
+    → MovesTo (tree_left (progress_at at ps)) i (wants (progress_at at ps)) (progress_at at (slice_set ps j q))
+moves-part place.Nothing ps i j k p q e within h is l = absurd (omega (arith, within))
+moves-part (place.Whole t) ps i j k p q e within h is l = absurd (omega (arith, within))
+moves-part at [] i j k p q e within h is l = absurd (cc e)
+moves-part (place.InSeq ts) (r ∷ ps) i zero k p q e within h is l =
     let e' : p ≡ r = cc e in
     let i' : i ≡ k = omega (arith, is) in
     let low : k < length (offers (tree_left r)) = subst (λ (x : Progress). k < length (offers (tree_left x))) e' h in
-    let l' : Leads (tree_left r) k (most_nodes r) q = subst (λ (x : Progress). Leads (tree_left x) k (most_nodes x) q) e' l in
+    let l' : MovesTo (tree_left r) k (wants r) q = subst (λ (x : Progress). MovesTo (tree_left x) k (wants x) q) e' l in
     rw i' (
       ap (λ u. row_of (tree.Cons u (flats (plain_all ts.now)))) l'.0
           ∙ sym (ap flat (here (tree_left r) (plain_all ts.now) k low) ∙ flat-row (tree.Cons (rest (tree_left r) k) (plain_all ts.now))),
-      omega (arith, l'.1),
+      union-more (With (wants q) Empty) (With (wants r) Empty) (room_in_turn (plain_all ts.now)) (l'.1, tt),
     )
-leads-part (place.InSeq ts) (r ∷ ps) i (suc j) k p q e within h is l = absurd (omega (arith, within))
-leads-part (place.InTimes n t) (r ∷ ps) i zero k p q e within h is l =
+moves-part (place.InSeq ts) (r ∷ ps) i (suc j) k p q e within h is l = absurd (omega (arith, within))
+moves-part (place.InTimes n t) (r ∷ ps) i zero k p q e within h is l =
     let e' : p ≡ r = cc e in
     let i' : i ≡ k = omega (arith, is) in
     let more = tree.Cons (tree.Times n (plain t.now)) tree.Nil in
     let low : k < length (offers (tree_left r)) = subst (λ (x : Progress). k < length (offers (tree_left x))) e' h in
-    let l' : Leads (tree_left r) k (most_nodes r) q = subst (λ (x : Progress). Leads (tree_left x) k (most_nodes x) q) e' l in
+    let l' : MovesTo (tree_left r) k (wants r) q = subst (λ (x : Progress). MovesTo (tree_left x) k (wants x) q) e' l in
     rw i' (
       ap (λ u. row_of (tree.Cons u (flats more))) l'.0
           ∙ sym (ap flat (here (tree_left r) more k low) ∙ flat-row (tree.Cons (rest (tree_left r) k) more)),
-      omega (arith, l'.1),
+      (union-more (wants q) (wants r) (room (plain t.now)) l'.1, tt),
     )
-leads-part (place.InTimes n t) (r ∷ ps) i (suc j) k p q e within h is l = absurd (omega (arith, within))
-leads-part (place.InBoth n) (r ∷ ps) i j k p q e within h is l =
+moves-part (place.InTimes n t) (r ∷ ps) i (suc j) k p q e within h is l = absurd (omega (arith, within))
+moves-part (place.InBoth n) (r ∷ ps) i j k p q e within h is l =
     let most = both-most n (r ∷ ps) j p q e l.1 in
-    (ap tree.Both (both-flat n (r ∷ ps) i j k p q e within h is l.0), omega (arith, most))
+    (ap tree.Both (both-flat n (r ∷ ps) i j k p q e within h is l.0), most)
 
 -- what isn't offered by the parts in use is offered behind them
 neither-long : (b : Bool) (xs ys : List CoreAsk) (i k : ℕ) → i < length (xs ++ cond b ys []) → i ≡ length xs + k → k < length ys
@@ -141,10 +142,22 @@ turn-offered (suc n) t k h =
 
 pub goes-behind : {A B : Type 0} (p : Part A B) (ps : List Progress) → ps ≡ take (count_at (place_of p)) (parts_of p)
     → (i k : ℕ) (new : Progress) → k < length (offers (behind (place_of p))) → i ≡ length (offers_of_all (all_left ps)) + k
-    → Leads (behind (place_of p)) k (most_behind (place_of p)) new → Leads (part_left p) i (most_nodes (progress p)) new
+    → MovesTo (behind (place_of p)) k (wants_behind (place_of p)) new → MovesTo (part_left p) i (wants (progress p)) new
 goes-behind p ps e i k new h is l =
-    subst (λ (q : Progress). Leads (tree_left q) i (most_nodes q) new) (sym (progress-is p))
-    (leads-behind (place_of p) (parts_of p) i k new h (subst (λ qs. i ≡ length (offers_of_all (all_left qs)) + k) e is) l)
+    subst (λ (q : Progress). MovesTo (tree_left q) i (wants q) new) (sym (progress-is p))
+    (moves-behind (place_of p) (parts_of p) i k new h (subst (λ qs. i ≡ length (offers_of_all (all_left qs)) + k) e is) l)
+
+-- what a part in use wants is wanted, and what is behind them is
+pub part-wanted : {A B : Type 0} (p : Part A B) (j : ℕ) (most : Stock) → j < count_at (place_of p) → Within (wants (progress p)) most
+    → Within (wants_at (parts_of p) j) most
+part-wanted p j most h wanted =
+    within-through (wants_at (parts_of p) j) (wants (progress_at (place_of p) (parts_of p))) most (wants-part (place_of p) (parts_of p) j h)
+    (subst (λ q. Within (wants q) most) (progress-is p) wanted)
+
+pub rest-wanted : {A B : Type 0} (p : Part A B) (most : Stock) → Within (wants (progress p)) most → Within (wants_behind (place_of p)) most
+rest-wanted p most wanted =
+    within-through (wants_behind (place_of p)) (wants (progress_at (place_of p) (parts_of p))) most (behind-wanted (place_of p) (parts_of p))
+    (subst (λ q. Within (wants q) most) (progress-is p) wanted)
 
 -- ---- where an offer is among the parts in use
 
@@ -190,14 +203,14 @@ pub some-same : (p q : Progress) (ps : List Progress) (j : ℕ) → slice_get ps
 some-same p q ps j e f = let both : Some p ≡ Some q = sym e ∙ f in cc both
 
 pub goes-part : {A B : Type 0} (p q : Part A B) (i j k most : ℕ) → place_of q ≡ place_of p → HasOffer (parts_of p) (count_at (place_of p)) i j k most
-    → LeadsPart (parts_of p) j k (parts_of q) → Leads (part_left p) i (most_nodes (progress p)) (progress q)
+    → MovesPart (parts_of p) j k (parts_of q) → MovesTo (part_left p) i (wants (progress p)) (progress q)
 goes-part p q i j k most e h l =
     let same = some-same h.0 l.0 (parts_of p) j h.1 l.2 in
     let low = subst (λ (x : Progress). k < length (offers (tree_left x))) same h.3 in
     let new : progress q ≡ progress_at (place_of p) (slice_set (parts_of p) j l.1) =
     progress-is q ∙ (ap (λ at. progress_at at (parts_of q)) e ∙ ap (progress_at (place_of p)) l.3) in
-    let all = leads-part (place_of p) (parts_of p) i j k l.0 l.1 l.2 h.2 low h.4 l.4 in
-    rw new (subst (λ (x : Progress). Leads (tree_left x) i (most_nodes x) (progress_at (place_of p) (slice_set (parts_of p) j l.1))) (sym (progress-is p)) all)
+    let all = moves-part (place_of p) (parts_of p) i j k l.0 l.1 l.2 h.2 low h.4 l.4 in
+    rw new (subst (λ (x : Progress). MovesTo (tree_left x) i (wants x) (progress_at (place_of p) (slice_set (parts_of p) j l.1))) (sym (progress-is p)) all)
 
 -- how far down the part of this number goes
 abbrev pub height_at : List Progress → ℕ → ℕ

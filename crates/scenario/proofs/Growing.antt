@@ -5,7 +5,7 @@ use Rattle.scenario.specs.Tree.{plain, plain_all}
 use Rattle.scenario.specs.declared.part.Part.{Part}
 use Rattle.scenario.specs.declared.part.Place.{Place}
 use Rattle.scenario.specs.declared.part.Place.TheVariants as place
-use Rattle.scenario.specs.Parts.{Grows, parts_of, place_of}
+use Rattle.scenario.specs.inner.Parts.{Grows, parts_of, place_of}
 use Rattle.scenario.proofs.Cursors.{progress-is}
 
 pub grows-none : (ps : List Progress) → Grows ps ps

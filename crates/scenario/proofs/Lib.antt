@@ -3,7 +3,6 @@ pub mod Answering
 pub mod Built
 pub mod Children
 pub mod Cursors
-pub mod Depths
 pub mod Distinct
 pub mod Failing
 pub mod Flat
@@ -19,8 +18,8 @@ pub mod Reached
 pub mod Refusing
 pub mod Repeating
 pub mod Shown
-pub mod Small
 pub mod Sought
+pub mod Stock
 pub mod Texts
 pub mod Values
 pub mod Visits

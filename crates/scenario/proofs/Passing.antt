@@ -1,5 +1,5 @@
 -- An offer that a place alone tells of: what is left once it is taken.
-use Rattle.std.proofs.Common.{◌≡◌, ℕ, ◌+◌, ◌-◌, ◌<◌, ◌≤◌, List, [], ◌∷◌, ◌++◌, Some, Bool, true, false, true≢false}
+use Rattle.std.proofs.Common.{◌≡◌, ℕ, ◌-◌, ◌<◌, List, [], ◌∷◌, ◌++◌, Some, Bool, true, false, true≢false}
 use Rattle.std.proofs.Common.{length, drop, map, take, slice_get, slice_set, if◌then◌else◌, le-ltb, lt-ltb, inl, inr, refl, sym, ap, ◌∙◌, subst, arith, Bor}
 use Rattle.std.proofs.lemmas.Bool.{cases_lt}
 use Rattle.scenario.specs.declared.part.Part.{Part, Fresh, Begun'}
@@ -9,14 +9,14 @@ use Rattle.scenario.specs.declared.tree.Scenario.{Scenario}
 use Rattle.scenario.specs.Tree as tree
 use Rattle.scenario.specs.Tree.{Tree, Trees, plain, plain_all}
 use Rattle.scenario.specs.Taking.{offers, offers_of_all}
-use Rattle.scenario.specs.Rests.{flat, rest, rest_of_one}
+use Rattle.scenario.specs.inner.Rests.{flat, rest, rest_of_one}
 use Rattle.scenario.specs.Cursors.{Progress, Nothing, Whole, InSeq, InTimes, InBoth, first_part, progress, progress_at, tree_left}
-use Rattle.scenario.specs.Cursors.{greatest_nodes, most_nodes, nodes}
-use Rattle.scenario.specs.Parts.{Leads, all_left, behind, count_at, most_behind, part_left, parts_of, place_of}
-use Rattle.scenario.specs.Turns.{all_asks, chooses, chooses_at, is_ask, is_choice}
+use Rattle.scenario.specs.Stock.{Empty, With, room, room_in_turn, wants}
+use Rattle.scenario.specs.inner.Parts.{MovesTo, all_left, behind, count_at, part_left, parts_of, place_of, wants_behind}
+use Rattle.scenario.specs.inner.Turns.{all_asks, chooses, chooses_at, is_ask, is_choice}
 use Rattle.scenario.proofs.Flat.{flat-row}
 use Rattle.scenario.proofs.Going.{goes-behind, offered-behind, turn-offered}
-use Rattle.scenario.proofs.Leading.{leads-seq}
+use Rattle.scenario.proofs.Stock.{within-same}
 
 -- ---- a turn of a choice of asks
 
@@ -42,40 +42,32 @@ rest-choice (tree.Any ts) i choice low = rest-asks ts i choice low
 rest-choice (tree.Times n t) i choice low = absurd (true≢false (sym choice))
 rest-choice (tree.Both ts) i choice low = absurd (true≢false (sym choice))
 
-nodes-some : (t : Tree) → 1 ≤ nodes t
-nodes-some (tree.One a) = omega arith
-nodes-some (tree.Seq ts) = omega arith
-nodes-some (tree.Any ts) = omega arith
-nodes-some (tree.Times n t) = omega arith
-nodes-some (tree.Both ts) = omega arith
-
-leads-choice : (n : ℕ) (t : Tree) (i : ℕ) → is_choice t ≡ true → i < length (offers (tree.Times n t))
-    → Leads (tree.Times n t) i (1 + nodes t) (InTimes Nothing (n - 1) t)
-leads-choice n t i choice low =
-    let some = nodes-some t in (
-      ap (λ u. flat (tree.Seq (tree.Cons u (tree.Cons (tree.Times (n - 1) t) tree.Nil)))) (sym (rest-choice t i choice (turn-offered n t i low).1)),
-      omega (arith, some),
-    )
+moves-choice : (n : ℕ) (t : Tree) (i : ℕ) → is_choice t ≡ true → i < length (offers (tree.Times n t))
+    → MovesTo (tree.Times n t) i (With (room t) Empty) (InTimes Nothing (n - 1) t)
+moves-choice n t i choice low = (
+  ap (λ u. flat (tree.Seq (tree.Cons u (tree.Cons (tree.Times (n - 1) t) tree.Nil)))) (sym (rest-choice t i choice (turn-offered n t i low).1)),
+  within-same (With (room t) Empty),
+)
 
 -- ---- an ask that comes first in a row
 
-leads-one : (t : Tree) (ts : Trees) → is_ask t ≡ true
-    → Leads (tree.Seq (tree.Cons t ts)) 0 (1 + greatest_nodes (tree.Cons t ts)) (InSeq Nothing ts)
-leads-one (tree.One a) ts ask = (sym (flat-row (tree.Cons (tree.Seq tree.Nil) ts)), omega arith)
-leads-one (tree.Seq us) ts ask = absurd (true≢false (sym ask))
-leads-one (tree.Any us) ts ask = absurd (true≢false (sym ask))
-leads-one (tree.Times n t) ts ask = absurd (true≢false (sym ask))
-leads-one (tree.Both us) ts ask = absurd (true≢false (sym ask))
+moves-one : (t : Tree) (ts : Trees) → is_ask t ≡ true
+    → MovesTo (tree.Seq (tree.Cons t ts)) 0 (room_in_turn (tree.Cons t ts)) (InSeq Nothing ts)
+moves-one (tree.One a) ts ask = (sym (flat-row (tree.Cons (tree.Seq tree.Nil) ts)), within-same (room_in_turn (tree.Cons (tree.One a) ts)))
+moves-one (tree.Seq us) ts ask = absurd (true≢false (sym ask))
+moves-one (tree.Any us) ts ask = absurd (true≢false (sym ask))
+moves-one (tree.Times n t) ts ask = absurd (true≢false (sym ask))
+moves-one (tree.Both us) ts ask = absurd (true≢false (sym ask))
 
-pub leads-ask : {A : Type 0} (row : List (Scenario A)) (s : Scenario A) → slice_get row 0 ≡ Some s → is_ask (plain s) ≡ true
-    → Leads (tree.Seq (plain_all row)) 0 (1 + greatest_nodes (plain_all row)) (InSeq Nothing (plain_all (drop 1 row)))
-leads-ask [] s e ask = absurd (cc e)
-leads-ask (r ∷ []) s e ask =
+pub moves-ask : {A : Type 0} (row : List (Scenario A)) (s : Scenario A) → slice_get row 0 ≡ Some s → is_ask (plain s) ≡ true
+    → MovesTo (tree.Seq (plain_all row)) 0 (room_in_turn (plain_all row)) (InSeq Nothing (plain_all (drop 1 row)))
+moves-ask [] s e ask = absurd (cc e)
+moves-ask (r ∷ []) s e ask =
     let same : r ≡ s = cc e in
-    leads-one (plain r) tree.Nil (ap (λ u. is_ask (plain u)) same ∙ ask)
-leads-ask (r ∷ q ∷ row) s e ask =
+    moves-one (plain r) tree.Nil (ap (λ u. is_ask (plain u)) same ∙ ask)
+moves-ask (r ∷ q ∷ row) s e ask =
     let same : r ≡ s = cc e in
-    leads-one (plain r) (plain_all (q ∷ row)) (ap (λ u. is_ask (plain u)) same ∙ ask)
+    moves-one (plain r) (plain_all (q ∷ row)) (ap (λ u. is_ask (plain u)) same ∙ ask)
 
 -- ---- of a part whose parts in use offer nothing
 
@@ -94,7 +86,7 @@ low-behind p i none low = offered-behind p (take (count_at (place_of p)) (parts_
 
 passes-behind : {A B : Type 0} (p : Part A B) (i : ℕ) (new : Progress) →
     offers_of_all (all_left (take (count_at (place_of p)) (parts_of p))) ≡ [] → i < length (offers (part_left p))
-    → Leads (behind (place_of p)) i (most_behind (place_of p)) new → Leads (part_left p) i (most_nodes (progress p)) new
+    → MovesTo (behind (place_of p)) i (wants_behind (place_of p)) new → MovesTo (part_left p) i (wants (progress p)) new
 passes-behind p i new none low leads =
     goes-behind p (take (count_at (place_of p)) (parts_of p)) refl i i new (low-behind p i none low) (let e = ap length none in omega (arith, e)) leads
 
@@ -114,13 +106,13 @@ turn-some p n t i at over low = (turn-offered n (plain t.now) i (turn-low p n t 
 
 pub passes-turn : {A B : Type 0} (p : Part A B) (n : ℕ) (t : Bor (Scenario A)) (i : ℕ) (new : Progress) → place_of p ≡ place.InTimes n t
     → first_part (parts_of p) ≡ Nothing → chooses p ≡ true → i < length (offers (part_left p))
-    → new ≡ progress_at (place.InTimes (n - 1) t) (parts_of p) → Leads (part_left p) i (most_nodes (progress p)) new
+    → new ≡ progress_at (place.InTimes (n - 1) t) (parts_of p) → MovesTo (part_left p) i (wants (progress p)) new
 passes-turn p n t i new at over choice low is =
     let now : new ≡ InTimes Nothing (n - 1) (plain t.now) = is ∙ ap (λ q. InTimes q (n - 1) (plain t.now)) over in
     let there : is_choice (plain t.now) ≡ true = ap chooses_at (sym at) ∙ sym (chooses-place p) ∙ choice in
-    let leads = leads-choice n (plain t.now) i there (turn-low p n t i at over low) in
+    let leads = moves-choice n (plain t.now) i there (turn-low p n t i at over low) in
     passes-behind p i new (turn-none p n t at over) low
-    (subst (λ q. Leads (behind q) i (most_behind q) new) (sym at) (rw now leads))
+    (subst (λ q. MovesTo (behind q) i (wants_behind q) new) (sym at) (rw now leads))
   where
     chooses-place : {A B : Type 0} (p : Part A B) → chooses p ≡ chooses_at (place_of p)
     chooses-place (Fresh at) = refl
@@ -129,18 +121,18 @@ passes-turn p n t i new at over choice low is =
 -- an ask of the row that a part is in, or of the row that is its whole tree
 pub passes-row : {A B : Type 0} (p : Part A B) (ts : Bor (List (Scenario A))) (i : ℕ) (new : Progress) → place_of p ≡ place.InSeq ts
     → first_part (parts_of p) ≡ Nothing → i < length (offers (part_left p))
-    → Leads (tree.Seq (plain_all ts.now)) i (1 + greatest_nodes (plain_all ts.now)) new → Leads (part_left p) i (most_nodes (progress p)) new
+    → MovesTo (tree.Seq (plain_all ts.now)) i (room_in_turn (plain_all ts.now)) new → MovesTo (part_left p) i (wants (progress p)) new
 passes-row p ts i new at over low leads =
     passes-behind p i new (subst (λ q. offers_of_all (all_left (take (count_at q) (parts_of p))) ≡ []) (sym at) (none-over (parts_of p) over)) low
-    (subst (λ q. Leads (behind q) i (most_behind q) new) (sym at) leads)
+    (subst (λ q. MovesTo (behind q) i (wants_behind q) new) (sym at) leads)
 
 pub passes-whole : {A B : Type 0} (p : Part A B) (t : Bor (Scenario A)) (ts : Trees) (i : ℕ) (new : Progress) → place_of p ≡ place.Whole t
-    → plain t.now ≡ tree.Seq ts → i < length (offers (part_left p)) → Leads (tree.Seq ts) i (1 + greatest_nodes ts) new
-    → Leads (part_left p) i (most_nodes (progress p)) new
+    → plain t.now ≡ tree.Seq ts → i < length (offers (part_left p)) → MovesTo (tree.Seq ts) i (room_in_turn ts) new
+    → MovesTo (part_left p) i (wants (progress p)) new
 passes-whole p t ts i new at is low leads =
     passes-behind p i new (subst (λ q. offers_of_all (all_left (take (count_at q) (parts_of p))) ≡ []) (sym at) (none-first (parts_of p))) low
-    (subst (λ q. Leads (behind q) i (most_behind q) new) (sym at)
-    (subst (λ u. Leads u i (nodes u) new) (sym is) (leads-seq ts i new leads)))
+    (subst (λ q. MovesTo (behind q) i (wants_behind q) new) (sym at)
+    (subst (λ u. MovesTo u i (room u) new) (sym is) leads))
 
 -- ---- whether a part is in turns of a choice, by how far it is
 

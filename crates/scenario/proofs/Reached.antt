@@ -6,7 +6,7 @@ use Rattle.std.proofs.lemmas.List.{append-nil}
 use Rattle.base.specs.declared.step.CoreAsk.{CoreAsk}
 use Rattle.scenario.specs.Tree.{Tree, Trees, One, Seq, Any, Times, Both, Nil, Cons}
 use Rattle.scenario.specs.Taking.{ends, all_end, some_ends, offers, offers_in_turn, offers_of_all, left, left_in_turn, left_of_one, left_of_all}
-use Rattle.scenario.specs.Words.{IsWord, IsJoined, IsWordOfOne, IsInterleaved, Interleaves, Repeats}
+use Rattle.scenario.specs.Words.{IsWord, IsJoined, IsWordOfOne, IsInterleaved, Interleaves, IsRepeated}
 use Rattle.scenario.proofs.Fronts.{same-head, same-tail}
 use Rattle.scenario.proofs.Places.{get_front, get_behind, is_below, isnt_below, by_test}
 
@@ -32,11 +32,11 @@ second-true : (a b : Bool) → b ≡ true → (a || b) ≡ true
 second-true true b e = refl
 second-true false b e = e
 
-repeats-nothing : (n : ℕ) (Is : List CoreAsk → Type 0) → Is [] → Repeats n Is []
+repeats-nothing : (n : ℕ) (Is : List CoreAsk → Type 0) → Is [] → IsRepeated n Is []
 repeats-nothing zero Is nothing = refl
 repeats-nothing (suc n) Is nothing = ([], [], refl, nothing, repeats-nothing n Is nothing)
 
-no-turns : (n : ℕ) (Is : List CoreAsk → Type 0) → (n == 0) ≡ true → Repeats n Is []
+no-turns : (n : ℕ) (Is : List CoreAsk → Type 0) → (n == 0) ≡ true → IsRepeated n Is []
 no-turns zero Is e = refl
 no-turns (suc n) Is e = absurd (grind (arith, nat_tests))
 
@@ -126,9 +126,9 @@ some_turn true os i ask e = absurd (cc e)
 some_turn false os i ask e = (refl, e)
 
 -- a turn in front of the others
-turn-first : (n : ℕ) (Is : List CoreAsk → Type 0) (u v : List CoreAsk) → (n == 0) ≡ false → Is u → Repeats (n - 1) Is v → Repeats n Is (u ++ v)
+turn-first : (n : ℕ) (Is : List CoreAsk → Type 0) (u v : List CoreAsk) → (n == 0) ≡ false → Is u → IsRepeated (n - 1) Is v → IsRepeated n Is (u ++ v)
 turn-first zero Is u v e here behind = absurd (cc e)
-turn-first (suc n) Is u v e here behind = let m : suc n - 1 ≡ n = omega arith in (u, v, refl, here, subst (λ k. Repeats k Is v) m behind)
+turn-first (suc n) Is u v e here behind = let m : suc n - 1 ≡ n = omega arith in (u, v, refl, here, subst (λ k. IsRepeated k Is v) m behind)
 
 mutual
   pub ask-in : (t : Tree) (i : ℕ) (ask : CoreAsk) (w : List CoreAsk) → slice_get (offers t) i ≡ Some ask → IsWord (left t i) w → IsWord t (ask ∷ w)
@@ -138,9 +138,9 @@ mutual
   ask-in (Times n t) i ask w e word =
       let turn = some_turn (n == 0) (offers t) i ask e in
       let first = ask-in t i ask word.0 turn.1 word.3 in
-      let others : Repeats (n - 1) (IsWord t) word.1 =
-      subst (Repeats (n - 1) (IsWord t)) (sym (word.4.2 ∙ (ap (λ z. word.4.0 ++ z) word.4.4 ∙ append-nil word.4.0))) word.4.3 in
-      subst (λ z. Repeats n (IsWord t) (ask ∷ z)) (sym word.2) (turn-first n (IsWord t) (ask ∷ word.0) word.1 turn.0 first others)
+      let others : IsRepeated (n - 1) (IsWord t) word.1 =
+      subst (IsRepeated (n - 1) (IsWord t)) (sym (word.4.2 ∙ (ap (λ z. word.4.0 ++ z) word.4.4 ∙ append-nil word.4.0))) word.4.3 in
+      subst (λ z. IsRepeated n (IsWord t) (ask ∷ z)) (sym word.2) (turn-first n (IsWord t) (ask ∷ word.0) word.1 turn.0 first others)
   ask-in (Both ts) i ask w e word = ask-interleaved ts i ask w e word
 
   ask-joined : (ts : Trees) (i : ℕ) (ask : CoreAsk) (w : List CoreAsk) → slice_get (offers_in_turn ts) i ≡ Some ask → IsJoined (left_in_turn ts i) w
@@ -201,7 +201,7 @@ ContinuedOfAll ts ask w = (i : ℕ) × (slice_get (offers_of_all ts) i ≡ Some 
 -- a turn that begins with an ask, before the others
 abbrev ContinuedTurn : ℕ → Tree → CoreAsk → List CoreAsk → Type 0
 ContinuedTurn n t ask w = ((n == 0) ≡ false) × (i : ℕ) × (slice_get (offers t) i ≡ Some ask)
-    × (u v : List CoreAsk) × (w ≡ u ++ v) × IsWord (left t i) u × Repeats (n - 1) (IsWord t) v
+    × (u v : List CoreAsk) × (w ≡ u ++ v) × IsWord (left t i) u × IsRepeated (n - 1) (IsWord t) v
 
 -- the first offers, and the others behind them
 in_front : (t : Tree) (ts : Trees) (i : ℕ) → i < length (offers t) → left_in_turn (Cons t ts) i ≡ Cons (left t i) ts
@@ -250,11 +250,11 @@ in_turn-behind t ts ask w end there = (
   subst (λ us. IsJoined us w) (sym (behind_turn t ts there.0)) there.2,
 )
 
-turn-front : (n : ℕ) (t : Tree) (ask : CoreAsk) (w u v : List CoreAsk) → w ≡ u ++ v → Continued t ask u → Repeats n (IsWord t) v
+turn-front : (n : ℕ) (t : Tree) (ask : CoreAsk) (w u v : List CoreAsk) → w ≡ u ++ v → Continued t ask u → IsRepeated n (IsWord t) v
     → ContinuedTurn (suc n) t ask w
 turn-front n t ask w u v e here behind =
     let m : suc n - 1 ≡ n = omega arith in
-    (grind (arith, nat_tests), here.0, here.1, u, v, e, here.2, subst (λ k. Repeats k (IsWord t) v) (sym m) behind)
+    (grind (arith, nat_tests), here.0, here.1, u, v, e, here.2, subst (λ k. IsRepeated k (IsWord t) v) (sym m) behind)
 
 turn-behind : (n : ℕ) (t : Tree) (ask : CoreAsk) (w : List CoreAsk) → IsWord t [] → ContinuedTurn n t ask w → ContinuedTurn (suc n) t ask w
 turn-behind zero t ask w nothing there = absurd (cc there.0)
@@ -268,7 +268,7 @@ turn-behind (suc n) t ask w nothing there =
       there.4,
       there.5,
       there.6,
-      subst (λ k. Repeats k (IsWord t) there.4) (sym k) ([], there.4, refl, nothing, subst (λ k. Repeats k (IsWord t) there.4) m there.7),
+      subst (λ k. IsRepeated k (IsWord t) there.4) (sym k) ([], there.4, refl, nothing, subst (λ k. IsRepeated k (IsWord t) there.4) m there.7),
     )
 
 of_turn : (n : ℕ) (t : Tree) (ask : CoreAsk) (w : List CoreAsk) → ContinuedTurn n t ask w → Continued (Times n t) ask w
@@ -283,13 +283,13 @@ abbrev GoesOn : Tree → Type 0
 GoesOn t = (ask : CoreAsk) (w : List CoreAsk) → IsWord t (ask ∷ w) → Continued t ask w
 
 -- the first turn that asks anything
-turn-split : (n : ℕ) (t : Tree) → GoesOn t → ((ask : CoreAsk) (w : List CoreAsk) → Repeats n (IsWord t) (ask ∷ w) → ContinuedTurn n t ask w)
-    → (ask : CoreAsk) (w u v : List CoreAsk) → ask ∷ w ≡ u ++ v → IsWord t u → Repeats n (IsWord t) v → ContinuedTurn (suc n) t ask w
-turn-split n t goes_on later ask w [] v e here behind = turn-behind n t ask w here (later ask w (subst (Repeats n (IsWord t)) (sym e) behind))
+turn-split : (n : ℕ) (t : Tree) → GoesOn t → ((ask : CoreAsk) (w : List CoreAsk) → IsRepeated n (IsWord t) (ask ∷ w) → ContinuedTurn n t ask w)
+    → (ask : CoreAsk) (w u v : List CoreAsk) → ask ∷ w ≡ u ++ v → IsWord t u → IsRepeated n (IsWord t) v → ContinuedTurn (suc n) t ask w
+turn-split n t goes_on later ask w [] v e here behind = turn-behind n t ask w here (later ask w (subst (IsRepeated n (IsWord t)) (sym e) behind))
 turn-split n t goes_on later ask w (a ∷ u) v e here behind =
     turn-front n t ask w u v (same-tail ask a w (u ++ v) e) (goes_on ask u (subst (λ b. IsWord t (b ∷ u)) (sym (same-head ask a w (u ++ v) e)) here)) behind
 
-turn-out : (n : ℕ) (t : Tree) → GoesOn t → (ask : CoreAsk) (w : List CoreAsk) → Repeats n (IsWord t) (ask ∷ w) → ContinuedTurn n t ask w
+turn-out : (n : ℕ) (t : Tree) → GoesOn t → (ask : CoreAsk) (w : List CoreAsk) → IsRepeated n (IsWord t) (ask ∷ w) → ContinuedTurn n t ask w
 turn-out zero t goes_on ask w e = absurd (cc e)
 turn-out (suc n) t goes_on ask w e = turn-split n t goes_on (turn-out n t goes_on) ask w e.0 e.1 e.2 e.3 e.4
 

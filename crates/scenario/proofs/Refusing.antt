@@ -8,7 +8,7 @@ use Rattle.scenario.specs.Limits.{depth, deepest, longest, Throughout, InEach, H
 use Rattle.scenario.specs.Nodes.{Node, any, or_else}
 use Rattle.scenario.specs.Says.{IsJson, IsTextOf, Says, SayEach}
 use Rattle.scenario.specs.Refusals.{Visit, visited, visited_in, first_some, fault_of, fault_at, node_children, first_fault, IsRefusal}
-use Rattle.scenario.specs.Walk.{tree_at}
+use Rattle.scenario.specs.inner.Walk.{tree_at}
 use Rattle.scenario.specs.declared.reading.ScenarioFault.{ScenarioFault}
 use Rattle.scenario.specs.declared.reading.ScenarioFault.TheVariants.{NotJson, BadShape, EmptyAny, TooDeep, TooLong, OutOfShape, NoMemory}
 use Rattle.scenario.proofs.Visits.{HasFault, Tells, first_some-append}

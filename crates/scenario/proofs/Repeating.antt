@@ -9,8 +9,8 @@ use Rattle.scenario.specs.Cursors.{Nothing, InTimes, first_part, progress_at, tr
 use Rattle.scenario.proofs.Cursors.{progress-is}
 use Rattle.scenario.proofs.Flat.{append-neither}
 use Rattle.scenario.specs.Taking.{ends, left, left_in_turn, left_of_one, offers, offers_of_all}
-use Rattle.scenario.specs.Parts.{part_left, parts_of, place_of}
-use Rattle.scenario.specs.Turns.{all_asks, is_choice}
+use Rattle.scenario.specs.inner.Parts.{part_left, parts_of, place_of}
+use Rattle.scenario.specs.inner.Turns.{all_asks, is_choice}
 use Rattle.scenario.specs.Repeats.{Repeats}
 
 left-asks : (ts : Trees) (i : ℕ) → all_asks ts ≡ true → i < length (offers_of_all ts) → left_of_one ts i ≡ Seq Nil

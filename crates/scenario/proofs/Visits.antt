@@ -7,7 +7,7 @@ use Rattle.base.specs.Extent.{Extent}
 use Rattle.scenario.specs.Tree.{Tree, One, Times}
 use Rattle.scenario.specs.Nodes.{Node, one, seq, any, times, both, node_of, or_else}
 use Rattle.scenario.specs.Refusals.{node_children, fault_of, fault_at, is_in_shape, Visit, visited, visited_in, first_some}
-use Rattle.scenario.specs.Walk.{tree_at, tree_of, trees_behind, over}
+use Rattle.scenario.specs.inner.Walk.{tree_at, tree_of, trees_behind, over}
 use Rattle.scenario.specs.declared.reading.ScenarioFault.{ScenarioFault}
 use Rattle.scenario.specs.declared.reading.ScenarioFault.TheVariants.{BadShape, OutOfShape}
 

@@ -6,7 +6,7 @@ use Rattle.serde_json.specs.declared.value.Value.{Value}
 use Rattle.base.specs.Extent.{Extent}
 use Rattle.scenario.specs.Tree.{Tree, Any, trees_of}
 use Rattle.scenario.specs.Nodes.{node_of, any}
-use Rattle.scenario.specs.Walk.{tree_at, tree_of, trees_behind, over}
+use Rattle.scenario.specs.inner.Walk.{tree_at, tree_of, trees_behind, over}
 use Rattle.scenario.specs.declared.reading.ScenarioFault.{ScenarioFault}
 use Rattle.scenario.proofs.Children.{plain-Seq, plain-Any, plain-Both}
 

@@ -4,7 +4,7 @@ use Rattle.std.proofs.Common.{slice_set, refl, sym, ap, ◌∙◌, subst, arith,
 use Rattle.scenario.specs.declared.tree.Scenario.{Scenario}
 use Rattle.scenario.specs.Tree.{Tree, plain}
 use Rattle.scenario.specs.Cursors.{Progress, Whole}
-use Rattle.scenario.specs.Parts.{IsWholeBut}
+use Rattle.scenario.specs.inner.Parts.{IsWholeBut}
 use Rattle.scenario.proofs.Fronts.{same-head, same-tail}
 use Rattle.scenario.proofs.Items.{get-map}
 
@@ -60,3 +60,15 @@ whole-but f old xs new k b ts e is whole =
     ap (take (length ts)) (ap (map f) is ∙ map-set f xs k b)
     ∙ (take-set (length ts) (map f xs) k (f b) ∙ ap (λ ps. slice_set ps k (f b)) (map-take f (length ts) xs ∙ whole)) in
     subst (λ (o : Option Progress). IfSome o (λ p. take (length ts) (map f new) ≡ slice_set (map Whole ts) k p)) (sym there) all
+
+set-back : {X : Type 0} (xs : List X) (k : ℕ) (b e : X) → slice_get xs k ≡ Some b → slice_set (slice_set xs k e) k b ≡ xs
+set-back [] k b e h = absurd (cc h)
+set-back (x ∷ xs) zero b e h = let h' : x ≡ b = cc h in ap (λ y. y ∷ xs) (sym h')
+set-back (x ∷ xs) (suc k) b e h = ap (λ ys. x ∷ ys) (set-back xs k b e h)
+
+-- as it was, once a part that was taken out is put back
+pub put-back : {X Y : Type 0} (f : X → Y) (old xs : List X) (k : ℕ) (b e : X) → slice_get old k ≡ Some b
+    → map f xs ≡ map f (slice_set old k e) → map f (slice_set xs k b) ≡ map f old
+put-back f old xs k b e h same =
+    map-set f xs k b
+    ∙ (ap (λ ys. slice_set ys k (f b)) (same ∙ map-set f old k e) ∙ set-back (map f old) k (f b) (f e) (get-map f old k b h))

@@ -1,6 +1,5 @@
 -- How far a cursor is in its tree, without where its parts lie.
-use Rattle.std.specs.Prelude.{ℕ, zero, suc, ◌+◌, List, [], ◌∷◌}
-use Rattle.std.specs.Prelude as std
+use Rattle.std.specs.Prelude.{ℕ, zero, suc, List, [], ◌∷◌}
 use Rattle.scenario.specs.Tree.{Tree, Trees, plain, plain_all}
 use Rattle.scenario.specs.Tree as tree
 use Rattle.scenario.specs.declared.cursor.Cursor.{Cursor}
@@ -71,47 +70,3 @@ standing c = progress c.root
 -- what is left of a cursor's tree
 abbrev pub remaining : {A B : Type 0} → Cursor A B → Tree
 remaining c = tree_left (standing c)
-
-abbrev mutual
-  -- how many nodes a tree has
-  pub nodes : Tree → ℕ
-  nodes (tree.One ask) = 1
-  nodes (tree.Seq ts) = 1 + total_nodes ts
-  nodes (tree.Any ts) = 1 + total_nodes ts
-  nodes (tree.Times n t) = 1 + nodes t
-  nodes (tree.Both ts) = 1 + total_nodes ts
-
-  pub total_nodes : Trees → ℕ
-  total_nodes tree.Nil = 0
-  total_nodes (tree.Cons t ts) = nodes t + total_nodes ts
-
-abbrev mutual
-  -- how many parts of a cursor are in use, itself among them. A tree that is still whole is one part
-  pub cursor_nodes : Progress → ℕ
-  cursor_nodes Nothing = 1
-  cursor_nodes (Whole t) = 1
-  cursor_nodes (InSeq p ts) = 1 + cursor_nodes p
-  cursor_nodes (InTimes p n t) = 1 + cursor_nodes p
-  cursor_nodes (InBoth ps) = 1 + total_cursor_nodes ps
-
-  pub total_cursor_nodes : Parts → ℕ
-  total_cursor_nodes Nil = 0
-  total_cursor_nodes (Cons p ps) = cursor_nodes p + total_cursor_nodes ps
-
--- the most nodes that one of these trees has
-abbrev pub greatest_nodes : Trees → ℕ
-greatest_nodes tree.Nil = 0
-greatest_nodes (tree.Cons t ts) = std.max (nodes t) (greatest_nodes ts)
-
-abbrev mutual
-  -- the most parts that a cursor can come to have in use: a whole tree may come to as many as it has nodes
-  pub most_nodes : Progress → ℕ
-  most_nodes Nothing = 1
-  most_nodes (Whole t) = nodes t
-  most_nodes (InSeq p ts) = 1 + std.max (most_nodes p) (greatest_nodes ts)
-  most_nodes (InTimes p n t) = 1 + std.max (most_nodes p) (nodes t)
-  most_nodes (InBoth ps) = 1 + total_most_nodes ps
-
-  pub total_most_nodes : Parts → ℕ
-  total_most_nodes Nil = 0
-  total_most_nodes (Cons p ps) = most_nodes p + total_most_nodes ps

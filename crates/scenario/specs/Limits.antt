@@ -36,26 +36,6 @@ abbrev mutual
   greatest (Cons t ts) = std.max (longest t) (greatest ts)
 
 abbrev mutual
-  -- how deep a tree may become while offers are taken from it: as deep as it is, or one deeper, as a law says
-  pub peak_depth : Tree → ℕ
-  peak_depth (One ask) = 1
-  peak_depth (Seq ts) = 1 + peak_in_turn ts
-  peak_depth (Any ts) = 1 + deepest ts
-  peak_depth (Times n t) = 2 + depth t
-  peak_depth (Both ts) = 1 + peak_of_all ts
-
-  -- the highest of the children's
-  pub peak_of_all : Trees → ℕ
-  peak_of_all Nil = 0
-  peak_of_all (Cons t ts) = std.max (peak_depth t) (peak_of_all ts)
-
-  -- the same in a row, whose last child counts as deep as it is: once the row has begun, it stands for the row
-  pub peak_in_turn : Trees → ℕ
-  peak_in_turn Nil = 0
-  peak_in_turn (Cons t Nil) = depth t
-  peak_in_turn (Cons t (Cons u us)) = std.max (peak_depth t) (peak_in_turn (Cons u us))
-
-abbrev mutual
   -- the tree is so, and each tree in it
   pub Throughout : (Tree → Type 0) → Tree → Type 0
   Throughout P (One ask) = P (One ask)
@@ -86,12 +66,12 @@ HasChoice (Times n t) = ⊤
 HasChoice (Both ts) = ⊤
 
 -- the numbers are in range of their types
-abbrev pub Fits : Tree → Type 0
-Fits (One ask) = (ask.core.0 < 2 ^ 32) × (ask.block.0 < 2 ^ 32) × FitsAsk ask.ask
-Fits (Seq ts) = ⊤
-Fits (Any ts) = ⊤
-Fits (Times n t) = n < 2 ^ 32
-Fits (Both ts) = ⊤
+abbrev pub FitsTypes : Tree → Type 0
+FitsTypes (One ask) = (ask.core.0 < 2 ^ 32) × (ask.block.0 < 2 ^ 32) × FitsAsk ask.ask
+FitsTypes (Seq ts) = ⊤
+FitsTypes (Any ts) = ⊤
+FitsTypes (Times n t) = n < 2 ^ 32
+FitsTypes (Both ts) = ⊤
 
 -- a tree of 48 levels at most, of words of 1,000,000 asks at most, with no empty choice, whose asks are in the shape
 pub record IsWithin (shape : Extent) (tree : Tree) : Type 0 where
@@ -99,4 +79,4 @@ pub record IsWithin (shape : Extent) (tree : Tree) : Type 0 where
   pub short : longest tree ≤ 1000000
   pub choices : Throughout HasChoice tree
   pub asks : Throughout (IsInShape shape) tree
-  pub numbers : Throughout Fits tree
+  pub numbers : Throughout FitsTypes tree

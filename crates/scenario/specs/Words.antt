@@ -10,9 +10,9 @@ Interleaves u v (ask ∷ w) = ((more : List CoreAsk) × (u ≡ ask ∷ more) × 
     ⊎ ((more : List CoreAsk) × (v ≡ ask ∷ more) × Interleaves u more w)
 
 -- a list is so many lists of a kind, one behind the other
-abbrev pub Repeats : ℕ → (List CoreAsk → Type 0) → List CoreAsk → Type 0
-Repeats zero Is w = w ≡ []
-Repeats (suc n) Is w = (u v : List CoreAsk) × (w ≡ u ++ v) × Is u × Repeats n Is v
+abbrev pub IsRepeated : ℕ → (List CoreAsk → Type 0) → List CoreAsk → Type 0
+IsRepeated zero Is w = w ≡ []
+IsRepeated (suc n) Is w = (u v : List CoreAsk) × (w ≡ u ++ v) × Is u × IsRepeated n Is v
 
 abbrev mutual
   -- the list is a word of the tree
@@ -20,7 +20,7 @@ abbrev mutual
   IsWord (One ask) w = w ≡ ask ∷ []
   IsWord (Seq ts) w = IsJoined ts w
   IsWord (Any ts) w = IsWordOfOne ts w
-  IsWord (Times n t) w = Repeats n (IsWord t) w
+  IsWord (Times n t) w = IsRepeated n (IsWord t) w
   IsWord (Both ts) w = IsInterleaved ts w
 
   -- one word of each child, one behind the other

@@ -1,7 +1,7 @@
 //! What is left of a scenario that is borrowed.
 
 ghost use Rattle.std.specs.Prelude.{◌≡◌, true};
-ghost use Rattle.scenario.specs.Turns.{chooses};
+ghost use Rattle.scenario.specs.inner.Turns.{chooses};
 
 use crate::part::{Part, Place, is_in_turns, part_next, part_repeats, pass_at_once, take_from};
 use crate::seeking::find_offer;
@@ -12,8 +12,8 @@ use std::alloc::Allocator;
 
 /// What is left of a scenario, which it borrows.
 ///
-/// It keeps how far it is in each tree that it has begun, in parts that lie in memory of the allocator `B`. It never has
-/// more of them in use than its scenario has nodes, and those that are no longer needed are used again.
+/// It keeps how far it is in each tree that it has begun, in parts that lie in memory of the allocator `B`. Those that are
+/// no longer needed are used again, so that it never holds more of them than its scenario has nodes.
 #[derive(Drop)]
 pub struct Cursor<'t, A: Allocator, B: Allocator> {
     pub(crate) root: Part<'t, A, B>,
@@ -23,14 +23,14 @@ pub struct Cursor<'t, A: Allocator, B: Allocator> {
 }
 
 impl<'t, A: Allocator, B: Allocator> Cursor<'t, A, B> {
-    ghost use Rattle.std.specs.Prelude.{◌≤◌};
-    ghost use Rattle.scenario.specs.Cursors.{most_nodes, nodes, remaining, standing};
+    ghost use Rattle.scenario.specs.Cursors.{remaining};
+    ghost use Rattle.scenario.specs.Stock.{FitsIn};
     ghost use Rattle.scenario.specs.Tree.{plain};
 
     /// All of the tree is left. It takes no memory.
     pub fn open(tree: &'t Scenario<A>) -> Cursor<'t, A, B>
         ensures left { remaining result ≡ plain tree.entry.now }
-        ensures nodes { most_nodes (standing result) ≤ nodes (plain tree.entry.now) }
+        ensures fits { FitsIn result (plain tree.entry.now) }
     {
         Cursor {
             root: Part::Fresh(Place::Whole(tree)),
@@ -40,11 +40,13 @@ impl<'t, A: Allocator, B: Allocator> Cursor<'t, A, B> {
 }
 
 impl<'t, A: Allocator, B: Allocator> Cursor<'t, A, B> {
-    ghost use Rattle.scenario.specs.Cursors.{remaining};
+    ghost use Rattle.std.specs.Prelude.{◌≤◌};
+    ghost use Rattle.scenario.specs.Cursors.{remaining, standing};
     ghost use Rattle.scenario.specs.Repeats.{Repeats};
+    ghost use Rattle.scenario.specs.Stock.{FitsIn, Within, most_used, nodes, room};
     ghost use Rattle.scenario.specs.Taking.{offers};
     ghost use Rattle.scenario.specs.Telling.{Tells};
-    ghost use Rattle.scenario.specs.Tree.{plain};
+    ghost use Rattle.scenario.specs.Tree.{Tree, plain};
 
     /// Whether the same is offered again, whichever offer is taken. It is told by a look: `false` promises nothing.
     pub fn repeats(&self) -> bool
@@ -60,9 +62,14 @@ impl<'t, A: Allocator, B: Allocator> Cursor<'t, A, B> {
         part_next(&self.root)
     }
 
-    /// All of this tree is left from now on, whatever was. The parts that the cursor has are used again.
+    /// All of this tree is left from now on, whatever was. The parts that the cursor has are used again: it fits in every tree
+    /// that it fitted in, if that has room for this one too.
     pub fn restart(&mut self, tree: &'t Scenario<A>)
-        ensures { remaining self.new ≡ plain tree.entry.now }
+        ensures left { remaining self.new ≡ plain tree.entry.now }
+        ensures fits { FitsIn self.old (plain tree.entry.now) → FitsIn self.new (plain tree.entry.now) }
+        ensures fits_other { (other : Tree) → FitsIn self.old other →
+            Within (room (plain tree.entry.now)) (room other) → FitsIn self.new other }
+        ensures used { most_used (standing self.new) ≤ nodes (plain tree.entry.now) }
     {
         self.in_turns = false;
         self.root.move_to(Place::Whole(tree));
@@ -72,9 +79,11 @@ impl<'t, A: Allocator, B: Allocator> Cursor<'t, A, B> {
 impl<'t, A: Allocator, B: Allocator + Clone> Cursor<'t, A, B> {
     ghost use Rattle.std.specs.Prelude.{◌<◌, ◌≤◌, IfOk, OnErr, OnOk, length};
     ghost use Rattle.scenario.specs.Alike.{Alike, Takes};
-    ghost use Rattle.scenario.specs.Cursors.{most_nodes, remaining, standing};
+    ghost use Rattle.scenario.specs.Cursors.{remaining, standing};
     ghost use Rattle.scenario.specs.Repeats.{Repeats};
+    ghost use Rattle.scenario.specs.Stock.{FitsIn, most_used};
     ghost use Rattle.scenario.specs.Taking.{left, offers};
+    ghost use Rattle.scenario.specs.Tree.{Tree};
 
     /// Takes offer `at`, counted from 0 in the order of [`Rest::offers`](crate::Rest::offers): answers its ask, and what is
     /// then left of the tree is left. `None` comes where there is no such offer, and then nothing has changed.
@@ -83,7 +92,8 @@ impl<'t, A: Allocator, B: Allocator + Clone> Cursor<'t, A, B> {
     pub fn take(&mut self, alloc: B, at: usize) -> Result<Option<CoreAsk>, NoMemory>
         ensures ok { IfOk result (λ taken. Takes (remaining self.old) at taken (remaining self.new)) }
         ensures err { OnErr result (remaining self.new ≡ remaining self.old) }
-        ensures nodes { most_nodes (standing self.new) ≤ most_nodes (standing self.old) }
+        ensures fits { (tree : Tree) → FitsIn self.old tree → FitsIn self.new tree }
+        ensures used { most_used (standing self.new) ≤ most_used (standing self.old) }
     {
         let Some(ask) = find_offer(&self.root, at) else {
             return Ok(None);
@@ -99,7 +109,8 @@ impl<'t, A: Allocator, B: Allocator + Clone> Cursor<'t, A, B> {
         requires { at < length (offers (remaining self.old)) }
         ensures ok { OnOk result (Alike (remaining self.new) (left (remaining self.old) at)) }
         ensures err { OnErr result (remaining self.new ≡ remaining self.old) }
-        ensures nodes { most_nodes (standing self.new) ≤ most_nodes (standing self.old) }
+        ensures fits { (tree : Tree) → FitsIn self.old tree → FitsIn self.new tree }
+        ensures used { most_used (standing self.new) ≤ most_used (standing self.old) }
     {
         if pass_at_once(&mut self.root, self.in_turns, at) {
             return Ok(());
@@ -118,7 +129,8 @@ impl<'t, A: Allocator, B: Allocator + Clone> Cursor<'t, A, B> {
         ensures ok { OnOk result (Alike (remaining self.new) (left (remaining self.old) at)) }
         ensures repeats { IfOk result (λ repeats. repeats ≡ true → Repeats (remaining self.old)) }
         ensures err { OnErr result (remaining self.new ≡ remaining self.old) }
-        ensures nodes { most_nodes (standing self.new) ≤ most_nodes (standing self.old) }
+        ensures fits { (tree : Tree) → FitsIn self.old tree → FitsIn self.new tree }
+        ensures used { most_used (standing self.new) ≤ most_used (standing self.old) }
     {
         let repeats = part_repeats(&self.root, self.in_turns);
         if repeats && is_in_turns(&self.root) {

@@ -2,7 +2,7 @@
 
 ghost use Rattle.scenario.specs.Tree as tree;
 ghost use Rattle.scenario.specs.Tree.{plain, plain_all};
-ghost use Rattle.scenario.specs.Limits.{Fits, InEach, Throughout};
+ghost use Rattle.scenario.specs.Limits.{FitsTypes, InEach, Throughout};
 
 use crate::tree::Scenario;
 use base::CoreAsk;
@@ -12,7 +12,7 @@ use std::alloc::Allocator;
 #[cycle(fitting)]
 #[tactic(auto, using(crate::proofs::Children::children))]
 pub(crate) fn read_numbers<A: Allocator>(scenario: &Scenario<A>)
-    ensures { Throughout Fits (plain scenario.now) }
+    ensures { Throughout FitsTypes (plain scenario.now) }
 {
     match scenario {
         Scenario::One(ask) => read_ask(*ask),
@@ -29,7 +29,7 @@ pub(crate) fn read_numbers<A: Allocator>(scenario: &Scenario<A>)
 /// Reads each number of the children.
 #[cycle(fitting)]
 fn read_all_numbers<A: Allocator>(children: &[Scenario<A>])
-    ensures { InEach Fits (plain_all children.now) }
+    ensures { InEach FitsTypes (plain_all children.now) }
 {
     for child in children {
         read_numbers(child);
@@ -38,5 +38,5 @@ fn read_all_numbers<A: Allocator>(children: &[Scenario<A>])
 
 /// An ask's numbers are in range, as it is passed by value.
 fn read_ask(ask: CoreAsk)
-    ensures { Fits (tree.One ask) }
+    ensures { FitsTypes (tree.One ask) }
 {}

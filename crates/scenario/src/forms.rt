@@ -3,7 +3,7 @@
 ghost use Rattle.std.specs.Prelude.{◌≡◌, codes, option_map};
 ghost use Rattle.serde_json.specs.View.{view, items_view};
 ghost use Rattle.scenario.specs.Nodes.{ask_of, asked, has_keys, list_of, node_of, number_at, turns_of};
-ghost use Rattle.scenario.specs.Walk.{form_node};
+ghost use Rattle.scenario.specs.inner.Walk.{form_node};
 
 use base::{Ask, BlockId, CacheId, CoreAsk};
 use serde_json::Value;

@@ -6,16 +6,20 @@ ghost use Rattle.serde_json.specs.Data.{Data};
 ghost use Rattle.base.specs.Extent.{Extent};
 ghost use Rattle.base.specs.declared.step.CoreAsk.{CoreAsk};
 ghost use Rattle.scenario.specs.Alike.{Alike};
-ghost use Rattle.scenario.specs.Cursors.{Progress, cursor_nodes, most_nodes};
-ghost use Rattle.scenario.specs.Limits.{Fits, IsWithin, Throughout, depth, peak_depth};
+ghost use Rattle.scenario.specs.Cursors.{Progress, standing};
+ghost use Rattle.scenario.specs.Limits.{FitsTypes, IsWithin, Throughout};
 ghost use Rattle.scenario.specs.Refusals.{IsRefusal, first_fault};
 ghost use Rattle.scenario.specs.Says.{IsTextOf, Says};
 ghost use Rattle.scenario.specs.Shown.{shown};
+ghost use Rattle.scenario.specs.Stock.{FitsIn, most_used, nodes, parts_held, parts_used};
 ghost use Rattle.scenario.specs.Taking.{ends, left, offers};
 ghost use Rattle.scenario.specs.Tree.{Tree};
 ghost use Rattle.scenario.specs.Words.{IsWord};
+ghost use Rattle.scenario.specs.declared.cursor.Cursor.{Cursor};
 ghost use Rattle.scenario.specs.declared.reading.ScenarioFault.{ScenarioFault};
 ghost use Rattle.scenario.specs.declared.reading.ScenarioFault.TheVariants.{NoMemory};
+
+use std::alloc::Allocator;
 
 /// Taking offers reaches every word of a tree and nothing else: the empty list is a word exactly where the tree may end,
 /// and an ask in front of others exactly where it is offered and the others are a word of what is then left.
@@ -37,18 +41,13 @@ pub fn alike_trees_have_the_same_words()
     ensures { (s t : Tree) (word : List CoreAsk) → Alike s t → IsWord s word → IsWord t word }
 {}
 
-/// Taking offers makes a tree one deeper at most: its peak is its depth or one more, and
-/// [`Scenario::take`](crate::Scenario::take) leaves nothing of a higher peak.
-pub fn trees_stay_shallow()
-    ensures deep { (t : Tree) → depth t ≤ peak_depth t }
-    ensures shallow { (t : Tree) → peak_depth t ≤ 1 + depth t }
-{}
-
-/// A cursor never has more nodes than its tree, whatever is taken: it never has more than it can come to have, which
-/// is at most the number of its tree's nodes where it is opened ([`Cursor::open`](crate::Cursor::open)), and which no
-/// [`Cursor::take`](crate::Cursor::take) raises.
-pub fn cursors_stay_small()
-    ensures { (p : Progress) → cursor_nodes p ≤ most_nodes p }
+/// A cursor that fits in a tree holds no more parts than this has nodes, in use or kept for later, nor can it come to have more
+/// in use. It fits in its tree where it is opened ([`Cursor::open`](crate::Cursor::open)) and wherever it is restarted with it
+/// ([`Cursor::restart`](crate::Cursor::restart)), and no [`Cursor::take`](crate::Cursor::take) changes that.
+pub fn cursors_stay_small<A: Allocator, B: Allocator>()
+    ensures held { (c : Cursor A B) (t : Tree) → FitsIn c t → parts_held c ≤ nodes t }
+    ensures used { (c : Cursor A B) (t : Tree) → FitsIn c t → most_used (standing c) ≤ nodes t }
+    ensures most { (p : Progress) → parts_used p ≤ most_used p }
 {}
 
 /// A value says one tree at most, and a text is the text of one tree at most, whatever the shape. The value that a tree is
@@ -56,7 +55,7 @@ pub fn cursors_stay_small()
 pub fn a_text_is_of_one_tree()
     ensures value { (value : Data) (one other : Tree) → Says value one → Says value other → one ≡ other }
     ensures text { (bytes : List ℕ) (one other : Tree) → IsTextOf bytes one → IsTextOf bytes other → one ≡ other }
-    ensures written { (tree : Tree) → Throughout Fits tree → Says (shown tree) tree }
+    ensures written { (tree : Tree) → Throughout FitsTypes tree → Says (shown tree) tree }
 {}
 
 /// A text of a tree within the limits is refused only for want of memory. So what is read is exactly these trees.

@@ -22,7 +22,7 @@ pub use cursor::Cursor;
 pub use laws::{
     a_text_is_of_one_tree, alike_trees_have_the_same_words, alike_trees_stay_alike,
     cursors_stay_small, json_without_fault_is_a_tree, offers_reach_the_words, one_refusal_at_most,
-    trees_stay_shallow, trees_within_are_read,
+    trees_within_are_read,
 };
 pub use reading::{DEEPEST, LONGEST, ScenarioFault};
 pub use rests::Rest;

@@ -56,11 +56,13 @@ impl<'t, A: Allocator> Copy for Place<'t, A> {}
 impl<'t, A: Allocator, B: Allocator> Part<'t, A, B> {
     ghost use Rattle.std.specs.Prelude.{◌≡◌, map};
     ghost use Rattle.scenario.specs.Cursors.{Nothing, progress, progress_at};
-    ghost use Rattle.scenario.specs.Parts.{parts_of, place_of};
+    ghost use Rattle.scenario.specs.Stock.{Empty, stock};
+    ghost use Rattle.scenario.specs.inner.Parts.{parts_of, place_of};
 
     /// Nothing is left.
     pub(crate) fn ended() -> Part<'t, A, B>
-        ensures { progress result ≡ Nothing }
+        ensures ended { progress result ≡ Nothing }
+        ensures held { stock result ≡ Empty }
     {
         Part::Fresh(Place::Nothing)
     }
@@ -91,6 +93,7 @@ impl<'t, A: Allocator, B: Allocator> Part<'t, A, B> {
     pub(crate) fn move_to(&mut self, to: Place<'t, A>)
         ensures place { progress self.new ≡ progress_at to.entry (parts_of self.old) }
         ensures parts { parts_of self.new ≡ parts_of self.old }
+        ensures held { stock self.new ≡ stock self.old }
     {
         match self {
             Part::Fresh(place) => *place = to,

@@ -6,7 +6,7 @@ ghost use Rattle.scenario.specs.Tree.{plain};
 ghost use Rattle.scenario.specs.Limits.{IsWithin};
 ghost use Rattle.scenario.specs.Refusals.{IsRefusal, is_in_shape};
 ghost use Rattle.scenario.specs.Says.{IsTextOf};
-ghost use Rattle.scenario.specs.Walk.{Gives, tree_at, trees_behind};
+ghost use Rattle.scenario.specs.inner.Walk.{Gives, tree_at, trees_behind};
 
 use crate::fitting::read_numbers;
 use crate::forms::{Form, form_of};

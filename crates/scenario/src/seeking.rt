@@ -3,7 +3,7 @@
 ghost use Rattle.std.specs.Prelude.{◌≡◌, ◌<◌, ◌+◌, ◌++◌, OnErr, OnOk, IfErr, IfOk, length, map, min, slice_get};
 ghost use Rattle.scenario.specs.Tree.{plain, plain_all, trees_of};
 ghost use Rattle.scenario.specs.Taking.{offers, offers_in_turn, offers_of_all};
-ghost use Rattle.scenario.specs.Parts.{IsOfferOf, sought};
+ghost use Rattle.scenario.specs.inner.Parts.{IsOfferOf, sought};
 
 use crate::looking::{offers_of_tree, tree_may_end};
 use crate::tree::Scenario;
@@ -24,7 +24,7 @@ pub(crate) trait HasOffers {
     ghost use Rattle.std.specs.Prelude.{◌≡◌, ◌++◌, OnOk, length, take};
     ghost use Rattle.scenario.specs.Tree.{Tree};
     ghost use Rattle.scenario.specs.Taking.{offers};
-    ghost use Rattle.scenario.specs.Parts.{sought};
+    ghost use Rattle.scenario.specs.inner.Parts.{sought};
 
     /// The tree whose offers it has.
     ghost tree: { Self → Tree };
@@ -37,26 +37,6 @@ pub(crate) trait HasOffers {
     fn append_offers(&self, out: &mut Vec<CoreAsk>) -> Result<(), NoMemory>
         ensures ok { OnOk result (out.new.items ≡ out.old.items ++ offers (tree self.now)) }
         ensures front { take (length out.old.items) out.new.items ≡ out.old.items };
-}
-
-impl<A: Allocator> Scenario<A> {
-    ghost use Rattle.std.specs.Prelude.{◌≡◌, length, min, slice_get};
-    ghost use Rattle.scenario.specs.Tree.{plain};
-    ghost use Rattle.scenario.specs.Taking.{offers};
-
-    /// How many offers there are, or `usize::MAX` where there are more.
-    pub fn offer_count(&self) -> usize
-        ensures { result ≡ min (length (offers (plain self.now))) 18446744073709551615 }
-    {
-        count_offers(self)
-    }
-
-    /// Offer `at`, counted from 0 in the order of [`Scenario::offers`]. `None` where there is no such offer.
-    pub fn offer_at(&self, at: usize) -> Option<CoreAsk>
-        ensures { result ≡ slice_get (offers (plain self.now)) at }
-    {
-        find_offer(self, at)
-    }
 }
 
 impl<A: Allocator> HasOffers for Scenario<A> {

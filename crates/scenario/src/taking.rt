@@ -5,8 +5,7 @@ ghost use Rattle.scenario.specs.Tree as tree;
 ghost use Rattle.scenario.specs.Tree.{Trees, plain, plain_all};
 ghost use Rattle.scenario.specs.Taking.{offers, offers_in_turn, offers_of_all};
 ghost use Rattle.scenario.specs.Alike.{Takes};
-ghost use Rattle.scenario.specs.Limits.{peak_depth};
-ghost use Rattle.scenario.specs.Rests.{IsPlaceAmong, IsPlaceInTurn, Leaves, LeavesInTurn, row_of};
+ghost use Rattle.scenario.specs.inner.Rests.{IsPlaceAmong, IsPlaceInTurn, Leaves, LeavesInTurn, row_of};
 
 use crate::copying::copy_one;
 use crate::making::children_in;
@@ -24,7 +23,6 @@ impl<A: Allocator + Clone> Scenario<A> {
     pub fn take(&mut self, alloc: A, at: usize) -> Result<Option<CoreAsk>, NoMemory>
         ensures ok { IfOk result (λ taken. Takes (plain self.old) at taken (plain self.new)) }
         ensures err { OnErr result (plain self.new ≡ plain self.old) }
-        ensures shallow { peak_depth (plain self.new) ≤ peak_depth (plain self.old) }
     {
         if let Err(_) = seek_in_tree(self, at) {
             return Ok(None);

@@ -6,7 +6,7 @@ ghost use Rattle.serde_json.specs.View.{view, items_view};
 ghost use Rattle.serde_json.specs.Written.{compact_text};
 ghost use Rattle.scenario.specs.Tree.{plain, plain_all};
 ghost use Rattle.scenario.specs.Shown.{shown, shown_all, shown_ask, shown_number, shown_times, shown_under, with_core_and_block};
-ghost use Rattle.scenario.specs.Limits.{Fits, Throughout, depth};
+ghost use Rattle.scenario.specs.Limits.{FitsTypes, Throughout, depth};
 ghost use Rattle.scenario.specs.Says.{IsJson};
 ghost use Rattle.scenario.specs.Saving.{GoesOut, MarksSave, ReadsBack};
 
@@ -44,7 +44,7 @@ impl<A: Allocator> Scenario<A> {
         ensures text { GoesOut (S.taken sink.old) (S.taken sink.new) (compact_text (shown (plain self.now))) result }
         ensures mark { MarksSave (S.has_failed sink.old) result (S.has_failed sink.new) }
         ensures reads_back { ReadsBack (plain self.now) result }
-        ensures fits { Throughout Fits (plain self.now) }
+        ensures fits { Throughout FitsTypes (plain self.now) }
     {
         read_numbers(self);
         let Ok(text) = text_of(heap, self) else {

@@ -21,7 +21,7 @@ use Rattle.schedule.specs.Choices.{can_be_put, offers_from}
 use Rattle.schedule.specs.Lanes.{Agree, AgreeBut, AreReady, IsKept, IsLevel, IsListed, Laned, lanes_of, listed_at, offers_at, puttable}
 use Rattle.schedule.specs.Listed.{IsMarked, Listed, is_unheld, nothing_listed}
 use Rattle.schedule.specs.inner.Marks.{all_marked, is_at, marked_at, marks_at}
-use Rattle.schedule.specs.inner.Changes.{AreCountedAt, AreMarked, Counts, IsCountedAt, IsCountedIf, IsMarkedIn, KeepsOthers, Marks}
+use Rattle.schedule.specs.inner.Changes.{AreCountedAt, AreMarked, ChangesCounts, IsCountedAt, IsCountedIf, IsMarkedIn, KeepsOthers, ChangesMarks}
 use Rattle.schedule.specs.inner.Changes.{WereReady, count_by, counted_at, marked_in}
 use Rattle.schedule.specs.declared.choosing.Choice.TheVariants.{Offer}
 use Rattle.schedule.proofs.Marking.{by-marks}
@@ -240,7 +240,7 @@ not-among which n lane all each there =
     each there.0 (let h = there.1 in omega (arith, h, all)) (get_or_default which there.0 0 lane there.1 ∙ there.2)
 
 -- nothing but marks has changed
-pub kept-marks : (old new : Laned) → Marks old new → IsKept old → IsKept new
+pub kept-marks : (old new : Laned) → ChangesMarks old new → IsKept old → IsKept new
 kept-marks old new m kept =
     let level = kept.level in
     record {
@@ -264,11 +264,12 @@ kept-marks old new m kept =
     }
 
 pub marks-only : (tables : Tables) (s : State) (core : CacheId) (block : BlockId) (which : List ℕ) (old new : Laned) → new.trees ≡ old.trees →
-    new.lengths ≡ old.lengths → new.ready ≡ old.ready → new.reached ≡ old.reached → length new.listed ≡ length old.listed →
+    new.stocks ≡ old.stocks → new.lengths ≡ old.lengths → new.ready ≡ old.ready → new.reached ≡ old.reached → length new.listed ≡ length old.listed →
     length old.listed ≡ length old.trees →
-    ((lane : ℕ) → lane < length old.trees → IsMarkedIn tables s core block which (listed_at old lane) (listed_at new lane) lane) → Marks old new
-marks-only tables s core block which old new trees lengths ready reached long many each = record {
+    ((lane : ℕ) → lane < length old.trees → IsMarkedIn tables s core block which (listed_at old lane) (listed_at new lane) lane) → ChangesMarks old new
+marks-only tables s core block which old new trees stocks lengths ready reached long many each = record {
   trees = trees;
+  stocks = stocks;
   lengths = lengths;
   ready = ready;
   reached = reached;
@@ -285,7 +286,7 @@ marks-only tables s core block which old new trees lengths ready reached long ma
 
 -- where the lanes of a core were marked again, all marks are right
 pub all-marked : (tables : Tables) (before now : State) (cb cn : List Core) (but : Option ℕ) (core : CacheId) (block : BlockId) (old new : Laned) → IsKept old →
-    Marks old new → before.broken ≡ false → now.broken ≡ false → WereReady tables before cb now but old →
+    ChangesMarks old new → before.broken ≡ false → now.broken ≡ false → WereReady tables before cb now but old →
     AgreeBut (Some (Cache core)) block.0 before now cb cn →
     ((lane : ℕ) → lane < length old.trees → IsMarkedIn tables now core block (lanes_of old.reached core.0) (listed_at old lane) (listed_at new lane) lane) →
     AreMarked tables now new
@@ -334,7 +335,7 @@ counted-more cores lanes ready start which n count each within e lane low =
     ]
 
 -- nothing but counts has changed
-pub kept-counts : (old new : Laned) → Counts old new → IsKept old → IsKept new
+pub kept-counts : (old new : Laned) → ChangesCounts old new → IsKept old → IsKept new
 kept-counts old new c kept =
     let trees : new.trees ≡ old.trees = ap (λ (l : Laned). l.trees) c.same in
     let listed : new.listed ≡ old.listed = ap (λ (l : Laned). l.listed) c.same in
@@ -362,7 +363,7 @@ kept-counts old new c kept =
     }
 
 -- one lane was counted
-pub counts-at : (cores : List Core) (lane : ℕ) (old new : Laned) → new ≡ counted_at cores lane old → Counts old new
+pub counts-at : (cores : List Core) (lane : ℕ) (old new : Laned) → new ≡ counted_at cores lane old → ChangesCounts old new
 counts-at cores lane old new e = record {
   same = e ∙ ap (λ (ns : List ℕ). record old { ready = ns }) (sym (ap (λ (x : Laned). x.ready) e));
   long = ap (λ (x : Laned). length x.ready) e ∙ length-set old.ready lane (count_by cores (listed_at old lane));
@@ -387,7 +388,7 @@ counted-if cores lane at taken old new is level low e =
     same-number a b e = cc e
 
 -- behind the counting of the lanes of a core these are counted
-pub counted-at-all : (cores : List Core) (at : Option Place) (old new : Laned) → Counts old new →
+pub counted-at-all : (cores : List Core) (at : Option Place) (old new : Laned) → ChangesCounts old new →
     ((lane : ℕ) → lane < length old.trees → IsCountedAt cores at old new lane) → AreCountedAt cores at new
 counted-at-all cores at old new counts each core lane is low there =
     let trees = ap (λ (l : Laned). l.trees) counts.same in
@@ -410,9 +411,9 @@ counted-already cores lane other taken l is counted = elim (cases_eq other lane)
 -- the counts are right behind it all: of the lanes that have an ask of the core and of the one that an offer was taken from anew, and of the others
 -- as they were
 pub all-counted : (tables : Tables) (before now : State) (cb cn : List Core) (but : Option ℕ) (at : Option Place) (block : ℕ) (old mid once new : Laned) →
-    IsKept old → before.broken ≡ false → WereReady tables before cb now but old → Marks old mid →
-    (now.broken ≡ false → AreMarked tables now mid) → Counts mid once →
-    ((lane : ℕ) → lane < length mid.trees → IsCountedAt cn at mid once lane) → Counts once new →
+    IsKept old → before.broken ≡ false → WereReady tables before cb now but old → ChangesMarks old mid →
+    (now.broken ≡ false → AreMarked tables now mid) → ChangesCounts mid once →
+    ((lane : ℕ) → lane < length mid.trees → IsCountedAt cn at mid once lane) → ChangesCounts once new →
     ((lane : ℕ) → lane < length once.trees → IsCountedIf cn but once new lane) → AgreeBut at block before now cb cn → AreReady tables now cn new
 all-counted tables before now cb cn but at block old mid once new kept sb were marks right first each second last agree = record {
   marked = λ sn lane low. subst (λ ls. IsMarked tables now (get_or ls lane nothing_listed)) (sym listings) (right sn lane (there lane low));
@@ -459,7 +460,7 @@ marked-already tables s lane l e =
     let was : Listed = listed_at l lane in
     let right : was ≡ all_marked tables s was = λ i. record { asks = was.asks; unheld = e i } in
     let all : l.listed ≡ set l.listed lane (all_marked tables s was) = sym (set-get_or l.listed lane nothing_listed) ∙ ap (set l.listed lane) right in
-    λ i. record { trees = l.trees; listed = all i; lengths = l.lengths; ready = l.ready; reached = l.reached }
+    λ i. record { trees = l.trees; stocks = l.stocks; listed = all i; lengths = l.lengths; ready = l.ready; reached = l.reached }
 
 listed-marked : (tables : Tables) (s : State) (lane at : ℕ) (l : Laned) → IsListed l at → lane < length l.listed → IsListed (marked_in tables s lane l) at
 listed-marked tables s lane at l h low =

@@ -18,7 +18,7 @@ use Rattle.scenario.specs.Taking.{offers}
 use Rattle.schedule.specs.Choices.{choices_of, offers_from}
 use Rattle.schedule.specs.declared.lanes.Lane.{Lane}
 use Rattle.scenario.specs.Cursors.{remaining}
-use Rattle.schedule.specs.Lanes.{AreReady, IsKept, Laned, listed_at, offers_at, puttable, tree_at, whole}
+use Rattle.schedule.specs.Lanes.{AreReady, IsKept, Laned, listed_at, offers_at, puttable, tree_of_lane, whole}
 use Rattle.schedule.specs.Listed.{nothing_listed}
 use Rattle.schedule.specs.inner.Marks.{offers_by}
 use Rattle.schedule.specs.declared.choosing.Choice.TheVariants.{Deliver}
@@ -89,8 +89,8 @@ choice-offered tables s cores l k p r kept ready sound found low =
     sym (ap (λ cs. slice_get cs k) (choices-sound tables s cores (whole l) sound)
     ∙ get_front os (map Deliver (enabled_steps tables s)) k (omega (arith, low, few))
     ∙ all-found tables s cores 0 l.trees l.ready k p r kept.level.ready counts found.front found.within
-    ∙ ap (λ ls. slice_get (offers_from tables s cores (0 + sum (take p ls)) (offers (tree_at l p))) r) (sym (lengths-are l kept))
-    ∙ ap (λ n. slice_get (offers_from tables s cores n (offers (tree_at l p))) r)
+    ∙ ap (λ ls. slice_get (offers_from tables s cores (0 + sum (take p ls)) (offers (tree_of_lane l p))) r) (sym (lengths-are l kept))
+    ∙ ap (λ n. slice_get (offers_from tables s cores n (offers (tree_of_lane l p))) r)
     (let z : 0 + sum (take p l.lengths) ≡ sum (take p l.lengths) = omega arith in z)
     ∙ ap (λ xs. slice_get (offers_from tables s cores (sum (take p l.lengths)) xs) r) (sym (kept.listed p here).offered))
 

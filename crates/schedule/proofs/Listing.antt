@@ -15,7 +15,7 @@ use Rattle.scenario.specs.Taking.{left, offers}
 use Rattle.schedule.specs.declared.lanes.Lane.{Lane}
 use Rattle.schedule.specs.declared.lanes.Lanes.{Lanes}
 use Rattle.scenario.specs.Cursors.{remaining}
-use Rattle.schedule.specs.Lanes.{laned, IsKept, IsLevel, IsListed, Laned, lanes_of, listed_at, offers_at, tree_at, whole}
+use Rattle.schedule.specs.Lanes.{laned, IsKept, IsLevel, IsListed, Laned, lanes_of, listed_at, offers_at, stocked, tree_of_lane, whole}
 use Rattle.schedule.specs.Listed.{Listed, nothing_listed}
 use Rattle.schedule.specs.inner.Marks.{all_marked}
 use Rattle.schedule.specs.inner.Changes.{KeepsOthers, TakesFrom, marked_in}
@@ -32,7 +32,7 @@ pub record Relists (lane : ℕ) (made : Listed) (old new : Laned) : Type 0 where
   pub more : (core other : ℕ) → Contains (lanes_of old.reached core) other → Contains (lanes_of new.reached core) other
   pub reached : (at : ℕ) (ask : CoreAsk) → slice_get made.asks at ≡ Some ask → Contains (lanes_of new.reached ask.core.0) lane
   pub short : length made.asks < 2 ^ 32
-  pub is : made.asks ≡ offers (tree_at old lane)
+  pub is : made.asks ≡ offers (tree_of_lane old lane)
 
 pub relisted-at : (lane : ℕ) (made : Listed) (old new : Laned) → Relists lane made old new → IsLevel old → lane < length old.trees → listed_at new lane ≡ made
 relisted-at lane made old new r level low =
@@ -71,7 +71,7 @@ others-kept lane made old new r =
 -- ---- taking an offer
 
 -- the offer that is found is one of its lane's
-pub found-offered : (lane offer rest : ℕ) (old : Laned) → IsKept old → Finds old.lengths offer lane rest → rest < length (offers (tree_at old lane))
+pub found-offered : (lane offer rest : ℕ) (old : Laned) → IsKept old → Finds old.lengths offer lane rest → rest < length (offers (tree_of_lane old lane))
 found-offered lane offer rest old kept found =
     let low : lane < length old.trees = (let h = found-within old.lengths lane rest found.within in let m = kept.level.lengths in omega (arith, h, m)) in
     let here = kept.listed lane low in
@@ -100,7 +100,7 @@ listed-still lane t old mid s other ne h =
     }
 
 pub takes-from : (lane offer rest : ℕ) (t : Tree) (old mid new : Laned) → IsKept old → Finds old.lengths offer lane rest →
-    Alike t (left (tree_at old lane) rest) → Steps lane t old mid → new.trees ≡ mid.trees → IsLevel new → IsListed new lane → KeepsOthers lane mid new →
+    Alike t (left (tree_of_lane old lane) rest) → Steps lane t old mid → new.trees ≡ mid.trees → IsLevel new → IsListed new lane → KeepsOthers lane mid new →
     TakesFrom lane offer old new
 takes-from lane offer rest t old mid new kept found alike steps trees level listed others =
     let finds : Finds (lengths_of old.trees) offer lane rest = subst (λ ns. Finds ns offer lane rest) (lengths-are old kept) found in
@@ -133,11 +133,11 @@ seen-offers (Some s) = s.offers
 
 -- a lane that offers the same again isn't listed anew
 pub repeated-listed : (lane : ℕ) (t : Tree) (old mid : Laned) → IsKept old → lane < length old.trees → Steps lane t old mid →
-    offers t ≡ offers (tree_at old lane) → IsListed mid lane
+    offers t ≡ offers (tree_of_lane old lane) → IsListed mid lane
 repeated-listed lane t old mid kept low s again =
     let h = kept.listed lane low in
     let same : offers_at mid lane ≡ offers_at old lane = ap (λ xs. (get_or xs lane nothing_listed).asks) s.listed in
-    let tree : tree_at mid lane ≡ t = ap (λ ts. get_or ts lane (Seq Nil)) s.trees ∙ get_or-set_same old.trees lane t (Seq Nil) low in
+    let tree : tree_of_lane mid lane ≡ t = ap (λ ts. get_or ts lane (Seq Nil)) s.trees ∙ get_or-set_same old.trees lane t (Seq Nil) low in
     record {
       offered = same ∙ h.offered ∙ sym again ∙ ap offers (sym tree);
       count = ap (λ ns. get_or ns lane 0) s.lengths ∙ h.count ∙ ap length (sym same);
@@ -157,7 +157,7 @@ steps-level lane t old mid level s =
     }
 
 pub takes-again : (lane offer rest : ℕ) (t : Tree) (old mid : Laned) → IsKept old → Finds old.lengths offer lane rest →
-    Alike t (left (tree_at old lane) rest) → Repeats (tree_at old lane) → Steps lane t old mid → TakesFrom lane offer old mid
+    Alike t (left (tree_of_lane old lane) rest) → Repeats (tree_of_lane old lane) → Steps lane t old mid → TakesFrom lane offer old mid
 takes-again lane offer rest t old mid kept found alike repeats steps =
     let low : lane < length old.trees = (let h = found-within old.lengths lane rest found.within in let m = kept.level.lengths in omega (arith, h, m)) in
     takes-from lane offer rest t old mid mid kept found alike steps refl (steps-level lane t old mid kept.level steps)
@@ -207,10 +207,12 @@ pub lane-marked : {A B : Type 0} (tables : Tables) (state : State) (l new : Lane
 lane-marked tables state l new lane old made low is lanes rest asks lengths ready reached =
     let trees = ap (map (λ x. remaining x.rest)) lanes
     ∙ map-set_same (λ x. remaining x.rest) l.lanes.items lane made old (ap remaining rest ∙ ap (λ x. remaining x.rest) is) in
+    let stocks = ap (map (λ x. stocked x.rest)) lanes
+    ∙ map-set_same (λ x. stocked x.rest) l.lanes.items lane made old (ap stocked rest ∙ ap (λ x. stocked x.rest) is) in
     let listed = ap (map (λ x. x.asks)) lanes ∙ map-set (λ x. x.asks) l.lanes.items lane made
     ∙ ap (set (map (λ x. x.asks) l.lanes.items) lane) (asks ∙ ap (all_marked tables state) (lane-listed l.lanes.items lane old low is)) in
     let rows = ap (λ v. map (λ of. of.items) v.items) reached in
-    λ i. record { trees = trees i; listed = listed i; lengths = lengths i; ready = ready i; reached = rows i }
+    λ i. record { trees = trees i; stocks = stocks i; listed = listed i; lengths = lengths i; ready = ready i; reached = rows i }
 
 -- what a lane offers, where it is kept
 pub lane-is : {A B : Type 0} (l new : Lanes A B) (lane : ℕ) (made : Lane A B) → lane < length l.lanes.items → new.lanes.items ≡ set l.lanes.items lane made →

@@ -10,7 +10,7 @@ use Rattle.std.proofs.lemmas.Map.Views.{Contains-from_any}
 use Rattle.std.proofs.lemmas.Option.{slice_get-get_or}
 use Rattle.base.specs.declared.ids.CacheId.{CacheId}
 use Rattle.base.specs.declared.step.CoreAsk.{CoreAsk}
-use Rattle.schedule.specs.Lanes.{lanes_of, row_of}
+use Rattle.schedule.specs.Lanes.{lanes_of, row_of_core}
 
 same-number : (x y : ℕ) → nat_eq y x ≡ true → x ≡ y
 same-number x y e = grind (arith, nat_tests)
@@ -27,26 +27,26 @@ pub still-there : (old new : List ℕ) (lane other : ℕ) → new ≡ old ++ lan
 still-there old new lane other e h = subst (λ xs. Contains xs other) (sym e) (Contains-append_left old (lane ∷ []) other h)
 
 -- a row that got more
-row-set : (rows : List (List ℕ)) (row core : ℕ) (v : List ℕ) → row_of (set rows row v) core ≡ row_of rows core
+row-set : (rows : List (List ℕ)) (row core : ℕ) (v : List ℕ) → row_of_core (set rows row v) core ≡ row_of_core rows core
 row-set rows row core v = ap (λ n. min core (n - 1)) (length-set rows row v)
 
-pub row-low : (rows : List (List ℕ)) (core : ℕ) → 1 ≤ length rows → row_of rows core < length rows
+pub row-low : (rows : List (List ℕ)) (core : ℕ) → 1 ≤ length rows → row_of_core rows core < length rows
 row-low rows core some = grind arith
 
 pub grown : (rows : List (List ℕ)) (row core other : ℕ) (v : List ℕ) → row < length rows → ((o : ℕ) → Contains (get_or rows row []) o → Contains v o) →
     Contains (lanes_of rows core) other → Contains (lanes_of (set rows row v) core) other
 grown rows row core other v low more there =
-    let same : lanes_of (set rows row v) core ≡ get_or (set rows row v) (row_of rows core) [] = ap (λ r. get_or (set rows row v) r [])
+    let same : lanes_of (set rows row v) core ≡ get_or (set rows row v) (row_of_core rows core) [] = ap (λ r. get_or (set rows row v) r [])
     (row-set rows row core v) in
     subst (λ xs. Contains xs other) (sym same)
-    (elim (cases_eq (row_of rows core) row) [
+    (elim (cases_eq (row_of_core rows core) row) [
       | inl e ↦ subst (λ xs. Contains xs other)
           (sym (ap (λ r. get_or (set rows row v) r []) e ∙ get_or-set_same rows row v [] low))
           (more other (subst (λ r. Contains (get_or rows r []) other) e there))
-      | inr ne ↦ subst (λ xs. Contains xs other) (sym (get_or-set_other rows row (row_of rows core) v [] ne)) there
+      | inr ne ↦ subst (λ xs. Contains xs other) (sym (get_or-set_other rows row (row_of_core rows core) v [] ne)) there
     ])
 
-pub now-in : (rows : List (List ℕ)) (row core lane : ℕ) (v : List ℕ) → row < length rows → row ≡ row_of rows core → Contains v lane →
+pub now-in : (rows : List (List ℕ)) (row core lane : ℕ) (v : List ℕ) → row < length rows → row ≡ row_of_core rows core → Contains v lane →
     Contains (lanes_of (set rows row v) core) lane
 now-in rows row core lane v low is there =
     subst (λ xs. Contains xs lane)

@@ -11,15 +11,27 @@ use Rattle.machine.specs.Coherence.{line_at}
 use Rattle.cores.specs.Cores.{Core, is_free}
 use Rattle.scenario.specs.Tree.{Tree, Seq, Both, Nil, trees_of}
 use Rattle.scenario.specs.Taking.{offers}
-use Rattle.scenario.specs.Cursors.{remaining}
+use Rattle.scenario.specs.Cursors.{remaining, standing}
+use Rattle.scenario.specs.Stock.{Stock, stock, wants}
+use Rattle.scenario.specs.declared.cursor.Cursor.{Cursor}
 use Rattle.schedule.specs.Choices.{offers_from}
 use Rattle.schedule.specs.Listed.{IsMarked, Listed, nothing_listed}
 use Rattle.schedule.specs.declared.lanes.Lanes.{Lanes}
 
--- of each lane the tree that is left, what it offers, how many offers that is, and how many of them can be put; and of each
--- core the lanes that may offer an ask of it
+-- the parts that a cursor holds, in use or kept for later, and those that it may want
+pub record Stocked : Type 0 where
+  pub held : Stock
+  pub wanted : Stock
+
+-- those of this cursor
+abbrev pub stocked : {A B : Type 0} → Cursor A B → Stocked
+stocked c = record { held = stock c.root; wanted = wants (standing c) }
+
+-- of each lane the tree that is left, the parts of its cursor, what it offers, how many offers that is, and how many of them
+-- can be put; and of each core the lanes that may offer an ask of it
 pub record Laned : Type 0 where
   pub trees : List Tree
+  pub stocks : List Stocked
   pub listed : List Listed
   pub lengths : List ℕ
   pub ready : List ℕ
@@ -29,6 +41,7 @@ pub record Laned : Type 0 where
 abbrev pub laned : {A B : Type 0} → Lanes A B → Laned
 laned l = record {
   trees = map (λ lane. remaining lane.rest) l.lanes.items;
+  stocks = map (λ lane. stocked lane.rest) l.lanes.items;
   listed = map (λ lane. lane.asks) l.lanes.items;
   lengths = l.lengths;
   ready = l.ready;
@@ -40,8 +53,8 @@ abbrev pub whole : Laned → Tree
 whole l = Both (trees_of l.trees)
 
 -- the tree of a lane, and what is kept of its offers
-abbrev pub tree_at : Laned → ℕ → Tree
-tree_at l lane = slice_index_or l.trees lane (Seq Nil)
+abbrev pub tree_of_lane : Laned → ℕ → Tree
+tree_of_lane l lane = slice_index_or l.trees lane (Seq Nil)
 
 abbrev pub listed_at : Laned → ℕ → Listed
 listed_at l lane = slice_index_or l.listed lane nothing_listed
@@ -54,16 +67,16 @@ abbrev pub puttable : Tables → State → List Core → List CoreAsk → ℕ
 puttable tables state cores asks = length (offers_from tables state cores 0 asks)
 
 -- the row of a core among those of the cores; cores that have no row of their own share the last one
-abbrev pub row_of : List (List ℕ) → ℕ → ℕ
-row_of reached core = min core (length reached - 1)
+abbrev pub row_of_core : List (List ℕ) → ℕ → ℕ
+row_of_core reached core = min core (length reached - 1)
 
 -- the lanes that may offer an ask of a core
 abbrev pub lanes_of : List (List ℕ) → ℕ → List ℕ
-lanes_of reached core = slice_index_or reached (row_of reached core) []
+lanes_of reached core = slice_index_or reached (row_of_core reached core) []
 
 -- what is kept of a lane's offers is what its tree offers, and the lane is among those of each core that has an ask there
 pub record IsListed (l : Laned) (lane : ℕ) : Type 0 where
-  pub offered : offers_at l lane ≡ offers (tree_at l lane)
+  pub offered : offers_at l lane ≡ offers (tree_of_lane l lane)
   pub count : slice_index l.lengths lane ≡ length (offers_at l lane)
   pub short : length (offers_at l lane) < 2 ^ 32
   pub reached : (at : ℕ) (ask : CoreAsk) → slice_get (offers_at l lane) at ≡ Some ask → Contains (lanes_of l.reached ask.core.0) lane

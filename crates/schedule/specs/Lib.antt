@@ -1,6 +1,7 @@
 pub mod Choices
 pub mod Listed
 pub mod Lanes
+pub mod Fitting
 pub mod Picks
 pub mod Words
 pub mod inner

@@ -6,7 +6,6 @@ use base::{CoreAsk, NoMemory, Step};
 use cores::Cores;
 use scenario::Rest;
 use std::alloc::Global;
-use std::marker::Model;
 use world::World;
 
 /// One thing that can happen next.
@@ -30,81 +29,16 @@ pub fn choices<R: Rest>(
 ) -> Result<Vec<Choice>, NoMemory>
     ensures { IfOk result (λ choices. choices.items ≡ choices_of world.now.tables world.now.state cores.now (R.left rest.now)) }
 {
-    let mut menu = Menu::new(alloc);
-    menu.fill(world, cores, rest)?;
-    Ok(menu.choices)
-}
-
-/// A list of choices that is made anew for each moment, in memory that is used again.
-#[derive(Drop)]
-pub struct Menu {
-    offers: Vec<CoreAsk>,
-    deliveries: Vec<Step>,
-    choices: Vec<Choice>,
-}
-
-impl Model for Menu {
-    ghost use Rattle.std.specs.Prelude.{List};
-    ghost use Rattle.schedule.specs.declared.choosing.Choice as spec;
-
-    ghost Value = { List spec.Choice };
-
-    ghost view = { λ m. m.choices.items };
-}
-
-impl Menu {
-    ghost use Rattle.std.specs.Prelude.{◌≡◌, [], false, OnErr, OnOk};
-    ghost use Rattle.schedule.specs.Choices.{choices_of};
-
-    /// A menu without choices.
-    pub fn new(alloc: Global) -> Menu
-        ensures { result ≡ [] }
-    {
-        Menu {
-            offers: Vec::new(alloc),
-            deliveries: Vec::new(alloc),
-            choices: Vec::new(alloc),
-        }
+    let mut choices = Vec::new(alloc);
+    if world.broken() {
+        return Ok(choices);
     }
-
-    /// Lists all that can happen next, as [`choices`] does. Where memory is refused the menu is empty.
-    pub fn fill<R: Rest>(&mut self, world: &World, cores: &Cores, rest: &R) -> Result<(), NoMemory>
-        ensures ok { OnOk result (self.new ≡ choices_of world.now.tables world.now.state cores.now (R.left rest.now)) }
-        ensures err { OnErr result (self.new ≡ []) }
-    {
-        self.choices.clear();
-        if world.broken() {
-            return Ok(());
-        }
-        match self.list(world, cores, rest) {
-            Ok(()) => Ok(()),
-            Err(refused) => {
-                self.choices.clear();
-                Err(refused)
-            }
-        }
-    }
-
-    /// The choices, in order.
-    pub fn choices(&self) -> &[Choice]
-        ensures { result.now ≡ self.now }
-    {
-        self.choices.as_slice()
-    }
-
-    /// Lists what can happen next in a world that isn't broken.
-    fn list<R: Rest>(&mut self, world: &World, cores: &Cores, rest: &R) -> Result<(), NoMemory>
-        requires none { self.old ≡ [] }
-        requires sound { world.now.state.broken ≡ false }
-        ensures { OnOk result (self.new ≡ choices_of world.now.tables world.now.state cores.now (R.left rest.now)) }
-    {
-        self.offers.clear();
-        rest.offers(&mut self.offers)?;
-        push_offers(world, cores, self.offers.as_slice(), &mut self.choices)?;
-        world.list_enabled(&mut self.deliveries)?;
-        push_deliveries(self.deliveries.as_slice(), &mut self.choices)?;
-        Ok(())
-    }
+    let mut offers = Vec::new(alloc);
+    rest.offers(&mut offers)?;
+    push_offers(world, cores, offers.as_slice(), &mut choices)?;
+    let deliveries = world.enabled(alloc)?;
+    push_deliveries(deliveries.as_slice(), &mut choices)?;
+    Ok(choices)
 }
 
 fn push_offers(

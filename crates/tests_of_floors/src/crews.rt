@@ -1,5 +1,5 @@
 ghost use Rattle.std.specs.Prelude.{◌≡◌};
-ghost use Rattle.floor.specs.FloorId.{names};
+ghost use Rattle.floor.specs.FloorId.{floor_id};
 
 use crate::asserting::same;
 use crate::setups::setup;
@@ -38,12 +38,24 @@ fn wished(seat: u32, call: u32) -> Step {
     }
 }
 
-/// Wishes steps, then as many draws, and notes where it is told of another receipt than the last.
-#[derive(Drop)]
+/// Wishes steps, then as many draws, and notes where it is told of another receipt than the last, and that its seat has ended.
 pub struct Script<'a> {
     seat: u32,
     calls: u32,
-    mistaken: &'a AtomicBool,
+    meeting: &'a Meeting,
+}
+
+impl<'a> Drop for Script<'a> {
+    fn drop(self) {
+        let Script {
+            seat,
+            calls: _,
+            meeting,
+        } = self;
+        if let Some(gone) = meeting.gone.get(seat as usize) {
+            gone.store(true, Ordering::SeqCst);
+        }
+    }
 }
 
 impl<'a, F: Naming> Chooser<F> for Script<'a> {
@@ -52,10 +64,10 @@ impl<'a, F: Naming> Chooser<F> for Script<'a> {
         self.calls = call.saturating_add(1);
         let told = last.map(|receipt| receipt.entry().step);
         if call == 0 && told.is_some() {
-            self.mistaken.store(true, Ordering::SeqCst);
+            self.meeting.note_mistake();
         }
         if call > 0 && call <= STEPS && told != Some(wished(self.seat, call - 1)) {
-            self.mistaken.store(true, Ordering::SeqCst);
+            self.meeting.note_mistake();
         }
         if call < STEPS {
             Some(Wish::Step(wished(self.seat, call)))
@@ -67,13 +79,13 @@ impl<'a, F: Naming> Chooser<F> for Script<'a> {
     }
 }
 
-/// Lets nobody through its first call before so many have come, and notes calls that are out of order.
+/// Lets nobody through its first call before each of so many seats has come or has ended, and notes calls that are out of order.
 #[derive(Drop)]
 pub struct Meeting {
     awaited: u32,
-    entered: AtomicU32,
     passed: [AtomicU32; 3],
     ended: [AtomicU32; 3],
+    gone: [AtomicBool; 3],
     mistaken: AtomicBool,
 }
 
@@ -81,30 +93,56 @@ impl Meeting {
     pub fn of(awaited: u32) -> Meeting {
         Meeting {
             awaited,
-            entered: AtomicU32::new(0),
             passed: [AtomicU32::new(0), AtomicU32::new(0), AtomicU32::new(0)],
             ended: [AtomicU32::new(0), AtomicU32::new(0), AtomicU32::new(0)],
+            gone: [
+                AtomicBool::new(false),
+                AtomicBool::new(false),
+                AtomicBool::new(false),
+            ],
             mistaken: AtomicBool::new(false),
         }
     }
 
-    fn wait(&self) {
-        self.entered.fetch_add(1, Ordering::SeqCst);
-        for _ in 0..LOOKS {
-            if self.entered.load(Ordering::SeqCst) >= self.awaited {
-                return;
-            }
+    /// Whether a seat has made a call.
+    pub fn has_come(&self, seat: u32) -> bool {
+        match self.passed.get(seat as usize) {
+            Some(count) => count.load(Ordering::SeqCst) > 0,
+            None => false,
         }
+    }
+
+    /// Whether all was as it should be.
+    pub fn is_right(&self) -> bool {
+        !self.mistaken.load(Ordering::SeqCst)
+    }
+
+    fn note_mistake(&self) {
         self.mistaken.store(true, Ordering::SeqCst);
     }
 
+    fn all_are_there(&self) -> bool {
+        for (seat, gone) in (0..self.awaited).zip(&self.gone) {
+            if !self.has_come(seat) && !gone.load(Ordering::SeqCst) {
+                return false;
+            }
+        }
+        true
+    }
+
+    fn wait(&self) {
+        for _ in 0..LOOKS {
+            if self.all_are_there() {
+                return;
+            }
+        }
+        self.note_mistake();
+    }
+
     fn count(&self, counts: &[AtomicU32; 3], seat: u32, call: u32) {
-        let Some(count) = counts.get(seat as usize) else {
-            self.mistaken.store(true, Ordering::SeqCst);
-            return;
-        };
-        if count.fetch_add(1, Ordering::SeqCst) != call {
-            self.mistaken.store(true, Ordering::SeqCst);
+        match counts.get(seat as usize) {
+            Some(count) if count.fetch_add(1, Ordering::SeqCst) == call => {}
+            _ => self.note_mistake(),
         }
     }
 }
@@ -126,14 +164,14 @@ impl Gate for Meeting {
 pub fn cast<'a, F: Naming>(
     alloc: Global,
     seats: Vec<Seat<F>>,
-    mistaken: &'a AtomicBool,
+    meeting: &'a Meeting,
 ) -> Result<Vec<(Seat<F>, Script<'a>)>, NoMemory> {
     let mut members = Vec::new(alloc);
     for seat in seats {
         let script = Script {
             seat: seat.number(),
             calls: 0,
-            mistaken,
+            meeting,
         };
         members.push((seat, script))?;
     }
@@ -169,14 +207,12 @@ fn played<F: Naming + Send + Sync, R: Threads + Wait + Abort + Sync>(
     seats: Vec<Seat<F>>,
     awaited: u32,
 ) -> Vec<(Seat<F>, Option<TurnFault>)> {
-    let mistaken = AtomicBool::new(false);
     let gate = Meeting::of(awaited);
-    let members = cast(alloc, seats, &mistaken).expect(rt, "memory");
+    let members = cast(alloc, seats, &gate).expect(rt, "memory");
     let back = crew(rt, alloc, floor, &gate, members)
         .ok()
         .expect(rt, "a crew");
-    same(rt, &mistaken.load(Ordering::SeqCst), &false);
-    same(rt, &gate.mistaken.load(Ordering::SeqCst), &false);
+    same(rt, &gate.is_right(), &true);
     back
 }
 
@@ -213,7 +249,7 @@ fn race<F: Naming + Send + Sync, R: Threads + Wait + Abort + Sync>(
     setup: &Setup,
     count: u32,
 )
-    requires { F.floor ≡ names ground setup.now count 600 }
+    requires { F.floor ≡ floor_id ground setup.now count 600 }
 {
     let (floor, seats) = Floor::<F>::open(ground, alloc, setup, count, 600).expect(rt, "a floor");
     let back = played(rt, alloc, &floor, seats, count);
@@ -242,7 +278,7 @@ fn nobody<F: Naming + Send + Sync, R: Threads + Wait + Abort + Sync>(
     ground: Ground,
     setup: &Setup,
 )
-    requires { F.floor ≡ names ground setup.now 2 600 }
+    requires { F.floor ≡ floor_id ground setup.now 2 600 }
 {
     let (floor, seats) = Floor::<F>::open(ground, alloc, setup, 2, 600).expect(rt, "a floor");
     let back = played(rt, alloc, &floor, Vec::new(alloc), 0);

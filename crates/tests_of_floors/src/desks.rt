@@ -4,7 +4,7 @@ ghost use Rattle.desk.specs.Plans.{IsResultOf, plan_of};
 use crate::asserting::same;
 use crate::jobs::{compare_with_batch, racing_pair};
 use base::NoMemory;
-use desk::{CloseFault, Desk, DeskFault, DeskSeat, Job, Naming, PostFault, work};
+use desk::{CloseFault, Desk, DeskFault, DeskSeat, Job, Planned, PostFault, work};
 use std::alloc::Global;
 use std::marker::Brand;
 use std::process::Abort;
@@ -14,7 +14,7 @@ use trials::{TrialResult, trial};
 
 const LOOKS: u32 = 1_000_000_000;
 
-fn claims<D: Naming, R: Abort>(
+fn claims<D: Planned, R: Abort>(
     rt: &R,
     desk: &Desk<'_, D>,
     zero: &mut DeskSeat<D>,
@@ -30,7 +30,7 @@ fn claims<D: Naming, R: Abort>(
     same(rt, &desk.claim(zero), &None);
 }
 
-fn posts<D: Naming, R: Abort>(
+fn posts<D: Planned, R: Abort>(
     rt: &R,
     desk: &Desk<'_, D>,
     zero: &mut DeskSeat<D>,
@@ -56,7 +56,7 @@ fn posts<D: Naming, R: Abort>(
 }
 
 /// Two seats, three numbers, and one post: the other places stay empty.
-fn two_seats<D: Naming, R: Abort>(rt: &R, alloc: Global, job: &Job)
+fn two_seats<D: Planned, R: Abort>(rt: &R, alloc: Global, job: &Job)
     requires { D.plan ≡ plan_of job.now }
 {
     let (desk, mut seats) = Desk::<D>::new(alloc, job, 3, 2).expect(rt, "a desk");
@@ -80,7 +80,7 @@ fn three_numbers_and_two_seats(rt: HostRuntime) {
 }
 
 /// Without one of its seats a desk isn't closed, and comes back with the seats that were handed in.
-fn without_a_seat<D: Naming, R: Abort>(rt: &R, alloc: Global, job: &Job)
+fn without_a_seat<D: Planned, R: Abort>(rt: &R, alloc: Global, job: &Job)
     requires { D.plan ≡ plan_of job.now }
 {
     let (desk, mut seats) = Desk::<D>::new(alloc, job, 3, 2).expect(rt, "a desk");
@@ -98,7 +98,7 @@ fn a_seat_that_is_missing(rt: HostRuntime) {
     without_a_seat::<Brand, _>(&rt, rt.alloc(), &job)
 }
 
-fn refusal<D: Naming>(alloc: Global, job: &Job, n: u32, seats: u32) -> Option<DeskFault>
+fn refusal<D: Planned>(alloc: Global, job: &Job, n: u32, seats: u32) -> Option<DeskFault>
     requires { D.plan ≡ plan_of job.now }
 {
     Desk::<D>::new(alloc, job, n, seats).err()
@@ -119,7 +119,7 @@ fn desks_that_are_not_made(rt: HostRuntime) {
 }
 
 /// Works off what there is for a seat, and hands the seat back.
-fn worked<D: Naming>(
+fn worked<D: Planned>(
     desk: &Desk<'_, D>,
     mut seat: DeskSeat<D>,
 ) -> (DeskSeat<D>, Result<u32, NoMemory>)
@@ -131,7 +131,7 @@ fn worked<D: Naming>(
 }
 
 /// One seat behind the other works: the first makes all trials, and for the others there is nothing left.
-fn work_in_turn<D: Naming, R: Abort>(
+fn work_in_turn<D: Planned, R: Abort>(
     rt: &R,
     alloc: Global,
     desk: &Desk<'_, D>,
@@ -152,7 +152,7 @@ fn work_in_turn<D: Naming, R: Abort>(
     back
 }
 
-fn one_after_the_other<D: Naming, R: Abort>(rt: &R, alloc: Global, job: &Job, n: u32, count: u32)
+fn one_after_the_other<D: Planned, R: Abort>(rt: &R, alloc: Global, job: &Job, n: u32, count: u32)
     requires { D.plan ≡ plan_of job.now }
 {
     let (desk, seats) = Desk::<D>::new(alloc, job, n, count).expect(rt, "a desk");
@@ -174,7 +174,7 @@ fn three_numbers_and_64_seats(rt: HostRuntime) {
 }
 
 /// A row of seats with two more.
-fn with_both<D: Naming, R: Abort>(
+fn with_both<D: Planned, R: Abort>(
     rt: &R,
     desk: &Desk<'_, D>,
     mut seats: Vec<DeskSeat<D>>,
@@ -191,7 +191,7 @@ fn with_both<D: Naming, R: Abort>(
 }
 
 /// Two seats that work in two threads, and how much they did.
-fn two_work<D: Naming + Send + Sync, R: Threads + Sync>(
+fn two_work<D: Planned + Send + Sync, R: Threads + Sync>(
     rt: &R,
     desk: &Desk<'_, D>,
     zero: DeskSeat<D>,
@@ -219,7 +219,11 @@ fn two_work<D: Naming + Send + Sync, R: Threads + Sync>(
 }
 
 /// Two threads work off a batch.
-fn two_threads<D: Naming + Send + Sync, R: Threads + Abort + Sync>(rt: &R, alloc: Global, job: &Job)
+fn two_threads<D: Planned + Send + Sync, R: Threads + Abort + Sync>(
+    rt: &R,
+    alloc: Global,
+    job: &Job,
+)
     requires { D.plan ≡ plan_of job.now }
 {
     let (desk, mut seats) = Desk::<D>::new(alloc, job, 200, 2).expect(rt, "a desk");
@@ -240,7 +244,7 @@ fn two_threads_that_work(rt: HostRuntime) {
 }
 
 /// Four threads work off a batch, two and two.
-fn four_threads<D: Naming + Send + Sync, R: Threads + Abort + Sync>(
+fn four_threads<D: Planned + Send + Sync, R: Threads + Abort + Sync>(
     rt: &R,
     alloc: Global,
     job: &Job,
@@ -282,7 +286,7 @@ fn four_threads_that_work(rt: HostRuntime) {
 }
 
 /// Makes the trial of the next number, posts it, and looks until it finds the result of the other of the first two.
-fn post_and_find<D: Naming>(
+fn post_and_find<D: Planned>(
     alloc: Global,
     desk: &Desk<'_, D>,
     mut seat: DeskSeat<D>,
@@ -296,7 +300,7 @@ fn post_and_find<D: Naming>(
     (seat, found)
 }
 
-fn find_other<D: Naming>(
+fn find_other<D: Planned>(
     alloc: Global,
     desk: &Desk<'_, D>,
     seat: &mut DeskSeat<D>,
@@ -321,7 +325,7 @@ fn find_other<D: Naming>(
 }
 
 /// Two threads, of which each finds what the other posted.
-fn two_find<D: Naming + Send + Sync, R: Threads + Abort + Sync>(rt: &R, alloc: Global, job: &Job)
+fn two_find<D: Planned + Send + Sync, R: Threads + Abort + Sync>(rt: &R, alloc: Global, job: &Job)
     requires { D.plan ≡ plan_of job.now }
 {
     let (desk, mut seats) = Desk::<D>::new(alloc, job, 2, 2).expect(rt, "a desk");

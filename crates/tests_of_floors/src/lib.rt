@@ -9,6 +9,7 @@ mod crews;
 #[cfg(test)]
 mod desks;
 #[cfg(test)]
+mod ends;
 mod entries;
 #[cfg(test)]
 mod jobs;

@@ -1,5 +1,5 @@
 ghost use Rattle.std.specs.Prelude.{◌≡◌};
-ghost use Rattle.floor.specs.FloorId.{names};
+ghost use Rattle.floor.specs.FloorId.{floor_id};
 
 use crate::asserting::same;
 use crate::entries::entry_of;
@@ -94,7 +94,7 @@ fn fills<F: Naming, R: Wait + Abort>(rt: &R, floor: &Floor<F>, seat: &mut Seat<F
 }
 
 fn one_load<F: Naming, R: Wait + Abort>(rt: &R, alloc: Global, ground: Ground, setup: &Setup)
-    requires { F.floor ≡ names ground setup.now 1 2 }
+    requires { F.floor ≡ floor_id ground setup.now 1 2 }
 {
     let (floor, mut seats) = Floor::<F>::open(ground, alloc, setup, 1, 2).expect(rt, "a floor");
     let mut seat = seats.pop().expect(rt, "a seat");
@@ -110,7 +110,7 @@ fn a_floor_that_is_full(rt: HostRuntime) {
 }
 
 fn store_and_load<F: Naming, R: Wait + Abort>(rt: &R, alloc: Global, ground: Ground, setup: &Setup)
-    requires { F.floor ≡ names ground setup.now 1 9 }
+    requires { F.floor ≡ floor_id ground setup.now 1 9 }
 {
     let (floor, mut seats) = Floor::<F>::open(ground, alloc, setup, 1, 9).expect(rt, "a floor");
     let mut seat = seats.pop().expect(rt, "a seat");
@@ -137,7 +137,7 @@ fn asks_and_draws<F: Naming, R: Wait + Abort>(rt: &R, floor: &Floor<F>, seat: &m
 }
 
 fn draws<F: Naming, R: Wait + Abort>(rt: &R, alloc: Global, ground: Ground, setup: &Setup)
-    requires { F.floor ≡ names ground setup.now 1 4 }
+    requires { F.floor ≡ floor_id ground setup.now 1 4 }
 {
     let (floor, mut seats) = Floor::<F>::open(ground, alloc, setup, 1, 4).expect(rt, "a floor");
     let mut seat = seats.pop().expect(rt, "a seat");
@@ -167,7 +167,7 @@ fn asks_and_responds<F: Naming, R: Wait + Abort>(rt: &R, floor: &Floor<F>, seat:
 }
 
 fn foreign_steps<F: Naming, R: Wait + Abort>(rt: &R, alloc: Global, ground: Ground, setup: &Setup)
-    requires { F.floor ≡ names ground setup.now 3 4 }
+    requires { F.floor ≡ floor_id ground setup.now 3 4 }
 {
     let (floor, mut seats) = Floor::<F>::open(ground, alloc, setup, 3, 4).expect(rt, "a floor");
     for seat in seats.iter_mut() {
@@ -191,7 +191,7 @@ fn refusal<F: Naming>(
     seats: u32,
     capacity: u32,
 ) -> Option<FloorFault>
-    requires { F.floor ≡ names ground setup.now seats capacity }
+    requires { F.floor ≡ floor_id ground setup.now seats capacity }
 {
     Floor::<F>::open(ground, alloc, setup, seats, capacity).err()
 }

@@ -126,18 +126,18 @@ fn compare(rt: &impl Abort, world: &World, list: &[Step]) {
 }
 
 /// Makes a random step, and compares what is enabled then.
-fn go_on(rt: &impl Abort, world: &mut World, dice: &mut Dice, list: &mut Vec<Step>) {
+fn go_on(rt: &impl Abort, alloc: Global, world: &mut World, dice: &mut Dice) {
     let before = world.tested();
     let _outcome = world.step(draw(world, dice)).expect(rt, "memory");
-    world.list_enabled(list).expect(rt, "memory");
+    let list = world.enabled(alloc).expect(rt, "memory");
     same(rt, &(world.tested() >= before), &true);
     compare(rt, world, list.as_slice());
 }
 
 /// Makes so many random steps.
-fn go_far(rt: &impl Abort, world: &mut World, dice: &mut Dice, list: &mut Vec<Step>, steps: u32) {
+fn go_far(rt: &impl Abort, alloc: Global, world: &mut World, dice: &mut Dice, steps: u32) {
     for _ in 0..steps {
-        go_on(rt, world, dice, list);
+        go_on(rt, alloc, world, dice);
     }
 }
 
@@ -145,8 +145,7 @@ fn go_far(rt: &impl Abort, world: &mut World, dice: &mut Dice, list: &mut Vec<St
 fn wander(rt: &impl Abort, alloc: Global, caches: u32, blocks: u32, steps: u32) {
     let mut world = opened(rt, alloc, caches, blocks);
     let mut dice = Dice::new(7, caches as u64);
-    let mut list = Vec::new(alloc);
-    go_far(rt, &mut world, &mut dice, &mut list, steps);
+    go_far(rt, alloc, &mut world, &mut dice, steps);
 }
 
 #[test]

@@ -9,7 +9,7 @@ use Rattle.machine.specs.Machine.{next}
 use Rattle.monitor.specs.declared.violation.Violation.{Violation}
 use Rattle.monitor.specs.Scenes.{Scene, IsViolation}
 use Rattle.monitor.specs.Watching.{scene_after}
-use Rattle.record.specs.Kept.{Kept}
+use Rattle.record.specs.View.{RecordingView}
 use Rattle.record.specs.declared.recording.Entry.{Entry}
 use Rattle.monitor.specs.Violations.{IsFirstViolation}
 use Rattle.schedule.specs.Choices.{chosen_step, rest_after}
@@ -191,10 +191,10 @@ same-verdict terms steps last Stuck Cut only h k = absurd (k.1 h.1)
 same-verdict terms steps last Cut Quiet only h k = absurd (h.1 k.1)
 same-verdict terms steps last Cut Stuck only h k = absurd (h.1 k.1)
 
-pub same-kept : (one other : Kept) → one.shape ≡ other.shape → one.tables ≡ other.tables → one.opening ≡ other.opening → one.entries ≡ other.entries →
+pub same-kept : (one other : RecordingView) → one.shape ≡ other.shape → one.tables ≡ other.tables → one.opening ≡ other.opening → one.entries ≡ other.entries →
     one ≡ other
 same-kept one other e f g h =
-    ap (λ (x : Extent). let r : Kept = record { shape = x; tables = one.tables; opening = one.opening; entries = one.entries } in r) e
-    ∙ ap (λ (x : Tables). let r : Kept = record { shape = other.shape; tables = x; opening = one.opening; entries = one.entries } in r) f
-    ∙ ap (λ x. let r : Kept = record { shape = other.shape; tables = other.tables; opening = x; entries = one.entries } in r) g
-    ∙ ap (λ (x : List Entry). let r : Kept = record { shape = other.shape; tables = other.tables; opening = other.opening; entries = x } in r) h
+    ap (λ (x : Extent). let r : RecordingView = record { shape = x; tables = one.tables; opening = one.opening; entries = one.entries } in r) e
+    ∙ ap (λ (x : Tables). let r : RecordingView = record { shape = other.shape; tables = x; opening = one.opening; entries = one.entries } in r) f
+    ∙ ap (λ x. let r : RecordingView = record { shape = other.shape; tables = other.tables; opening = x; entries = one.entries } in r) g
+    ∙ ap (λ (x : List Entry). let r : RecordingView = record { shape = other.shape; tables = other.tables; opening = other.opening; entries = x } in r) h

@@ -21,11 +21,11 @@ use Rattle.schedule.specs.Words.{dice_after, word, word_of}
 use Rattle.schedule.specs.declared.choosing.Choice.{Choice}
 use Rattle.schedule.specs.declared.choosing.Choice.TheVariants.{Offer, Deliver}
 use Rattle.record.specs.declared.recording.Entry.{Entry}
-use Rattle.record.specs.Kept.{Kept, steps_of}
+use Rattle.record.specs.View.{RecordingView, steps_of}
 use Rattle.monitor.specs.Violations.{HasNoViolation, IsFirstViolation}
 use Rattle.trials.specs.Terms.{Terms}
 use Rattle.trials.specs.Moments.{Moment, IsNext, IsPath, cores_after, entry_of, moment_behind}
-use Rattle.trials.specs.Going.{Chooses, Course, GoesOn, IsGoing, Makes, choices_on}
+use Rattle.trials.specs.inner.Going.{Chooses, Course, GoesOn, IsGoing, Makes, choices_on}
 use Rattle.trials.proofs.Pushing.{length-push}
 use Rattle.trials.proofs.Paths.{path-more, path-at}
 use Rattle.trials.proofs.Offered.{choice-offered}
@@ -120,7 +120,7 @@ path-made : SameChoices →
     slice_get (choices_on c) (word_of c.dice % length (choices_on c)) ≡ Some choice → IsPath terms tree number
     (g.moments ++ moment_made terms g.last choice ∷ []) made.recording.entries
 path-made same terms tree number c made choice violation g m taken =
-    subst (λ (es : List Entry). IsPath terms tree number (g.moments ++ moment_made terms g.last choice ∷ []) es) (sym (ap (λ (r : Kept). r.entries) m.recorded))
+    subst (λ (es : List Entry). IsPath terms tree number (g.moments ++ moment_made terms g.last choice ∷ []) es) (sym (ap (λ (r : RecordingView). r.entries) m.recorded))
     (path-more terms tree number g.moments c.recording.entries g.last (moment_made terms g.last choice) (entry_made c made choice violation m) g.path g.at_last
     (is-next same terms tree number c made choice violation g m taken))
 
@@ -128,12 +128,12 @@ at-made : (terms : Terms) (tree : Tree) (number : ℕ) (c made : Course) (choice
     Makes (rolled c) choice made violation →
     slice_get (g.moments ++ moment_made terms g.last choice ∷ []) (length made.recording.entries) ≡ Some (moment_made terms g.last choice)
 at-made terms tree number c made choice violation g m =
-    ap (λ (r : Kept). slice_get (g.moments ++ moment_made terms g.last choice ∷ []) (length r.entries)) m.recorded
+    ap (λ (r : RecordingView). slice_get (g.moments ++ moment_made terms g.last choice ∷ []) (length r.entries)) m.recorded
     ∙ path-at g.moments c.recording.entries (moment_made terms g.last choice) (entry_made c made choice violation m) g.path.count
 
 many-made : (c made : Course) (choice : Choice) (violation : Option Violation) → Makes (rolled c) choice made violation →
     length made.recording.entries ≡ length c.recording.entries + 1
-many-made c made choice violation m = ap (λ (r : Kept). length r.entries) m.recorded ∙ length-push c.recording.entries (entry_made c made choice violation m)
+many-made c made choice violation m = ap (λ (r : RecordingView). length r.entries) m.recorded ∙ length-push c.recording.entries (entry_made c made choice violation m)
 
 goes-on-clean : NextWord → SameLeft → SameChoices →
     (terms : Terms) (tree : Tree) (number : ℕ) (c made : Course) (choice : Choice) (violation : Option Violation) → IsGoing terms tree number c →
@@ -144,9 +144,9 @@ goes-on-clean more left same terms tree number c made choice violation g taken m
     let here = made-there terms tree number c made choice violation g m in
     let steps = steps-made c made choice violation m in
     record {
-      shape = (m.shape ∙ g.shape.0, ap (λ (r : Kept). r.shape) m.recorded ∙ g.shape.1);
-      tables = (m.tables ∙ g.tables.0, ap (λ (r : Kept). r.tables) m.recorded ∙ g.tables.1);
-      opening = ap (λ (r : Kept). r.opening) m.recorded ∙ g.opening;
+      shape = (m.shape ∙ g.shape.0, ap (λ (r : RecordingView). r.shape) m.recorded ∙ g.shape.1);
+      tables = (m.tables ∙ g.tables.0, ap (λ (r : RecordingView). r.tables) m.recorded ∙ g.tables.1);
+      opening = ap (λ (r : RecordingView). r.opening) m.recorded ∙ g.opening;
       moments = g.moments ++ moment_made terms g.last choice ∷ [];
       last = moment_made terms g.last choice;
       path = path-made same terms tree number c made choice violation g m taken;
@@ -180,9 +180,9 @@ goes-on-rolled none first more left same terms tree number c made choice (Some v
     first terms.shape terms.tables terms.opening (steps_of c.recording) (chosen_step choice) violation g.clean
     (scene-made terms tree number c made choice (Some violation) g m) in
     record {
-      shape = ap (λ (r : Kept). r.shape) m.recorded ∙ g.shape.1;
-      tables = ap (λ (r : Kept). r.tables) m.recorded ∙ g.tables.1;
-      opening = ap (λ (r : Kept). r.opening) m.recorded ∙ g.opening;
+      shape = ap (λ (r : RecordingView). r.shape) m.recorded ∙ g.shape.1;
+      tables = ap (λ (r : RecordingView). r.tables) m.recorded ∙ g.tables.1;
+      opening = ap (λ (r : RecordingView). r.opening) m.recorded ∙ g.opening;
       moments = g.moments ++ moment_made terms g.last choice ∷ [];
       last = moment_made terms g.last choice;
       path = path-made same terms tree number c made choice (Some violation) g m taken;

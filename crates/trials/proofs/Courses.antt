@@ -15,14 +15,14 @@ use Rattle.schedule.specs.Choices.{choices_of}
 use Rattle.schedule.specs.Words.{dice, dice_after}
 use Rattle.schedule.specs.declared.choosing.Choice.{Choice}
 use Rattle.record.specs.declared.recording.Entry.{Entry}
-use Rattle.record.specs.Kept.{Kept, steps_of}
+use Rattle.record.specs.View.{RecordingView, steps_of}
 use Rattle.monitor.specs.Violations.{HasNoViolation}
 use Rattle.trials.specs.Terms.{Terms}
 use Rattle.trials.specs.Moments.{Moment, IsPath, choices_at, first_moment}
 use Rattle.trials.specs.declared.verdict.Verdict.{Verdict}
 use Rattle.trials.specs.declared.verdict.Verdict.TheVariants.{Quiet, Cut, Stuck, Broke}
 use Rattle.trials.specs.Trial.{IsAtRest, IsTrial, IsVerdict}
-use Rattle.trials.specs.Going.{CanBeMade, Chooses, Course, IsGoing, IsVerdictAtRest, Starts, choices_on, moment_of}
+use Rattle.trials.specs.inner.Going.{CanBeMade, Chooses, Course, IsGoing, IsVerdictAtRest, Starts, choices_on, moment_of}
 use Rattle.trials.proofs.Paths.{path-starts}
 use Rattle.trials.proofs.Tracking.{IsTracked}
 use Rattle.trials.proofs.Chosen.{choice-fair, path-tracked}
@@ -46,12 +46,12 @@ SameChoices = (tables : Tables) (state : State) (cores : List Core) (s t : Tree)
 
 pub starts : NoWords → (terms : Terms) (tree : Tree) (number : ℕ) (c : Course) → Starts terms tree number c → IsGoing terms tree number c
 starts none terms tree number c s =
-    let nothing : c.recording.entries ≡ [] = ap (λ (r : Kept). r.entries) s.recording in
+    let nothing : c.recording.entries ≡ [] = ap (λ (r : RecordingView). r.entries) s.recording in
     let steps : steps_of c.recording ≡ [] = ap steps_of s.recording in
     record {
-      shape = (s.shape, ap (λ (r : Kept). r.shape) s.recording);
-      tables = (s.tables, ap (λ (r : Kept). r.tables) s.recording);
-      opening = ap (λ (r : Kept). r.opening) s.recording;
+      shape = (s.shape, ap (λ (r : RecordingView). r.shape) s.recording);
+      tables = (s.tables, ap (λ (r : RecordingView). r.tables) s.recording);
+      opening = ap (λ (r : RecordingView). r.opening) s.recording;
       moments = first_moment terms tree ∷ [];
       last = first_moment terms tree;
       path = subst (λ (es : List Entry). IsPath terms tree number (first_moment terms tree ∷ []) es) (sym nothing) (path-starts terms tree number);

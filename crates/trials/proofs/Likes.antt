@@ -1,7 +1,7 @@
 -- A world on its way stays one under the same terms.
 use Rattle.std.proofs.Common.{◌≡◌, ◌∙◌, refl, subst, sym}
 use Rattle.world.specs.View.{View}
-use Rattle.trials.specs.Going.{IsLike}
+use Rattle.trials.specs.inner.Going.{IsLike}
 
 pub like-itself : (w : View) → IsLike w w
 like-itself w = record { shape = refl; tables = refl }

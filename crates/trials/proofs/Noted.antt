@@ -9,7 +9,7 @@ use Rattle.cores.specs.Cores.{Core, issuing, is_free, with_core}
 use Rattle.schedule.specs.Choices.{chosen_step}
 use Rattle.schedule.specs.declared.choosing.Choice.{Choice}
 use Rattle.trials.specs.Moments.{put_by, with_issued}
-use Rattle.trials.specs.Going.{AreBusy, AreFree, CanBeNoted}
+use Rattle.trials.specs.inner.Going.{AreBusy, AreFree, CanBeNoted}
 use Rattle.trials.proofs.CoreSteps.{waits-tells, with-here}
 use Rattle.trials.proofs.Effects.{Effect, effect}
 use Rattle.trials.proofs.Tracking.{IsTracked, PutsWhereFree, delivered-to-waiting}

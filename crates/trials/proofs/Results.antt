@@ -3,7 +3,7 @@ use Rattle.std.proofs.Common.{◌≡◌, ◌+◌, ℕ, List, [], ◌∷◌, ◌+
 use Rattle.scenario.specs.Tree.{Tree}
 use Rattle.trials.specs.declared.verdict.TrialResult.{TrialResult}
 use Rattle.trials.specs.Terms.{Terms}
-use Rattle.trials.specs.Trial.{IsResult, IsSound, AreResults, AreSound}
+use Rattle.trials.specs.Trial.{IsResult, AreResults}
 use Rattle.trials.proofs.Pushing.{get-push, length-push}
 
 pub results-more : (terms : Terms) (tree : Tree) (n : ℕ) (old new : List TrialResult) (result : TrialResult) → AreResults terms tree n old →
@@ -15,9 +15,3 @@ results-more terms tree n old new result are is pushed = subst (AreResults terms
     | inr h ↦ subst (λ (k : ℕ). IsResult terms tree k x) (sym (h.0 ∙ are.count)) (subst (IsResult terms tree n) h.1 is)
   ];
 })
-
-pub sound-more : (old new : List TrialResult) (result : TrialResult) → AreSound old → IsSound result.verdict → new ≡ old ++ result ∷ [] → AreSound new
-sound-more old new result are is pushed = subst AreSound (sym pushed) (λ number x e. elim (get-push old result x number e) [
-  | inl h ↦ are number x h.0
-  | inr h ↦ subst (λ (r : TrialResult). IsSound r.verdict) h.1 is
-])

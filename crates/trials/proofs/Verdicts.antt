@@ -7,7 +7,7 @@ use Rattle.both_tables.specs.Tables.{Tables}
 use Rattle.machine.specs.Machine.{opened, state_after, outcomes_of}
 use Rattle.machine.specs.Coherence.{Safe}
 use Rattle.monitor.specs.declared.violation.Violation.{Violation}
-use Rattle.record.specs.Kept.{Kept, IsLegal, steps_of, told_by}
+use Rattle.record.specs.View.{RecordingView, IsLegal, steps_of, told_by}
 use Rattle.monitor.specs.Violations.{IsFirstViolation}
 use Rattle.scenario.specs.Tree.{Tree}
 use Rattle.schedule.specs.Words.{word}
@@ -19,23 +19,23 @@ use Rattle.trials.specs.declared.verdict.Verdict.TheVariants.{Quiet, Cut, Stuck,
 use Rattle.trials.proofs.Walks.{Walks, path-walks, walk-outcomes, walk-state}
 
 -- a trial's entries lead from the first moment to its last
-pub trial-walks : (terms : Terms) (tree : Tree) (number : ℕ) (recording : Kept) (verdict : Verdict) (trial : IsTrial terms tree number recording verdict) →
+pub trial-walks : (terms : Terms) (tree : Tree) (number : ℕ) (recording : RecordingView) (verdict : Verdict) (trial : IsTrial terms tree number recording verdict) →
     Walks terms.tables (λ k. word terms.seed number k) (first_moment terms tree) recording.entries trial.last
 trial-walks terms tree number recording verdict trial = path-walks terms tree number trial.moments recording.entries trial.last trial.path trial.at_last
 
-pub trial-told : (terms : Terms) (tree : Tree) (number : ℕ) (recording : Kept) (verdict : Verdict) → IsTrial terms tree number recording verdict →
+pub trial-told : (terms : Terms) (tree : Tree) (number : ℕ) (recording : RecordingView) (verdict : Verdict) → IsTrial terms tree number recording verdict →
     told_by recording ≡ outcomes_of terms.tables (opened terms.shape terms.opening) (steps_of recording)
 trial-told terms tree number recording verdict trial =
     walk-outcomes terms.tables (λ k. word terms.seed number k) (first_moment terms tree) trial.last recording.entries
     (trial-walks terms tree number recording verdict trial)
 
-pub trial-state : (terms : Terms) (tree : Tree) (number : ℕ) (recording : Kept) (verdict : Verdict) (trial : IsTrial terms tree number recording verdict) →
+pub trial-state : (terms : Terms) (tree : Tree) (number : ℕ) (recording : RecordingView) (verdict : Verdict) (trial : IsTrial terms tree number recording verdict) →
     trial.last.state ≡ state_after terms.tables (opened terms.shape terms.opening) (steps_of recording)
 trial-state terms tree number recording verdict trial =
     walk-state terms.tables (λ k. word terms.seed number k) (first_moment terms tree) trial.last recording.entries
     (trial-walks terms tree number recording verdict trial)
 
-pub trial-legal : (terms : Terms) (tree : Tree) (number : ℕ) (recording : Kept) (verdict : Verdict) → IsTrial terms tree number recording verdict →
+pub trial-legal : (terms : Terms) (tree : Tree) (number : ℕ) (recording : RecordingView) (verdict : Verdict) → IsTrial terms tree number recording verdict →
     IsLegal recording
 trial-legal terms tree number recording verdict trial =
     trial-told terms tree number recording verdict trial

@@ -3,6 +3,5 @@ pub mod Moments
 pub mod Trial
 pub mod Answering
 pub mod Names
-pub mod Notes
-pub mod Going
-pub mod Making
+pub mod Series
+pub mod inner

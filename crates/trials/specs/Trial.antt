@@ -5,7 +5,7 @@ use Rattle.cores.specs.Cores.{is_free}
 use Rattle.scenario.specs.Tree.{Tree}
 use Rattle.scenario.specs.Taking.{offers}
 use Rattle.world.specs.Looks.{all_quiet}
-use Rattle.record.specs.Kept.{Kept, steps_of}
+use Rattle.record.specs.View.{RecordingView, steps_of}
 use Rattle.monitor.specs.Violations.{HasNoViolation, IsFirstViolation}
 use Rattle.trials.specs.declared.verdict.Verdict.{Verdict}
 use Rattle.trials.specs.declared.verdict.Verdict.TheVariants.{Quiet, Cut, Stuck, Broke}
@@ -32,7 +32,7 @@ IsVerdict terms steps last Stuck = AreClean terms steps × (choices_at terms.tab
 IsVerdict terms steps last Cut = AreClean terms steps × (choices_at terms.tables last ≢ []) × (length steps ≡ terms.limit)
 
 -- this recording and this verdict are those of the trial of this number: a path of at most as many steps as the limit, and what ends it
-pub record IsTrial (terms : Terms) (tree : Tree) (number : ℕ) (recording : Kept) (verdict : Verdict) : Type 0 where
+pub record IsTrial (terms : Terms) (tree : Tree) (number : ℕ) (recording : RecordingView) (verdict : Verdict) : Type 0 where
   pub shape : recording.shape ≡ terms.shape
   pub tables : recording.tables ≡ terms.tables
   pub opening : recording.opening ≡ terms.opening
@@ -45,7 +45,7 @@ pub record IsTrial (terms : Terms) (tree : Tree) (number : ℕ) (recording : Kep
 
 -- this is the result of the trial of this number
 pub record IsResult (terms : Terms) (tree : Tree) (number : ℕ) (result : TrialResult) : Type 0 where
-  pub recording : Kept
+  pub recording : RecordingView
   pub trial : IsTrial terms tree number recording result.verdict
   pub numbered : result.number ≡ number
   pub steps : result.steps ≡ length recording.entries

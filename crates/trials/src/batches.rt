@@ -1,11 +1,11 @@
 ghost use Rattle.std.specs.Prelude.{◌≡◌, ◌<◌, ◌≤◌, ◌↔◌, [], IfOk, IsErrOf, OnOk, vec_capacity};
 ghost use Rattle.both_tables.specs.Tables.{baseline};
-ghost use Rattle.machine.specs.Restraint.{Restrains};
+ghost use Rattle.machine.specs.Restraint.{AreRestrained};
 ghost use Rattle.scenario.specs.Tree.{plain};
-ghost use Rattle.trials.specs.Making.{CanGoOn, planned};
+ghost use Rattle.trials.specs.Series.{planned};
 ghost use Rattle.trials.specs.Trial.{AreResults, AreSound, AreUnbroken};
 
-use crate::laws::trials_under_restrained_tables;
+use crate::laws::{trials_under_restrained_tables, trials_under_the_own_tables};
 use crate::series::Series;
 use crate::setup::Setup;
 use crate::verdict::TrialResult;
@@ -41,10 +41,11 @@ pub fn batch<A: Allocator>(
 ) -> Result<Vec<TrialResult>, BatchFault>
     ensures ok { IfOk result (λ results. AreResults setup.now (plain scenario.now) n results.items) }
     ensures sound { setup.now.tables ≡ baseline → IfOk result (λ results. AreSound results.items) }
-    ensures unbroken { Restrains setup.now.tables → IfOk result (λ results. AreUnbroken results.items) }
+    ensures unbroken { AreRestrained setup.now.tables → IfOk result (λ results. AreUnbroken results.items) }
     ensures too_many { IsErrOf result BatchFault.TooMany ↔ (1000000 < n) }
 {
     trials_under_restrained_tables();
+    trials_under_the_own_tables();
     // Called for its contract: a setup is lawful.
     let _limit = setup.limit();
     if n > MOST_TRIALS {
@@ -69,8 +70,7 @@ fn fill<A: Allocator>(
 ) -> Result<(), NoMemory>
     requires none { results.old.items ≡ [] }
     requires room { n ≤ vec_capacity results.old }
-    ensures ok { OnOk result (AreResults setup.now (plain scenario.now) n results.new.items) }
-    ensures sound { setup.now.tables ≡ baseline → OnOk result (AreSound results.new.items) }
+    ensures { OnOk result (AreResults setup.now (plain scenario.now) n results.new.items) }
 {
     let arena = Bump::new(alloc);
     let mut series = Series::new(alloc, &arena, scenario, setup);
@@ -83,11 +83,9 @@ fn append<A: Allocator>(
     n: u32,
     results: &mut Vec<TrialResult>,
 ) -> Result<(), NoMemory>
-    requires can_go_on { CanGoOn series.old }
     requires none { results.old.items ≡ [] }
     requires room { n ≤ vec_capacity results.old }
-    ensures ok { OnOk result (AreResults (planned series.old).terms (planned series.old).tree n results.new.items) }
-    ensures sound { (planned series.old).terms.tables ≡ baseline → OnOk result (AreSound results.new.items) }
+    ensures { OnOk result (AreResults (planned series.old).terms (planned series.old).tree n results.new.items) }
 {
     for number in 0..n {
         match series.result(number) {

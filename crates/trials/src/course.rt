@@ -4,7 +4,7 @@ ghost use Rattle.std.specs.Prelude.{IfOk};
 ghost use Rattle.scenario.specs.Alike.{Alike};
 ghost use Rattle.scenario.specs.Tree.{plain};
 ghost use Rattle.schedule.specs.Lanes.{AreReady, IsKept, laned, whole};
-ghost use Rattle.trials.specs.Going.{AreOpened};
+ghost use Rattle.trials.specs.inner.Going.{AreOpened};
 
 use crate::going::trials_go_on;
 use crate::notes::Notes;
@@ -49,11 +49,11 @@ impl<'s, 'b, A: Allocator, N: Notes> Drop for Course<'s, 'b, A, N> {
 impl<'s, 'b, A: Allocator, N: Notes> Course<'s, 'b, A, N> {
     ghost use Rattle.std.specs.Prelude.{◌≡◌, ◌<◌, IfOk, IfSome, OnOk, length};
     ghost use Rattle.std.specs.Option.{option_map};
-    ghost use Rattle.record.specs.Kept.{Kept};
+    ghost use Rattle.record.specs.View.{RecordingView};
     ghost use Rattle.scenario.specs.Tree.{plain};
     ghost use Rattle.schedule.specs.Lanes.{laned};
     ghost use Rattle.schedule.specs.Picks.{IsPicked, choice_of};
-    ghost use Rattle.trials.specs.Going.{Begins, CanBeMade, Chooses, Ends, IsCounted, IsLike, IsStart, IsUnder, IsVerdictAtRest, MakesNoted, blank, now_of, parts_of};
+    ghost use Rattle.trials.specs.inner.Going.{Begins, CanBeMade, Chooses, Ends, IsCounted, IsLike, IsStart, IsUnder, IsVerdictAtRest, MakesNoted, blank, now_of, parts_of};
 
     /// The start of the trial of this number, with notes of no entry.
     pub(crate) fn open(
@@ -126,7 +126,7 @@ impl<'s, 'b, A: Allocator, N: Notes> Course<'s, 'b, A, N> {
     /// Draws one of the choices, if there is any.
     fn choose(&mut self) -> Option<Pick>
         requires { IsCounted self.old }
-        ensures chooses { (r : Kept) → Chooses (parts_of r self.old) (option_map (choice_of (laned self.new.lanes)) result) (parts_of r self.new) }
+        ensures chooses { (r : RecordingView) → Chooses (parts_of r self.old) (option_map (choice_of (laned self.new.lanes)) result) (parts_of r self.new) }
         ensures picked { IfSome result (λ pick. IsPicked pick (laned self.new.lanes)) }
         ensures counted { IsCounted self.new }
         ensures notes { self.new.notes ≡ self.old.notes }
@@ -148,7 +148,7 @@ impl<'s, 'b, A: Allocator, N: Notes> Course<'s, 'b, A, N> {
         requires choice { CanBeMade (choice_of (laned self.old.lanes) pick) self.old.world.tables (now_of self.old) }
         requires picked { IsPicked pick (laned self.old.lanes) }
         requires counted { IsCounted self.old }
-        requires room { (r : Kept) × N.tells self.old.notes r × (length r.entries < 1000000) }
+        requires room { (r : RecordingView) × N.tells self.old.notes r × (length r.entries < 1000000) }
         ensures makes { IfOk result (λ violation. MakesNoted N.tells self.old (choice_of (laned self.old.lanes) pick) self.new violation) }
         ensures counted { OnOk result (IsCounted self.new) }
         ensures alike { IsLike self.old.world self.new.world }
@@ -178,7 +178,7 @@ impl<'s, 'b, A: Allocator, N: Notes> Course<'s, 'b, A, N> {
 
     /// How many steps the trial has made.
     pub(crate) fn steps(&self) -> u32
-        ensures { (r : Kept) → N.tells self.now.notes r → result ≡ length r.entries }
+        ensures { (r : RecordingView) → N.tells self.now.notes r → result ≡ length r.entries }
     {
         self.notes.count()
     }

@@ -4,7 +4,7 @@ ghost use Rattle.std.specs.Prelude.{◌≡◌, ◌<◌, ◌≤◌, ℕ, Option, 
 ghost use Rattle.monitor.specs.declared.violation.Violation.{Violation};
 ghost use Rattle.scenario.specs.Tree.{Tree};
 ghost use Rattle.schedule.specs.declared.choosing.Choice.{Choice};
-ghost use Rattle.trials.specs.Going.{CanBeMade, Chooses, Course, GoesOn, IsGoing, IsVerdictAtRest, Makes, Starts, moment_of};
+ghost use Rattle.trials.specs.inner.Going.{CanBeMade, Chooses, Course, GoesOn, IsGoing, IsVerdictAtRest, Makes, Starts, moment_of};
 ghost use Rattle.trials.specs.Terms.{Terms};
 ghost use Rattle.trials.specs.Trial.{IsTrial};
 ghost use Rattle.trials.specs.declared.verdict.Verdict.{Verdict};

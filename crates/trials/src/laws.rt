@@ -2,15 +2,15 @@
 
 ghost use Rattle.std.specs.Prelude.{◌≡◌, ◌↔◌, ℕ, List};
 ghost use Rattle.machine.specs.Coherence.{Safe};
-ghost use Rattle.machine.specs.Restraint.{Restrains};
+ghost use Rattle.machine.specs.Restraint.{AreRestrained};
 ghost use Rattle.both_tables.specs.Tables.{baseline};
-ghost use Rattle.record.specs.Kept.{Kept, IsLegal, steps_of};
+ghost use Rattle.record.specs.View.{RecordingView, IsLegal, steps_of};
 ghost use Rattle.record.specs.declared.recording.Entry.{Entry};
 ghost use Rattle.scenario.specs.Tree.{Tree};
 ghost use Rattle.trials.specs.Answering.{AnswersInTurn, AreSequential};
 ghost use Rattle.trials.specs.Moments.{Moment, IsPath};
 ghost use Rattle.trials.specs.Terms.{Terms, AreLawful};
-ghost use Rattle.trials.specs.Trial.{AreResults, AreUnbroken, HasBroken, IsSound, IsTrial, IsUnbroken};
+ghost use Rattle.trials.specs.Trial.{AreResults, AreSound, AreUnbroken, HasBroken, IsSound, IsTrial, IsUnbroken};
 ghost use Rattle.trials.specs.declared.verdict.TrialResult.{TrialResult};
 ghost use Rattle.trials.specs.declared.verdict.Verdict.{Verdict};
 
@@ -22,9 +22,9 @@ pub fn cores_are_answered_in_turn()
 
 /// A trial's recording is legal, and the trial broke exactly where its steps aren't safe.
 pub fn trials_break_where_they_arent_safe()
-    ensures legal { (terms : Terms) (tree : Tree) (number : ℕ) (recording : Kept) (verdict : Verdict) →
+    ensures legal { (terms : Terms) (tree : Tree) (number : ℕ) (recording : RecordingView) (verdict : Verdict) →
         IsTrial terms tree number recording verdict → IsLegal recording }
-    ensures broke { (terms : Terms) (tree : Tree) (number : ℕ) (recording : Kept) (verdict : Verdict) →
+    ensures broke { (terms : Terms) (tree : Tree) (number : ℕ) (recording : RecordingView) (verdict : Verdict) →
         IsTrial terms tree number recording verdict →
         HasBroken verdict ↔ (¬ Safe terms.shape terms.tables terms.opening (steps_of recording)) }
 {
@@ -34,13 +34,13 @@ pub fn trials_break_where_they_arent_safe()
 /// Under restrained tables, of which the protocol's own are some, no trial breaks, and the completions of each are sequentially
 /// consistent.
 pub fn trials_under_restrained_tables()
-    ensures unbroken { (terms : Terms) (tree : Tree) (number : ℕ) (recording : Kept) (verdict : Verdict) →
-        Restrains terms.tables → AreLawful terms → IsTrial terms tree number recording verdict →
+    ensures unbroken { (terms : Terms) (tree : Tree) (number : ℕ) (recording : RecordingView) (verdict : Verdict) →
+        AreRestrained terms.tables → AreLawful terms → IsTrial terms tree number recording verdict →
         IsUnbroken verdict }
     ensures unbroken_batch { (terms : Terms) (tree : Tree) (n : ℕ) (results : List TrialResult) →
-        Restrains terms.tables → AreLawful terms → AreResults terms tree n results → AreUnbroken results }
-    ensures sequential { (terms : Terms) (tree : Tree) (number : ℕ) (recording : Kept) (verdict : Verdict) →
-        Restrains terms.tables → AreLawful terms → IsTrial terms tree number recording verdict →
+        AreRestrained terms.tables → AreLawful terms → AreResults terms tree n results → AreUnbroken results }
+    ensures sequential { (terms : Terms) (tree : Tree) (number : ℕ) (recording : RecordingView) (verdict : Verdict) →
+        AreRestrained terms.tables → AreLawful terms → IsTrial terms tree number recording verdict →
         AreSequential terms.opening recording.entries }
 {
     machine::restrained_tables_are_safe();
@@ -50,9 +50,11 @@ pub fn trials_under_restrained_tables()
 
 /// Under the protocol's own tables no trial breaks or is stuck.
 pub fn trials_under_the_own_tables()
-    ensures { (terms : Terms) (tree : Tree) (number : ℕ) (recording : Kept) (verdict : Verdict) →
+    ensures sound { (terms : Terms) (tree : Tree) (number : ℕ) (recording : RecordingView) (verdict : Verdict) →
         terms.tables ≡ baseline → AreLawful terms → IsTrial terms tree number recording verdict →
         IsSound verdict }
+    ensures sound_batch { (terms : Terms) (tree : Tree) (n : ℕ) (results : List TrialResult) →
+        terms.tables ≡ baseline → AreLawful terms → AreResults terms tree n results → AreSound results }
 {
     machine::safe();
     machine::unstuck();
@@ -61,7 +63,7 @@ pub fn trials_under_the_own_tables()
 
 /// A number has one trial.
 pub fn one_trial_a_number()
-    ensures { (terms : Terms) (tree : Tree) (number : ℕ) (one other : Kept) (verdict another : Verdict) →
+    ensures { (terms : Terms) (tree : Tree) (number : ℕ) (one other : RecordingView) (verdict another : Verdict) →
         IsTrial terms tree number one verdict → IsTrial terms tree number other another → (one ≡ other) × (verdict ≡ another) }
 {
     monitor::one_violation_at_most();

@@ -1,8 +1,8 @@
 ghost use Rattle.std.specs.Prelude.{◌≡◌, ◌↔◌, IfOk, length};
 ghost use Rattle.machine.specs.Coherence.{Safe};
-ghost use Rattle.machine.specs.Restraint.{Restrains};
+ghost use Rattle.machine.specs.Restraint.{AreRestrained};
 ghost use Rattle.both_tables.specs.Tables.{baseline};
-ghost use Rattle.record.specs.Kept.{IsLegal, steps_of};
+ghost use Rattle.record.specs.View.{IsLegal, steps_of};
 ghost use Rattle.scenario.specs.Tree.{plain};
 ghost use Rattle.trials.specs.Answering.{AnswersInTurn, AreSequential};
 ghost use Rattle.trials.specs.Trial.{HasBroken, IsSound, IsTrial, IsUnbroken};
@@ -42,8 +42,8 @@ pub fn trial<A: Allocator>(
     ensures broke { IfOk result (λ made. HasBroken made.result.verdict ↔
         (¬ Safe setup.now.shape setup.now.tables setup.now.opening (steps_of made.recording))) }
     ensures sound { setup.now.tables ≡ baseline → IfOk result (λ made. IsSound made.result.verdict) }
-    ensures unbroken { Restrains setup.now.tables → IfOk result (λ made. IsUnbroken made.result.verdict) }
-    ensures sequential { Restrains setup.now.tables → IfOk result (λ made. AreSequential setup.now.opening made.recording.entries) }
+    ensures unbroken { AreRestrained setup.now.tables → IfOk result (λ made. IsUnbroken made.result.verdict) }
+    ensures sequential { AreRestrained setup.now.tables → IfOk result (λ made. AreSequential setup.now.opening made.recording.entries) }
 {
     cores_are_answered_in_turn();
     trials_break_where_they_arent_safe();

@@ -6,23 +6,23 @@ use record::{Entry, Recording};
 /// Notes of the steps that a trial has made. They may keep less of them than the recording of which they tell.
 pub(crate) trait Notes: Drop {
     ghost use Rattle.std.specs.Prelude.{◌≡◌, ◌<◌, OnOk, length};
-    ghost use Rattle.record.specs.Kept.{Kept, with_entry};
+    ghost use Rattle.record.specs.View.{RecordingView, with_entry};
 
     // The notes tell of this recording.
-    ghost tells: { Self → Kept → Type 0 };
+    ghost tells: { Self → RecordingView → Type 0 };
 
     /// Notes one more entry. Where it is refused the notes are good for nothing.
     fn add(&mut self, entry: Entry) -> Result<(), NoMemory>
-        requires room { (r : Kept) × tells self.old r × (length r.entries < 1000000) }
-        ensures { (r : Kept) → tells self.old r → OnOk result (tells self.new (with_entry r entry)) };
+        requires room { (r : RecordingView) × tells self.old r × (length r.entries < 1000000) }
+        ensures { (r : RecordingView) → tells self.old r → OnOk result (tells self.new (with_entry r entry)) };
 
     /// How many entries there are.
     fn count(&self) -> u32
-        ensures { (r : Kept) → tells self.now r → result ≡ length r.entries };
+        ensures { (r : RecordingView) → tells self.now r → result ≡ length r.entries };
 }
 
 impl Notes for Recording {
-    ghost use Rattle.trials.specs.Notes.{is_recording};
+    ghost use Rattle.trials.specs.inner.Notes.{is_recording};
 
     ghost tells = { is_recording };
 
@@ -56,7 +56,7 @@ impl Tally {
 }
 
 impl Notes for Tally {
-    ghost use Rattle.trials.specs.Notes.{counts};
+    ghost use Rattle.trials.specs.inner.Notes.{counts};
 
     ghost tells = { counts };
 

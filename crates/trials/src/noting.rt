@@ -3,7 +3,7 @@
 ghost use Rattle.std.specs.Prelude.{◌≡◌, ◌∷◌, [], IfSome, MatchOption};
 ghost use Rattle.cores.specs.Cores.{Completes};
 ghost use Rattle.machine.specs.Completions.{completed_by};
-ghost use Rattle.trials.specs.Going.{AreBusy, AreFree, CanBeNoted};
+ghost use Rattle.trials.specs.inner.Going.{AreBusy, AreFree, CanBeNoted};
 ghost use Rattle.trials.specs.Moments as spec;
 
 use base::{Ask, CoreAsk, Outcome, Step};

@@ -1,11 +1,11 @@
 //! Trials one after another, in the same memory.
 
-ghost use Rattle.std.specs.Prelude.{◌≡◌, IfOk};
-ghost use Rattle.both_tables.specs.Tables.{baseline};
-ghost use Rattle.scenario.specs.Tree.{Tree, plain};
-ghost use Rattle.trials.specs.Going.{Begins, IsLike};
-ghost use Rattle.trials.specs.Notes.{counts};
-ghost use Rattle.trials.specs.Trial.{IsResult, IsSound};
+ghost use Rattle.std.specs.Prelude.{◌≡◌, IfOk, MatchOption, OnErr, OnOk};
+ghost use Rattle.std.specs.Option.{ForSome};
+ghost use Rattle.scenario.specs.Tree.{plain};
+ghost use Rattle.trials.specs.inner.Going.{Begins, IsLike, IsUnder};
+ghost use Rattle.trials.specs.inner.Notes.{counts};
+ghost use Rattle.trials.specs.Trial.{IsResult};
 
 use crate::course::Course;
 use crate::laws::trials_under_the_own_tables;
@@ -25,6 +25,7 @@ pub struct Series<'s, 'b, A: Allocator> {
     setup: &'s Setup,
     // The last trial, if there was one.
     course: Option<Course<'s, 'b, A, Tally>>,
+    ghost under: { ForSome course (λ it. IsUnder setup.now it.world) },
 }
 
 impl<'s, 'b, A: Allocator> Drop for Series<'s, 'b, A> {
@@ -41,10 +42,10 @@ impl<'s, 'b, A: Allocator> Drop for Series<'s, 'b, A> {
 }
 
 impl<'s, 'b, A: Allocator> Series<'s, 'b, A> {
-    ghost use Rattle.std.specs.Prelude.{◌≡◌, IfOk, OnErr, OnOk};
+    ghost use Rattle.std.specs.Prelude.{◌≡◌, IfOk};
     ghost use Rattle.both_tables.specs.Tables.{baseline};
     ghost use Rattle.scenario.specs.Tree.{plain};
-    ghost use Rattle.trials.specs.Making.{CanGoOn, HasBegun, planned};
+    ghost use Rattle.trials.specs.Series.{planned};
     ghost use Rattle.trials.specs.Trial.{IsResult, IsSound};
 
     /// The trials of a scenario under a setup. How far a trial is in the scenario is kept in memory of the arena.
@@ -54,8 +55,7 @@ impl<'s, 'b, A: Allocator> Series<'s, 'b, A> {
         scenario: &'s Scenario<A>,
         setup: &'s Setup,
     ) -> Series<'s, 'b, A>
-        ensures plan { planned result ≡ record { terms = setup.entry.now; tree = plain scenario.entry.now } }
-        ensures can_go_on { CanGoOn result }
+        ensures { planned result ≡ record { terms = setup.entry.now; tree = plain scenario.entry.now } }
     {
         Series {
             alloc,
@@ -68,49 +68,67 @@ impl<'s, 'b, A: Allocator> Series<'s, 'b, A> {
 
     /// The result of the trial of this number, which is that of [`trial`](crate::trial). Its steps are counted, and not kept.
     pub fn result(&mut self, number: u32) -> Result<TrialResult, NoMemory>
-        requires { CanGoOn self.old }
         ensures result { IfOk result (λ made. IsResult (planned self.old).terms (planned self.old).tree number made) }
         ensures sound { (planned self.old).terms.tables ≡ baseline → IfOk result (λ made. IsSound made.verdict) }
         ensures plan { planned self.new ≡ planned self.old }
-        ensures can_go_on { CanGoOn self.new }
     {
+        trials_under_the_own_tables();
+        // Called for its contract: a setup is lawful.
+        let _limit = self.setup.limit();
         if let Some(course) = &mut self.course {
             course.restart(self.alloc, self.scenario, self.setup, number, Tally::new())?;
             return finish(course, self.arena, self.scenario, self.setup, number);
         }
-        self.first(number)
+        first(
+            &mut self.course,
+            self.alloc,
+            self.arena,
+            self.scenario,
+            self.setup,
+            number,
+        )
     }
+}
 
-    /// The result of a trial for which everything is opened.
-    fn first(&mut self, number: u32) -> Result<TrialResult, NoMemory>
-        requires { CanGoOn self.old }
-        ensures result { IfOk result (λ made. IsResult (planned self.old).terms (planned self.old).tree number made) }
-        ensures sound { (planned self.old).terms.tables ≡ baseline → IfOk result (λ made. IsSound made.verdict) }
-        ensures plan { planned self.new ≡ planned self.old }
-        ensures can_go_on { CanGoOn self.new }
-    {
-        self.open(number)?;
-        let Some(course) = &mut self.course else {
-            unreachable!();
-        };
-        let made = finish(course, self.arena, self.scenario, self.setup, number);
-        if made.is_err() {
-            self.course = None;
-        }
-        made
+/// The result of a trial for which everything is opened.
+fn first<'s, 'b, A: Allocator>(
+    course: &mut Option<Course<'s, 'b, A, Tally>>,
+    alloc: Global,
+    arena: &'b Bump,
+    scenario: &'s Scenario<A>,
+    setup: &Setup,
+    number: u32,
+) -> Result<TrialResult, NoMemory>
+    requires { ForSome course.old (λ it. IsUnder setup.now it.world) }
+    ensures result { IfOk result (λ made. IsResult setup.now (plain scenario.entry.now) number made) }
+    ensures under { ForSome course.new (λ it. IsUnder setup.now it.world) }
+{
+    open(course, alloc, scenario, setup, number)?;
+    let Some(opened) = course else {
+        unreachable!();
+    };
+    let made = finish(opened, arena, scenario, setup, number);
+    if made.is_err() {
+        *course = None;
     }
+    made
+}
 
-    /// Opens everything for the trial of this number. It stands apart, as whoever makes a course clears the stack for one.
-    #[inline(never)]
-    fn open(&mut self, number: u32) -> Result<(), NoMemory>
-        ensures ok { OnOk result (HasBegun self.new number) }
-        ensures err { OnErr result (self.new ≡ self.old) }
-        ensures plan { planned self.new ≡ planned self.old }
-    {
-        let course = Course::open(self.alloc, self.scenario, self.setup, number, Tally::new())?;
-        self.course = Some(course);
-        Ok(())
-    }
+/// Opens everything for the trial of this number. It stands apart, as whoever makes a course clears the stack for one.
+#[inline(never)]
+fn open<'s, 'b, A: Allocator>(
+    course: &mut Option<Course<'s, 'b, A, Tally>>,
+    alloc: Global,
+    scenario: &'s Scenario<A>,
+    setup: &Setup,
+    number: u32,
+) -> Result<(), NoMemory>
+    ensures ok { OnOk result (MatchOption course.new ⊥ (λ it. Begins counts setup.now (plain scenario.entry.now) number it)) }
+    ensures err { OnErr result (course.new ≡ course.old) }
+{
+    let opened = Course::open(alloc, scenario, setup, number, Tally::new())?;
+    *course = Some(opened);
+    Ok(())
 }
 
 /// Makes the trial of this number, from its start.
@@ -123,10 +141,8 @@ fn finish<'s, 'b, A: Allocator>(
 ) -> Result<TrialResult, NoMemory>
     requires { Begins counts setup.now (plain scenario.now) number course.old }
     ensures result { IfOk result (λ made. IsResult setup.now (plain scenario.now) number made) }
-    ensures sound { setup.now.tables ≡ baseline → IfOk result (λ made. IsSound made.verdict) }
     ensures alike { IsLike course.old.world course.new.world }
 {
-    trials_under_the_own_tables();
     let verdict = course.run(arena, setup.limit())?;
     Ok(TrialResult {
         number,

@@ -44,7 +44,7 @@ impl Model for Setup {
 impl Setup {
     ghost use Rattle.std.specs.Prelude.{◌≡◌, ◌≢◌, ◌≤◌, ◌<◌, ◌↔◌, IfOk, IsErrOf, length};
     ghost use Rattle.machine.specs.Machine.{opened};
-    ghost use Rattle.record.specs.Kept.{opened_recording};
+    ghost use Rattle.record.specs.View.{opened_recording};
     ghost use Rattle.trials.specs.Terms.{AreLawful};
 
     /// It is refused `OpeningLength` exactly where there is another number of values than blocks, and else `OverLimit`

@@ -1,5 +1,5 @@
 ghost use Rattle.std.specs.Prelude.{◌≡◌};
-ghost use Rattle.floor.specs.FloorId.{names};
+ghost use Rattle.floor.specs.FloorId.{floor_id};
 
 use crate::asks::read_asks;
 use crate::players::{Open, Player};
@@ -55,7 +55,7 @@ fn recorded<F: Naming + Send + Sync, R: Threads + Wait + Sync>(
     capacity: u32,
     asks: &[CoreAsk],
 ) -> Result<Recording, NoMemory>
-    requires { F.floor ≡ names ground setup.now seats capacity }
+    requires { F.floor ≡ floor_id ground setup.now seats capacity }
 {
     let Ok((floor, row)) = Floor::<F>::open(ground, alloc, setup, seats, capacity) else {
         return Err(NoMemory);

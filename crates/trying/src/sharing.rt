@@ -1,13 +1,13 @@
 //! A batch whose trials are shared out among workers.
 
 ghost use Rattle.std.specs.Prelude.{◌≡◌, All, IfOk};
+ghost use Rattle.trials.specs.Series.{planned};
 ghost use Rattle.desk.specs.Plans.{plan_of};
-ghost use Rattle.trials.specs.Making.{CanGoOn, planned};
 
 use crate::reporting::Report;
 use base::NoMemory;
 use bumpalo::Bump;
-use desk::{Desk, DeskSeat, Job, Naming, work};
+use desk::{Desk, DeskSeat, Job, Planned, work};
 use std::alloc::Global;
 use std::io::Write;
 use std::thread;
@@ -16,7 +16,7 @@ use trials::{Series, TrialResult};
 
 /// Has so many workers make the trials of a job, each in a thread of its own. This thread is one of them: after each
 /// trial of its own it prints what is there of all the next ones, and when nothing is left to begin, the rest.
-pub fn share<D: Naming + Send + Sync, R: Threads + Sync, O: Write + Drop, E: Write + Drop>(
+pub fn share<D: Planned + Send + Sync, R: Threads + Sync, O: Write + Drop, E: Write + Drop>(
     rt: &R,
     alloc: Global,
     job: &Job,
@@ -35,7 +35,7 @@ pub fn share<D: Naming + Send + Sync, R: Threads + Sync, O: Write + Drop, E: Wri
     }
 }
 
-fn share_out<D: Naming + Send + Sync, R: Threads + Sync, O: Write + Drop, E: Write + Drop>(
+fn share_out<D: Planned + Send + Sync, R: Threads + Sync, O: Write + Drop, E: Write + Drop>(
     rt: &R,
     alloc: Global,
     job: &Job,
@@ -69,7 +69,7 @@ fn share_out<D: Naming + Send + Sync, R: Threads + Sync, O: Write + Drop, E: Wri
 }
 
 /// Closes the desk, and prints the results that weren't there before.
-fn print_rest<D: Naming, O: Write + Drop, E: Write + Drop>(
+fn print_rest<D: Planned, O: Write + Drop, E: Write + Drop>(
     desk: Desk<'_, D>,
     others: Result<Vec<DeskSeat<D>>, NoMemory>,
     own: DeskSeat<D>,
@@ -104,7 +104,7 @@ fn print_places<O: Write + Drop, E: Write + Drop>(
 }
 
 /// Has each seat work in a thread of its own.
-fn work_all<D: Naming + Send + Sync, R: Threads + Sync>(
+fn work_all<D: Planned + Send + Sync, R: Threads + Sync>(
     rt: &R,
     desk: &Desk<'_, D>,
     mut seats: Vec<DeskSeat<D>>,
@@ -131,7 +131,10 @@ fn work_all<D: Naming + Send + Sync, R: Threads + Sync>(
     Ok(back)
 }
 
-fn work_alone<D: Naming>(desk: &Desk<'_, D>, mut seat: DeskSeat<D>) -> Result<DeskSeat<D>, NoMemory>
+fn work_alone<D: Planned>(
+    desk: &Desk<'_, D>,
+    mut seat: DeskSeat<D>,
+) -> Result<DeskSeat<D>, NoMemory>
     requires { seat.desk ≡ desk.now.id }
     ensures { IfOk result (λ back. back.desk ≡ desk.now.id) }
 {
@@ -140,7 +143,7 @@ fn work_alone<D: Naming>(desk: &Desk<'_, D>, mut seat: DeskSeat<D>) -> Result<De
 }
 
 /// Works at a seat and prints results on the way. Where that fails, it sees to it that no worker begins another trial.
-fn work_and_print<D: Naming, O: Write + Drop, E: Write + Drop>(
+fn work_and_print<D: Planned, O: Write + Drop, E: Write + Drop>(
     alloc: Global,
     desk: &Desk<'_, D>,
     mut seat: DeskSeat<D>,
@@ -162,7 +165,7 @@ fn work_and_print<D: Naming, O: Write + Drop, E: Write + Drop>(
     (seat, report, printed)
 }
 
-fn print_as_made<D: Naming, O: Write + Drop, E: Write + Drop>(
+fn print_as_made<D: Planned, O: Write + Drop, E: Write + Drop>(
     alloc: Global,
     desk: &Desk<'_, D>,
     seat: &mut DeskSeat<D>,
@@ -179,7 +182,7 @@ fn print_as_made<D: Naming, O: Write + Drop, E: Write + Drop>(
 }
 
 /// Makes the trials of the numbers that a seat claims, and prints after each the results of the next ones.
-fn print_claimed<D: Naming, O: Write + Drop, E: Write + Drop>(
+fn print_claimed<D: Planned, O: Write + Drop, E: Write + Drop>(
     desk: &Desk<'_, D>,
     seat: &mut DeskSeat<D>,
     series: &mut Series<'_, '_, Global>,
@@ -187,7 +190,6 @@ fn print_claimed<D: Naming, O: Write + Drop, E: Write + Drop>(
 ) -> Result<(), NoMemory>
     requires seat { seat.old.desk ≡ desk.now.id }
     requires plan { planned series.old ≡ D.plan }
-    requires can_go_on { CanGoOn series.old }
     ensures { seat.new.desk ≡ desk.now.id }
 {
     for _ in 0..report.trials() {
@@ -207,7 +209,7 @@ fn print_claimed<D: Naming, O: Write + Drop, E: Write + Drop>(
 }
 
 /// Prints the results of the next trials as far as they are posted.
-fn print_ready<D: Naming, O: Write + Drop, E: Write + Drop>(
+fn print_ready<D: Planned, O: Write + Drop, E: Write + Drop>(
     desk: &Desk<'_, D>,
     seat: &mut DeskSeat<D>,
     report: &mut Report<O, E>,

@@ -1,5 +1,3 @@
-ghost use Rattle.trials.specs.Making.{CanGoOn};
-
 use crate::reporting::{BatchPlan, Report};
 use crate::sharing::share;
 use base::{NoMemory, Shape, ToWrite};
@@ -123,9 +121,7 @@ fn print_each<O: Write + Drop, E: Write + Drop>(
 fn print_trials<O: Write + Drop, E: Write + Drop>(
     series: &mut Series<'_, '_, Global>,
     report: &mut Report<O, E>,
-) -> Result<(), NoMemory>
-    requires { CanGoOn series.old }
-{
+) -> Result<(), NoMemory> {
     for number in 0..report.trials() {
         let made = series.result(number)?;
         report.print(made);

@@ -6,13 +6,13 @@ use Rattle.both_tables.specs.Tables.{Tables, baseline}
 use Rattle.machine.specs.Machine.{State, IsHistory, opened, after}
 use Rattle.machine.specs.Coherence.{Safe}
 use Rattle.machine.specs.Unstuck.{Unstuck}
-use Rattle.machine.specs.Restraint.{Restrains}
+use Rattle.machine.specs.Restraint.{AreRestrained}
 use Rattle.machine.proofs.Safety.{restrained-safe}
 use Rattle.machine.proofs.Progress.{unstuck}
 
 -- each history is one of the machine's runs
 pub been-safe : (shape : Extent) (tables : Tables) (state : State) → IsWithinLimits shape →
-    (opening : List ℕ) (steps : List Step) → Restrains tables → IsHistory shape tables opening steps state → Safe shape tables opening steps
+    (opening : List ℕ) (steps : List Step) → AreRestrained tables → IsHistory shape tables opening steps state → Safe shape tables opening steps
 been-safe shape tables state within opening steps restrained history = restrained-safe tables shape opening steps restrained within
 
 pub not-stuck : (shape : Extent) (tables : Tables) (state : State) → IsWithinLimits shape →

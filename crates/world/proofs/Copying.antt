@@ -5,17 +5,17 @@ use Rattle.std.proofs.Math.ListN.{get_or-map}
 use Rattle.network.specs.Marks.{Marks}
 use Rattle.machine.specs.Block.{BlockState, opened_block}
 use Rattle.both_tables.specs.Tables.{Tables}
-use Rattle.blocks.specs.Kept.{Kept}
+use Rattle.blocks.specs.View.{BlockView}
 use Rattle.blocks.specs.Marking.{marks_of}
 use Rattle.world.specs.View.{states}
-use Rattle.world.specs.inner.Held.{kept_at}
+use Rattle.world.specs.inner.Holding.{kept_at}
 use Rattle.world.specs.inner.Tests.{IsMarked}
 
 -- what a copy of a block has of it
 abbrev pub Seen : Type 0
 Seen = record { state : BlockState; marks : Marks }
 
-abbrev pub seen : Kept → Seen
+abbrev pub seen : BlockView → Seen
 seen k = record { state = k.state; marks = k.marks }
 
 abbrev seen_or : ℕ → ℕ → Option Seen → BlockState
@@ -27,14 +27,14 @@ states_of caches [] os = []
 states_of caches (value ∷ values) [] = opened_block caches value ∷ states_of caches values []
 states_of caches (value ∷ values) (o ∷ os) = seen_or caches value o ∷ states_of caches values os
 
-states-seen : (caches : ℕ) (values : List ℕ) (ks : List (Option Kept)) → states caches values ks ≡ states_of caches values (map (option_map seen) ks)
+states-seen : (caches : ℕ) (values : List ℕ) (ks : List (Option BlockView)) → states caches values ks ≡ states_of caches values (map (option_map seen) ks)
 states-seen caches [] ks = refl
 states-seen caches (v ∷ values) [] = ap (λ bs. opened_block caches v ∷ bs) (states-seen caches values [])
 states-seen caches (v ∷ values) (None ∷ ks) = ap (λ bs. opened_block caches v ∷ bs) (states-seen caches values ks)
 states-seen caches (v ∷ values) (Some k ∷ ks) = ap (λ bs. k.state ∷ bs) (states-seen caches values ks)
 
 -- the blocks are in the same states
-pub states-copied : (caches : ℕ) (values : List ℕ) (copy ks : List (Option Kept)) → map (option_map seen) copy ≡ map (option_map seen) ks →
+pub states-copied : (caches : ℕ) (values : List ℕ) (copy ks : List (Option BlockView)) → map (option_map seen) copy ≡ map (option_map seen) ks →
     states caches values copy ≡ states caches values ks
 states-copied caches values copy ks e = states-seen caches values copy ∙ ap (states_of caches values) e ∙ sym (states-seen caches values ks)
 
@@ -42,19 +42,19 @@ abbrev IsMarkedSeen : Tables → Option Seen → Type 0
 IsMarkedSeen tables None = Unit {0}
 IsMarkedSeen tables (Some s) = s.marks ≡ marks_of tables s.state
 
-seen-marked : (tables : Tables) (k : Option Kept) → IsMarked tables k → IsMarkedSeen tables (option_map seen k)
+seen-marked : (tables : Tables) (k : Option BlockView) → IsMarked tables k → IsMarkedSeen tables (option_map seen k)
 seen-marked tables None m = tt
 seen-marked tables (Some k) m = m
 
-marked-seen : (tables : Tables) (k : Option Kept) → IsMarkedSeen tables (option_map seen k) → IsMarked tables k
+marked-seen : (tables : Tables) (k : Option BlockView) → IsMarkedSeen tables (option_map seen k) → IsMarked tables k
 marked-seen tables None m = tt
 marked-seen tables (Some k) m = m
 
-seen-at : (ks : List (Option Kept)) (i : ℕ) → get_or (map (option_map seen) ks) i None ≡ option_map seen (kept_at ks i)
+seen-at : (ks : List (Option BlockView)) (i : ℕ) → get_or (map (option_map seen) ks) i None ≡ option_map seen (kept_at ks i)
 seen-at ks i = get_or-map (option_map seen) ks i None
 
 -- and have the same marks
-pub marked-copied : (tables : Tables) (copy ks : List (Option Kept)) → map (option_map seen) copy ≡ map (option_map seen) ks →
+pub marked-copied : (tables : Tables) (copy ks : List (Option BlockView)) → map (option_map seen) copy ≡ map (option_map seen) ks →
     ((i : ℕ) → IsMarked tables (kept_at ks i)) → (i : ℕ) → IsMarked tables (kept_at copy i)
 marked-copied tables copy ks e m i =
     marked-seen tables (kept_at copy i)

@@ -10,20 +10,20 @@ use Rattle.both_tables.specs.Tables.{Tables}
 use Rattle.machine.specs.Block.{BlockState, opened_block}
 use Rattle.machine.specs.Machine.{State}
 use Rattle.world.specs.Enabled.{all_enabled}
-use Rattle.blocks.specs.Kept.{Kept}
+use Rattle.blocks.specs.View.{BlockView}
 use Rattle.blocks.specs.Marking.{is_stopped, marks_of, unmarked}
 use Rattle.world.specs.View.{state_or, states}
 use Rattle.world.specs.declared.counts.Kind.{Kind}
 use Rattle.world.specs.declared.counts.Kind.TheVariants.{Request, Head, Response}
 use Rattle.world.specs.declared.counts.Spot.{Spot}
 use Rattle.world.specs.inner.Counts.{step_at, step_in, step_of_kind, FallsAt, Rows}
-use Rattle.world.specs.inner.Held.{kept_at, IsWorld}
+use Rattle.world.specs.inner.Holding.{kept_at, IsWorld}
 use Rattle.world.specs.inner.Tests.{IsMarked}
 use Rattle.world.proofs.QuietMarks.{marks-quiet}
 use Rattle.world.proofs.Spotted.{spot-step, spot-there}
 
 -- the state of a block that is there
-state-found : (caches : ℕ) (values : List ℕ) (ks : List (Option Kept)) (i : ℕ) (b : BlockState) → slice_get (states caches values ks) i ≡ Some b →
+state-found : (caches : ℕ) (values : List ℕ) (ks : List (Option BlockView)) (i : ℕ) (b : BlockState) → slice_get (states caches values ks) i ≡ Some b →
     (v : ℕ) × (b ≡ state_or caches v (kept_at ks i))
 state-found caches [] ks i b e = absurd (cc e)
 state-found caches (v ∷ values) [] zero b e = (v, (let s : opened_block caches v ≡ b = cc e in sym s))
@@ -41,7 +41,7 @@ none-step n Request block rest = refl
 none-step n Head block rest = rw (no-heads n 0) refl
 none-step n Response block rest = refl
 
-step-in : (tables : Tables) (caches v : ℕ) (spot : Spot) (k : Option Kept) → IsMarked tables k →
+step-in : (tables : Tables) (caches v : ℕ) (spot : Spot) (k : Option BlockView) → IsMarked tables k →
     step_in spot k ≡ step_at (marks_of tables (state_or caches v k)) spot
 step-in tables caches v spot None m =
     none-step caches spot.kind spot.block spot.rest
@@ -49,7 +49,7 @@ step-in tables caches v spot None m =
 step-in tables caches v spot (Some k) m = ap (λ marks. step_at marks spot) m
 
 -- the delivery where the k-th of all falls
-pub delivery-right : (shape : Extent) (tables : Tables) (values : List ℕ) (ks : List (Option Kept)) (rows : Rows) (s : State) (k : ℕ) (spot : Spot) →
+pub delivery-right : (shape : Extent) (tables : Tables) (values : List ℕ) (ks : List (Option BlockView)) (rows : Rows) (s : State) (k : ℕ) (spot : Spot) →
     IsWorld shape tables values ks rows s → s.blocks ≡ states shape.caches values ks → FallsAt rows k spot →
     step_in spot (kept_at ks spot.block) ≡ slice_get (all_enabled tables s.blocks) k
 delivery-right shape tables values ks rows s k spot h blocks falls =

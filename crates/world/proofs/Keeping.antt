@@ -15,22 +15,27 @@ use Rattle.machine.specs.Transition.{Transition, decision_of, transition}
 use Rattle.machine.specs.Machine.{State}
 use Rattle.machine.specs.Coherence.{line_at}
 use Rattle.machine.proofs.Whole.{lines-carried_out}
-use Rattle.blocks.specs.Kept.{Kept, moved_to}
-use Rattle.world.specs.View.{AllLined, IsShaped, StepsAt, space_of, spaces_of, state_or, states}
+use Rattle.blocks.specs.View.{BlockView, moved_to}
+use Rattle.world.specs.View.{AllLined, IsShaped, space_of, spaces_of, state_or, states}
 use Rattle.world.specs.inner.Counts.{AreCounted}
 use Rattle.world.specs.inner.Counts.{Rows}
-use Rattle.world.specs.inner.Held.{kept_at, IsWorld, OthersStay}
+use Rattle.world.specs.inner.Holding.{kept_at, IsWorld, OthersStay}
 use Rattle.world.specs.inner.Tests.{IsMarked}
 use Rattle.world.proofs.QuietMarks.{counted-opened}
 
+-- the block of a number has made this step, and the others are as they were
+pub record StepsAt (tables : Tables) (step : Step) (number : ℕ) (old new : List BlockState) (what : Outcome) : Type 0 where
+  pub made : (b : BlockState) × (slice_get old number ≡ Some b) × (new ≡ slice_set old number (transition tables step b).block)
+      × (what ≡ (transition tables step b).outcome)
+
 -- there is a state for each opening value
-pub states-length : (caches : ℕ) (values : List ℕ) (ks : List (Option Kept)) → length (states caches values ks) ≡ length values
+pub states-length : (caches : ℕ) (values : List ℕ) (ks : List (Option BlockView)) → length (states caches values ks) ≡ length values
 states-length caches [] ks = refl
 states-length caches (v ∷ values) [] = ap suc (states-length caches values [])
 states-length caches (v ∷ values) (k ∷ ks) = ap suc (states-length caches values ks)
 
 -- the state of a block, by its opening value and what is kept of it
-pub state-at : (caches : ℕ) (values : List ℕ) (ks : List (Option Kept)) (i : ℕ) →
+pub state-at : (caches : ℕ) (values : List ℕ) (ks : List (Option BlockView)) (i : ℕ) →
     slice_get (states caches values ks) i ≡ option_map (λ v. state_or caches v (kept_at ks i)) (slice_get values i)
 state-at caches [] ks i = refl
 state-at caches (v ∷ values) [] zero = refl
@@ -39,17 +44,17 @@ state-at caches (v ∷ values) (k ∷ ks) zero = refl
 state-at caches (v ∷ values) (k ∷ ks) (suc i) = state-at caches values ks i
 
 -- where the opening value is known
-pub state-there : (caches : ℕ) (values : List ℕ) (ks : List (Option Kept)) (i v : ℕ) → Some v ≡ slice_get values i →
+pub state-there : (caches : ℕ) (values : List ℕ) (ks : List (Option BlockView)) (i v : ℕ) → Some v ≡ slice_get values i →
     slice_get (states caches values ks) i ≡ Some (state_or caches v (kept_at ks i))
 state-there caches values ks i v e = state-at caches values ks i ∙ ap (option_map (λ w. state_or caches w (kept_at ks i))) (sym e)
 
 -- the room of a block, if it is kept
-pub space-at : (ks : List (Option Kept)) (i : ℕ) → get_or (spaces_of ks) i None ≡ space_of (kept_at ks i)
+pub space-at : (ks : List (Option BlockView)) (i : ℕ) → get_or (spaces_of ks) i None ≡ space_of (kept_at ks i)
 space-at [] i = refl
 space-at (k ∷ ks) zero = refl
 space-at (k ∷ ks) (suc i) = space-at ks i
 
-states-set : (caches : ℕ) (values : List ℕ) (ks : List (Option Kept)) (i v : ℕ) (k : Option Kept) → Some v ≡ slice_get values i → i < length ks →
+states-set : (caches : ℕ) (values : List ℕ) (ks : List (Option BlockView)) (i v : ℕ) (k : Option BlockView) → Some v ≡ slice_get values i → i < length ks →
     states caches values (set ks i k) ≡ set (states caches values ks) i (state_or caches v k)
 states-set caches [] ks i v k e lt = absurd (cc e)
 states-set caches (w ∷ values) [] i v k e lt = absurd (omega arith)
@@ -57,7 +62,7 @@ states-set caches (w ∷ values) (x ∷ ks) zero v k e lt = let same : v ≡ w =
 states-set caches (w ∷ values) (x ∷ ks) (suc i) v k e lt = ap (λ bs. state_or caches w x ∷ bs) (states-set caches values ks i v k e (omega arith))
 
 -- one block has changed
-pub states-changed : (caches : ℕ) (values : List ℕ) (old new : List (Option Kept)) (i v : ℕ) → Some v ≡ slice_get values i → i < length old →
+pub states-changed : (caches : ℕ) (values : List ℕ) (old new : List (Option BlockView)) (i v : ℕ) → Some v ≡ slice_get values i → i < length old →
     OthersStay i old new → states caches values new ≡ set (states caches values old) i (state_or caches v (kept_at new i))
 states-changed caches values old new i v e lt h = ap (states caches values) h.items ∙ states-set caches values old i v (kept_at new i) e lt
 
@@ -67,14 +72,14 @@ set-same (y ∷ ys) zero x e = let s : y ≡ x = cc e in ap (λ z. z ∷ ys) (sy
 set-same (y ∷ ys) (suc i) x e = ap (λ zs. y ∷ zs) (set-same ys i x e)
 
 -- a block is kept otherwise, in the same state
-pub states-stay : (caches : ℕ) (values : List ℕ) (old new : List (Option Kept)) (i v : ℕ) → Some v ≡ slice_get values i → i < length old →
+pub states-stay : (caches : ℕ) (values : List ℕ) (old new : List (Option BlockView)) (i v : ℕ) → Some v ≡ slice_get values i → i < length old →
     OthersStay i old new → state_or caches v (kept_at new i) ≡ state_or caches v (kept_at old i) → states caches values new ≡ states caches values old
 states-stay caches values old new i v e lt h same =
     states-changed caches values old new i v e lt h
     ∙ set-same (states caches values old) i _ (state-there caches values old i v e ∙ ap (λ b. Some b) (sym same))
 
 -- a block has made a step
-pub steps-at : (tables : Tables) (step : Step) (caches : ℕ) (values : List ℕ) (old new : List (Option Kept)) (i v : ℕ) (what : Outcome) →
+pub steps-at : (tables : Tables) (step : Step) (caches : ℕ) (values : List ℕ) (old new : List (Option BlockView)) (i v : ℕ) (what : Outcome) →
     Some v ≡ slice_get values i → i < length old → OthersStay i old new →
     transition tables step (state_or caches v (kept_at old i)) ≡ moved_to (state_or caches v (kept_at new i)) what →
     StepsAt tables step i (states caches values old) (states caches values new) what
@@ -154,11 +159,11 @@ line-there-iff shape state c k h = (
 )
 
 -- the other blocks are kept as they were
-pub kept-other : (old new : List (Option Kept)) (i k : ℕ) → OthersStay i old new → k ≢ i → kept_at new k ≡ kept_at old k
+pub kept-other : (old new : List (Option BlockView)) (i k : ℕ) → OthersStay i old new → k ≢ i → kept_at new k ≡ kept_at old k
 kept-other old new i k h other = ap (λ ks. kept_at ks k) h.items ∙ get_or-set_other old i k (kept_at new i) None other
 
 -- a world still holds together where at most one block is kept otherwise, in a state of the shape, with true marks and counts
-pub world-changed : (shape : Extent) (tables : Tables) (values : List ℕ) (old new : List (Option Kept)) (rows now : Rows) (before after : State) (i : ℕ) →
+pub world-changed : (shape : Extent) (tables : Tables) (values : List ℕ) (old new : List (Option BlockView)) (rows now : Rows) (before after : State) (i : ℕ) →
     IsWorld shape tables values old rows before → OthersStay i old new → IsShaped shape after → IsMarked tables (kept_at new i) →
     AreCounted tables after.blocks now.requests now.heads now.responses → IsWorld shape tables values new now after
 world-changed shape tables values old new rows now before after i h others shaped marked counted = record {
@@ -184,11 +189,11 @@ none-kept caches (v ∷ values) zero = ap (λ bs. opened_block caches v ∷ bs) 
 none-kept caches (v ∷ values) (suc n) = ap (λ bs. opened_block caches v ∷ bs) (none-kept caches values n)
 
 -- nothing is kept in a world that opens
-pub states-opened : (caches : ℕ) (values : List ℕ) (ks : List (Option Kept)) (n : ℕ) → ks ≡ replicate n None →
+pub states-opened : (caches : ℕ) (values : List ℕ) (ks : List (Option BlockView)) (n : ℕ) → ks ≡ replicate n None →
     states caches values ks ≡ map (opened_block caches) values
 states-opened caches values ks n e = ap (states caches values) e ∙ none-kept caches values n
 
-pub world-opened : (shape : Extent) (tables : Tables) (values : List ℕ) (ks : List (Option Kept)) (rows : Rows) → IsWithinLimits shape →
+pub world-opened : (shape : Extent) (tables : Tables) (values : List ℕ) (ks : List (Option BlockView)) (rows : Rows) → IsWithinLimits shape →
     length values ≡ shape.blocks → ks ≡ replicate shape.blocks None → rows.requests ≡ replicate shape.blocks 0 →
     rows.heads ≡ replicate shape.blocks 0 → rows.responses ≡ replicate shape.blocks 0 →
     IsWorld shape tables values ks rows (record { blocks = states shape.caches values ks; broken = false })
@@ -207,19 +212,19 @@ world-opened shape tables values ks rows within e none requests heads responses 
     }
 
 -- a block that is kept
-pub found-kept : (caches : ℕ) (values : List ℕ) (ks : List (Option Kept)) (i v : ℕ) (k : Kept) → Some v ≡ slice_get values i
+pub found-kept : (caches : ℕ) (values : List ℕ) (ks : List (Option BlockView)) (i v : ℕ) (k : BlockView) → Some v ≡ slice_get values i
     → Some k ≡ kept_at ks i →
     Some k.state ≡ slice_get (states caches values ks) i
 found-kept caches values ks i v k e at =
     ap (λ o. Some (state_or caches v o)) at ∙ sym (state-there caches values ks i v e)
 
 -- one that isn't
-pub found-opened : (caches : ℕ) (values : List ℕ) (ks : List (Option Kept)) (i v : ℕ) → Some v ≡ slice_get values i → None ≡ kept_at ks i →
+pub found-opened : (caches : ℕ) (values : List ℕ) (ks : List (Option BlockView)) (i v : ℕ) → Some v ≡ slice_get values i → None ≡ kept_at ks i →
     Some (opened_block caches v) ≡ slice_get (states caches values ks) i
 found-opened caches values ks i v e at =
     ap (λ o. Some (state_or caches v o)) at ∙ sym (state-there caches values ks i v e)
 
 -- one that isn't in the shape
-pub found-none : (caches : ℕ) (values : List ℕ) (ks : List (Option Kept)) (i : ℕ) → None ≡ slice_get values i →
+pub found-none : (caches : ℕ) (values : List ℕ) (ks : List (Option BlockView)) (i : ℕ) → None ≡ slice_get values i →
     None ≡ slice_get (states caches values ks) i
 found-none caches values ks i e = sym (state-at caches values ks i ∙ ap (option_map (λ v. state_or caches v (kept_at ks i))) (sym e))

@@ -15,3 +15,4 @@ pub mod Spotted
 pub mod Delivering
 pub mod Quieting
 pub mod Openings
+pub mod Spaces

@@ -8,23 +8,23 @@ use Rattle.base.specs.Extent.{Extent, IsWithinLimits}
 use Rattle.control.specs.LineEffect.{opened_line}
 use Rattle.both_tables.specs.Tables.{Tables}
 use Rattle.machine.specs.Block.{BlockState, opened_block}
-use Rattle.blocks.specs.Kept.{Kept}
+use Rattle.blocks.specs.View.{BlockView}
 use Rattle.world.specs.View.{AllLined, IsShaped, state_or, states}
 use Rattle.world.specs.inner.Counts.{AreCounted, Rows}
-use Rattle.world.specs.inner.Held.{kept_at, AreLined, IsOpened, IsWorld, OthersStay}
+use Rattle.world.specs.inner.Holding.{kept_at, AreLined, IsOpened, IsWorld, OthersStay}
 use Rattle.world.specs.inner.Tests.{IsMarked}
 use Rattle.world.proofs.Keeping.{kept-other, shaped-opened}
 use Rattle.world.proofs.QuietMarks.{counted-opened, marks-quiet}
 
 -- the blocks at the first keys are as they open, and no other is kept than before
-pub record AreReset (opening keys : List ℕ) (n : ℕ) (old new : List (Option Kept)) : Type 0 where
+pub record AreReset (opening keys : List ℕ) (n : ℕ) (old new : List (Option BlockView)) : Type 0 where
   pub count : length new ≡ length old
   pub lined : (caches : ℕ) → AreLined caches old → AreLined caches new
   pub none : (at : ℕ) → kept_at old at ≡ None → kept_at new at ≡ None
   pub done : (caches : ℕ) → AreLined caches old → (j at v : ℕ) → j < n → slice_get keys j ≡ Some at → slice_get opening at ≡ Some v →
       IsOpened caches v (kept_at new at)
 
-pub reset-none : (opening keys : List ℕ) (ks : List (Option Kept)) → AreReset opening keys 0 ks ks
+pub reset-none : (opening keys : List ℕ) (ks : List (Option BlockView)) → AreReset opening keys 0 ks ks
 reset-none opening keys ks = record {
   count = refl;
   lined = λ caches h. h;
@@ -32,14 +32,14 @@ reset-none opening keys ks = record {
   done = λ caches h j at v low. absurd (omega arith);
 }
 
-opened-lined : (caches v : ℕ) (o : Option Kept) (k : Kept) → IsOpened caches v o → o ≡ Some k → length k.state.lines ≡ caches
+opened-lined : (caches v : ℕ) (o : Option BlockView) (k : BlockView) → IsOpened caches v o → o ≡ Some k → length k.state.lines ≡ caches
 opened-lined caches v None k h e = absurd (cc e)
 opened-lined caches v (Some x) k h e =
     let same : x ≡ k = cc e in
-    ap (λ (y : Kept). length y.state.lines) (sym same) ∙ ap (λ (b : BlockState). length b.lines) h.state ∙ length-replicate caches opened_line
+    ap (λ (y : BlockView). length y.state.lines) (sym same) ∙ ap (λ (b : BlockState). length b.lines) h.state ∙ length-replicate caches opened_line
 
 -- one more was made as it opens
-pub reset-more : (opening keys : List ℕ) (n number value : ℕ) (old mid new : List (Option Kept)) → AreReset opening keys n old mid →
+pub reset-more : (opening keys : List ℕ) (n number value : ℕ) (old mid new : List (Option BlockView)) → AreReset opening keys n old mid →
     slice_get keys n ≡ Some number → slice_get opening number ≡ Some value → OthersStay number mid new →
     (kept_at mid number ≡ None → kept_at new number ≡ None) →
     ((caches : ℕ) → AreLined caches mid → IsOpened caches value (kept_at new number)) → AreReset opening keys (n + 1) old new
@@ -71,7 +71,7 @@ reset-more opening keys n number value old mid new h key is others none here = r
 }
 
 -- a key without an opening value is passed over
-pub reset-past : (opening keys : List ℕ) (n number : ℕ) (old new : List (Option Kept)) → AreReset opening keys n old new →
+pub reset-past : (opening keys : List ℕ) (n number : ℕ) (old new : List (Option BlockView)) → AreReset opening keys n old new →
     slice_get keys n ≡ Some number → slice_get opening number ≡ None → AreReset opening keys (n + 1) old new
 reset-past opening keys n number old new h key past = record {
   count = h.count;
@@ -92,23 +92,23 @@ get-below [] j at e = absurd (cc e)
 get-below (k ∷ keys) zero at e = omega arith
 get-below (k ∷ keys) (suc j) at e = omega (arith, get-below keys j at e)
 
-at-none : (caches v : ℕ) (ks : List (Option Kept)) (i : ℕ) → kept_at ks i ≡ None → IsOpened caches v (kept_at ks i)
+at-none : (caches v : ℕ) (ks : List (Option BlockView)) (i : ℕ) → kept_at ks i ≡ None → IsOpened caches v (kept_at ks i)
 at-none caches v ks i e = subst (IsOpened caches v) (sym e) (record { state = refl; marks = tt })
 
 -- all that are kept were made as they open
-pub reset-all : (opening keys : List ℕ) (n caches : ℕ) (old new : List (Option Kept)) → AreReset opening keys n old new → length keys ≤ n →
+pub reset-all : (opening keys : List ℕ) (n caches : ℕ) (old new : List (Option BlockView)) → AreReset opening keys n old new → length keys ≤ n →
     ((at : ℕ) → IsSome (kept_at old at) → (j : ℕ) × (slice_get keys j ≡ Some at)) → AreLined caches old →
     (i v : ℕ) → slice_get opening i ≡ Some v → IsOpened caches v (kept_at new i)
 reset-all opening keys n caches old new h end all l i v e = by (kept_at old i) refl
   where
-    by : (o : Option Kept) → kept_at old i ≡ o → IsOpened caches v (kept_at new i)
+    by : (o : Option BlockView) → kept_at old i ≡ o → IsOpened caches v (kept_at new i)
     by None is = at-none caches v new i (h.none i is)
     by (Some k) is =
         let found = all i (ap is_some is) in
         h.done caches l found.0 i v (omega (arith, end, get-below keys found.0 i found.1)) found.1 e
 
 -- the states of blocks that are as they open
-pub states-reset : (caches : ℕ) (values : List ℕ) (ks : List (Option Kept)) →
+pub states-reset : (caches : ℕ) (values : List ℕ) (ks : List (Option BlockView)) →
     ((i v : ℕ) → slice_get values i ≡ Some v → IsOpened caches v (kept_at ks i)) → states caches values ks ≡ map (opened_block caches) values
 states-reset caches [] ks h = refl
 states-reset caches (v ∷ values) [] h =
@@ -117,12 +117,12 @@ states-reset caches (v ∷ values) (k ∷ ks) h =
     ap (λ b. b ∷ states caches values ks) (h zero v refl).state
     ∙ ap (λ bs. opened_block caches v ∷ bs) (states-reset caches values ks (λ i w e. h (suc i) w e))
 
-marked-opened : (tables : Tables) (caches v : ℕ) (o : Option Kept) → IsOpened caches v o → IsMarked tables o
+marked-opened : (tables : Tables) (caches v : ℕ) (o : Option BlockView) → IsOpened caches v o → IsMarked tables o
 marked-opened tables caches v None h = tt
 marked-opened tables caches v (Some k) h =
     h.marks ∙ sym (marks-quiet tables k.state caches (ap (λ (b : BlockState). b.traffic) h.state))
 
-marked-reset : (tables : Tables) (caches : ℕ) (values : List ℕ) (ks : List (Option Kept)) → length ks ≡ length values →
+marked-reset : (tables : Tables) (caches : ℕ) (values : List ℕ) (ks : List (Option BlockView)) → length ks ≡ length values →
     ((i v : ℕ) → slice_get values i ≡ Some v → IsOpened caches v (kept_at ks i)) → (i : ℕ) → IsMarked tables (kept_at ks i)
 marked-reset tables caches [] [] e h i = tt
 marked-reset tables caches (v ∷ values) (k ∷ ks) e h zero = marked-opened tables caches v k (h zero v refl)
@@ -131,7 +131,7 @@ marked-reset tables caches [] (k ∷ ks) e h i = absurd (omega (arith, e))
 marked-reset tables caches (v ∷ values) [] e h i = absurd (omega (arith, e))
 
 -- a world whose blocks are as they open holds together
-pub world-reset : (shape : Extent) (tables : Tables) (values : List ℕ) (ks : List (Option Kept)) (rows : Rows) → IsWithinLimits shape →
+pub world-reset : (shape : Extent) (tables : Tables) (values : List ℕ) (ks : List (Option BlockView)) (rows : Rows) → IsWithinLimits shape →
     length values ≡ shape.blocks → length ks ≡ shape.blocks →
     ((i v : ℕ) → slice_get values i ≡ Some v → IsOpened shape.caches v (kept_at ks i)) → rows.requests ≡ replicate shape.blocks 0 →
     rows.heads ≡ replicate shape.blocks 0 → rows.responses ≡ replicate shape.blocks 0 →
@@ -151,10 +151,10 @@ world-reset shape tables values ks rows within e places h requests heads respons
     }
 
 -- each block that is kept has the lines of the shape
-pub lined : (caches : ℕ) (values : List ℕ) (ks : List (Option Kept)) → length ks ≡ length values → AllLined caches (states caches values ks) →
+pub lined : (caches : ℕ) (values : List ℕ) (ks : List (Option BlockView)) → length ks ≡ length values → AllLined caches (states caches values ks) →
     AreLined caches ks
 lined caches [] [] e h i k is = absurd (cc is)
-lined caches (v ∷ values) (o ∷ ks) e h zero k is = ap (λ (x : Option Kept). length (state_or caches v x).lines) (sym is) ∙ h.0
+lined caches (v ∷ values) (o ∷ ks) e h zero k is = ap (λ (x : Option BlockView). length (state_or caches v x).lines) (sym is) ∙ h.0
 lined caches (v ∷ values) (o ∷ ks) e h (suc i) k is = lined caches values ks (omega (arith, e)) h.1 i k is
 lined caches [] (o ∷ ks) e h i k is = absurd (omega (arith, e))
 lined caches (v ∷ values) [] e h i k is = absurd (omega (arith, e))

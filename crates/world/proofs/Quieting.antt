@@ -3,17 +3,17 @@ use Rattle.std.proofs.Common.{◌≡◌, ℕ, ◌<◌, List, [], ◌∷◌, Opti
 use Rattle.std.proofs.Common.{true, false, ◌&&◌, refl, ap, sym, ◌∙◌, zero, suc, arith}
 use Rattle.std.proofs.Common.{length, replicate}
 use Rattle.network.specs.Traffic.{all_nil, is_quiet}
-use Rattle.blocks.specs.Kept.{Kept}
+use Rattle.blocks.specs.View.{BlockView}
 use Rattle.world.specs.Looks.{all_quiet}
 use Rattle.world.specs.View.{state_or, states}
 use Rattle.world.specs.inner.Found.{is_quiet_kept}
-use Rattle.world.specs.inner.Held.{kept_at}
+use Rattle.world.specs.inner.Holding.{kept_at}
 
 none-sent : (n : ℕ) → all_nil (replicate n []) ≡ true
 none-sent zero = refl
 none-sent (suc n) = none-sent n
 
-quiet-as-kept : (caches v : ℕ) (k : Option Kept) → is_quiet (state_or caches v k).traffic ≡ is_quiet_kept k
+quiet-as-kept : (caches v : ℕ) (k : Option BlockView) → is_quiet (state_or caches v k).traffic ≡ is_quiet_kept k
 quiet-as-kept caches v None = ap (λ b. b && true) (none-sent caches)
 quiet-as-kept caches v (Some k) = refl
 
@@ -25,7 +25,7 @@ and-false true b e = e
 and-false false b e = refl
 
 -- where it is so of each block
-pub all-quiet : (caches : ℕ) (values : List ℕ) (ks : List (Option Kept)) →
+pub all-quiet : (caches : ℕ) (values : List ℕ) (ks : List (Option BlockView)) →
     ((i : ℕ) → i < length values → is_quiet_kept (kept_at ks i) ≡ true) → true ≡ all_quiet (states caches values ks)
 all-quiet caches [] ks h = refl
 all-quiet caches (v ∷ values) [] h =
@@ -34,7 +34,7 @@ all-quiet caches (v ∷ values) (k ∷ ks) h =
     sym (and-true _ _ (quiet-as-kept caches v k ∙ h 0 (omega arith)) (sym (all-quiet caches values ks (λ i lt. h (suc i) (omega (arith, lt))))))
 
 -- where it isn't so of one
-pub not-quiet : (caches : ℕ) (values : List ℕ) (ks : List (Option Kept)) (i : ℕ) → i < length values → is_quiet_kept (kept_at ks i) ≡ false →
+pub not-quiet : (caches : ℕ) (values : List ℕ) (ks : List (Option BlockView)) (i : ℕ) → i < length values → is_quiet_kept (kept_at ks i) ≡ false →
     false ≡ all_quiet (states caches values ks)
 not-quiet caches [] ks i lt e = absurd (omega (arith, lt))
 not-quiet caches (v ∷ values) [] zero lt e = absurd (cc e)

@@ -15,33 +15,33 @@ use Rattle.std.proofs.Math.Nat.{le-min, min-le_left, min-le_right}
 use Rattle.std.specs.Option.{option_map_or}
 use Rattle.blocks.specs.Messages.{message_count}
 use Rattle.world.specs.Messages.{messages_at, raised}
-use Rattle.blocks.specs.Kept.{Kept, moved_to}
+use Rattle.blocks.specs.View.{BlockView, moved_to}
 use Rattle.world.specs.View.{View, IsShaped, HasRoomToStep, HasSpaceAt, HasSpaceIn, space_of, spaces_of, state_or, states, stepped, wakes, wakes_at}
 use Rattle.world.specs.inner.Counts.{AreCounted}
 use Rattle.blocks.specs.Marking.{free_heads, free_requests, free_responses}
 use Rattle.blocks.specs.declared.block.testing.Tested.{Tested}
 use Rattle.world.specs.inner.Counts.{Rows}
-use Rattle.world.specs.inner.Held.{kept_at, IsLight, IsWorld, OthersStay}
+use Rattle.world.specs.inner.Holding.{kept_at, IsLight, IsWorld, OthersStay}
 use Rattle.world.specs.inner.Tests.{counted, IsMarked}
 use Rattle.blocks.specs.Tests.{IsTested, tested_in}
 use Rattle.world.proofs.Counted.{counted-set}
 use Rattle.world.proofs.Keeping.{shaped-stepped, space-at, state-there, states-changed, states-stay, steps-at, world-changed}
 
 -- a world whose blocks are kept so
-abbrev pub state_of : Extent → List ℕ → List (Option Kept) → Bool → State
+abbrev pub state_of : Extent → List ℕ → List (Option BlockView) → Bool → State
 state_of shape values ks broken = record { blocks = states shape.caches values ks; broken = broken }
 
-abbrev pub view_of : Extent → Tables → List ℕ → List (Option Kept) → Bool → ℕ → View
+abbrev pub view_of : Extent → Tables → List ℕ → List (Option BlockView) → Bool → ℕ → View
 view_of shape tables values ks broken tested =
     record { shape = shape; tables = tables; state = state_of shape values ks broken; spaces = spaces_of ks; tested = tested }
 
 -- each block has a place
-pub below-places : (shape : Extent) (tables : Tables) (values : List ℕ) (ks : List (Option Kept)) (rows : Rows) (s : State) (i v : ℕ) →
+pub below-places : (shape : Extent) (tables : Tables) (values : List ℕ) (ks : List (Option BlockView)) (rows : Rows) (s : State) (i v : ℕ) →
     IsWorld shape tables values ks rows s → Some v ≡ slice_get values i → i < length ks
 below-places shape tables values ks rows s i v h e = omega (arith, h.places, h.opening, slice_get_within values i v (sym e))
 
 -- the room for a step is that of its block
-pub room-at : (shape : Extent) (tables : Tables) (values : List ℕ) (ks : List (Option Kept)) (tested : ℕ) (step : Step) (v : ℕ) →
+pub room-at : (shape : Extent) (tables : Tables) (values : List ℕ) (ks : List (Option BlockView)) (tested : ℕ) (step : Step) (v : ℕ) →
     Some v ≡ slice_get values (block_of step) → HasRoomToStep (view_of shape tables values ks false tested) step →
     HasSpaceAt (decision_of tables step (state_or shape.caches v (kept_at ks (block_of step)))) (state_or shape.caches v (kept_at ks (block_of step)))
     (space_of (kept_at ks (block_of step)))
@@ -50,7 +50,7 @@ room-at shape tables values ks tested step v e h =
     subst (λ s. HasSpaceIn tables step (Some (state_or shape.caches v (kept_at ks (block_of step)))) s) (space-at ks (block_of step))
     (subst (λ b. HasSpaceIn tables step b (get_or (spaces_of ks) (block_of step) None)) there (h refl))
 
-pub room-back : (shape : Extent) (tables : Tables) (values : List ℕ) (ks : List (Option Kept)) (broken : Bool) (tested : ℕ) (step : Step) (v : ℕ) →
+pub room-back : (shape : Extent) (tables : Tables) (values : List ℕ) (ks : List (Option BlockView)) (broken : Bool) (tested : ℕ) (step : Step) (v : ℕ) →
     Some v ≡ slice_get values (block_of step) →
     HasSpaceAt (decision_of tables step (state_or shape.caches v (kept_at ks (block_of step)))) (state_or shape.caches v (kept_at ks (block_of step)))
     (space_of (kept_at ks (block_of step))) → HasRoomToStep (view_of shape tables values ks broken tested) step
@@ -60,7 +60,7 @@ room-back shape tables values ks broken tested step v e h whole =
     (subst (λ s. HasSpaceIn tables step (Some (state_or shape.caches v (kept_at ks (block_of step)))) s) (sym (space-at ks (block_of step))) h)
 
 -- so is what it wants
-pub light-in : (shape : Extent) (tables : Tables) (values : List ℕ) (ks : List (Option Kept)) (tested : ℕ) (step : Step) (v : ℕ) →
+pub light-in : (shape : Extent) (tables : Tables) (values : List ℕ) (ks : List (Option BlockView)) (tested : ℕ) (step : Step) (v : ℕ) →
     Some v ≡ slice_get values (block_of step) → sent_by tables (state_of shape values ks false) step ≡ [] →
     wakes (view_of shape tables values ks false tested) step ≡ false → IsLight tables step (state_or shape.caches v (kept_at ks (block_of step)))
 light-in shape tables values ks tested step v e sends wakes =
@@ -71,7 +71,7 @@ light-in shape tables values ks tested step v e sends wakes =
     }
 
 -- the next state
-pub next-is : (shape : Extent) (tables : Tables) (values : List ℕ) (old new : List (Option Kept)) (step : Step) (v : ℕ) (what : Outcome) →
+pub next-is : (shape : Extent) (tables : Tables) (values : List ℕ) (old new : List (Option BlockView)) (step : Step) (v : ℕ) (what : Outcome) →
     Some v ≡ slice_get values (block_of step) → block_of step < length old → OthersStay (block_of step) old new →
     transition tables step (state_or shape.caches v (kept_at old (block_of step))) ≡ moved_to (state_or shape.caches v (kept_at new (block_of step))) what →
     next tables (state_of shape values old false) step ≡ stepped (state_of shape values new (is_blank what)) what
@@ -86,7 +86,7 @@ next-is shape tables values old new step v what e lt others made =
     ∙ ap (λ (bs : List BlockState). stepped (record { blocks = bs; broken = is_blank what }) what) (sym changed)
 
 -- the counts after the step
-counted-stepped : (tables : Tables) (shape : Extent) (values : List ℕ) (old new : List (Option Kept)) (rows : Rows) (i v : ℕ) (t : Option Tested) →
+counted-stepped : (tables : Tables) (shape : Extent) (values : List ℕ) (old new : List (Option BlockView)) (rows : Rows) (i v : ℕ) (t : Option Tested) →
     AreCounted tables (states shape.caches values old) rows.requests rows.heads rows.responses → Some v ≡ slice_get values i → i < length old →
     OthersStay i old new → IsTested tables (state_or shape.caches v (kept_at old i)) (state_or shape.caches v (kept_at new i)) t →
     AreCounted tables (states shape.caches values new) (counted t i rows).requests (counted t i rows).heads (counted t i rows).responses
@@ -101,7 +101,7 @@ counted-stepped tables shape values old new rows i v (Some t) h e lt others foun
     (counted-set tables (states shape.caches values old) rows.requests rows.heads rows.responses i (state_or shape.caches v (kept_at new i)) h))
 
 -- a world still holds together after the step
-pub world-stepped : (shape : Extent) (tables : Tables) (values : List ℕ) (old new : List (Option Kept)) (rows : Rows) (step : Step) (v : ℕ)
+pub world-stepped : (shape : Extent) (tables : Tables) (values : List ℕ) (old new : List (Option BlockView)) (rows : Rows) (step : Step) (v : ℕ)
     (what : Outcome) (t : Option Tested) (broken after : Bool) →
     IsWorld shape tables values old rows (state_of shape values old broken) → Some v ≡ slice_get values (block_of step) →
     OthersStay (block_of step) old new →
@@ -118,7 +118,7 @@ world-stepped shape tables values old new rows step v what t broken after h e ot
     marked (counted-stepped tables shape values old new rows i v t h.counted e lt others tested)
 
 -- and where its block is kept otherwise
-pub world-stays : (shape : Extent) (tables : Tables) (values : List ℕ) (old new : List (Option Kept)) (rows : Rows) (i v : ℕ) (broken : Bool) →
+pub world-stays : (shape : Extent) (tables : Tables) (values : List ℕ) (old new : List (Option BlockView)) (rows : Rows) (i v : ℕ) (broken : Bool) →
     IsWorld shape tables values old rows (state_of shape values old broken) → Some v ≡ slice_get values i → OthersStay i old new →
     state_or shape.caches v (kept_at new i) ≡ state_or shape.caches v (kept_at old i) → IsMarked tables (kept_at new i) →
     IsWorld shape tables values new rows (state_of shape values new broken)
@@ -131,7 +131,7 @@ world-stays shape tables values old new rows i v broken h e others same marked =
     (subst (λ bs. AreCounted tables bs rows.requests rows.heads rows.responses) stay h.counted)
 
 -- the outcome of the next step
-pub outcome-is : (shape : Extent) (tables : Tables) (values : List ℕ) (ks : List (Option Kept)) (step : Step) (v : ℕ) →
+pub outcome-is : (shape : Extent) (tables : Tables) (values : List ℕ) (ks : List (Option BlockView)) (step : Step) (v : ℕ) →
     Some v ≡ slice_get values (block_of step) →
     (next tables (state_of shape values ks false) step).outcome
     ≡ (transition tables step (state_or shape.caches v (kept_at ks (block_of step)))).outcome
@@ -143,7 +143,7 @@ raised-more count a b h =
     le-min (omega (arith, min-le_left (count + a) (2 ^ 64 - 1), h)) (min-le_right (count + a) (2 ^ 64 - 1))
 
 -- as many messages are tested as are sent
-pub tests-sent : (shape : Extent) (tables : Tables) (values : List ℕ) (ks : List (Option Kept)) (step : Step) (v tested more : ℕ) →
+pub tests-sent : (shape : Extent) (tables : Tables) (values : List ℕ) (ks : List (Option BlockView)) (step : Step) (v tested more : ℕ) →
     Some v ≡ slice_get values (block_of step) →
     length (messages_of (decision_of tables step (state_or shape.caches v (kept_at ks (block_of step))))
     (state_or shape.caches v (kept_at ks (block_of step)))) ≤ more →
@@ -153,7 +153,7 @@ tests-sent shape tables values ks step v tested more e h =
     raised-more tested _ more (subst (λ b. length (sent_at tables step b) ≤ more) (sym there) h)
 
 -- and no more than the block has
-pub tests-block : (shape : Extent) (tables : Tables) (values : List ℕ) (new : List (Option Kept)) (broken : Bool) (i v tested : ℕ) (old : BlockState)
+pub tests-block : (shape : Extent) (tables : Tables) (values : List ℕ) (new : List (Option BlockView)) (broken : Bool) (i v tested : ℕ) (old : BlockState)
     (t : Option Tested) → Some v ≡ slice_get values i → IsTested tables old (state_or shape.caches v (kept_at new i)) t →
     raised tested (tested_in t) ≤ raised tested (messages_at (state_of shape values new broken) i)
 tests-block shape tables values new broken i v tested old t e h =

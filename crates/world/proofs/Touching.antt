@@ -20,10 +20,10 @@ use Rattle.machine.specs.declared.decision.Origin.TheVariants as origin
 use Rattle.both_tables.specs.Tables.{Tables}
 use Rattle.machine.specs.Block.{opened_block}
 use Rattle.machine.specs.Transition.{at_ask, at_forward, by_line_entry, decision_of, is_idle}
-use Rattle.blocks.specs.Kept.{Kept, acts, wakes_line}
+use Rattle.blocks.specs.View.{BlockView, acts, wakes_line}
 use Rattle.world.specs.View.{state_or}
 use Rattle.blocks.specs.Marking.{marks_of}
-use Rattle.world.specs.inner.Held.{kept_at, IsLight, OthersStay}
+use Rattle.world.specs.inner.Holding.{kept_at, IsLight, OthersStay}
 use Rattle.world.specs.inner.Tests.{IsMarked}
 use Rattle.blocks.proofs.Opening.{no-message}
 
@@ -33,7 +33,7 @@ set-twice (z ∷ zs) zero x y = refl
 set-twice (z ∷ zs) (suc i) x y = ap (λ ws. z ∷ ws) (set-twice zs i x y)
 
 -- the block is written once more
-pub others-set : (old new : List (Option Kept)) (number : ℕ) (k : Option Kept) → number < length old → OthersStay number old new →
+pub others-set : (old new : List (Option BlockView)) (number : ℕ) (k : Option BlockView) → number < length old → OthersStay number old new →
     OthersStay number old (set new number k)
 others-set old new number k below h =
     let long : length new ≡ length old = ap length h.items ∙ length-set old number (kept_at new number) in
@@ -77,12 +77,12 @@ opened-wakes tables (step.Forward block cache) caches value w =
 opened-wakes tables (step.Response block index) caches value w = refl
 
 -- a step that wants nothing is made at a block that is kept, or nothing acts
-pub light-at : (tables : Tables) (s : Step) (caches value : ℕ) (old : Option Kept) → IsLight tables s (state_or caches value old) →
+pub light-at : (tables : Tables) (s : Step) (caches value : ℕ) (old : Option BlockView) → IsLight tables s (state_or caches value old) →
     (IsSome old) ⊎ (acts (decision_of tables s (state_or caches value old)) ≡ false)
 light-at tables s caches value None h = inr (opened-wakes tables s caches value h.wakes)
 light-at tables s caches value (Some k) h = inl refl
 
 -- the marks of a block that is kept from now on
-pub marked-put : (tables : Tables) (ks : List (Option Kept)) (i : ℕ) (k : Kept) → i < length ks → k.marks ≡ marks_of tables k.state →
+pub marked-put : (tables : Tables) (ks : List (Option BlockView)) (i : ℕ) (k : BlockView) → i < length ks → k.marks ≡ marks_of tables k.state →
     IsMarked tables (kept_at (set ks i (Some k)) i)
 marked-put tables ks i k below m = subst (IsMarked tables) (sym (get_or-set_same ks i (Some k) None below)) m

@@ -4,14 +4,14 @@ use Rattle.base.specs.declared.step.Step.{Step}
 use Rattle.both_tables.specs.Tables.{baseline}
 use Rattle.machine.specs.Machine.{IsHistory}
 use Rattle.machine.specs.Coherence.{Safe}
-use Rattle.machine.specs.Restraint.{Restrains}
+use Rattle.machine.specs.Restraint.{AreRestrained}
 use Rattle.machine.specs.Unstuck.{Unstuck}
 use Rattle.world.specs.View.{View}
 
 -- under restrained tables, of which the protocol's own are some, each list of steps that may have led to a world was safe
 abbrev pub HasBeenSafe : View → Type 0
 HasBeenSafe world =
-    (opening : List ℕ) (steps : List Step) → Restrains world.tables → IsHistory world.shape world.tables opening steps world.state →
+    (opening : List ℕ) (steps : List Step) → AreRestrained world.tables → IsHistory world.shape world.tables opening steps world.state →
     Safe world.shape world.tables opening steps
 
 -- under the protocol's own tables, a world that any list of steps has led to isn't stuck

@@ -1,5 +1,6 @@
 pub mod View
 pub mod Runs
+pub mod Keeping
 pub mod Looks
 pub mod Crowds
 pub mod LineStates

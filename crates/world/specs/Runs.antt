@@ -1,8 +1,23 @@
-use Rattle.std.specs.Prelude.{◌≡◌, List, ◌++◌}
+use Rattle.std.specs.Prelude.{◌≡◌, ◌≤◌, ℕ, List, [], ◌∷◌, ◌++◌, length}
+use Rattle.base.specs.Steps.{block_of}
 use Rattle.base.specs.declared.step.Step.{Step}
 use Rattle.base.specs.declared.step.Outcome.{Outcome}
-use Rattle.machine.specs.Machine.{state_after, outcomes_of}
+use Rattle.both_tables.specs.Tables.{Tables}
+use Rattle.machine.specs.Machine.{State, next, state_after, outcomes_of, sent_by}
+use Rattle.world.specs.Messages.{messages_at, raised}
 use Rattle.world.specs.View.{View}
+
+-- the count of tested messages after these steps, if each tests no more than what it sends
+abbrev pub tested_at_least : Tables → State → List Step → ℕ → ℕ
+tested_at_least tables s [] count = count
+tested_at_least tables s (step ∷ steps) count =
+    tested_at_least tables (next tables s step).state steps (raised count (length (sent_by tables s step)))
+
+-- the same, if each tests all that its block has after it
+abbrev pub tested_at_most : Tables → State → List Step → ℕ → ℕ
+tested_at_most tables s [] count = count
+tested_at_most tables s (step ∷ steps) count =
+    tested_at_most tables (next tables s step).state steps (raised count (messages_at (next tables s step).state (block_of step)))
 
 -- a world has made these steps, and their outcomes stand behind those that stood there before
 pub record IsRun (old : View) (steps : List Step) (before : List Outcome) (new : View) (after : List Outcome) : Type 0 where
@@ -10,3 +25,5 @@ pub record IsRun (old : View) (steps : List Step) (before : List Outcome) (new :
   pub outcomes : after ≡ before ++ outcomes_of old.tables old.state steps
   pub shape : new.shape ≡ old.shape
   pub tables : new.tables ≡ old.tables
+  pub tests_what_they_send : tested_at_least old.tables old.state steps old.tested ≤ new.tested
+  pub tests_their_blocks : new.tested ≤ tested_at_most old.tables old.state steps old.tested

@@ -1,4 +1,4 @@
-use Rattle.std.specs.Prelude.{◌≡◌, ℕ, List, [], ◌∷◌, ◌++◌, Option, Some, None, Bool, false, slice_get, slice_index_or, slice_set, length, map}
+use Rattle.std.specs.Prelude.{◌≡◌, ℕ, List, [], ◌∷◌, ◌++◌, Option, Some, None, Bool, false, slice_get, slice_index_or, length, map}
 use Rattle.std.specs.Option.{option_map, option_map_or}
 use Rattle.base.specs.Extent.{Extent, IsWithinLimits}
 use Rattle.base.specs.Steps.{block_of}
@@ -10,9 +10,9 @@ use Rattle.control.specs.Sharing.{shares}
 use Rattle.both_tables.specs.Tables.{Tables}
 use Rattle.machine.specs.declared.decision.Decision.{Decision}
 use Rattle.machine.specs.Block.{BlockState, opened_block}
-use Rattle.machine.specs.Transition.{decision_of, transition}
+use Rattle.machine.specs.Transition.{decision_of}
 use Rattle.machine.specs.Machine.{State, Next, IsHistory}
-use Rattle.blocks.specs.Kept.{Kept, Space, HasSpaceFor, acts, wakes_line}
+use Rattle.blocks.specs.View.{BlockView, Space, HasSpaceFor, acts, wakes_line}
 
 -- a world as contracts see it: its shape, its tables, the state that its steps have led to, the room of each block that is kept,
 -- and how many messages its steps have tested for being held
@@ -24,23 +24,23 @@ pub record View : Type 0 where
   pub tested : ℕ
 
 -- a block that isn't kept is as it opens
-abbrev pub state_or : ℕ → ℕ → Option Kept → BlockState
+abbrev pub state_or : ℕ → ℕ → Option BlockView → BlockState
 state_or caches value None = opened_block caches value
 state_or caches value (Some k) = k.state
 
 -- the states of all blocks, given their opening values
-abbrev pub states : ℕ → List ℕ → List (Option Kept) → List BlockState
+abbrev pub states : ℕ → List ℕ → List (Option BlockView) → List BlockState
 states caches [] ks = []
 states caches (value ∷ values) [] = opened_block caches value ∷ states caches values []
 states caches (value ∷ values) (k ∷ ks) = state_or caches value k ∷ states caches values ks
 
 -- the room of a block, if it is kept
-abbrev pub space_of : Option Kept → Option Space
+abbrev pub space_of : Option BlockView → Option Space
 space_of None = None
 space_of (Some k) = Some k.space
 
 -- the room of each block that is kept
-abbrev pub spaces_of : List (Option Kept) → List (Option Space)
+abbrev pub spaces_of : List (Option BlockView) → List (Option Space)
 spaces_of ks = map space_of ks
 
 -- each block has a line for each cache
@@ -82,11 +82,6 @@ wakes_at tables step (Some b) = wakes_line (decision_of tables step b)
 -- whether a step is an ask that acts at a line in I
 abbrev pub wakes : View → Step → Bool
 wakes w step = wakes_at w.tables step (slice_get w.state.blocks (block_of step))
-
--- the block of a number has made this step, and the others are as they were
-pub record StepsAt (tables : Tables) (step : Step) (number : ℕ) (old new : List BlockState) (what : Outcome) : Type 0 where
-  pub made : (b : BlockState) × (slice_get old number ≡ Some b) × (new ≡ slice_set old number (transition tables step b).block)
-      × (what ≡ (transition tables step b).outcome)
 
 -- whatever led to the old world, followed by these steps, leads to the new one
 abbrev pub LeadsOn : View → List Step → View → Type 0

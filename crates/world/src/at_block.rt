@@ -1,13 +1,13 @@
 ghost use Rattle.std.specs.Prelude.{◌≡◌, ◌<◌, ◌≤◌, ◌↔◌, IfNone, IfOk, IfSome, IsOk, IsSome, None, OnErr, OnOk, Some, false, true, length, slice_set};
 ghost use Rattle.machine.specs.Transition.{decision_of, messages_of, transition};
 ghost use Rattle.machine.specs.declared.decision.Decision.TheVariants.{Refused};
-ghost use Rattle.blocks.specs.Kept.{acts, moved_to};
+ghost use Rattle.blocks.specs.View.{acts, moved_to};
 ghost use Rattle.blocks.specs.LineStates.{states_in};
 ghost use Rattle.blocks.specs.Looks.{place_in};
 ghost use Rattle.blocks.specs.Passing.{ResponsesPass};
 ghost use Rattle.world.specs.Crowds.{IsCrowdedIn, IsUncrowdedIn};
-ghost use Rattle.world.specs.View.{HasSpaceAt, space_of, state_or};
-ghost use Rattle.world.specs.inner.Held.{kept_at, IsLight, OthersStay};
+ghost use Rattle.world.specs.View.{HasSpaceAt, space_of};
+ghost use Rattle.world.specs.inner.Holding.{kept_at, state_at, IsLight, OthersStay};
 ghost use Rattle.world.specs.inner.Tests.{IsMarked};
 ghost use Rattle.blocks.specs.Tests.{IsTested, IsToldIf, tested_in};
 
@@ -60,15 +60,17 @@ fn touch(
 ) -> Result<Option<Outcome>, NoMemory>
     requires { number < length blocks.old.items }
     ensures others { OthersStay number blocks.old.items blocks.new.items }
-    ensures state { state_or caches value (kept_at blocks.new.items number) ≡ state_or caches value (kept_at blocks.old.items number) }
+    ensures state { state_at caches value blocks.new.items number ≡ state_at caches value blocks.old.items number }
     ensures marked { IsMarked tables.now (kept_at blocks.old.items number) → IsMarked tables.now (kept_at blocks.new.items number) }
     ensures refused { IfOk result (λ done. IfSome done (λ what.
-        decision_of tables.now step (state_or caches value (kept_at blocks.old.items number)) ≡ Refused what)) }
+        decision_of tables.now step (state_at caches value blocks.old.items number) ≡ Refused what)) }
     ensures opened { IfOk result (λ done. IfSome done (λ what. kept_at blocks.old.items number ≡ None)) }
     ensures kept { IfOk result (λ done. IfNone done (IsSome (kept_at blocks.new.items number))) }
     ensures stays { IsSome (kept_at blocks.old.items number) → kept_at blocks.new.items number ≡ kept_at blocks.old.items number }
     ensures there { IsSome (kept_at blocks.old.items number) → IsOk result }
-    ensures succeeds { acts (decision_of tables.now step (state_or caches value (kept_at blocks.old.items number))) ≡ false → IsOk result }
+    ensures idle { acts (decision_of tables.now step (state_at caches value blocks.old.items number)) ≡ false →
+        kept_at blocks.new.items number ≡ kept_at blocks.old.items number }
+    ensures succeeds { acts (decision_of tables.now step (state_at caches value blocks.old.items number)) ≡ false → IsOk result }
 {
     // Looked up as the step does behind it, the block is found once for both.
     if let Some(_) = blocks.get_mut(number) {
@@ -92,12 +94,14 @@ fn touch_opened(
     requires below { number < length blocks.old.items }
     requires none { kept_at blocks.old.items number ≡ None }
     ensures others { OthersStay number blocks.old.items blocks.new.items }
-    ensures state { state_or caches value (kept_at blocks.new.items number) ≡ state_or caches value (kept_at blocks.old.items number) }
+    ensures state { state_at caches value blocks.new.items number ≡ state_at caches value blocks.old.items number }
     ensures marked { IsMarked tables.now (kept_at blocks.new.items number) }
     ensures refused { IfOk result (λ done. IfSome done (λ what.
-        decision_of tables.now step (state_or caches value (kept_at blocks.old.items number)) ≡ Refused what)) }
+        decision_of tables.now step (state_at caches value blocks.old.items number) ≡ Refused what)) }
     ensures kept { IfOk result (λ done. IfNone done (IsSome (kept_at blocks.new.items number))) }
-    ensures succeeds { acts (decision_of tables.now step (state_or caches value (kept_at blocks.old.items number))) ≡ false → IsOk result }
+    ensures idle { acts (decision_of tables.now step (state_at caches value blocks.old.items number)) ≡ false →
+        kept_at blocks.new.items number ≡ None }
+    ensures succeeds { acts (decision_of tables.now step (state_at caches value blocks.old.items number)) ≡ false → IsOk result }
 {
     let decision = decide_opened(tables, caches, step);
     if let Decision::Refused(outcome) = decision {
@@ -136,22 +140,24 @@ pub fn step_at(
     requires marked { IsMarked tables.now (kept_at blocks.old.items number) }
     ensures others { OthersStay number blocks.old.items blocks.new.items }
     ensures marked { IsMarked tables.now (kept_at blocks.new.items number) }
-    ensures ok { IfOk result (λ visit. transition tables.now step (state_or caches value (kept_at blocks.old.items number))
-        ≡ moved_to (state_or caches value (kept_at blocks.new.items number)) visit.made.outcome) }
-    ensures at { IfOk result (λ visit. IsToldIf visit.made.tested visit.at (place_in step (state_or caches value (kept_at blocks.old.items number)))) }
+    ensures ok { IfOk result (λ visit. transition tables.now step (state_at caches value blocks.old.items number)
+        ≡ moved_to (state_at caches value blocks.new.items number) visit.made.outcome) }
+    ensures at { IfOk result (λ visit. IsToldIf visit.made.tested visit.at (place_in step (state_at caches value blocks.old.items number))) }
     ensures changed { IfOk result (λ visit. (visit.changed ≡ false) ↔
-        (states_in (state_or caches value (kept_at blocks.new.items number)).lines
-        ≡ states_in (state_or caches value (kept_at blocks.old.items number)).lines)) }
-    ensures crowded { IfOk result (λ visit. visit.crowded ≡ true → IsCrowdedIn (state_or caches value (kept_at blocks.new.items number))) }
-    ensures uncrowded { IfOk result (λ visit. visit.crowded ≡ false → IsUncrowdedIn (state_or caches value (kept_at blocks.new.items number))) }
-    ensures tested { IfOk result (λ visit. IsTested tables.now (state_or caches value (kept_at blocks.old.items number))
-        (state_or caches value (kept_at blocks.new.items number)) visit.made.tested) }
-    ensures sent { IfOk result (λ visit. (length (messages_of (decision_of tables.now step (state_or caches value (kept_at blocks.old.items number)))
-        (state_or caches value (kept_at blocks.old.items number))) ≤ tested_in visit.made.tested)) }
-    ensures err { OnErr result (state_or caches value (kept_at blocks.new.items number) ≡ state_or caches value (kept_at blocks.old.items number)) }
-    ensures succeeds { HasSpaceAt (decision_of tables.now step (state_or caches value (kept_at blocks.old.items number)))
-        (state_or caches value (kept_at blocks.old.items number)) (space_of (kept_at blocks.old.items number)) → IsOk result }
-    ensures light { IsLight tables.now step (state_or caches value (kept_at blocks.old.items number)) → IsOk result }
+        (states_in (state_at caches value blocks.new.items number).lines
+        ≡ states_in (state_at caches value blocks.old.items number).lines)) }
+    ensures crowded { IfOk result (λ visit. visit.crowded ≡ true → IsCrowdedIn (state_at caches value blocks.new.items number)) }
+    ensures uncrowded { IfOk result (λ visit. visit.crowded ≡ false → IsUncrowdedIn (state_at caches value blocks.new.items number)) }
+    ensures tested { IfOk result (λ visit. IsTested tables.now (state_at caches value blocks.old.items number)
+        (state_at caches value blocks.new.items number) visit.made.tested) }
+    ensures sent { IfOk result (λ visit. (length (messages_of (decision_of tables.now step (state_at caches value blocks.old.items number))
+        (state_at caches value blocks.old.items number)) ≤ tested_in visit.made.tested)) }
+    ensures err { OnErr result (state_at caches value blocks.new.items number ≡ state_at caches value blocks.old.items number) }
+    ensures succeeds { HasSpaceAt (decision_of tables.now step (state_at caches value blocks.old.items number))
+        (state_at caches value blocks.old.items number) (space_of (kept_at blocks.old.items number)) → IsOk result }
+    ensures idle { acts (decision_of tables.now step (state_at caches value blocks.old.items number)) ≡ false →
+        space_of (kept_at blocks.new.items number) ≡ space_of (kept_at blocks.old.items number) }
+    ensures light { IsLight tables.now step (state_at caches value blocks.old.items number) → IsOk result }
 {
     if let Some(outcome) = touch(alloc, blocks, caches, value, number, tables, step)? {
         return Ok(refused(outcome, false));
@@ -181,13 +187,15 @@ pub fn ready_at(
     requires { number < length blocks.old.items }
     ensures others { OthersStay number blocks.old.items blocks.new.items }
     ensures marked { IsMarked tables.now (kept_at blocks.old.items number) → IsMarked tables.now (kept_at blocks.new.items number) }
-    ensures state { state_or caches value (kept_at blocks.new.items number) ≡ state_or caches value (kept_at blocks.old.items number) }
-    ensures outcome { IfOk result (λ what. what ≡ (transition tables.now step (state_or caches value (kept_at blocks.old.items number))).outcome) }
-    ensures room { OnOk result (HasSpaceAt (decision_of tables.now step (state_or caches value (kept_at blocks.old.items number)))
-        (state_or caches value (kept_at blocks.old.items number)) (space_of (kept_at blocks.new.items number))) }
-    ensures succeeds { HasSpaceAt (decision_of tables.now step (state_or caches value (kept_at blocks.old.items number)))
-        (state_or caches value (kept_at blocks.old.items number)) (space_of (kept_at blocks.old.items number)) → IsOk result }
-    ensures light { IsLight tables.now step (state_or caches value (kept_at blocks.old.items number)) → IsOk result }
+    ensures state { state_at caches value blocks.new.items number ≡ state_at caches value blocks.old.items number }
+    ensures outcome { IfOk result (λ what. what ≡ (transition tables.now step (state_at caches value blocks.old.items number)).outcome) }
+    ensures room { OnOk result (HasSpaceAt (decision_of tables.now step (state_at caches value blocks.old.items number))
+        (state_at caches value blocks.old.items number) (space_of (kept_at blocks.new.items number))) }
+    ensures succeeds { HasSpaceAt (decision_of tables.now step (state_at caches value blocks.old.items number))
+        (state_at caches value blocks.old.items number) (space_of (kept_at blocks.old.items number)) → IsOk result }
+    ensures idle { acts (decision_of tables.now step (state_at caches value blocks.old.items number)) ≡ false →
+        space_of (kept_at blocks.new.items number) ≡ space_of (kept_at blocks.old.items number) }
+    ensures light { IsLight tables.now step (state_at caches value blocks.old.items number) → IsOk result }
 {
     if let Some(outcome) = touch(alloc, blocks, caches, value, number, tables, step)? {
         return Ok(outcome);

@@ -1,6 +1,6 @@
 ghost use Rattle.std.specs.Prelude.{◌≡◌};
 ghost use Rattle.world.specs.inner.Counts.{step_in};
-ghost use Rattle.world.specs.inner.Held.{kept_at};
+ghost use Rattle.world.specs.inner.Holding.{kept_at};
 
 use crate::counts::{Kind, Spot};
 use crate::worlds::World;
@@ -10,7 +10,7 @@ use rows::Sparse;
 use std::alloc::Global;
 
 impl World {
-    ghost use Rattle.std.specs.Prelude.{◌≡◌, ◌<◌, ◌^◌, [], IfOk, OnErr, OnOk, length, slice_get};
+    ghost use Rattle.std.specs.Prelude.{◌≡◌, ◌<◌, ◌^◌, IfOk, length, slice_get};
     ghost use Rattle.world.specs.Enabled.{enabled_steps};
 
     /// The deliveries that are there and wouldn't be held: the requests by block and place, then
@@ -20,27 +20,13 @@ impl World {
         ensures { IfOk result (λ steps. steps.items ≡ enabled_steps self.now.tables self.now.state) }
     {
         let mut steps = Vec::new(alloc);
-        self.list_enabled(&mut steps)?;
-        Ok(steps)
-    }
-
-    /// Puts the deliveries of [`enabled`](World::enabled) in place of what a list holds, whose memory
-    /// is used again. Where memory is refused the list is empty.
-    pub fn list_enabled(&self, steps: &mut Vec<Step>) -> Result<(), NoMemory>
-        ensures ok { OnOk result (steps.new.items ≡ enabled_steps self.now.tables self.now.state) }
-        ensures err { OnErr result (steps.new.items ≡ []) }
-    {
-        steps.clear();
         for k in 0..self.enabled_count() {
             let Some(step) = self.enabled_at(k) else {
                 unreachable!();
             };
-            if let Err(_) = steps.push(step) {
-                steps.clear();
-                return Err(NoMemory);
-            }
+            steps.push(step)?;
         }
-        Ok(())
+        Ok(steps)
     }
 
     /// How many deliveries [`enabled`](World::enabled) lists: fewer than 2^46.

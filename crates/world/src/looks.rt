@@ -4,7 +4,7 @@ ghost use Rattle.base.specs.declared.step.Step.TheVariants as step;
 ghost use Rattle.machine.specs.Block.{opened_block};
 ghost use Rattle.blocks.specs.Looks.{place_in};
 ghost use Rattle.world.specs.inner.Found.{is_quiet_kept};
-ghost use Rattle.world.specs.inner.Held.{kept_at};
+ghost use Rattle.world.specs.inner.Holding.{kept_at};
 
 use crate::worlds::{World, opening_value};
 use base::{BlockId, CacheId, Outcome, Place, Shape, Step};

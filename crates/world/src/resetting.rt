@@ -1,7 +1,7 @@
 //! Making a world as it opened, in the memory that it has.
 
 ghost use Rattle.std.specs.Prelude.{◌≡◌, ℕ, length, slice_get, None, Some};
-ghost use Rattle.world.specs.inner.Held.{kept_at, AreLined, IsOpened, OthersStay};
+ghost use Rattle.world.specs.inner.Holding.{kept_at, AreLined, IsOpened, OthersStay};
 
 use crate::worlds::{World, opening_value};
 use blocks::Block;

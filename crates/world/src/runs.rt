@@ -12,6 +12,7 @@ pub struct RunStop {
 impl World {
     ghost use Rattle.std.specs.Prelude.{◌≡◌, ◌<◌, IfErr, OnOk, length, take};
     ghost use Rattle.world.specs.Coherent.{HasBeenSafe, IsUnstuck};
+    ghost use Rattle.world.specs.Keeping.{KeepsOthers};
     ghost use Rattle.world.specs.View.{LeadsOn};
     ghost use Rattle.world.specs.Runs.{IsRun};
 
@@ -22,6 +23,7 @@ impl World {
         ensures ok { OnOk result (IsRun self.old steps.now outcomes.old.items self.new outcomes.new.items) }
         ensures err { IfErr result (λ stop. IsRun self.old (take stop.done steps.now) outcomes.old.items self.new outcomes.new.items) }
         ensures done { IfErr result (λ stop. stop.done < length steps.now) }
+        ensures keeps { KeepsOthers self.old steps.now self.new }
         ensures history { OnOk result (LeadsOn self.old steps.now self.new) }
         ensures history_so_far { IfErr result (λ stop. LeadsOn self.old (take stop.done steps.now) self.new) }
         ensures safe { HasBeenSafe self.new }
@@ -36,6 +38,7 @@ impl World {
         ensures ok { OnOk result (IsRun self.old steps.now outcomes.old.items self.new outcomes.new.items) }
         ensures err { IfErr result (λ stop. IsRun self.old (take stop.done steps.now) outcomes.old.items self.new outcomes.new.items) }
         ensures done { IfErr result (λ stop. stop.done < length steps.now) }
+        ensures keeps { KeepsOthers self.old steps.now self.new }
         ensures shape { self.new.shape ≡ self.old.shape }
     {
         for (i, step) in steps.iter().enumerate() {

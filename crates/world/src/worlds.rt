@@ -50,8 +50,9 @@ pub struct Went {
 
 /// A world of caches and blocks, with the tables of its controllers.
 ///
-/// Only blocks that a cell has acted at, or that [`ready`](World::ready) has made room for such an act at, are kept; the
-/// others are as they open.
+/// Only blocks at which a cell has acted or would have acted are kept: where memory was refused, where
+/// [`ready`](World::ready) made room, and where a [`reset`](World::reset) came behind, a block that is as it opens may be kept
+/// too. The others take no memory.
 pub struct World {
     alloc: Global,
     pub(crate) shape: Shape,
@@ -86,7 +87,7 @@ impl Model for World {
     ghost use Rattle.std.specs.Prelude.{◌≡◌, true};
     ghost use Rattle.blocks.specs.Passing.{ResponsesPass};
     ghost use Rattle.world.specs.View.{View, spaces_of, states};
-    ghost use Rattle.world.specs.inner.Held.{IsWorld};
+    ghost use Rattle.world.specs.inner.Holding.{IsWorld};
 
     ghost Value = { View };
 
@@ -105,13 +106,14 @@ impl Model for World {
 }
 
 impl World {
-    ghost use Rattle.std.specs.Prelude.{◌≡◌, ◌≢◌, ◌↔◌, ◌≤◌, ◌∷◌, [], None, false, true, IfOk, IsOk, IsErrOf, OnErr, OnOk, length};
+    ghost use Rattle.std.specs.Prelude.{◌≡◌, ◌≢◌, ◌↔◌, ◌≤◌, ◌∷◌, [], None, false, true, IfOk, IsOk, IsErrOf, OnErr, OnOk, length, replicate};
     ghost use Rattle.blocks.specs.Tests.{IsToldIf};
     ghost use Rattle.base.specs.Extent.{IsWithinLimits};
     ghost use Rattle.base.specs.Steps.{block_of};
     ghost use Rattle.machine.specs.Machine.{IsHistory, next, opened, sent_by};
     ghost use Rattle.world.specs.Coherent.{HasBeenSafe, IsUnstuck};
     ghost use Rattle.world.specs.Crowds.{IsCrowded, IsUncrowded};
+    ghost use Rattle.world.specs.Keeping.{KeepsAsIs};
     ghost use Rattle.world.specs.LineStates.{line_states};
     ghost use Rattle.world.specs.Looks.{place_at};
     ghost use Rattle.world.specs.Messages.{messages_at, raised};
@@ -135,6 +137,7 @@ impl World {
         ensures safe { IfOk result HasBeenSafe }
         ensures unstuck { IfOk result IsUnstuck }
         ensures tested { IfOk result (λ world. world.tested ≡ 0) }
+        ensures none_kept { IfOk result (λ world. world.spaces ≡ replicate shape.blocks None) }
         ensures opening_length { IsErrOf result fault.OpeningLength ↔ (length opening.items ≢ shape.blocks) }
     {
         if opening.len() != shape.blocks() as usize {
@@ -174,6 +177,7 @@ impl World {
         ensures tests_what_it_sends { OnOk result (raised self.old.tested (length (sent_by self.old.tables self.old.state step)) ≤ self.new.tested) }
         ensures tests_its_block { OnOk result (self.new.tested ≤ raised self.old.tested (messages_at self.new.state (block_of step))) }
         ensures err_tested { OnErr result (self.new.tested ≡ self.old.tested) }
+        ensures keeps { KeepsAsIs self.old step self.new }
         ensures succeeds { HasRoomToStep self.old step → IsOk result }
         ensures sends_nothing { sent_by self.old.tables self.old.state step ≡ [] → wakes self.old step ≡ false → IsOk result }
     {
@@ -199,6 +203,7 @@ impl World {
         ensures tests_what_it_sends { OnOk result (raised self.old.tested (length (sent_by self.old.tables self.old.state step)) ≤ self.new.tested) }
         ensures tests_its_block { OnOk result (self.new.tested ≤ raised self.old.tested (messages_at self.new.state (block_of step))) }
         ensures err_tested { OnErr result (self.new.tested ≡ self.old.tested) }
+        ensures keeps { KeepsAsIs self.old step self.new }
         ensures succeeds { HasRoomToStep self.old step → IsOk result }
         ensures sends_nothing { sent_by self.old.tables self.old.state step ≡ [] → wakes self.old step ≡ false → IsOk result }
     {
@@ -225,6 +230,7 @@ impl World {
         ensures tables { self.new.tables ≡ self.old.tables }
         ensures state { self.new.state ≡ self.old.state }
         ensures tested { self.new.tested ≡ self.old.tested }
+        ensures keeps { KeepsAsIs self.old step self.new }
         ensures succeeds { HasRoomToStep self.old step → IsOk result }
         ensures sends_nothing { sent_by self.old.tables self.old.state step ≡ [] → wakes self.old step ≡ false → IsOk result }
     {
@@ -278,6 +284,7 @@ impl World {
         ensures tests_what_it_sends { OnOk result (raised self.old.tested (length (sent_by self.old.tables self.old.state step)) ≤ self.new.tested) }
         ensures tests_its_block { OnOk result (self.new.tested ≤ raised self.old.tested (messages_at self.new.state (block_of step))) }
         ensures err_tested { OnErr result (self.new.tested ≡ self.old.tested) }
+        ensures keeps { KeepsAsIs self.old step self.new }
         ensures succeeds { HasRoomToStep self.old step → IsOk result }
         ensures sends_nothing { sent_by self.old.tables self.old.state step ≡ [] → wakes self.old step ≡ false → IsOk result }
     {
@@ -303,6 +310,7 @@ impl World {
         ensures tests_what_it_sends { OnOk result (raised self.old.tested (length (sent_by self.old.tables self.old.state step)) ≤ self.new.tested) }
         ensures tests_its_block { OnOk result (self.new.tested ≤ raised self.old.tested (messages_at self.new.state (block_of step))) }
         ensures err_tested { OnErr result (self.new.tested ≡ self.old.tested) }
+        ensures keeps { KeepsAsIs self.old step self.new }
         ensures succeeds { HasRoomToStep self.old step → IsOk result }
         ensures sends_nothing { sent_by self.old.tables self.old.state step ≡ [] → wakes self.old step ≡ false → IsOk result }
     {

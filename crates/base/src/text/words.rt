@@ -1,4 +1,4 @@
-ghost use Rattle.std.specs.Prelude.{◌≡◌, ◌≢◌, ◌≤◌, ◌<◌, ◌^◌, ℕ, List, length, eqb, false, true, get_or, take, drop, [], ◌∷◌, ◌++◌, IfSome, IfNone, MatchOption};
+ghost use Rattle.std.specs.Prelude.{◌≡◌, ◌≢◌, ◌≤◌, ◌<◌, ◌^◌, ℕ, List, length, ◌==◌, false, true, slice_index_or, take, drop, [], ◌∷◌, ◌++◌, IfSome, IfNone, MatchOption};
 ghost use Rattle.std.specs.List.{position_or_len};
 ghost use Rattle.std.specs.Fmt.{decimal};
 ghost use Rattle.std.specs.Char.{digit_value};
@@ -25,7 +25,7 @@ pub fn cut(line: &[u8]) -> (&[u8], Option<&[u8]>)
 /// Where the first blank is, or the length.
 fn blank_at(line: &[u8]) -> usize
     ensures within { result ≤ length line.now }
-    ensures place { result ≡ position_or_len (λ b. eqb b 32) line.now }
+    ensures place { result ≡ position_or_len (λ b. b == 32) line.now }
 {
     for i in 0..line.len() {
         if line[i] == b' ' {
@@ -56,7 +56,7 @@ pub fn number_of(text: &[u8]) -> Option<u64>
 /// Whether a text has a first byte, and one that a number may begin with: a zero only where it is all.
 fn has_first_digit(text: &[u8]) -> bool
     ensures some { result ≡ true → 0 < length text.now }
-    ensures first { result ≡ true → get_or text.now 0 0 ≡ 48 → length text.now ≡ 1 }
+    ensures first { result ≡ true → slice_index_or text.now 0 0 ≡ 48 → length text.now ≡ 1 }
     ensures none { result ≡ false → (n : ℕ) → n < 2 ^ 64 → text.now ≢ decimal n }
 {
     if text.is_empty() {

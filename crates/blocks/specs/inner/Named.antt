@@ -14,7 +14,7 @@ use Rattle.control.specs.Sharing.{shares}
 use Rattle.machine.specs.declared.decision.Decision.{Decision}
 use Rattle.machine.specs.declared.decision.Decision.TheVariants.{Refused, AtLine, AtHome}
 use Rattle.rows.specs.Flags.{is_set}
-use Rattle.blocks.specs.Kept.{wakes_line}
+use Rattle.blocks.specs.View.{wakes_line}
 
 -- this holds of each
 abbrev pub Each : {X : Type 0} → (X → Type 0) → List X → Type 0

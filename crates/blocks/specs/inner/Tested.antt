@@ -11,11 +11,11 @@ use Rattle.control.specs.declared.home.Home.{Home}
 use Rattle.control.specs.declared.home.HomeInput.TheVariants as home_input
 use Rattle.machine.specs.Block.{BlockState}
 use Rattle.blocks.specs.Marking.{home_stalls, line_stalls}
-use Rattle.blocks.specs.inner.Held.{lines_of}
+use Rattle.blocks.specs.inner.Lined.{lines_of}
 
 -- a block with this home and these lines, of which those are given that are kept
-abbrev pub block_of : List (Option Line) → Home → Traffic → BlockState
-block_of items home w = record { lines = lines_of items; home = home; traffic = w; latest = 0 }
+abbrev pub block_with : List (Option Line) → Home → Traffic → BlockState
+block_with items home w = record { lines = lines_of items; home = home; traffic = w; latest = 0 }
 
 -- the marks of requests
 abbrev pub requests_stall : directory_table.Cells → Home → List Request → List Bool

@@ -4,7 +4,7 @@ ghost use Rattle.network.specs.Room.{HasRoomFor, UsesRoomFor};
 ghost use Rattle.control.specs.LineEffect.{line_after, line_completes, line_sends};
 ghost use Rattle.machine.specs.Transition.{outcome_of, plain_outcome, latest_after, without, IsThere};
 ghost use Rattle.rows.specs.Flags.{is_set};
-ghost use Rattle.blocks.specs.inner.Held.{kept_lines, lines_of};
+ghost use Rattle.blocks.specs.inner.Lined.{kept_lines, lines_of};
 ghost use Rattle.blocks.specs.inner.Linking.{IsOwn, IsRelinked};
 ghost use Rattle.blocks.specs.inner.Placed.{decided_place};
 ghost use Rattle.base.specs.declared.ids.CacheId.{CacheId};
@@ -55,7 +55,7 @@ impl Block {
     ghost use Rattle.blocks.specs.inner.Linking.{IsAtOwn, IsRelinked};
     ghost use Rattle.blocks.specs.Passing.{ResponsesPass};
     ghost use Rattle.machine.specs.Transition.{Fits, Transition, carried_out, decision_of, messages_of, transition};
-    ghost use Rattle.blocks.specs.Kept.{moved_to, wakes_line, HasSpaceFor};
+    ghost use Rattle.blocks.specs.View.{acts, moved_to, wakes_line, HasSpaceFor};
     ghost use Rattle.blocks.specs.Marking.{marks_of};
     ghost use Rattle.blocks.specs.inner.Named.{DecisionNames};
     ghost use Rattle.blocks.specs.Tests.{IsTested, IsToldIf, tested_in};
@@ -67,6 +67,7 @@ impl Block {
         ensures state { self.new.state ≡ self.old.state }
         ensures marks { self.new.marks ≡ self.old.marks }
         ensures lines { self.new.space.lines ≡ self.old.space.lines }
+        ensures idle { acts decision.now ≡ false → self.new.space ≡ self.old.space }
         ensures ok { OnOk result (HasSpaceFor decision.now self.old.state self.new.space) }
         ensures succeeds { HasSpaceFor decision.now self.old.state self.old.space → IsOk result }
     {
@@ -103,6 +104,7 @@ impl Block {
         ensures marks { self.new.marks ≡ self.old.marks }
         ensures outcome { IfOk result (λ what. what ≡ (transition tables.now step self.old.state).outcome) }
         ensures room { OnOk result (HasSpaceFor (decision_of tables.now step self.old.state) self.old.state self.new.space) }
+        ensures idle { acts (decision_of tables.now step self.old.state) ≡ false → self.new.space ≡ self.old.space }
         ensures succeeds { HasSpaceFor (decision_of tables.now step self.old.state) self.old.state self.old.space → IsOk result }
         ensures sends_nothing { messages_of (decision_of tables.now step self.old.state) self.old.state ≡ [] →
             wakes_line (decision_of tables.now step self.old.state) ≡ false → IsOk result }
@@ -195,6 +197,7 @@ impl Block {
         ensures tested { IfOk result (λ visit. IsTested tables.now self.old.state self.new.state visit.made.tested) }
         ensures sent { IfOk result (λ visit. (length (messages_of (decision_of tables.now step self.old.state) self.old.state) ≤ tested_in visit.made.tested)) }
         ensures err { OnErr result (self.new.state ≡ self.old.state) }
+        ensures idle { acts (decision_of tables.now step self.old.state) ≡ false → self.new.space ≡ self.old.space }
         ensures succeeds { HasSpaceFor (decision_of tables.now step self.old.state) self.old.state self.old.space → IsOk result }
         ensures sends_nothing { messages_of (decision_of tables.now step self.old.state) self.old.state ≡ [] →
             wakes_line (decision_of tables.now step self.old.state) ≡ false → IsOk result }

@@ -186,7 +186,7 @@ impl Block {
 
     /// What a step comes to here.
     #[inline(always)]
-    pub fn decide(&self, tables: &Tables, step: Step) -> Decision
+    pub(crate) fn decide(&self, tables: &Tables, step: Step) -> Decision
         ensures decision { result ≡ decision_of tables.now step self.now.state }
         ensures fits { Fits result self.now.state }
         ensures names { DecisionNames self.now.space.lines result }

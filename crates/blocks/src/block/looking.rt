@@ -176,7 +176,7 @@ impl Block {
                 ask,
             } => stalls_ask(tables, ask, self.line(cache)),
             Step::Request { .. } | Step::Forward { .. } | Step::Response { .. } => {
-                is_stall(self.foresee(tables, step))
+                is_held_outcome(self.foresee(tables, step))
             }
         }
     }
@@ -206,7 +206,7 @@ pub fn foreseen(decision: &Decision) -> Outcome
 }
 
 /// Whether an outcome is that of a stall.
-pub fn is_stall(outcome: Outcome) -> bool
+fn is_held_outcome(outcome: Outcome) -> bool
     ensures { result ≡ is_held outcome }
 {
     match outcome {

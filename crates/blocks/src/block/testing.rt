@@ -6,9 +6,9 @@ ghost use Rattle.std.specs.List.{sum_by};
 ghost use Rattle.network.specs.Traffic.{Traffic, link};
 ghost use Rattle.blocks.specs.Marking.{home_stalls, line_stalls, response_stalls, links_stall, marks_of, free_responses, unmarked_count, unmarked_heads_count};
 ghost use Rattle.blocks.specs.inner.Asked.{AreFirstRight};
-ghost use Rattle.blocks.specs.inner.Held.{lines_of};
+ghost use Rattle.blocks.specs.inner.Lined.{lines_of};
 ghost use Rattle.blocks.specs.inner.Linking.{AreCounted, AreOthers};
-ghost use Rattle.blocks.specs.inner.Tested.{block_of, forwards_stall, requests_stall};
+ghost use Rattle.blocks.specs.inner.Tested.{block_with, forwards_stall, requests_stall};
 
 use crate::block::counting::{Counts, LinkCounts, Others, with_link};
 use crate::block::passing::is_clear;
@@ -185,7 +185,7 @@ fn line_of(lines: &Sparse<Line>, cache: CacheId) -> Option<Line>
 
 /// Whether the cell of a response's receiver is a stall.
 fn stalls_response(tables: &Tables, home: &Home, lines: &Sparse<Line>, response: Response) -> bool
-    ensures { (traffic : Traffic) → result ≡ response_stalls tables.now (block_of lines.now.items home.now traffic) response }
+    ensures { (traffic : Traffic) → result ≡ response_stalls tables.now (block_with lines.now.items home.now traffic) response }
 {
     match response {
         Response::Data {
@@ -235,9 +235,9 @@ fn mark_responses(
     ensures traffic { wires.new.traffic ≡ wires.old.traffic }
     ensures room { wires.new.room ≡ wires.old.room }
     ensures marks { wires.new.marks ≡ record wires.old.marks {
-      responses = (marks_of tables.now (block_of lines.now.items home.now wires.old.traffic)).responses;
+      responses = (marks_of tables.now (block_with lines.now.items home.now wires.old.traffic)).responses;
     } }
-    ensures count { result ≡ free_responses tables.now (block_of lines.now.items home.now wires.old.traffic) }
+    ensures count { result ≡ free_responses tables.now (block_with lines.now.items home.now wires.old.traffic) }
 {
     if pass {
         wires.unmark_responses();
@@ -355,9 +355,9 @@ fn test_responses(tables: &Tables, home: &Home, lines: &Sparse<Line>, wires: &mu
     ensures traffic { wires.new.traffic ≡ wires.old.traffic }
     ensures room { wires.new.room ≡ wires.old.room }
     ensures marks { wires.new.marks ≡ record wires.old.marks {
-      responses = (marks_of tables.now (block_of lines.now.items home.now wires.old.traffic)).responses;
+      responses = (marks_of tables.now (block_with lines.now.items home.now wires.old.traffic)).responses;
     } }
-    ensures count { result ≡ free_responses tables.now (block_of lines.now.items home.now wires.old.traffic) }
+    ensures count { result ≡ free_responses tables.now (block_with lines.now.items home.now wires.old.traffic) }
 {
     let mut free = 0;
     for index in 0..wires.response_count() as u64 {

@@ -7,7 +7,7 @@ use Rattle.machine.specs.Machine.{next, opened}
 use Rattle.monitor.specs.declared.violation.Violation.{Violation}
 use Rattle.monitor.specs.Watching.{HasSeen}
 use Rattle.record.specs.declared.recording.Entry.{Entry}
-use Rattle.record.specs.Kept.{Kept, IsLegal, steps_of, with_entry}
+use Rattle.record.specs.View.{RecordingView, IsLegal, steps_of, with_entry}
 use Rattle.world.specs.View.{View, stepped}
 use Rattle.trials.specs.Terms.{Terms}
 use Rattle.floor.specs.declared.tokens.TokenView.{TokenView}
@@ -17,7 +17,7 @@ use Rattle.floor.specs.Closing.{HaveOwners}
 use Rattle.floor.specs.inner.Tokens.{keeper, sitting}
 
 -- a world, a watch, owners and a violation are those of a recording of these entries, which is legal
-pub record IsKeptUp (floor : FloorId) (world : View) (watch : List ℕ) (recording : Kept) (owners : List ℕ) (violation : Option (ℕ × Violation)) : Type 0 where
+pub record IsKeptUp (floor : FloorId) (world : View) (watch : List ℕ) (recording : RecordingView) (owners : List ℕ) (violation : Option (ℕ × Violation)) : Type 0 where
   pub recorded_is : recording ≡ recorded floor.setup recording.entries
   pub legal : IsLegal (recorded floor.setup recording.entries)
   pub shape : world.shape ≡ floor.setup.shape
@@ -58,7 +58,7 @@ pub record IsSame (old new : View) : Type 0 where
   pub state : new.state ≡ old.state
 
 -- a world has made a step, and a recording has one more entry of it
-pub record Advances (old new : View) (before after : Kept) (step : Step) (entry : Entry) : Type 0 where
+pub record Advances (old new : View) (before after : RecordingView) (step : Step) (entry : Entry) : Type 0 where
   pub step_is : entry.step ≡ step
   pub made : next old.tables old.state step ≡ stepped new.state entry.outcome
   pub shape : new.shape ≡ old.shape

@@ -20,8 +20,8 @@ abbrev pub idle : TokenView
 idle = record { keeps = false; entries = []; owners = []; next = 0; sits = false; number = 0; made = [] }
 
 -- who keeps knows the recording; who sits has what its number owns, and no other has its number
-abbrev pub Fits : ℕ → (ℕ → ℕ) → List Entry → List ℕ → ℕ → ℕ → TokenView → Type 0
-Fits by place es os n id v =
+abbrev pub FitsRule : ℕ → (ℕ → ℕ) → List Entry → List ℕ → ℕ → ℕ → TokenView → Type 0
+FitsRule by place es os n id v =
     (v.keeps ≡ true → (id ≡ by) × (v.entries ≡ es) × (v.owners ≡ os) × (v.next ≡ n))
     × (v.sits ≡ true → (id ≡ place v.number) × (v.number < n) × (v.made ≡ history v.number es os))
 
@@ -33,7 +33,7 @@ pub record Fitting (s : State Entry TokenView) : Type 0 where
   pub os : List ℕ
   pub n : ℕ
   pub even : length os ≡ length es
-  pub fits : (id : ℕ) (v : TokenView) → get_elem? s.views id ≡ some v → Fits by place es os n id v
+  pub fits : (id : ℕ) (v : TokenView) → get_elem? s.views id ≡ some v → FitsRule by place es os n id v
 
 -- the keeper with a seat in its hands
 abbrev pub seated : TokenView → TokenView → TokenView

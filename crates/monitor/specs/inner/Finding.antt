@@ -4,8 +4,8 @@ use Rattle.monitor.specs.declared.violation.Violation.{Violation}
 use Rattle.monitor.specs.Scenes.{Scene, Shows, rank}
 
 -- a fact holds for no number from this one on
-abbrev pub NoneFrom : (ℕ → Type 0) → ℕ → Type 0
-NoneFrom P from = (n : ℕ) → from ≤ n → ¬ P n
+abbrev pub HoldsForNoneFrom : (ℕ → Type 0) → ℕ → Type 0
+HoldsForNoneFrom P from = (n : ℕ) → from ≤ n → ¬ P n
 
 -- a number is the least from another one on for which a fact holds
 pub record IsLeastFrom (P : ℕ → Type 0) (from n : ℕ) : Type 0 where

@@ -9,28 +9,28 @@ use Rattle.record.specs.declared.due.Due.{Due}
 use Rattle.record.specs.declared.due.Due.TheVariants.{Header, ShapeLine, OpeningLine, CellCount, CellLine, EntryCount, EntryLine, EndLine, Nothing}
 use Rattle.record.specs.Cells.{cell_at, cell_words, spot_number}
 use Rattle.record.specs.Grammar.{AreValues, FitsEntry, Leads}
-use Rattle.record.specs.Kept.{Kept}
+use Rattle.record.specs.View.{RecordingView}
 use Rattle.record.specs.Recordable.{AreWhole}
 use Rattle.record.specs.Text.{lines, header_words, shape_words, opening_words, cells_words, changed_cells, entries_words, entry_words}
 
 -- a draft as a recording
-abbrev pub kept : Draft → Kept
+abbrev pub kept : Draft → RecordingView
 kept draft = record { shape = draft.shape; tables = draft.tables; opening = draft.opening.items; entries = draft.entries.items }
 
 -- the first three lines of a recording
-abbrev pub head_lines : Kept → List (List (List ℕ))
+abbrev pub head_lines : RecordingView → List (List (List ℕ))
 head_lines r = header_words ∷ shape_words r.shape ∷ opening_words r.opening ∷ []
 
 -- its lines up to the cells that it has, of so many
-abbrev pub lines_to_cells : Kept → ℕ → List (List (List ℕ))
+abbrev pub lines_to_cells : RecordingView → ℕ → List (List (List ℕ))
 lines_to_cells r count = head_lines r ++ cells_words count ∷ map cell_words (changed_cells r.tables)
 
 -- its lines up to the entries that it has, of so many
-abbrev pub lines_to_entries : Kept → ℕ → List (List (List ℕ))
+abbrev pub lines_to_entries : RecordingView → ℕ → List (List (List ℕ))
 lines_to_entries r count = lines_to_cells r (length (changed_cells r.tables)) ++ entries_words count ∷ map entry_words r.entries
 
 -- the lines before the one that is due
-abbrev pub lines_before : Due → Kept → List (List (List ℕ))
+abbrev pub lines_before : Due → RecordingView → List (List (List ℕ))
 lines_before Header r = []
 lines_before ShapeLine r = header_words ∷ []
 lines_before (OpeningLine shape) r = header_words ∷ shape_words shape ∷ []
@@ -46,14 +46,14 @@ abbrev pub IsBaselineFrom : ℕ → Tables → Type 0
 IsBaselineFrom from tables = (spot : Spot) → from ≤ spot_number spot → cell_at tables spot ≡ cell_at baseline spot
 
 -- the opening values are there once their line isn't due any more
-abbrev pub HasOpeningTo : Due → Kept → Type 0
+abbrev pub HasOpeningTo : Due → RecordingView → Type 0
 HasOpeningTo Header r = Unit {0}
 HasOpeningTo ShapeLine r = Unit {0}
 HasOpeningTo (OpeningLine shape) r = r.shape ≡ shape
 HasOpeningTo due r = AreValues r.shape r.opening
 
 -- behind the cells that were read the tables are the protocol's own
-abbrev pub HasCellsTo : Due → Kept → Type 0
+abbrev pub HasCellsTo : Due → RecordingView → Type 0
 HasCellsTo (CellLine left from) r = (0 < left) × (from ≤ 160) × IsBaselineFrom from r.tables
 HasCellsTo EntryCount r = Unit {0}
 HasCellsTo (EntryLine left) r = Unit {0}
@@ -62,14 +62,14 @@ HasCellsTo Nothing r = Unit {0}
 HasCellsTo due r = r.tables ≡ baseline
 
 -- the entries that were read and those still to come are a million at most
-abbrev pub HasEntriesTo : Due → Kept → Type 0
+abbrev pub HasEntriesTo : Due → RecordingView → Type 0
 HasEntriesTo (EntryLine left) r = (0 < left) × (length r.entries + left ≤ 1000000)
 HasEntriesTo EndLine r = length r.entries ≤ 1000000
 HasEntriesTo Nothing r = length r.entries ≤ 1000000
 HasEntriesTo due r = r.entries ≡ []
 
 -- a recording has been read up to the line that is due
-pub record IsReadTo (due : Due) (r : Kept) : Type 0 where
+pub record IsReadTo (due : Due) (r : RecordingView) : Type 0 where
   pub shape : IsWithinLimits r.shape
   pub tables : AreWhole r.tables
   pub fits : All FitsEntry r.entries
@@ -78,7 +78,7 @@ pub record IsReadTo (due : Due) (r : Kept) : Type 0 where
   pub entries : HasEntriesTo due r
 
 -- the line of these words was due, and was taken: then the next is due
-pub record IsTaken (due : Due) (old : Kept) (line : List (List ℕ)) (next : Due) (new : Kept) : Type 0 where
+pub record IsTaken (due : Due) (old : RecordingView) (line : List (List ℕ)) (next : Due) (new : RecordingView) : Type 0 where
   pub leads : Leads due line next
   pub before : lines_before next new ≡ lines_before due old ++ line ∷ []
   pub read : IsReadTo next new

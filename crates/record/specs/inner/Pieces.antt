@@ -1,5 +1,5 @@
 -- What goes out where a recording's text is put into a sink piece by piece. Only private clauses cite this file.
-use Rattle.std.specs.Prelude.{◌≡◌, ℕ, ◌<◌, ◌+◌, List, [], ◌∷◌, ◌++◌, Option, if◌then◌else◌, codes, get_or, length, map, take, ◌^◌}
+use Rattle.std.specs.Prelude.{◌≡◌, ℕ, ◌<◌, ◌+◌, List, [], ◌∷◌, ◌++◌, Option, if◌then◌else◌, codes, slice_index_or, length, map, take, ◌^◌}
 use Rattle.std.specs.Fmt.{decimal}
 use Rattle.std.specs.Io.KnownBytes.{Appends}
 use Rattle.base.specs.Extent.{Extent}
@@ -11,7 +11,7 @@ use Rattle.record.specs.declared.cells.Spot.TheVariants as spot
 use Rattle.record.specs.declared.recording.Entry.{Entry}
 use Rattle.record.specs.Cells.{all_spots, cell_at, cell_words}
 use Rattle.record.specs.Grammar.{FitsEntry}
-use Rattle.record.specs.Kept.{Kept}
+use Rattle.record.specs.View.{RecordingView}
 use Rattle.record.specs.Text.{line, header_words, shape_words, cells_words, changed_cells, is_changed, entries_words, entry_words, end_words}
 
 -- a sink failed before it had all of a text: exactly a front of it went out, and so many bytes in all
@@ -55,20 +55,20 @@ abbrev pub end_piece : List ℕ
 end_piece = line end_words
 
 -- the pieces of a recording's text, in order
-abbrev pub pieces : Kept → List (List ℕ)
+abbrev pub pieces : RecordingView → List (List ℕ)
 pieces r =
     head_piece r.shape ∷ map value_piece r.opening ++
     (cells_piece (length (changed_cells r.tables)) ∷ map (cell_piece r.tables) all_spots ++
     (entries_piece (length r.entries) ∷ map entry_piece r.entries ++ end_piece ∷ []))
 
 -- how many pieces stand before those of the entries
-abbrev pub places_before : Kept → ℕ
+abbrev pub places_before : RecordingView → ℕ
 places_before r = length r.opening + 163
 
 -- the opening value or the entry that the piece of this number tells has numbers in range of their types
-pub record PieceFits (r : Kept) (number : ℕ) : Type 0 where
-  pub value : (k d : ℕ) → number ≡ k + 1 → k < length r.opening → get_or r.opening k d < 2 ^ 64
-  pub entry : (k : ℕ) (d : Entry) → number ≡ places_before r + k → k < length r.entries → FitsEntry (get_or r.entries k d)
+pub record PieceFits (r : RecordingView) (number : ℕ) : Type 0 where
+  pub value : (k d : ℕ) → number ≡ k + 1 → k < length r.opening → slice_index_or r.opening k d < 2 ^ 64
+  pub entry : (k : ℕ) (d : Entry) → number ≡ places_before r + k → k < length r.entries → FitsEntry (slice_index_or r.entries k d)
 
 -- the table of a place has all its cells
 abbrev pub IsInWhole : Tables → Spot → Type 0

@@ -7,7 +7,7 @@ use Rattle.world.specs.View.{View}
 use Rattle.monitor.specs.declared.violation.Violation.{Violation}
 use Rattle.monitor.specs.Watching.{HasSeen}
 use Rattle.record.specs.declared.recording.Entry.{Entry}
-use Rattle.record.specs.Kept.{Kept}
+use Rattle.record.specs.View.{RecordingView}
 use Rattle.monitor.specs.Violations.{AnswersFirst}
 
 -- the steps of entries
@@ -19,7 +19,7 @@ abbrev pub outcomes_in : List Entry → List Outcome
 outcomes_in entries = map (λ e. e.outcome) entries
 
 -- the entries so far have been made as they are told
-pub record IsSoFar (r : Kept) (done : List Entry) (world : View) (watch : List ℕ) (violation : Option (ℕ × Violation)) : Type 0 where
+pub record IsSoFar (r : RecordingView) (done : List Entry) (world : View) (watch : List ℕ) (violation : Option (ℕ × Violation)) : Type 0 where
   pub shape : world.shape ≡ r.shape
   pub tables : world.tables ≡ r.tables
   pub state : world.state ≡ state_after r.tables (opened r.shape r.opening) (steps_in done)

@@ -24,7 +24,7 @@ below words zero = 0
 below words (suc n) = below words n + bit words n
 
 -- there are words for all places, which are few enough for a `u32`, no bit is set beyond them, and the ones are counted
-pub record IsWhole (words : List ℕ) (places ones : ℕ) : Type 0 where
+pub record IsRowOfWords (words : List ℕ) (places ones : ℕ) : Type 0 where
   pub long : places ≤ 64 * length words
   pub clean : (at : ℕ) → places ≤ at → bit words at ≡ 0
   pub few : places < 2 ^ 32

@@ -2,7 +2,7 @@
 
 ghost use Rattle.std.specs.Prelude.{◌≡◌, ◌++◌, OnOk, length, map, take};
 ghost use Rattle.scenario.specs.Cursors.{progress};
-ghost use Rattle.scenario.specs.Parts.{all_left, behind, count_at, part_left, sought};
+ghost use Rattle.scenario.specs.inner.Parts.{all_left, behind, count_at, part_left, sought};
 ghost use Rattle.scenario.specs.Taking.{all_end, ends, offers, offers_of_all};
 
 use super::{Part, Place};
@@ -14,7 +14,7 @@ use std::alloc::Allocator;
 impl<'t, A: Allocator, B: Allocator> Part<'t, A, B> {
     ghost use Rattle.std.specs.Prelude.{◌≡◌, ◌<◌, map, take};
     ghost use Rattle.scenario.specs.Cursors.{progress};
-    ghost use Rattle.scenario.specs.Parts.{count_at, height, highest, parts_of, place_of};
+    ghost use Rattle.scenario.specs.inner.Parts.{count_at, height, highest, parts_of, place_of};
 
     /// The parts in use, but for those that were never made: nothing is left of these.
     #[tactic(auto, using(crate::proofs::Cursors::parts))]
@@ -71,7 +71,7 @@ fn behind_may_end<A: Allocator>(place: Place<'_, A>) -> bool
 }
 
 impl<'t, A: Allocator, B: Allocator> HasOffers for Part<'t, A, B> {
-    ghost use Rattle.scenario.specs.Parts.{part_left};
+    ghost use Rattle.scenario.specs.inner.Parts.{part_left};
 
     ghost tree = { part_left };
 

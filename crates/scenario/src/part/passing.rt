@@ -1,12 +1,13 @@
 //! Passing an offer that a place alone tells of, without a look for the tree that has it and without new parts.
 
-ghost use Rattle.std.specs.Prelude.{◌≡◌, ◌<◌, ◌+◌, false, length, true};
-ghost use Rattle.scenario.specs.Cursors.{Nothing, first_part, greatest_nodes, most_nodes, progress};
-ghost use Rattle.scenario.specs.Parts.{Leads, part_left, parts_of, place_of};
+ghost use Rattle.std.specs.Prelude.{◌≡◌, ◌<◌, false, length, true};
+ghost use Rattle.scenario.specs.Cursors.{Nothing, first_part, progress};
+ghost use Rattle.scenario.specs.Stock.{room_in_turn, stock, wants};
+ghost use Rattle.scenario.specs.inner.Parts.{MovesTo, part_left, parts_of, place_of};
 ghost use Rattle.scenario.specs.Taking.{offers};
 ghost use Rattle.scenario.specs.Tree as tree;
 ghost use Rattle.scenario.specs.Tree.{plain_all};
-ghost use Rattle.scenario.specs.Turns.{chooses};
+ghost use Rattle.scenario.specs.inner.Turns.{chooses};
 
 use super::repeating::{first_is_over, is_ask};
 use super::{Part, Place};
@@ -23,9 +24,10 @@ pub(crate) fn pass_at_once<A: Allocator, B: Allocator>(
 ) -> bool
     requires offer { at < length (offers (part_left part.old)) }
     requires known { known ≡ true → chooses part.old ≡ true }
-    ensures passed { result ≡ true → Leads (part_left part.old) at (most_nodes (progress part.old)) (progress part.new) }
+    ensures passed { result ≡ true → MovesTo (part_left part.old) at (wants (progress part.old)) (progress part.new) }
     ensures same { result ≡ false → progress part.new ≡ progress part.old }
     ensures chooses { chooses part.new ≡ chooses part.old }
+    ensures held { stock part.new ≡ stock part.old }
 {
     match part.place() {
         Place::InTimes(turns, child) => {
@@ -48,9 +50,10 @@ fn pass_ask<'t, A: Allocator, B: Allocator>(
     row: &'t [Scenario<A>],
     at: usize,
 ) -> bool
-    ensures passed { result ≡ true → Leads (tree.Seq (plain_all row.entry.now)) at (1 + greatest_nodes (plain_all row.entry.now)) (progress part.new) }
+    ensures passed { result ≡ true → MovesTo (tree.Seq (plain_all row.entry.now)) at (room_in_turn (plain_all row.entry.now)) (progress part.new) }
     ensures place { result ≡ true → chooses part.new ≡ false }
     ensures same { result ≡ false → part.new ≡ part.old }
+    ensures held { stock part.new ≡ stock part.old }
 {
     if at != 0 || row.is_empty() || !is_ask(&row[0]) || !end_first(part) {
         return false;
@@ -65,6 +68,7 @@ fn end_first<A: Allocator, B: Allocator>(part: &mut Part<'_, A, B>) -> bool
     ensures ended { result ≡ true → first_part (parts_of part.new) ≡ Nothing }
     ensures same { result ≡ false → part.new ≡ part.old }
     ensures place { place_of part.new ≡ place_of part.old }
+    ensures held { stock part.new ≡ stock part.old }
 {
     match part {
         Part::Begun(_place, parts) => {

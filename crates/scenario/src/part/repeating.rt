@@ -2,10 +2,10 @@
 
 ghost use Rattle.std.specs.Prelude.{◌≡◌, ◌<◌, true};
 ghost use Rattle.scenario.specs.Cursors.{Nothing, first_part, progress};
-ghost use Rattle.scenario.specs.Parts.{part_left, parts_of};
+ghost use Rattle.scenario.specs.inner.Parts.{part_left, parts_of};
 ghost use Rattle.scenario.specs.Repeats.{Repeats};
 ghost use Rattle.scenario.specs.Tree.{plain, plain_all};
-ghost use Rattle.scenario.specs.Turns.{all_asks, chooses, in_turns, is_ask, is_choice};
+ghost use Rattle.scenario.specs.inner.Turns.{all_asks, chooses, in_turns, is_ask, is_choice};
 
 use super::{Part, Place};
 use crate::tree::Scenario;

@@ -1,9 +1,10 @@
 //! Beginning a tree in the memory that a part has. Growths come on the way down to the offer, where they change nothing
 //! that means anything, and changes on the way back.
 
-ghost use Rattle.std.specs.Prelude.{◌≡◌, ◌<◌, ◌≤◌, ◌+◌, OnErr, OnOk, length, map, max, slice_get, slice_set, take};
-ghost use Rattle.scenario.specs.Cursors.{Whole, greatest_nodes, nodes, progress, total_nodes};
-ghost use Rattle.scenario.specs.Parts.{Begins, Grows, IsWholeBut, Leads, parts_of, place_of};
+ghost use Rattle.std.specs.Prelude.{◌≡◌, ◌<◌, ◌≤◌, OnErr, OnOk, length, map};
+ghost use Rattle.scenario.specs.Cursors.{progress};
+ghost use Rattle.scenario.specs.Stock.{Empty, With, room, room_in_turn, room_of_all, stock};
+ghost use Rattle.scenario.specs.inner.Parts.{Adds, Begins, Grows, IsWholeBut, MovesTo, at_place, bare, holding, parts_of, place_of};
 ghost use Rattle.scenario.specs.Taking.{offers, offers_in_turn, offers_of_all};
 ghost use Rattle.scenario.specs.Tree as tree;
 ghost use Rattle.scenario.specs.Tree.{plain, plain_all};
@@ -25,8 +26,9 @@ pub(super) fn start<'t, A: Allocator, B: Allocator + Clone>(
     at: usize,
 ) -> Result<(), NoMemory>
     requires { at < length (offers (plain tree.now)) }
-    ensures ok { OnOk result (Leads (plain tree.now) at (nodes (plain tree.now)) (progress part.new)) }
+    ensures ok { OnOk result (MovesTo (plain tree.now) at (room (plain tree.now)) (progress part.new)) }
     ensures err { OnErr result (progress part.new ≡ progress part.old) }
+    ensures held { Adds (stock part.old) (room (plain tree.now)) (stock part.new) }
 {
     match tree {
         Scenario::One(_) => {
@@ -53,8 +55,9 @@ pub(super) fn start_row<'t, A: Allocator, B: Allocator + Clone>(
     at: usize,
 ) -> Result<(), NoMemory>
     requires { at < length (offers_in_turn (plain_all children.now)) }
-    ensures ok { OnOk result (Leads (tree.Seq (plain_all children.now)) at (1 + greatest_nodes (plain_all children.now)) (progress part.new)) }
+    ensures ok { OnOk result (MovesTo (tree.Seq (plain_all children.now)) at (room_in_turn (plain_all children.now)) (progress part.new)) }
     ensures err { OnErr result (progress part.new ≡ progress part.old) }
+    ensures held { Adds (stock part.old) (room_in_turn (plain_all children.now)) (stock part.new) }
 {
     let offer = place_in_turn(children, at);
     make_room(part, alloc, 1)?;
@@ -75,8 +78,9 @@ pub(super) fn start_turn<'t, A: Allocator, B: Allocator + Clone>(
 ) -> Result<(), NoMemory>
     requires turns { 0 < turns }
     requires offer { at < length (offers (plain child.now)) }
-    ensures ok { OnOk result (Leads (tree.Times turns (plain child.now)) at (1 + nodes (plain child.now)) (progress part.new)) }
+    ensures ok { OnOk result (MovesTo (tree.Times turns (plain child.now)) at (With (room (plain child.now)) Empty) (progress part.new)) }
     ensures err { OnErr result (progress part.new ≡ progress part.old) }
+    ensures held { Adds (stock part.old) (With (room (plain child.now)) Empty) (stock part.new) }
 {
     make_room(part, alloc, 1)?;
     start_part(part, 0, child, alloc, at)?;
@@ -94,8 +98,9 @@ fn start_both<'t, A: Allocator, B: Allocator + Clone>(
     at: usize,
 ) -> Result<(), NoMemory>
     requires { at < length (offers_of_all (plain_all children.now)) }
-    ensures ok { OnOk result (Leads (tree.Both (plain_all children.now)) at (1 + total_nodes (plain_all children.now)) (progress part.new)) }
+    ensures ok { OnOk result (MovesTo (tree.Both (plain_all children.now)) at (room_of_all (plain_all children.now)) (progress part.new)) }
     ensures err { OnErr result (progress part.new ≡ progress part.old) }
+    ensures held { Adds (stock part.old) (room_of_all (plain_all children.now)) (stock part.new) }
 {
     let offer = place_among(children, at);
     make_room(part, alloc, children.len())?;
@@ -119,6 +124,7 @@ fn start_part<'t, A: Allocator, B: Allocator + Clone>(
     requires offer { at < length (offers (plain tree.now)) }
     ensures ok { OnOk result (Begins (parts_of part.old) number (plain tree.now) at (parts_of part.new)) }
     ensures err { OnErr result (progress part.new ≡ progress part.old) }
+    ensures held { Adds (stock part.old) (at_place number (room (plain tree.now))) (stock part.new) }
 {
     match part {
         Part::Begun(_place, parts) => start(&mut parts[number], tree, alloc, at),
@@ -137,6 +143,7 @@ fn keep_others<'t, A: Allocator, B: Allocator>(
     requires room { length children.now ≤ length (parts_of part.old) }
     ensures whole { IsWholeBut number (map plain children.now) (parts_of part.old) (parts_of part.new) }
     ensures count { length (parts_of part.new) ≡ length (parts_of part.old) }
+    ensures held { stock part.new ≡ stock part.old }
 {
     match part {
         Part::Begun(_place, parts) => make_whole_but(parts, children, number),
@@ -154,6 +161,7 @@ fn make_whole_but<'t, A: Allocator, B: Allocator>(
     requires room { length children.now ≤ length parts.old.items }
     ensures whole { IsWholeBut number (map plain children.now) (map progress parts.old.items) (map progress parts.new.items) }
     ensures count { length parts.new.items ≡ length parts.old.items }
+    ensures held { map stock parts.new.items ≡ map stock parts.old.items }
 {
     let begun = mem::replace(&mut parts[number], Part::ended());
     for (i, child) in children.iter().enumerate() {
@@ -173,7 +181,7 @@ pub(super) fn make_room<A: Allocator, B: Allocator + Clone>(
     ensures grown { Grows (parts_of part.old) (parts_of part.new) }
     ensures same { progress part.new ≡ progress part.old }
     ensures room { OnOk result (count ≤ length (parts_of part.new)) }
-    ensures most { length (parts_of part.new) ≤ max count (length (parts_of part.old)) }
+    ensures held { Adds (stock part.old) (bare count) (stock part.new) }
 {
     match part {
         Part::Begun(_place, parts) => push_ended(parts, count),
@@ -187,7 +195,7 @@ pub(super) fn make_room<A: Allocator, B: Allocator + Clone>(
     }
 }
 
-/// Adds parts up to this number, as far as there is memory.
+/// Adds parts up to this number. Where memory is refused, none is added.
 #[tactic(auto, using(crate::proofs::Cursors::parts))]
 fn push_ended<A: Allocator, B: Allocator>(
     parts: &mut Vec<Part<'_, A, B>, B>,
@@ -195,10 +203,12 @@ fn push_ended<A: Allocator, B: Allocator>(
 ) -> Result<(), NoMemory>
     ensures grown { Grows (map progress parts.old.items) (map progress parts.new.items) }
     ensures room { OnOk result (count ≤ length parts.new.items) }
-    ensures most { length parts.new.items ≤ max count (length parts.old.items) }
+    ensures held { Adds (holding (map stock parts.old.items)) (bare count) (holding (map stock parts.new.items)) }
 {
-    for _ in parts.len()..count {
-        parts.push(Part::ended())?;
+    let len = parts.len();
+    parts.reserve_exact(count.saturating_sub(len))?;
+    for _ in len..count {
+        parts.push_reserved(Part::ended());
     }
     Ok(())
 }

@@ -1,8 +1,9 @@
 //! Taking an offer of what is left.
 
 ghost use Rattle.std.specs.Prelude.{◌≡◌, ◌<◌, OnErr, OnOk, length};
-ghost use Rattle.scenario.specs.Cursors.{most_nodes, progress};
-ghost use Rattle.scenario.specs.Parts.{Leads, LeadsPart, OffersAt, behind, most_behind, part_left, parts_of, place_of};
+ghost use Rattle.scenario.specs.Cursors.{progress};
+ghost use Rattle.scenario.specs.inner.Parts.{Adds, MovesPart, MovesTo, OffersAt, behind, part_left, parts_of, place_of, wants_at, wants_behind};
+ghost use Rattle.scenario.specs.Stock.{stock, wants};
 ghost use Rattle.scenario.specs.Taking.{offers};
 
 use super::starting::{start, start_row, start_turn};
@@ -20,8 +21,9 @@ pub(crate) fn take_from<A: Allocator, B: Allocator + Clone>(
     at: usize,
 ) -> Result<(), NoMemory>
     requires { at < length (offers (part_left part.old)) }
-    ensures ok { OnOk result (Leads (part_left part.old) at (most_nodes (progress part.old)) (progress part.new)) }
+    ensures ok { OnOk result (MovesTo (part_left part.old) at (wants (progress part.old)) (progress part.new)) }
     ensures err { OnErr result (progress part.new ≡ progress part.old) }
+    ensures held { Adds (stock part.old) (wants (progress part.old)) (stock part.new) }
 {
     match find_among(part.in_use(), at) {
         Ok(offer) => take_from_part(part, offer.child, alloc, offer.at),
@@ -40,8 +42,9 @@ fn take_from_part<A: Allocator, B: Allocator + Clone>(
 ) -> Result<(), NoMemory>
     requires { OffersAt (parts_of part.old) number at }
     ensures place { place_of part.new ≡ place_of part.old }
-    ensures ok { OnOk result (LeadsPart (parts_of part.old) number at (parts_of part.new)) }
+    ensures ok { OnOk result (MovesPart (parts_of part.old) number at (parts_of part.new)) }
     ensures err { OnErr result (progress part.new ≡ progress part.old) }
+    ensures held { Adds (stock part.old) (wants_at (parts_of part.old) number) (stock part.new) }
 {
     match part {
         Part::Begun(_place, parts) => take_from(&mut parts[number], alloc, at),
@@ -57,8 +60,9 @@ fn go_on<A: Allocator, B: Allocator + Clone>(
     at: usize,
 ) -> Result<(), NoMemory>
     requires { at < length (offers (behind (place_of part.old))) }
-    ensures ok { OnOk result (Leads (behind (place_of part.old)) at (most_behind (place_of part.old)) (progress part.new)) }
+    ensures ok { OnOk result (MovesTo (behind (place_of part.old)) at (wants_behind (place_of part.old)) (progress part.new)) }
     ensures err { OnErr result (progress part.new ≡ progress part.old) }
+    ensures held { Adds (stock part.old) (wants_behind (place_of part.old)) (stock part.new) }
 {
     match part.place() {
         Place::Nothing | Place::InBoth(_) => unreachable!(),

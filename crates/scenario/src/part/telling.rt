@@ -1,6 +1,6 @@
 //! What a part offers, where its place alone tells that it is one ask at most.
 
-ghost use Rattle.scenario.specs.Parts.{part_left};
+ghost use Rattle.scenario.specs.inner.Parts.{part_left};
 ghost use Rattle.scenario.specs.Taking.{offers};
 ghost use Rattle.scenario.specs.Telling.{Tells};
 

@@ -52,8 +52,9 @@ IsMarkedIn tables state core block which old new lane =
     (new ≡ marked_at tables state core block old) ⊎ ((new ≡ old) × ¬ Contains which lane)
 
 -- nothing has changed but marks
-pub record Marks (old new : Laned) : Type 0 where
+pub record ChangesMarks (old new : Laned) : Type 0 where
   pub trees : new.trees ≡ old.trees
+  pub stocks : new.stocks ≡ old.stocks
   pub lengths : new.lengths ≡ old.lengths
   pub ready : new.ready ≡ old.ready
   pub reached : new.reached ≡ old.reached
@@ -61,7 +62,7 @@ pub record Marks (old new : Laned) : Type 0 where
   pub asks : (lane : ℕ) → offers_at new lane ≡ offers_at old lane
 
 -- nothing has changed but counts of what can be put
-pub record Counts (old new : Laned) : Type 0 where
+pub record ChangesCounts (old new : Laned) : Type 0 where
   pub same : new ≡ record old { ready = new.ready }
   pub long : length new.ready ≡ length old.ready
 

@@ -34,10 +34,12 @@ impl<'s, A: Allocator, B: Allocator + Clone> Lanes<'s, A, B> {
     ghost use Rattle.machine.specs.Machine.{State};
     ghost use Rattle.world.specs.LineStates.{line_states};
     ghost use Rattle.scenario.specs.Alike.{Alike};
+    ghost use Rattle.scenario.specs.Tree.{Tree};
     ghost use Rattle.schedule.specs.Choices.{IsOffered, chosen_step, rest_after};
+    ghost use Rattle.schedule.specs.Fitting.{LanesFit};
     ghost use Rattle.schedule.specs.Lanes.{AgreeBut, AreReady, IsKept, IsLevel, IsListed, laned, lanes_of, listed_at, offers_at, whole};
     ghost use Rattle.schedule.specs.Picks.{IsPicked, choice_of};
-    ghost use Rattle.schedule.specs.inner.Changes.{AreCountedAt, Counts, IsCountedAt, IsCountedIf, IsCountedIn, KeepsOthers};
+    ghost use Rattle.schedule.specs.inner.Changes.{AreCountedAt, ChangesCounts, IsCountedAt, IsCountedIf, IsCountedIn, KeepsOthers};
     ghost use Rattle.schedule.specs.inner.Changes.{TakesFrom, WereReady, counted_at};
     ghost use Rattle.schedule.specs.Listed.{IsMarked};
     ghost use Rattle.schedule.specs.inner.Owned.{IsMarkedIf};
@@ -62,6 +64,7 @@ impl<'s, A: Allocator, B: Allocator + Clone> Lanes<'s, A, B> {
             AreReady world.now.tables before cores_before (laned self.old) →
             AgreeBut at (block_of (chosen_step choice)) before world.now.state cores_before cores.now →
             AreReady world.now.tables world.now.state cores.now (laned self.new)) }
+        ensures fits { (tree : Tree) → LanesFit self.old tree → LanesFit self.new tree }
     {
         let pick = self.pick_of(choice);
         self.follow_pick(alloc, pick, at, true, world, cores)?;
@@ -90,6 +93,7 @@ impl<'s, A: Allocator, B: Allocator + Clone> Lanes<'s, A, B> {
             AgreeBut at (block_of (chosen_step (choice_of (laned self.old) pick))) before world.now.state cores_before cores.now →
             (changed ≡ false → line_states world.now.state ≡ line_states before) →
             AreReady world.now.tables world.now.state cores.now (laned self.new)) }
+        ensures fits { (tree : Tree) → LanesFit self.old tree → LanesFit self.new tree }
     {
         let taken = self.take_picked(alloc, pick, world)?;
         self.mark_again(taken.marked, at, pick.step().block(), changed, world);
@@ -129,6 +133,7 @@ impl<'s, A: Allocator, B: Allocator + Clone> Lanes<'s, A, B> {
         ensures were { IfOk result (λ taken. (before : State) (cores_before : List Core) → before.broken ≡ false →
             AreReady world.now.tables before cores_before (laned self.old) →
             WereReady world.now.tables before cores_before world.now.state taken.lane (laned self.new)) }
+        ensures fits { (tree : Tree) → LanesFit self.old tree → LanesFit self.new tree }
     {
         match pick {
             Pick::Offer { lane, place, .. } => {
@@ -146,7 +151,7 @@ impl<'s, A: Allocator, B: Allocator + Clone> Lanes<'s, A, B> {
     fn count_at(&mut self, at: Option<Place>, cores: &Cores)
         requires { IsKept (laned self.old) }
         ensures kept { IsKept (laned self.new) }
-        ensures counts { Counts (laned self.old) (laned self.new) }
+        ensures counts { ChangesCounts (laned self.old) (laned self.new) }
         ensures each { (lane : ℕ) → lane < length (laned self.old).trees →
             IsCountedAt cores.now at (laned self.old) (laned self.new) lane }
     {
@@ -162,7 +167,7 @@ impl<'s, A: Allocator, B: Allocator + Clone> Lanes<'s, A, B> {
         requires there { IfSome taken (λ lane. lane < length (laned self.old).trees) }
         requires counted { AreCountedAt cores.now at (laned self.old) }
         ensures kept { IsKept (laned self.new) }
-        ensures counts { Counts (laned self.old) (laned self.new) }
+        ensures counts { ChangesCounts (laned self.old) (laned self.new) }
         ensures each { (lane : ℕ) → lane < length (laned self.old).trees →
             IsCountedIf cores.now taken (laned self.old) (laned self.new) lane }
     {
@@ -205,6 +210,7 @@ impl<'s, A: Allocator, B: Allocator + Clone> Lanes<'s, A, B> {
         ensures takes { OnOk result (TakesFrom lane (sum (take lane (laned self.old).lengths) + place) (laned self.old) (laned self.new)) }
         ensures marks { IfOk result (λ anew. IsMarkedIf world.now.tables world.now.state anew
             (listed_at (laned self.old) lane) (listed_at (laned self.new) lane)) }
+        ensures fits { (tree : Tree) → LanesFit self.old tree → LanesFit self.new tree }
     {
         let repeats = self.lanes[lane].rest.pass_on(alloc, place)?;
         if repeats {
@@ -220,6 +226,7 @@ impl<'s, A: Allocator, B: Allocator + Clone> Lanes<'s, A, B> {
         requires level { IsLevel (laned self.old) }
         requires there { lane < length (laned self.old).trees }
         ensures trees { OnOk result ((laned self.new).trees ≡ (laned self.old).trees) }
+        ensures stocks { (laned self.new).stocks ≡ (laned self.old).stocks }
         ensures level { OnOk result (IsLevel (laned self.new)) }
         ensures listed { OnOk result (IsListed (laned self.new) lane) }
         ensures others { OnOk result (KeepsOthers lane (laned self.old) (laned self.new)) }
@@ -228,10 +235,7 @@ impl<'s, A: Allocator, B: Allocator + Clone> Lanes<'s, A, B> {
     {
         let anew = self.lanes[lane].list(world)?;
         let offers = self.lanes[lane].asks.asks();
-        let Ok(length) = u32::try_from(offers.len()) else {
-            return Err(NoMemory);
-        };
-        self.lengths.set(lane, length);
+        self.lengths.set(lane, offers.len() as u32);
         reach(&mut self.reached, offers, lane as u32)?;
         Ok(anew)
     }
@@ -249,7 +253,7 @@ impl<'s, A: Allocator, B: Allocator + Clone> Lanes<'s, A, B> {
     /// Counts anew what can be put of each lane that may offer an ask of a core.
     fn count_core(&mut self, core: CacheId, cores: &Cores)
         requires { IsKept (laned self.old) }
-        ensures counts { Counts (laned self.old) (laned self.new) }
+        ensures counts { ChangesCounts (laned self.old) (laned self.new) }
         ensures each { (lane : ℕ) → lane < length (laned self.old).trees →
             IsCountedIn cores.now (laned self.old).listed (lanes_of (laned self.old).reached core.0)
             (laned self.old).ready (laned self.new).ready lane }
@@ -268,12 +272,14 @@ impl<'s, A: Allocator, B: Allocator + Clone> Lane<'s, A, B> {
     ghost use Rattle.std.specs.Prelude.{◌≡◌, IfOk, OnOk};
     ghost use Rattle.scenario.specs.Cursors.{remaining};
     ghost use Rattle.scenario.specs.Taking.{offers};
+    ghost use Rattle.schedule.specs.Lanes.{stocked};
     ghost use Rattle.schedule.specs.inner.Owned.{IsMarkedIf};
 
     /// Lists anew what is offered, and answers whether it was marked. Where that is what was offered before, the marks stay.
     #[inline(always)]
     fn list(&mut self, world: &World) -> Result<bool, NoMemory>
         ensures rest { remaining self.new.rest ≡ remaining self.old.rest }
+        ensures stock { stocked self.new.rest ≡ stocked self.old.rest }
         ensures asks { OnOk result (self.new.asks.asks ≡ offers (remaining self.old.rest)) }
         ensures marks { IfOk result (λ anew. IsMarkedIf world.now.tables world.now.state anew self.old.asks self.new.asks) }
     {

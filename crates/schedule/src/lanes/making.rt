@@ -1,9 +1,10 @@
 //! Opening the lanes of a scenario.
 
-ghost use Rattle.std.specs.Prelude.{◌≡◌, ◌+◌, ◌≤◌, ◌^◌, ◌++◌, [], IfOk, OnOk, true, length, map, replicate};
+ghost use Rattle.std.specs.Prelude.{◌≡◌, ◌+◌, ◌≤◌, ◌^◌, ◌++◌, ◌∷◌, [], IfOk, OnOk, true, length, map, replicate};
 ghost use Rattle.scenario.specs.Alike.{Alike};
 ghost use Rattle.scenario.specs.Cursors.{remaining};
-ghost use Rattle.scenario.specs.Tree.{Both, plain, trees_of};
+ghost use Rattle.scenario.specs.Tree.{Both, Cons, Nil, plain, plain_all, trees_of};
+ghost use Rattle.schedule.specs.Fitting.{EachFits, how_many, lane_trees};
 
 use super::{Lane, Lanes};
 use crate::asks::Asks;
@@ -20,11 +21,13 @@ const MOST_LANES: usize = 1 << 31;
 impl<'s, A: Allocator, B: Allocator> Lane<'s, A, B> {
     ghost use Rattle.std.specs.Prelude.{◌≡◌, IfOk};
     ghost use Rattle.scenario.specs.Cursors.{remaining};
+    ghost use Rattle.scenario.specs.Stock.{FitsIn};
     ghost use Rattle.scenario.specs.Tree.{plain};
 
     /// All of a tree is left, and nothing is listed yet.
     fn unlisted(alloc: Global, tree: &'s Scenario<A>) -> Result<Lane<'s, A, B>, NoMemory>
-        ensures { IfOk result (λ lane. remaining lane.rest ≡ plain tree.entry.now) }
+        ensures left { IfOk result (λ lane. remaining lane.rest ≡ plain tree.entry.now) }
+        ensures fits { IfOk result (λ lane. FitsIn lane.rest (plain tree.entry.now)) }
     {
         let asks = Asks::open(alloc)?;
         Ok(Lane {
@@ -35,12 +38,14 @@ impl<'s, A: Allocator, B: Allocator> Lane<'s, A, B> {
 }
 
 impl<'s, A: Allocator, B: Allocator + Clone> Lanes<'s, A, B> {
-    ghost use Rattle.std.specs.Prelude.{◌≡◌, true, IfOk, OnOk};
+    ghost use Rattle.std.specs.Prelude.{◌≡◌, ◌≢◌, true, IfOk, OnOk, length};
     ghost use Rattle.scenario.specs.Alike.{Alike};
     ghost use Rattle.scenario.specs.Tree.{plain};
+    ghost use Rattle.schedule.specs.Fitting.{LanesFit, how_many, lane_trees};
     ghost use Rattle.schedule.specs.Lanes.{AreReady, IsKept, IsLevel, laned, whole};
 
-    /// All of a scenario is left, in a world with so many cores.
+    /// All of a scenario is left. So many cores have the lanes noted that may offer an ask of them, which ought to be those of the
+    /// world; any other number costs time alone.
     pub fn open(
         alloc: Global,
         scenario: &'s Scenario<A>,
@@ -51,6 +56,7 @@ impl<'s, A: Allocator, B: Allocator + Clone> Lanes<'s, A, B> {
         ensures rest { IfOk result (λ lanes. Alike (whole (laned lanes)) (plain scenario.entry.now)) }
         ensures kept { IfOk result (λ lanes. IsKept (laned lanes)) }
         ensures ready { IfOk result (λ lanes. AreReady world.now.tables world.now.state cores.now (laned lanes)) }
+        ensures fits { IfOk result (λ lanes. LanesFit lanes (plain scenario.entry.now)) }
     {
         let mut lanes = Lanes::unlisted(alloc, scenario, count)?;
         lanes.list_all(world, cores)?;
@@ -58,7 +64,7 @@ impl<'s, A: Allocator, B: Allocator + Clone> Lanes<'s, A, B> {
     }
 
     /// All of a scenario is left from now on, whatever was, in a world with so many cores. Where it has as many lanes as there
-    /// were, their memory is used again.
+    /// were, their memory is used again; so they fit in it if they did before. Where it has more or fewer, they are made anew.
     ///
     /// Where memory is refused, the lanes are of no more use.
     pub fn restart(
@@ -72,6 +78,11 @@ impl<'s, A: Allocator, B: Allocator + Clone> Lanes<'s, A, B> {
         ensures rest { OnOk result (Alike (whole (laned self.new)) (plain scenario.entry.now)) }
         ensures kept { OnOk result (IsKept (laned self.new)) }
         ensures ready { OnOk result (AreReady world.now.tables world.now.state cores.now (laned self.new)) }
+        ensures fits { LanesFit self.old (plain scenario.entry.now) →
+            LanesFit self.new (plain scenario.entry.now) }
+        ensures fits_anew { OnOk result (
+            length (laned self.old).trees ≢ how_many (lane_trees (plain scenario.entry.now)) →
+            LanesFit self.new (plain scenario.entry.now)) }
     {
         if self.is_level() && restart_each(&mut self.lanes, scenario) {
             self.list_all(world, cores)?;
@@ -97,6 +108,7 @@ impl<'s, A: Allocator, B: Allocator + Clone> Lanes<'s, A, B> {
     fn list_all(&mut self, world: &World, cores: &Cores) -> Result<(), NoMemory>
         requires { IsLevel (laned self.old) }
         ensures trees { OnOk result ((laned self.new).trees ≡ (laned self.old).trees) }
+        ensures stocks { (laned self.new).stocks ≡ (laned self.old).stocks }
         ensures kept { OnOk result (IsKept (laned self.new)) }
         ensures ready { OnOk result (AreReady world.now.tables world.now.state cores.now (laned self.new)) }
     {
@@ -116,6 +128,7 @@ impl<'s, A: Allocator, B: Allocator + Clone> Lanes<'s, A, B> {
     ) -> Result<Lanes<'s, A, B>, NoMemory>
         ensures rest { IfOk result (λ lanes. Alike (whole (laned lanes)) (plain scenario.entry.now)) }
         ensures level { IfOk result (λ lanes. IsLevel (laned lanes)) }
+        ensures fits { IfOk result (λ lanes. LanesFit lanes (plain scenario.entry.now)) }
     {
         let lanes = lanes_of(alloc, scenario)?;
         let lengths = Sums::open(alloc, lanes.len() as u32)?;
@@ -137,18 +150,31 @@ fn lanes_of<'s, A: Allocator, B: Allocator>(
 ) -> Result<Vec<Lane<'s, A, B>>, NoMemory>
     ensures few { IfOk result (λ lanes. length lanes.items ≤ 2 ^ 31) }
     ensures rest { IfOk result (λ lanes. Alike (Both (trees_of (map (λ lane. remaining lane.rest) lanes.items))) (plain scenario.entry.now)) }
+    ensures fits { IfOk result (λ lanes. EachFits lanes.items (lane_trees (plain scenario.entry.now))) }
 {
     match scenario {
-        Scenario::Both(children) if children.len() <= MOST_LANES => {
+        Scenario::Both(children) => {
+            if children.len() > MOST_LANES {
+                return lane_of(alloc, scenario);
+            }
             lanes_of_each(alloc, children.as_slice())
         }
-        tree => {
-            let lane = Lane::unlisted(alloc, tree)?;
-            let mut lanes = Vec::new(alloc);
-            lanes.push(lane)?;
-            Ok(lanes)
-        }
+        tree => lane_of(alloc, tree),
     }
+}
+
+/// A lane of this tree alone.
+fn lane_of<'s, A: Allocator, B: Allocator>(
+    alloc: Global,
+    tree: &'s Scenario<A>,
+) -> Result<Vec<Lane<'s, A, B>>, NoMemory>
+    ensures rest { IfOk result (λ lanes. map (λ lane. remaining lane.rest) lanes.items ≡ plain tree.entry.now ∷ []) }
+    ensures fits { IfOk result (λ lanes. EachFits lanes.items (Cons (plain tree.entry.now) Nil)) }
+{
+    let lane = Lane::unlisted(alloc, tree)?;
+    let mut lanes = Vec::new(alloc);
+    lanes.push(lane)?;
+    Ok(lanes)
 }
 
 /// Has the lanes go on from all of a scenario, if it has as many; else they stay.
@@ -158,6 +184,10 @@ fn restart_each<'s, A: Allocator, B: Allocator>(
 ) -> bool
     ensures count { length lanes.new.items ≡ length lanes.old.items }
     ensures rest { result ≡ true → Alike (Both (trees_of (map (λ lane. remaining lane.rest) lanes.new.items))) (plain scenario.entry.now) }
+    ensures many { result ≡ true → length lanes.old.items ≤ 2 ^ 31 →
+        length lanes.old.items ≡ how_many (lane_trees (plain scenario.entry.now)) }
+    ensures fits { EachFits lanes.old.items (lane_trees (plain scenario.entry.now)) →
+        EachFits lanes.new.items (lane_trees (plain scenario.entry.now)) }
 {
     match scenario {
         Scenario::Both(children) => {
@@ -185,6 +215,8 @@ fn restart_all<'s, A: Allocator, B: Allocator>(
     requires { length lanes.old.items ≡ length trees.now }
     ensures count { length lanes.new.items ≡ length lanes.old.items }
     ensures rest { map (λ lane. remaining lane.rest) lanes.new.items ≡ map plain trees.entry.now }
+    ensures fits { EachFits lanes.old.items (plain_all trees.entry.now) →
+        EachFits lanes.new.items (plain_all trees.entry.now) }
 {
     for (number, tree) in trees.iter().enumerate() {
         lanes[number].rest.restart(tree);
@@ -196,7 +228,8 @@ fn lanes_of_each<'s, A: Allocator, B: Allocator>(
     alloc: Global,
     trees: &'s [Scenario<A>],
 ) -> Result<Vec<Lane<'s, A, B>>, NoMemory>
-    ensures { IfOk result (λ lanes. map (λ lane. remaining lane.rest) lanes.items ≡ map plain trees.entry.now) }
+    ensures rest { IfOk result (λ lanes. map (λ lane. remaining lane.rest) lanes.items ≡ map plain trees.entry.now) }
+    ensures fits { IfOk result (λ lanes. EachFits lanes.items (plain_all trees.entry.now)) }
 {
     let mut lanes = Vec::with_capacity(alloc, trees.len())?;
     for tree in trees {

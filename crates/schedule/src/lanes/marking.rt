@@ -2,6 +2,7 @@
 
 ghost use Rattle.std.specs.Prelude.{◌≡◌, ◌<◌, ℕ, Some, IfSome, true, length, map, slice_index_or};
 ghost use Rattle.scenario.specs.Cursors.{remaining};
+ghost use Rattle.schedule.specs.Lanes.{stocked};
 ghost use Rattle.schedule.specs.Listed.{IsMarked, nothing_listed};
 ghost use Rattle.schedule.specs.inner.Changes.{IsMarkedIn};
 
@@ -18,7 +19,7 @@ impl<'s, A: Allocator, B: Allocator + Clone> Lanes<'s, A, B> {
     ghost use Rattle.world.specs.LineStates.{line_states};
     ghost use Rattle.schedule.specs.Lanes.{AgreeBut, IsKept, laned, lanes_of, listed_at};
     ghost use Rattle.schedule.specs.Listed.{IsMarked};
-    ghost use Rattle.schedule.specs.inner.Changes.{AreMarked, IsMarkedIn, Marks, WereReady, marked_in};
+    ghost use Rattle.schedule.specs.inner.Changes.{AreMarked, IsMarkedIn, ChangesMarks, WereReady, marked_in};
 
     /// Marks again what a step about a block changed, which went to a controller, but for a lane that is marked already, if there
     /// is one. Where no line's state has changed there is nothing to mark.
@@ -33,7 +34,7 @@ impl<'s, A: Allocator, B: Allocator + Clone> Lanes<'s, A, B> {
         requires kept { IsKept (laned self.old) }
         requires done { IfSome done (λ lane. IsMarked world.now.tables world.now.state (listed_at (laned self.old) lane)) }
         ensures kept { IsKept (laned self.new) }
-        ensures same { Marks (laned self.old) (laned self.new) }
+        ensures same { ChangesMarks (laned self.old) (laned self.new) }
         ensures marked { (before : State) (cores_before cores_now : List Core) (but : Option ℕ) → before.broken ≡ false →
             world.now.state.broken ≡ false → WereReady world.now.tables before cores_before world.now.state but (laned self.old) →
             AgreeBut at block.0 before world.now.state cores_before cores_now →
@@ -64,7 +65,7 @@ impl<'s, A: Allocator, B: Allocator + Clone> Lanes<'s, A, B> {
         requires kept { IsKept (laned self.old) }
         requires done { IfSome done (λ lane. IsMarked world.now.tables world.now.state (listed_at (laned self.old) lane)) }
         ensures kept { IsKept (laned self.new) }
-        ensures same { Marks (laned self.old) (laned self.new) }
+        ensures same { ChangesMarks (laned self.old) (laned self.new) }
         ensures each { (lane : ℕ) → lane < length (laned self.old).trees →
             IsMarkedIn world.now.tables world.now.state core block (lanes_of (laned self.old).reached core.0)
             (listed_at (laned self.old) lane) (listed_at (laned self.new) lane) lane }
@@ -93,6 +94,7 @@ fn mark_each<A: Allocator, B: Allocator>(
     requires { IfSome done (λ lane. IsMarked world.now.tables world.now.state (slice_index_or (map (λ l. l.asks) lanes.old.items) lane nothing_listed)) }
     ensures count { length lanes.new.items ≡ length lanes.old.items }
     ensures trees { map (λ l. remaining l.rest) lanes.new.items ≡ map (λ l. remaining l.rest) lanes.old.items }
+    ensures stocks { map (λ l. stocked l.rest) lanes.new.items ≡ map (λ l. stocked l.rest) lanes.old.items }
     ensures each { (lane : ℕ) → lane < length lanes.old.items →
         IsMarkedIn world.now.tables world.now.state core block which.now
         (slice_index_or (map (λ l. l.asks) lanes.old.items) lane nothing_listed)

@@ -5,7 +5,7 @@ use crate::asserting::same;
 use crate::jobs::RACING_PAIR;
 use base::Shape;
 use both_tables::Tables;
-use desk::{CloseFault, Desk, DeskFault, DeskSeat, Job, Naming, PostFault};
+use desk::{CloseFault, Desk, DeskFault, DeskSeat, Job, Planned, PostFault};
 use scenario::Scenario;
 use std::alloc::Global;
 use std::marker::Brand;
@@ -21,7 +21,7 @@ fn racing_pair(alloc: Global) -> Result<Job, Fail> {
     Ok(Job { scenario, setup })
 }
 
-fn posted<D: Naming, R: Abort>(
+fn posted<D: Planned, R: Abort>(
     rt: &R,
     desk: &Desk<'_, D>,
     seat: &mut DeskSeat<D>,
@@ -40,7 +40,7 @@ fn posted<D: Naming, R: Abort>(
     same(rt, &desk.look(seat, 0), &Some(made));
 }
 
-fn closed<'j, D: Naming, R: Abort>(
+fn closed<'j, D: Planned, R: Abort>(
     rt: &R,
     desk: Desk<'j, D>,
     seats: Vec<DeskSeat<D>>,
@@ -56,7 +56,7 @@ fn closed<'j, D: Naming, R: Abort>(
 }
 
 /// One seat at a desk of three numbers posts the first one's result.
-fn one_post<D: Naming, R: Abort>(
+fn one_post<D: Planned, R: Abort>(
     rt: &R,
     alloc: Global,
     job: &Job,
@@ -82,7 +82,7 @@ fn one_post<D: Naming, R: Abort>(
     }
 }
 
-fn posts<D: Naming, R: Abort>(rt: &R, alloc: Global, job: &Job) -> Result<(), Fail>
+fn posts<D: Planned, R: Abort>(rt: &R, alloc: Global, job: &Job) -> Result<(), Fail>
     requires { D.plan ≡ plan_of job.now }
 {
     let made = trial(alloc, &job.scenario, &job.setup, 0)?.result;

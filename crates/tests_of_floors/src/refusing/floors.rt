@@ -1,5 +1,5 @@
 ghost use Rattle.std.specs.Prelude.{◌≡◌};
-ghost use Rattle.floor.specs.FloorId.{names};
+ghost use Rattle.floor.specs.FloorId.{floor_id};
 
 use crate::asserting::same;
 use crate::crews::{Meeting, cast};
@@ -13,7 +13,6 @@ use std::alloc::Global;
 use std::marker::Brand;
 use std::process::Abort;
 use std::sync::Wait;
-use std::sync::atomic::AtomicBool;
 use std::test::Fail;
 use std::thread::Threads;
 use trials::Setup;
@@ -113,7 +112,7 @@ fn tries<F: Naming, R: Wait + Abort>(
     ground: Ground,
     setup: &Setup,
 ) -> Result<bool, Fail>
-    requires { F.floor ≡ names ground setup.now 1 9 }
+    requires { F.floor ≡ floor_id ground setup.now 1 9 }
 {
     match Floor::<F>::open(ground, alloc, setup, 1, 9) {
         Ok((floor, seats)) => {
@@ -139,30 +138,31 @@ fn a_floor_and_its_turns(rt: HostRuntime) -> Result<(), Fail> {
     Ok(())
 }
 
-/// Has the seats play their scripts, at the second call where the first one is refused memory.
+/// Has the seats play their scripts, at the second call where the first one is refused memory. Each waits for the others, which come or
+/// have no thread.
 fn played<F: Naming + Send + Sync, R: Threads + Wait + Abort + Sync>(
     rt: &R,
     alloc: Global,
     floor: &Floor<F>,
+    gate: &Meeting,
     seats: Vec<Seat<F>>,
 ) -> Result<Vec<(Seat<F>, Option<TurnFault>)>, Fail> {
-    let mistaken = AtomicBool::new(false);
-    let gate = Meeting::of(0);
-    let members = cast(alloc, seats, &mistaken)?;
-    let (fault, members) = match crew(rt, alloc, floor, &gate, members) {
+    let members = cast(alloc, seats, gate)?;
+    let (fault, members) = match crew(rt, alloc, floor, gate, members) {
         Ok(back) => return Ok(back),
         Err(refused) => refused,
     };
     same(rt, &fault, &CrewFault::NoMemory);
     same(rt, &members.len(), &3);
-    let back = crew(rt, alloc, floor, &gate, members);
+    let back = crew(rt, alloc, floor, gate, members);
     Ok(back.ok().ok_or("refused again")?)
 }
 
-/// The seats that came back with no fault or without memory, and how much they made.
+/// The seats that came back with no fault or without memory, and how much they made: nothing without a thread.
 fn come_back<F: Naming, R: Abort>(
     rt: &R,
     alloc: Global,
+    gate: &Meeting,
     back: Vec<(Seat<F>, Option<TurnFault>)>,
 ) -> Result<(Vec<Seat<F>>, usize), Fail> {
     let mut made = 0usize;
@@ -170,6 +170,8 @@ fn come_back<F: Naming, R: Abort>(
     for (seat, ended) in back {
         let is_right = ended.is_none() || ended == Some(TurnFault::NoMemory);
         same(rt, &is_right, &true);
+        let played = seat.made() > 0 || ended.is_none();
+        same(rt, &(gate.has_come(seat.number()) || !played), &true);
         made = made.saturating_add(seat.made());
         seats.push(seat)?;
     }
@@ -196,11 +198,13 @@ fn race<F: Naming + Send + Sync, R: Threads + Wait + Abort + Sync>(
     ground: Ground,
     setup: &Setup,
 ) -> Result<(), Fail>
-    requires { F.floor ≡ names ground setup.now 3 600 }
+    requires { F.floor ≡ floor_id ground setup.now 3 600 }
 {
     let (floor, seats) = Floor::<F>::open(ground, alloc, setup, 3, 600)?;
-    let back = played(rt, alloc, &floor, seats)?;
-    let (seats, made) = come_back(rt, alloc, back)?;
+    let gate = Meeting::of(3);
+    let back = played(rt, alloc, &floor, &gate, seats)?;
+    let (seats, made) = come_back(rt, alloc, &gate, back)?;
+    same(rt, &gate.is_right(), &true);
     let closed = floor.close(seats).ok().ok_or("not closed")?;
     is_legal(rt, alloc, &closed, made)
 }

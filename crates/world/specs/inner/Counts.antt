@@ -9,7 +9,7 @@ use Rattle.rows.specs.Counts.{Finds}
 use Rattle.world.specs.declared.counts.Kind.{Kind}
 use Rattle.world.specs.declared.counts.Kind.TheVariants.{Request, Head, Response}
 use Rattle.world.specs.declared.counts.Spot.{Spot}
-use Rattle.blocks.specs.Kept.{Kept}
+use Rattle.blocks.specs.View.{BlockView}
 use Rattle.machine.specs.Block.{BlockState}
 use Rattle.both_tables.specs.Tables.{Tables}
 use Rattle.blocks.specs.Marking.{free_requests, free_heads, free_responses, unmarked, unmarked_heads}
@@ -31,10 +31,10 @@ abbrev pub all_in : Rows → ℕ
 all_in rows = sum rows.requests + sum rows.heads + sum rows.responses
 
 -- the row of a kind
-abbrev pub row_of : Rows → Kind → List ℕ
-row_of rows Request = rows.requests
-row_of rows Head = rows.heads
-row_of rows Response = rows.responses
+abbrev pub row_of_kind : Rows → Kind → List ℕ
+row_of_kind rows Request = rows.requests
+row_of_kind rows Head = rows.heads
+row_of_kind rows Response = rows.responses
 
 -- how many of all come before the first of a kind
 abbrev pub count_before : Rows → Kind → ℕ
@@ -50,7 +50,7 @@ pub record FallsInRow (numbers : List ℕ) (before k block rest : ℕ) : Type 0 
 
 -- the k-th of all is at a spot
 abbrev pub FallsAt : Rows → ℕ → Spot → Type 0
-FallsAt rows k spot = FallsInRow (row_of rows spot.kind) (count_before rows spot.kind) k spot.block spot.rest
+FallsAt rows k spot = FallsInRow (row_of_kind rows spot.kind) (count_before rows spot.kind) k spot.block spot.rest
 
 -- the step that takes, of what a block with these marks has of a kind without a mark, the one that so many stand before
 abbrev pub step_of_kind : Marks → Kind → ℕ → ℕ → Option Step
@@ -64,7 +64,7 @@ abbrev pub step_at : Marks → Spot → Option Step
 step_at marks spot = step_of_kind marks spot.kind spot.block spot.rest
 
 -- the step at a spot, if its block is kept
-abbrev pub step_in : Spot → Option Kept → Option Step
+abbrev pub step_in : Spot → Option BlockView → Option Step
 step_in spot None = None
 step_in spot (Some k) = step_at k.marks spot
 

@@ -5,7 +5,7 @@ use Rattle.both_tables.specs.Tables.{Tables}
 use Rattle.blocks.specs.Looks.{held_in}
 use Rattle.network.specs.Traffic.{is_quiet}
 use Rattle.machine.specs.Block.{BlockState, opened_block}
-use Rattle.blocks.specs.Kept as kept
+use Rattle.blocks.specs.View as kept
 use Rattle.world.specs.declared.looks.Found.{Found}
 use Rattle.world.specs.declared.looks.Found.TheVariants.{Kept, Opened}
 
@@ -15,7 +15,7 @@ state_found caches (Kept block) = block.now.state
 state_found caches (Opened value) = opened_block caches value
 
 -- whether nothing is on its wires
-abbrev pub is_quiet_kept : Option kept.Kept → Bool
+abbrev pub is_quiet_kept : Option kept.BlockView → Bool
 is_quiet_kept None = true
 is_quiet_kept (Some k) = is_quiet k.state.traffic
 

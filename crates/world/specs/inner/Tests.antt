@@ -1,7 +1,7 @@
 -- What a world keeps of the tests of its blocks' messages.
 use Rattle.std.specs.Prelude.{◌≡◌, ℕ, Option, Some, None, slice_set}
 use Rattle.both_tables.specs.Tables.{Tables}
-use Rattle.blocks.specs.Kept.{Kept}
+use Rattle.blocks.specs.View.{BlockView}
 use Rattle.blocks.specs.Marking.{marks_of}
 use Rattle.blocks.specs.declared.block.testing.Tested.{Tested}
 use Rattle.world.specs.inner.Counts.{Rows}
@@ -16,6 +16,6 @@ counted (Some t) number rows = record {
 }
 
 -- the marks of a block are true, if it is kept
-abbrev pub IsMarked : Tables → Option Kept → Type 0
+abbrev pub IsMarked : Tables → Option BlockView → Type 0
 IsMarked tables None = Unit {0}
 IsMarked tables (Some k) = k.marks ≡ marks_of tables k.state

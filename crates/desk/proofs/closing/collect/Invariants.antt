@@ -6,6 +6,6 @@ abbrev pub invariant-loop-place : goal.invariant-loop-place
 invariant-loop-place g l = record {
   seat : l.seat ≡ l.initial.seat;
   long : length l.places.items ≡ length l.initial.places.items;
-  below : (k : ℕ) → k < l.place → Collects g.D.Naming.plan l.initial.seat k (get_or l.initial.places.items k None) (get_or l.places.items k None);
+  below : (k : ℕ) → k < l.place → Collects g.D.Planned.plan l.initial.seat k (get_or l.initial.places.items k None) (get_or l.places.items k None);
   rest : (k : ℕ) → l.place ≤ k → get_or l.places.items k None ≡ get_or l.initial.places.items k None;
 }

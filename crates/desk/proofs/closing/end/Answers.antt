@@ -18,7 +18,7 @@ loop-seat-preserved g c =
       seats = put_back_same c.loop-seat.seat-items c.deref_mut-seat-items.result.now c.loop-seat.seat-index c.seat-item.result c.collect.new.seat
           i.seats c.collect.ensures.seat;
       long = c.collect.ensures.long ∙ i.long;
-      places = λ k lt. place_more g.D.Naming.plan c.deref_mut-seat-items.result.now c.loop-seat.seat-index k s
+      places = λ k lt. place_more g.D.Planned.plan c.deref_mut-seat-items.result.now c.loop-seat.seat-index k s
           (get_or c.loop-seat.places.items k None) (get_or c.collect.new.places.items k None) at (i.places k lt)
           (c.collect.ensures.places k (omega (arith, lt, cells)));
     }
@@ -41,8 +41,8 @@ settle-requires-clause-these g c =
 pub returns-clause-places : goal.returns-clause-places
 returns-clause-places g c = λ k lt.
     let i = c.loop-seat.invariant in
-    subst (λ ss. IsPlace g.D.Naming.plan ss k (get_or c.loop-seat.places.items k None)) c.deref_mut-seat-items.ensures.value
-    (place_all g.D.Naming.plan c.deref_mut-seat-items.result.now c.loop-seat.seat-index k (get_or c.loop-seat.places.items k None)
+    subst (λ ss. IsPlace g.D.Planned.plan ss k (get_or c.loop-seat.places.items k None)) c.deref_mut-seat-items.ensures.value
+    (place_all g.D.Planned.plan c.deref_mut-seat-items.result.now c.loop-seat.seat-index k (get_or c.loop-seat.places.items k None)
     (let far = ap (λ l. length l) i.seats in omega (arith, c.loop-seat-test.false, far)) (i.places k lt))
 
 pub deref_mut-seat-items-requires : goal.deref_mut-seat-items-requires

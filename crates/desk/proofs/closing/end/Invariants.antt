@@ -6,5 +6,5 @@ abbrev pub invariant-loop-seat : goal.invariant-loop-seat
 invariant-loop-seat g l = record {
   seats : l.seat-items ≡ l.initial.seat-items;
   long : length l.places.items ≡ length l.fn.desk.id.cells;
-  places : (k : ℕ) → k < length l.fn.desk.id.cells → IsPlaceUpTo g.D.Naming.plan l.initial.seat-items l.seat-index k (get_or l.places.items k None);
+  places : (k : ℕ) → k < length l.fn.desk.id.cells → IsPlaceUpTo g.D.Planned.plan l.initial.seat-items l.seat-index k (get_or l.places.items k None);
 }

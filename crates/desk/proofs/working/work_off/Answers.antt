@@ -39,7 +39,6 @@ loop-number-preserved g c =
     record {
       desk = ap (λ s. s.desk) p ∙ i.desk;
       plan = c.result.ensures.plan ∙ i.plan;
-      can_go_on = c.result.ensures.can_go_on;
       works = (
         w.0 ++ c.in-Some.number ∷ [],
         omega (arith, w.1, length-append w.0 (c.in-Some.number ∷ [])),

@@ -1,5 +1,5 @@
 use Rattle.std.proofs.Common.{◌≡◌, ◌-◌, List, ℕ, length}
-use Rattle.trials.specs.Making.{CanGoOn, planned}
+use Rattle.trials.specs.Series.{planned}
 use Rattle.desk.specs.Working.{Works}
 use Rattle.desk.proofs.working.work_off.Given as goal
 
@@ -7,7 +7,6 @@ abbrev pub invariant-loop-number : goal.invariant-loop-number
 invariant-loop-number g l = record {
   desk : l.seat.desk ≡ l.desk.id;
   plan : planned l.series ≡ planned l.initial.series;
-  can_go_on : CanGoOn l.series;
   works : (mine : List ℕ) × (length mine ≡ l.count) × Works l.initial.seat l.seat mine;
 }
 

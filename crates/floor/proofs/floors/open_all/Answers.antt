@@ -1,7 +1,7 @@
 use Rattle.std.proofs.Common.{◌≡◌, ap, sym, subst, rules, [], ℕ, List, None, arith}
 use Rattle.std.proofs.lemmas.Grind.{common_steps}
 use Rattle.monitor.specs.Watching.{HasSeen}
-use Rattle.record.specs.Kept.{opened_recording}
+use Rattle.record.specs.View.{opened_recording}
 use Rattle.trials.specs.Terms.{Terms}
 use Rattle.world.specs.View.{View}
 use Rattle.floor.specs.FloorId.{FloorId}

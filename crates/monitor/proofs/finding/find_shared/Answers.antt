@@ -3,7 +3,7 @@ use Rattle.std.proofs.lemmas.Grind.{common_steps}
 use Rattle.monitor.specs.Scenes.{scene_in}
 use Rattle.world.specs.Looks.{readers_of}
 use Rattle.machine.specs.Coherence.{Writes}
-use Rattle.monitor.specs.inner.Finding.{NoneFrom}
+use Rattle.monitor.specs.inner.Finding.{HoldsForNoneFrom}
 use Rattle.monitor.proofs.Looking.{none-shared, none-writes}
 use Rattle.monitor.proofs.finding.find_shared.Goals as goal
 
@@ -13,7 +13,7 @@ returns-in_err-first c = λ outcome due looked.
     rw c.from_residual.ensures
     (elim c.in_err-first.ensures.none [
       | inl few ↦ none-shared scene (subst (λ (b : ℕ). readers_of c.args.world.now.state b ≤ 1) c.block-block.ensures few)
-      | inr none ↦ none-writes scene (subst (λ (b : ℕ). NoneFrom (λ n. Writes c.args.world.now.state n b) 0) c.block-block.ensures none)
+      | inr none ↦ none-writes scene (subst (λ (b : ℕ). HoldsForNoneFrom (λ n. Writes c.args.world.now.state n b) 0) c.block-block.ensures none)
     ])
 
 pub returns-in-Some : goal.returns-in-Some

@@ -1,5 +1,5 @@
 use Rattle.std.proofs.Common.{◌++◌, ◌∷◌, [], None, Some, ap, arith, false, ◌∙◌}
-use Rattle.network.specs.Links.{marks_on, on_link}
+use Rattle.network.specs.inner.Links.{marks_on, on_link}
 use Rattle.network.proofs.Linked.{none-used, one_place-used, parts-set, parts-set_same}
 use Rattle.network.proofs.Waits.{on_err}
 use Rattle.network.proofs.links.send_on.Goals.{in-Ok, in-Err}

@@ -4,7 +4,7 @@ use Rattle.machine.specs.Coherence.{Safe}
 use Rattle.monitor.specs.declared.violation.Violation.{Violation}
 use Rattle.monitor.specs.Violations.{AnswersFirst}
 use Rattle.world.specs.View.{View}
-use Rattle.record.specs.Kept.{Kept, steps_of}
+use Rattle.record.specs.View.{RecordingView, steps_of}
 use Rattle.record.specs.declared.replaying.ReplayFault.{ReplayFault}
 use Rattle.record.specs.inner.SoFar.{IsSoFar}
 use Rattle.std.proofs.lemmas.Grind.{common_steps}
@@ -65,7 +65,7 @@ pub returns-clause-differs : goal.returns-clause-differs
 returns-clause-differs c = grind (arith, common_steps)
 
 -- where the first violation is known, none is the same as safety
-known : (r : Result (Option (ℕ × Violation)) ReplayFault) (told : Kept) (world : View) (watch : List ℕ) →
+known : (r : Result (Option (ℕ × Violation)) ReplayFault) (told : RecordingView) (world : View) (watch : List ℕ) →
     ((answer : Option (ℕ × Violation)) → AnswersFirst told.shape told.tables told.opening (steps_of told) answer →
     answer ≡ None ↔ Safe told.shape told.tables told.opening (steps_of told)) →
     IfOk r (λ violation. IsSoFar told told.entries world watch violation) →

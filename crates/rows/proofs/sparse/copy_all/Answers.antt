@@ -1,6 +1,6 @@
 use Rattle.std.proofs.Common.{◌≡◌, [], ◌∷◌, ◌++◌, ap, nat_eq, sym, ◌∙◌}
 use Rattle.indexmap.proofs.CallerLemmas.{insert_entry-new}
-use Rattle.rows.specs.inner.Held.{seen_entries}
+use Rattle.rows.specs.inner.Items.{seen_entries}
 use Rattle.rows.proofs.Copied.{all_copied, copied-more, not_copied}
 use Rattle.rows.proofs.sparse.copy_all.Goals as goal
 

@@ -1,5 +1,5 @@
 use Rattle.std.proofs.Common.{◌≡◌, ◌++◌}
-use Rattle.rows.specs.inner.Held.{seen_entries}
+use Rattle.rows.specs.inner.Items.{seen_entries}
 use Rattle.rows.proofs.sparse.copy_all.Given as goal
 
 abbrev pub invariant-loop-at : goal.invariant-loop-at

@@ -1,7 +1,7 @@
 use Rattle.std.proofs.Common.{◌≡◌, ◌+◌, ◌*◌, [], map, drop}
 use Rattle.serde_json.specs.View.{items_view}
 use Rattle.scenario.specs.Tree.{plain}
-use Rattle.scenario.specs.Walk.{tree_at, trees_behind}
+use Rattle.scenario.specs.inner.Walk.{tree_at, trees_behind}
 use Rattle.scenario.proofs.reading.+reading.Given as goal
 
 -- behind the children so far, the values behind them are those that all values are

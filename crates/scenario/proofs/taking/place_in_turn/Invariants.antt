@@ -1,7 +1,7 @@
 use Rattle.std.proofs.Common.{◌≡◌, drop, length, slice_get}
 use Rattle.scenario.specs.Tree.{plain_all}
 use Rattle.scenario.specs.Taking.{offers_in_turn}
-use Rattle.scenario.specs.Rests.{past, rest_in_turn}
+use Rattle.scenario.specs.inner.Rests.{past, rest_in_turn}
 use Rattle.scenario.proofs.taking.place_in_turn.Given as goal
 
 abbrev pub invariant-loop-i : goal.invariant-loop-i

@@ -1,5 +1,5 @@
-use Rattle.floor.specs.FloorId.{names}
+use Rattle.floor.specs.FloorId.{floor_id}
 use Rattle.tests_of_floors.proofs.turns.a_store_and_a_load.Given as goal
 
 abbrev pub ghosts-store_and_load : goal.ghosts-store_and_load
-ghosts-store_and_load g a = record { floor = names a.ground a.setup.now 1 9 }
+ghosts-store_and_load g a = record { floor = floor_id a.ground a.setup.now 1 9 }

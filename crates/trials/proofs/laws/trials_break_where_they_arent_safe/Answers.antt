@@ -1,5 +1,5 @@
 use Rattle.std.proofs.Common.{subst}
-use Rattle.record.specs.Kept.{steps_of}
+use Rattle.record.specs.View.{steps_of}
 use Rattle.trials.specs.Trial.{IsVerdict}
 use Rattle.trials.proofs.Verdicts.{trial-legal, broke-unsafe, broken-by, unsafe-broke}
 use Rattle.trials.proofs.laws.trials_break_where_they_arent_safe.Goals as goal

@@ -2,7 +2,7 @@ use Rattle.std.proofs.Common.{List, sym, subst}
 use Rattle.base.specs.declared.step.Outcome.{Outcome}
 use Rattle.machine.specs.Coherence.{Safe, Explained}
 use Rattle.machine.specs.Completions.{completions}
-use Rattle.record.specs.Kept.{steps_of}
+use Rattle.record.specs.View.{steps_of}
 use Rattle.trials.specs.Trial.{HasBroken, IsResult, IsUnbroken}
 use Rattle.trials.specs.declared.verdict.Verdict.{Verdict}
 use Rattle.trials.specs.declared.verdict.Verdict.TheVariants.{Quiet, Cut, Stuck, Broke}

@@ -3,15 +3,15 @@ use Rattle.machine.specs.Coherence.{Safe}
 use Rattle.machine.specs.Machine.{State, opened, state_after}
 use Rattle.both_tables.specs.Tables.{Tables}
 use Rattle.machine.specs.Unstuck.{Unstuck}
-use Rattle.record.specs.Kept.{steps_of}
-use Rattle.trials.specs.Trial.{IsVerdict}
+use Rattle.record.specs.View.{steps_of}
+use Rattle.trials.specs.Trial.{IsResult, IsVerdict}
 use Rattle.trials.proofs.Chosen.{path-tracked}
 use Rattle.trials.proofs.Verdicts.{trial-state, sound}
 use Rattle.trials.proofs.Rests.{at-rest, stays-whole}
 use Rattle.trials.proofs.laws.trials_under_the_own_tables.Goals as goal
 
-pub returns : goal.returns
-returns c terms tree number recording verdict own lawful trial =
+pub returns-clause-sound : goal.returns-clause-sound
+returns-clause-sound c terms tree number recording verdict own lawful trial =
     let safe : Safe terms.shape terms.tables terms.opening (steps_of recording) =
     subst (λ (t : Tables). Safe terms.shape t terms.opening (steps_of recording)) (sym own)
     (c.safe.ensures terms.shape terms.opening (steps_of recording) lawful.within lawful.each) in
@@ -26,3 +26,8 @@ returns c terms tree number recording verdict own lawful trial =
     (path-tracked terms tree number trial.moments recording.entries trial.path _ trial.last trial.at_last)
     (subst (λ (s : State). s.broken ≡ false) (sym state)
     (stays-whole terms.tables (opened terms.shape terms.opening) (steps_of recording) refl safe.unmet)) ends.1))
+
+pub returns-clause-sound_batch : goal.returns-clause-sound_batch
+returns-clause-sound_batch c terms tree n results own lawful are number result at =
+    let its : IsResult terms tree number result = are.each number result at in
+    returns-clause-sound c terms tree number its.recording result.verdict own lawful its.trial

@@ -21,7 +21,7 @@ returns-clause-broke g c =
 
 pub returns-clause-sound : goal.returns-clause-sound
 returns-clause-sound g c own =
-    c.trials_under_the_own_tables.ensures c.args.setup.now
+    c.trials_under_the_own_tables.ensures.sound c.args.setup.now
     (plain c.args.scenario.now) c.args.number _ c.in_ok-recording.verdict own c.limit-limit.ensures.lawful c.in_ok-recording.ensures
 
 pub returns-clause-unbroken : goal.returns-clause-unbroken

@@ -6,9 +6,3 @@ pub returns-clause-result : goal.returns-clause-result
 returns-clause-result g c =
     let ended = c.in_ok-verdict.ensures.ends c.args.setup.now (plain c.args.scenario.now) c.args.number (sym c.limit.ensures.value) c.requires in
     record { recording = ended.0; trial = ended.2; numbered = refl; steps = c.steps.ensures ended.0 ended.1 }
-
-pub returns-clause-sound : goal.returns-clause-sound
-returns-clause-sound g c own =
-    let ended = c.in_ok-verdict.ensures.ends c.args.setup.now (plain c.args.scenario.now) c.args.number (sym c.limit.ensures.value) c.requires in
-    c.trials_under_the_own_tables.ensures c.args.setup.now (plain c.args.scenario.now) c.args.number ended.0 c.in_ok-verdict.verdict own
-    c.limit.ensures.lawful ended.2

@@ -1,6 +1,6 @@
 use Rattle.std.proofs.Common.{◌≡◌}
-use Rattle.trials.specs.Making.{CanGoOn, planned}
+use Rattle.trials.specs.Series.{planned}
 use Rattle.trying.proofs.sharing.print_claimed.Given as goal
 
 abbrev pub invariant-loop : goal.invariant-loop
-invariant-loop g l = (l.seat.desk ≡ l.desk.id) × (planned l.series ≡ planned l.initial.series) × CanGoOn l.series
+invariant-loop g l = (l.seat.desk ≡ l.desk.id) × (planned l.series ≡ planned l.initial.series)

@@ -1,6 +1,6 @@
 use Rattle.std.proofs.Common.{◌∙◌, Some, ap, arith, inl, inr, length, subst, sym, true≢false}
 use Rattle.std.proofs.lemmas.Grind.{common_steps}
-use Rattle.world.specs.inner.Held.{kept_at}
+use Rattle.world.specs.inner.Holding.{kept_at}
 use Rattle.std.proofs.lemmas.List.{length-set}
 use Rattle.blocks.specs.Marking.{marks_of}
 use Rattle.world.specs.inner.Tests.{IsMarked}

@@ -1,6 +1,6 @@
 use Rattle.std.proofs.Common.{Some, inl, inr, sym, true≢false, arith}
 use Rattle.std.proofs.lemmas.Grind.{common_steps}
-use Rattle.world.specs.inner.Held.{kept_at}
+use Rattle.world.specs.inner.Holding.{kept_at}
 use Rattle.world.proofs.Touching.{light-at, others-set}
 use Rattle.world.proofs.at_block.step_at.Goals as goal
 

@@ -1,7 +1,7 @@
 use Rattle.std.proofs.Common.{◌∙◌, ap, subst, sym, arith}
 use Rattle.std.proofs.lemmas.Grind.{common_steps}
 use Rattle.machine.specs.Block.{BlockState}
-use Rattle.world.specs.inner.Held.{kept_at}
+use Rattle.world.specs.inner.Holding.{kept_at}
 use Rattle.world.specs.inner.Tests.{IsMarked}
 use Rattle.world.proofs.QuietMarks.{marks-quiet}
 use Rattle.world.proofs.Touching.{marked-put}

@@ -4,8 +4,8 @@ use Rattle.blocks.proofs.Relinking.{messages-links}
 use Rattle.control.specs.LineEffect.{is_reader, is_writer, line_sends, requestor_of}
 use Rattle.control.specs.HomeEffect.{home_sends, sender_of, IsBelow}
 use Rattle.machine.specs.Block.{BlockState}
-use Rattle.blocks.specs.Kept.{Kept}
-use Rattle.blocks.specs.inner.Held.{IsHeld, kept_lines, lines_of}
+use Rattle.blocks.specs.View.{BlockView}
+use Rattle.blocks.specs.inner.Lined.{IsHeld, kept_lines, lines_of}
 use Rattle.blocks.specs.inner.Named.{IsKeptIf}
 use Rattle.blocks.proofs.Acting.{held-at_line, held-at_home}
 use Rattle.blocks.proofs.block.Block.carry_out.Goals as goal
@@ -25,10 +25,10 @@ invariant_of-self-in-AtLine c =
       latest = c.latest_value-self-inside.result;
     } in
     let fits : c.in-AtLine.cache.0 < length c.args.self.now.state.lines = (rw c.in-AtLine.is at c.requires.fits).0 in
-    let there : c.in-AtLine.cache.0 < length old.lines = subst (λ (k : Kept). c.in-AtLine.cache.0 < length k.state.lines) (sym c.self.view_is) fits in
+    let there : c.in-AtLine.cache.0 < length old.lines = subst (λ (k : BlockView). c.in-AtLine.cache.0 < length k.state.lines) (sym c.self.view_is) fits in
     let named : IsKeptIf c.args.self.now.space.lines (requestor_of c.in-AtLine.input) = (rw c.in-AtLine.is at c.requires.names).0 in
     let requestor : IsKeptIf (kept_lines c.self.inside.lines.items) (requestor_of c.in-AtLine.input) =
-    subst (λ (k : Kept). IsKeptIf k.space.lines (requestor_of c.in-AtLine.input)) (sym c.self.view_is) named in
+    subst (λ (k : BlockView). IsKeptIf k.space.lines (requestor_of c.in-AtLine.input)) (sym c.self.view_is) named in
     let after = c.line_perform-done.new.line in (
       rw (c.set.ensures, c.set-in-AtLine.ensures, c.may_read.ensures, c.may_write.ensures)
           (subst (λ is. IsHeld new is (set c.self.inside.access.readers c.in-AtLine.cache.0 (is_reader after.state))
@@ -54,10 +54,10 @@ invariant_of-self-in-AtHome c =
     } in
     let fits : IsBelow (sender_of c.in-AtHome.input) (length c.args.self.now.state.lines) = (rw c.in-AtHome.is at c.requires.fits).1 in
     let below : IsBelow (sender_of c.in-AtHome.input) (length old.lines) =
-    subst (λ (k : Kept). IsBelow (sender_of c.in-AtHome.input) (length k.state.lines)) (sym c.self.view_is) fits in
+    subst (λ (k : BlockView). IsBelow (sender_of c.in-AtHome.input) (length k.state.lines)) (sym c.self.view_is) fits in
     let named : IsKeptIf c.args.self.now.space.lines (sender_of c.in-AtHome.input) = rw c.in-AtHome.is at c.requires.names in
     let sender : IsKeptIf (kept_lines c.self.inside.lines.items) (sender_of c.in-AtHome.input) =
-    subst (λ (k : Kept). IsKeptIf k.space.lines (sender_of c.in-AtHome.input)) (sym c.self.view_is) named in (
+    subst (λ (k : BlockView). IsKeptIf k.space.lines (sender_of c.in-AtHome.input)) (sym c.self.view_is) named in (
       held-at_home c.self.inside.lines.items c.in-AtHome.input c.in-AtHome.next c.in-AtHome.actions c.in-AtHome.origin old new
           c.self.inside.access.readers c.self.inside.access.writers c.self.invariant.0 below sender refl c.home_perform.ensures.home
           (c.home_perform.ensures.traffic ∙ ap (all_sent (home_sends c.in-AtHome.input c.in-AtHome.actions c.self.inside.home)) c.take-in-AtHome.ensures.traffic),

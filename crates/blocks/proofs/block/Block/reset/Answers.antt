@@ -2,7 +2,7 @@ use Rattle.std.proofs.Common.{◌≡◌, ◌∙◌, None, ap, false, length, ref
 use Rattle.std.proofs.lemmas.List.{length-map}
 use Rattle.control.specs.HomeEffect.{opened_home}
 use Rattle.network.specs.Traffic.{quiet}
-use Rattle.blocks.specs.inner.Held.{lines_of}
+use Rattle.blocks.specs.inner.Lined.{lines_of}
 use Rattle.blocks.proofs.Opening.{held-opened, lines-opened}
 use Rattle.blocks.proofs.block.Block.reset.Goals as goal
 use Rattle.blocks.proofs.block.Block.reset.Goals.{After-clear-3}

@@ -68,6 +68,7 @@ returns-in-Err c =
       tested = tt;
       sent = tt;
       err = c.prepare.ensures.state;
+      idle = λ none. c.prepare.ensures.idle (rw c.decide-decision.ensures.decision none);
       succeeds = λ space. c.in-Err.ensures.succeeds (rw c.decide-decision.ensures.decision space);
       sends_nothing = λ none asleep. grind (arith, common_steps);
     }

@@ -1,7 +1,7 @@
 use Rattle.std.proofs.Common.{◌∙◌, ap, Some}
 use Rattle.std.proofs.lemmas.List.{map-set}
-use Rattle.blocks.specs.Kept.{line_or}
-use Rattle.blocks.specs.inner.Held.{lines_of}
+use Rattle.blocks.specs.View.{line_or}
+use Rattle.blocks.specs.inner.Lined.{lines_of}
 use Rattle.blocks.proofs.block.acting.put_line.Goals as goal
 
 pub returns-clause-lines : goal.returns-clause-lines

@@ -3,8 +3,8 @@ use Rattle.control.specs.HomeEffect.{opened_home}
 use Rattle.machine.specs.Block.{BlockState}
 use Rattle.network.specs.Traffic.{Traffic, IsNextWaiting, link}
 use Rattle.blocks.specs.Marking.{links_stall}
-use Rattle.blocks.specs.inner.Held.{lines_of}
-use Rattle.blocks.specs.inner.Tested.{block_of}
+use Rattle.blocks.specs.inner.Lined.{lines_of}
+use Rattle.blocks.specs.inner.Tested.{block_with}
 use Rattle.blocks.proofs.TestedMarks.{head-tested, heads-over, heads-past, heads-step, links-end, links-none, links-step}
 use Rattle.blocks.proofs.UnmarkedPlaces.{unmarked_heads-length}
 use Rattle.blocks.proofs.Writes.{sum-next, sum-none, waiting-within}
@@ -32,7 +32,7 @@ returns-in_default-clause-marks c =
 
 pub returns-in_default-clause-heads : goal.returns-in_default-clause-heads
 returns-in_default-clause-heads c =
-    let over = heads-over c.args.tables.now (block_of c.args.lines.now.items (opened_home 0 0) c.args.wires.now.traffic) c.loop-from.from
+    let over = heads-over c.args.tables.now (block_with c.args.lines.now.items (opened_home 0 0) c.args.wires.now.traffic) c.loop-from.from
     (rw c.loop-from.invariant.traffic at c.in_default.ensures.none) in
     omega (arith, over, c.loop-from.invariant.heads)
 
@@ -46,7 +46,7 @@ loop-from-preserved c =
     let old = c.args.wires.now in
     let lines = lines_of c.args.lines.now.items in
     let cache = c.in-Some.cache.0 in
-    let b : BlockState = block_of c.args.lines.now.items (opened_home 0 0) old.traffic in
+    let b : BlockState = block_with c.args.lines.now.items (opened_home 0 0) old.traffic in
     let next : IsNextWaiting old.traffic c.loop-from.from cache = rw c.loop-from.invariant.traffic at c.in-Some.ensures.some in
     let behind = next.behind in
     let within = waiting-within old.traffic.links cache next.waits in
@@ -94,6 +94,6 @@ returns-clause-marks c =
 
 pub returns-clause-heads : goal.returns-clause-heads
 returns-clause-heads c =
-    let past = heads-past c.args.tables.now (block_of c.args.lines.now.items (opened_home 0 0) c.args.wires.now.traffic) c.loop-from.from
+    let past = heads-past c.args.tables.now (block_with c.args.lines.now.items (opened_home 0 0) c.args.wires.now.traffic) c.loop-from.from
     (omega (arith, c.link_count-links.ensures.count, c.loop-from-test.false)) in
     omega (arith, past, c.loop-from.invariant.heads)

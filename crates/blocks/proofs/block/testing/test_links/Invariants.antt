@@ -1,7 +1,7 @@
 use Rattle.std.proofs.Common.{◌≡◌, ◌+◌, ◌*◌, ◌-◌, ◌^◌, ◌≤◌, drop, length}
 use Rattle.std.specs.List.{sum_by}
 use Rattle.blocks.specs.Marking.{links_stall, unmarked_heads, unmarked_heads_count}
-use Rattle.blocks.specs.inner.Held.{lines_of}
+use Rattle.blocks.specs.inner.Lined.{lines_of}
 use Rattle.blocks.proofs.Writes.{written}
 use Rattle.blocks.proofs.block.testing.test_links.Given as goal
 

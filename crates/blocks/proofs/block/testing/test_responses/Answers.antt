@@ -2,7 +2,7 @@ use Rattle.std.proofs.Common.{◌∙◌, sym, ap, arith, length, map, slice_get}
 use Rattle.std.proofs.lemmas.List.{length-map}
 use Rattle.network.specs.Traffic.{Traffic}
 use Rattle.blocks.specs.Marking.{response_stalls}
-use Rattle.blocks.specs.inner.Tested.{block_of}
+use Rattle.blocks.specs.inner.Tested.{block_with}
 use Rattle.blocks.proofs.TestedMarks.{responses-end, responses-step}
 use Rattle.blocks.proofs.UnmarkedPlaces.{count-below, count-free, count-held}
 use Rattle.blocks.proofs.Writes.{map-at, map-within, none-past}
@@ -13,7 +13,7 @@ pub overflow_add-free : goal.overflow_add-free
 overflow_add-free c =
     let i = c.loop-index.index in
     let loop = c.loop-index in
-    let stalls = response_stalls c.args.tables.now (block_of c.args.lines.now.items c.args.home.now c.args.wires.now.traffic) in
+    let stalls = response_stalls c.args.tables.now (block_with c.args.lines.now.items c.args.home.now c.args.wires.now.traffic) in
     let there = ap (λ (t : Traffic). slice_get t.responses i) (sym loop.invariant.traffic) ∙ sym (rw c.in-Some.is at c.response.ensures) in
     let within = map-within stalls c.args.wires.now.traffic.responses i c.in-Some.response there in
     let mark = map-at stalls c.args.wires.now.traffic.responses i c.in-Some.response there ∙ sym (c.stalls_response-held.ensures c.args.wires.now.traffic) in
@@ -29,7 +29,7 @@ loop-index-preserved c =
     let i = c.loop-index.index in
     let loop = c.loop-index in
     let count = c.response_count-index-end in
-    let stalls = response_stalls c.args.tables.now (block_of c.args.lines.now.items c.args.home.now c.args.wires.now.traffic) in
+    let stalls = response_stalls c.args.tables.now (block_with c.args.lines.now.items c.args.home.now c.args.wires.now.traffic) in
     let long = length-map c.args.wires.now.traffic.responses stalls in
     elim c.match-response.branch [
       | in-Some+then-not-held w ↦
@@ -73,7 +73,7 @@ loop-index-preserved c =
 pub returns-clause-marks : goal.returns-clause-marks
 returns-clause-marks c =
     let count = c.response_count-index-end in
-    let stalls = response_stalls c.args.tables.now (block_of c.args.lines.now.items c.args.home.now c.args.wires.now.traffic) in
+    let stalls = response_stalls c.args.tables.now (block_with c.args.lines.now.items c.args.home.now c.args.wires.now.traffic) in
     let long = length-map c.args.wires.now.traffic.responses stalls in
     responses-end c.args.wires.now.marks c.loop-index.wires.marks (map stalls c.args.wires.now.traffic.responses) c.loop-index.index
     (omega (arith, long, count.ensures.as_many)) (omega (arith, long, count.ensures.count, c.loop-index-test.false)) c.loop-index.invariant.marks

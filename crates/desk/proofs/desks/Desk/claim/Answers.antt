@@ -47,8 +47,8 @@ returns-in-Some-clause-below g c = λ x p.
 pub returns-in-Some-clause-own : goal.returns-in-Some-clause-own
 returns-in-Some-clause-own g c = λ x p. ((invariant_of-seat g c).posts_are x p).0
 
-pub returns-in-Some-clause-open : goal.returns-in-Some-clause-open
-returns-in-Some-clause-open g c = λ p.
+pub returns-in-Some-clause-unposted : goal.returns-in-Some-clause-unposted
+returns-in-Some-clause-unposted g c = λ p.
     let i = c.seat.inside in
     let none = unposted i.token.me (length i.notes.items) i.told (map is_claimed i.stages.items) (map is_posted i.stages.items)
     (map (λ n. n.known) i.notes.items) c.in-Some.number c.seat.invariant c.in-Some.ensures.rises in
@@ -63,8 +63,8 @@ returns-then-seat-clause-within g c = grind (arith, common_steps)
 pub returns-then-seat-clause-next : goal.returns-then-seat-clause-next
 returns-then-seat-clause-next g c = grind (arith, common_steps)
 
-pub returns-then-seat-clause-open : goal.returns-then-seat-clause-open
-returns-then-seat-clause-open g c = grind (arith, common_steps)
+pub returns-then-seat-clause-unposted : goal.returns-then-seat-clause-unposted
+returns-then-seat-clause-unposted g c = grind (arith, common_steps)
 
 pub returns-then-seat-clause-none : goal.returns-then-seat-clause-none
 returns-then-seat-clause-none g c = grind (arith, common_steps)
@@ -144,8 +144,8 @@ returns-in-None-clause-within g c = grind (arith, common_steps)
 pub returns-in-None-clause-next : goal.returns-in-None-clause-next
 returns-in-None-clause-next g c = grind (arith, common_steps)
 
-pub returns-in-None-clause-open : goal.returns-in-None-clause-open
-returns-in-None-clause-open g c = grind (arith, common_steps)
+pub returns-in-None-clause-unposted : goal.returns-in-None-clause-unposted
+returns-in-None-clause-unposted g c = grind (arith, common_steps)
 
 pub returns-in-None-clause-none : goal.returns-in-None-clause-none
 returns-in-None-clause-none g c = grind (arith, common_steps)

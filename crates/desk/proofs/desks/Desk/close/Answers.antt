@@ -5,14 +5,14 @@ use Rattle.desk.proofs.Filled.{batched, filled, placed}
 use Rattle.desk.proofs.desks.Desk.close.Goals as goal
 
 pub returns-clause-places : goal.returns-clause-places
-returns-clause-places g c = placed g.D.Naming.plan (numbers_of c.args.self.id) c.args.seats.items c.end.result.items c.end.ensures.length c.end.ensures.places
+returns-clause-places g c = placed g.D.Planned.plan (numbers_of c.args.self.id) c.args.seats.items c.end.result.items c.end.ensures.length c.end.ensures.places
 
 pub returns-clause-filled : goal.returns-clause-filled
-returns-clause-filled g c = filled g.D.Naming.plan (numbers_of c.args.self.id) c.args.seats.items c.end.result.items c.end.ensures.claims
+returns-clause-filled g c = filled g.D.Planned.plan (numbers_of c.args.self.id) c.args.seats.items c.end.result.items c.end.ensures.claims
     (returns-clause-places g c)
 
 pub returns-clause-batch : goal.returns-clause-batch
-returns-clause-batch g c = batched g.D.Naming.plan (numbers_of c.args.self.id) c.args.seats.items c.end.result.items (returns-clause-places g c)
+returns-clause-batch g c = batched g.D.Planned.plan (numbers_of c.args.self.id) c.args.seats.items c.end.result.items (returns-clause-places g c)
 
 pub overflow_cast-self-inside : goal.overflow_cast-self-inside
 overflow_cast-self-inside g c = grind (arith, common_steps)
@@ -20,8 +20,8 @@ overflow_cast-self-inside g c = grind (arith, common_steps)
 pub returns-then-len-self-clause-missing : goal.returns-then-len-self-clause-missing
 returns-then-len-self-clause-missing g c = grind (arith, common_steps)
 
-pub returns-then-len-self-clause-room : goal.returns-then-len-self-clause-room
-returns-then-len-self-clause-room g c = grind (arith, common_steps)
+pub returns-then-len-self-clause-else_memory : goal.returns-then-len-self-clause-else_memory
+returns-then-len-self-clause-else_memory g c = grind (arith, common_steps)
 
 pub returns-then-len-self-clause-back : goal.returns-then-len-self-clause-back
 returns-then-len-self-clause-back g c = grind (arith, common_steps)
@@ -41,8 +41,8 @@ returns-then-len-self-clause-batch g c = grind (arith, common_steps)
 pub returns-in_default-clause-missing : goal.returns-in_default-clause-missing
 returns-in_default-clause-missing g c = grind (arith, common_steps)
 
-pub returns-in_default-clause-room : goal.returns-in_default-clause-room
-returns-in_default-clause-room g c = grind (arith, common_steps)
+pub returns-in_default-clause-else_memory : goal.returns-in_default-clause-else_memory
+returns-in_default-clause-else_memory g c = grind (arith, common_steps)
 
 pub returns-in_default-clause-back : goal.returns-in_default-clause-back
 returns-in_default-clause-back g c = grind (arith, common_steps)
@@ -62,8 +62,8 @@ returns-in_default-clause-batch g c = grind (arith, common_steps)
 pub returns-clause-missing : goal.returns-clause-missing
 returns-clause-missing g c = grind (arith, common_steps)
 
-pub returns-clause-room : goal.returns-clause-room
-returns-clause-room g c = grind (arith, common_steps)
+pub returns-clause-else_memory : goal.returns-clause-else_memory
+returns-clause-else_memory g c = grind (arith, common_steps)
 
 pub returns-clause-back : goal.returns-clause-back
 returns-clause-back g c = grind (arith, common_steps)

@@ -57,8 +57,8 @@ invariant_of-self g c = grind (arith, common_steps)
 pub invariant_of-seat : goal.invariant_of-seat
 invariant_of-seat g c = grind (arith, common_steps)
 
-pub returns-in-Err-clause-room : goal.returns-in-Err-clause-room
-returns-in-Err-clause-room g c = grind (arith, common_steps)
+pub returns-in-Err-clause-else_memory : goal.returns-in-Err-clause-else_memory
+returns-in-Err-clause-else_memory g c = grind (arith, common_steps)
 
 pub returns-in-Err-clause-ok : goal.returns-in-Err-clause-ok
 returns-in-Err-clause-ok g c = grind (arith, common_steps)
@@ -72,8 +72,8 @@ invariant_of-self-in_default-advance g c = grind (arith, common_steps)
 pub invariant_of-seat-in_default-advance : goal.invariant_of-seat-in_default-advance
 invariant_of-seat-in_default-advance g c = grind (arith, common_steps)
 
-pub returns-in_default-advance-clause-room : goal.returns-in_default-advance-clause-room
-returns-in_default-advance-clause-room g c = grind (arith, common_steps)
+pub returns-in_default-advance-clause-else_memory : goal.returns-in_default-advance-clause-else_memory
+returns-in_default-advance-clause-else_memory g c = grind (arith, common_steps)
 
 pub returns-in_default-advance-clause-ok : goal.returns-in_default-advance-clause-ok
 returns-in_default-advance-clause-ok g c = grind (arith, common_steps)
@@ -84,8 +84,8 @@ returns-in_default-advance-clause-err g c = grind (arith, common_steps)
 pub invariant_of-seat-2 : goal.invariant_of-seat-2
 invariant_of-seat-2 g c = grind (arith, common_steps)
 
-pub returns-clause-room : goal.returns-clause-room
-returns-clause-room g c = grind (arith, common_steps)
+pub returns-clause-else_memory : goal.returns-clause-else_memory
+returns-clause-else_memory g c = grind (arith, common_steps)
 
 pub returns-clause-err : goal.returns-clause-err
 returns-clause-err g c = grind (arith, common_steps)

@@ -8,8 +8,8 @@ returns-clause-not_yours g c = grind (arith, common_steps)
 pub returns-clause-full : goal.returns-clause-full
 returns-clause-full g c = grind (arith, common_steps)
 
-pub returns-clause-room : goal.returns-clause-room
-returns-clause-room g c = grind (arith, common_steps)
+pub returns-clause-else_memory : goal.returns-clause-else_memory
+returns-clause-else_memory g c = grind (arith, common_steps)
 
 pub returns-clause-within : goal.returns-clause-within
 returns-clause-within g c = grind (arith, common_steps)
@@ -32,8 +32,8 @@ returns-then-not-is_of-clause-not_yours g c = grind (arith, common_steps)
 pub returns-then-not-is_of-clause-full : goal.returns-then-not-is_of-clause-full
 returns-then-not-is_of-clause-full g c = grind (arith, common_steps)
 
-pub returns-then-not-is_of-clause-room : goal.returns-then-not-is_of-clause-room
-returns-then-not-is_of-clause-room g c = grind (arith, common_steps)
+pub returns-then-not-is_of-clause-else_memory : goal.returns-then-not-is_of-clause-else_memory
+returns-then-not-is_of-clause-else_memory g c = grind (arith, common_steps)
 
 pub returns-then-not-is_of-clause-within : goal.returns-then-not-is_of-clause-within
 returns-then-not-is_of-clause-within g c = grind (arith, common_steps)
@@ -50,8 +50,8 @@ returns-then-entries-self-clause-not_yours g c = grind (arith, common_steps)
 pub returns-then-entries-self-clause-full : goal.returns-then-entries-self-clause-full
 returns-then-entries-self-clause-full g c = grind (arith, common_steps)
 
-pub returns-then-entries-self-clause-room : goal.returns-then-entries-self-clause-room
-returns-then-entries-self-clause-room g c = grind (arith, common_steps)
+pub returns-then-entries-self-clause-else_memory : goal.returns-then-entries-self-clause-else_memory
+returns-then-entries-self-clause-else_memory g c = grind (arith, common_steps)
 
 pub returns-then-entries-self-clause-within : goal.returns-then-entries-self-clause-within
 returns-then-entries-self-clause-within g c = grind (arith, common_steps)

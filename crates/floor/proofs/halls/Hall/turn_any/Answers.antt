@@ -33,8 +33,8 @@ returns-in-Ok-enter-clause-some g c =
 pub returns-then-entries-self-clause-full : goal.returns-then-entries-self-clause-full
 returns-then-entries-self-clause-full g c = grind (arith, common_steps)
 
-pub returns-then-entries-self-clause-room : goal.returns-then-entries-self-clause-room
-returns-then-entries-self-clause-room g c = grind (arith, common_steps)
+pub returns-then-entries-self-clause-else_memory : goal.returns-then-entries-self-clause-else_memory
+returns-then-entries-self-clause-else_memory g c = grind (arith, common_steps)
 
 pub returns-then-entries-self-clause-within : goal.returns-then-entries-self-clause-within
 returns-then-entries-self-clause-within g c = grind (arith, common_steps)
@@ -54,8 +54,8 @@ returns-then-entries-self-clause-err g c = grind (arith, common_steps)
 pub returns-in_default-clause-full : goal.returns-in_default-clause-full
 returns-in_default-clause-full g c = grind (arith, common_steps)
 
-pub returns-in_default-clause-room : goal.returns-in_default-clause-room
-returns-in_default-clause-room g c = grind (arith, common_steps)
+pub returns-in_default-clause-else_memory : goal.returns-in_default-clause-else_memory
+returns-in_default-clause-else_memory g c = grind (arith, common_steps)
 
 pub returns-in_default-clause-within : goal.returns-in_default-clause-within
 returns-in_default-clause-within g c = grind (arith, common_steps)
@@ -75,8 +75,8 @@ returns-in_default-clause-err g c = grind (arith, common_steps)
 pub returns-then-is_empty-clause-full : goal.returns-then-is_empty-clause-full
 returns-then-is_empty-clause-full g c = grind (arith, common_steps)
 
-pub returns-then-is_empty-clause-room : goal.returns-then-is_empty-clause-room
-returns-then-is_empty-clause-room g c = grind (arith, common_steps)
+pub returns-then-is_empty-clause-else_memory : goal.returns-then-is_empty-clause-else_memory
+returns-then-is_empty-clause-else_memory g c = grind (arith, common_steps)
 
 pub returns-then-is_empty-clause-within : goal.returns-then-is_empty-clause-within
 returns-then-is_empty-clause-within g c = grind (arith, common_steps)
@@ -99,8 +99,8 @@ nonzero_rem-word g c = grind (arith, common_steps)
 pub returns-in-Ok-enter-clause-full : goal.returns-in-Ok-enter-clause-full
 returns-in-Ok-enter-clause-full g c = grind (arith, common_steps)
 
-pub returns-in-Ok-enter-clause-room : goal.returns-in-Ok-enter-clause-room
-returns-in-Ok-enter-clause-room g c = grind (arith, common_steps)
+pub returns-in-Ok-enter-clause-else_memory : goal.returns-in-Ok-enter-clause-else_memory
+returns-in-Ok-enter-clause-else_memory g c = grind (arith, common_steps)
 
 pub returns-in-Ok-enter-clause-within : goal.returns-in-Ok-enter-clause-within
 returns-in-Ok-enter-clause-within g c = grind (arith, common_steps)
@@ -117,8 +117,8 @@ returns-in-Ok-enter-clause-err g c = grind (arith, common_steps)
 pub returns-clause-full : goal.returns-clause-full
 returns-clause-full g c = grind (arith, common_steps)
 
-pub returns-clause-room : goal.returns-clause-room
-returns-clause-room g c = grind (arith, common_steps)
+pub returns-clause-else_memory : goal.returns-clause-else_memory
+returns-clause-else_memory g c = grind (arith, common_steps)
 
 pub returns-clause-within : goal.returns-clause-within
 returns-clause-within g c = grind (arith, common_steps)

@@ -1,6 +1,6 @@
 use Rattle.std.proofs.Common.{◌∙◌, [], ap, false, length, map, replicate, sym}
 use Rattle.std.proofs.lemmas.List.{length-map}
-use Rattle.network.specs.Links.{Linked, marks_on, on_link, waiting_of}
+use Rattle.network.specs.inner.Links.{Linked, marks_on, on_link, waiting_of}
 use Rattle.network.specs.Traffic.{all_nil}
 use Rattle.network.proofs.Linked.{marked-none, no_marks, no_messages, parts-none, waiting-length, waiting-none}
 use Rattle.network.proofs.links.Links.clear.Goals as goal

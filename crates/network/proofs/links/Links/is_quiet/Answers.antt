@@ -1,5 +1,5 @@
 use Rattle.std.proofs.Common.{ap, map, ◌∙◌, ◌==◌}
-use Rattle.network.specs.Links.{on_link}
+use Rattle.network.specs.inner.Links.{on_link}
 use Rattle.rows.specs.Flags.{set_count}
 use Rattle.network.proofs.Linked.{quiet-count}
 use Rattle.network.proofs.links.Links.is_quiet.Goals as goal

@@ -1,5 +1,5 @@
 use Rattle.std.proofs.Common.{◌≡◌, [], Some, ap, get_or, map, set, sym, ◌∙◌}
-use Rattle.network.specs.Links.{marks_on, on_link, room_on, waiting_of}
+use Rattle.network.specs.inner.Links.{marks_on, on_link, room_on, waiting_of}
 use Rattle.network.proofs.Linked.{marked-set, parts-at, parts-set, parts-set_same, set-same}
 use Rattle.network.proofs.links.Links.mark.Goals.{in-Some, in_default}
 use Rattle.network.proofs.links.Links.mark.Goals as goal

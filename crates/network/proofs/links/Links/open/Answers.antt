@@ -1,5 +1,5 @@
 use Rattle.std.proofs.Common.{ap, map, sym, ◌∙◌}
-use Rattle.network.specs.Links.{marks_on, on_link, waiting_of}
+use Rattle.network.specs.inner.Links.{marks_on, on_link, waiting_of}
 use Rattle.network.proofs.Linked.{marked-none, parts-none, waiting-none}
 use Rattle.network.proofs.links.Links.open.Goals as goal
 

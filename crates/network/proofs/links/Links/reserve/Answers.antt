@@ -1,5 +1,5 @@
 use Rattle.std.proofs.Common.{◌<◌, None, Some, ap, arith, length, map, sym, subst, ◌∙◌}
-use Rattle.network.specs.Links.{Linked, marks_on, on_link, waiting_of}
+use Rattle.network.specs.inner.Links.{Linked, marks_on, on_link, waiting_of}
 use Rattle.network.proofs.Linked.{below_messages, marked-set, parts-set_same, room-kept, room-same, room-set}
 use Rattle.network.proofs.links.Links.reserve.Goals.{in-Ok, in-Err}
 use Rattle.network.proofs.links.Links.reserve.Goals as goal

@@ -1,5 +1,5 @@
 use Rattle.std.proofs.Common.{ap, map, set, sym, true, ◌∙◌}
-use Rattle.network.specs.Links.{on_link, waiting_of}
+use Rattle.network.specs.inner.Links.{on_link, waiting_of}
 use Rattle.network.proofs.Linked.{waiting-sent}
 use Rattle.network.proofs.links.Links.send.Goals as goal
 

@@ -1,7 +1,7 @@
 use Rattle.std.proofs.Common.{Some, ap, arith, map, not, remove, set, sym, ◌==◌, ◌∙◌}
 use Rattle.std.proofs.lemmas.Grind.{common_steps}
 use Rattle.std.proofs.lemmas.List.{map-set}
-use Rattle.network.specs.Links.{marks_on, on_link, waiting_of}
+use Rattle.network.specs.inner.Links.{marks_on, on_link, waiting_of}
 use Rattle.network.proofs.Linked.{marked-set, parts-set, parts-set_same, room-kept, used-below, waiting-left}
 use Rattle.network.proofs.Waits.{if_none}
 use Rattle.network.proofs.links.Links.take_head.Goals as goal

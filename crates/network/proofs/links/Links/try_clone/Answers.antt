@@ -1,6 +1,6 @@
 use Rattle.std.proofs.Common.{◌≡◌, ap, map, sym, [], ◌∙◌}
 use Rattle.std.specs.Option.{option_map, unwrap_or}
-use Rattle.network.specs.Links.{marks_on, on_link, waiting_of}
+use Rattle.network.specs.inner.Links.{marks_on, on_link, waiting_of}
 use Rattle.network.proofs.Linked.{marked-parts, marks-seen, marks_of, messages-seen, messages_of}
 use Rattle.network.proofs.links.Links.try_clone.Goals as goal
 

@@ -2,7 +2,7 @@ use Rattle.std.proofs.Common.{◌+◌, subst, sym, arith}
 use Rattle.std.proofs.lemmas.Grind.{common_steps}
 use Rattle.std.specs.Io.KnownBytes.{Consumes}
 use Rattle.record.specs.declared.due.Due.TheVariants.{Header}
-use Rattle.record.specs.Kept.{Kept}
+use Rattle.record.specs.View.{RecordingView}
 use Rattle.record.specs.Recordable.{IsRecordable}
 use Rattle.record.specs.Refused.{IsRefused}
 use Rattle.record.specs.Text.{text}
@@ -20,7 +20,7 @@ returns-in-Err-clause-fault g c =
 
 pub returns-in-Ok-read_all-clause-text : goal.returns-in-Ok-read_all-clause-text
 returns-in-Ok-read_all-clause-text g c =
-    subst (λ (r : Kept). Consumes (g.S.Source.left c.args.source.now) (g.S.Source.left c.read_all.new.source) (text r)) (sym c.recording.ensures.recording)
+    subst (λ (r : RecordingView). Consumes (g.S.Source.left c.args.source.now) (g.S.Source.left c.read_all.new.source) (text r)) (sym c.recording.ensures.recording)
     c.in-Ok-read_all.ensures.text
 
 pub returns-in-Ok-read_all-clause-back : goal.returns-in-Ok-read_all-clause-back

@@ -1,5 +1,5 @@
 use Rattle.std.proofs.Common.{refl, sym, ◌∙◌}
-use Rattle.scenario.specs.Parts.{part_left}
+use Rattle.scenario.specs.inner.Parts.{part_left}
 use Rattle.scenario.specs.Taking.{offers}
 use Rattle.scenario.proofs.Reached.{offer_below}
 use Rattle.scenario.proofs.Sought.{none-there}

@@ -1,7 +1,7 @@
 use Rattle.std.proofs.Common.{map, take, ap, ◌∙◌, arith}
 use Rattle.std.proofs.lemmas.Grind.{common_steps}
 use Rattle.scenario.specs.Cursors.{progress}
-use Rattle.scenario.specs.Parts.{count_at, parts_of, place_of}
+use Rattle.scenario.specs.inner.Parts.{count_at, parts_of, place_of}
 use Rattle.scenario.proofs.Cursors.{parts-lower, progress-is, take-cut}
 use Rattle.scenario.proofs.part.Part.in_use.Goals as goal
 

@@ -1,6 +1,6 @@
 use Rattle.std.proofs.Common.{map, ap, sym, ◌∙◌}
 use Rattle.scenario.specs.Cursors.{progress}
-use Rattle.scenario.specs.Parts.{parts_of}
+use Rattle.scenario.specs.inner.Parts.{parts_of}
 use Rattle.scenario.proofs.Cursors.{parts-Begun}
 use Rattle.scenario.proofs.part.Part.parts.Goals as goal
 

@@ -3,7 +3,7 @@ use Rattle.std.proofs.lemmas.Grind.{common_steps}
 use Rattle.std.proofs.lemmas.List.{drop_all}
 use Rattle.std.proofs.lemmas.Option.{slice_get-get_or}
 use Rattle.scenario.specs.Cursors.{progress}
-use Rattle.scenario.specs.Parts.{all_left, behind}
+use Rattle.scenario.specs.inner.Parts.{all_left, behind}
 use Rattle.scenario.specs.Taking.{all_end, ends}
 use Rattle.scenario.proofs.Cursors.{cursor-ends-then, cursor-ends-else, ends-more, ends-not, highest-get}
 use Rattle.scenario.proofs.part.looking.+ending_of_parts.Goals as goal

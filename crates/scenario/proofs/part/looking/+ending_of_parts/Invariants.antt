@@ -1,6 +1,6 @@
 use Rattle.std.proofs.Common.{◌≡◌, ◌+◌, ◌*◌, drop, map}
 use Rattle.scenario.specs.Cursors.{progress}
-use Rattle.scenario.specs.Parts.{all_left, height, highest}
+use Rattle.scenario.specs.inner.Parts.{all_left, height, highest}
 use Rattle.scenario.specs.Taking.{all_end}
 use Rattle.scenario.proofs.part.looking.+ending_of_parts.Given as goal
 

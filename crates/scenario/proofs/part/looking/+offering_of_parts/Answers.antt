@@ -3,7 +3,7 @@ use Rattle.std.proofs.lemmas.Grind.{common_steps}
 use Rattle.std.proofs.lemmas.List.{append-nil, drop_all}
 use Rattle.std.proofs.lemmas.Option.{slice_get-get_or}
 use Rattle.scenario.specs.Cursors.{progress}
-use Rattle.scenario.specs.Parts.{all_left, behind}
+use Rattle.scenario.specs.inner.Parts.{all_left, behind}
 use Rattle.scenario.specs.Taking.{offers, offers_of_all}
 use Rattle.scenario.proofs.Cursors.{cursor-appends, cursor-stops, highest-get, offers-more}
 use Rattle.scenario.proofs.Failing.{on_ok-failed}

@@ -1,6 +1,6 @@
 use Rattle.std.proofs.Common.{◌≡◌, ◌+◌, ◌*◌, ◌++◌, drop, length, map, take}
 use Rattle.scenario.specs.Cursors.{progress}
-use Rattle.scenario.specs.Parts.{all_left, height, highest}
+use Rattle.scenario.specs.inner.Parts.{all_left, height, highest}
 use Rattle.scenario.specs.Taking.{offers_of_all}
 use Rattle.scenario.proofs.part.looking.+offering_of_parts.Given as goal
 

@@ -2,7 +2,7 @@ use Rattle.std.proofs.Common.{Some, ap, sym, ◌∙◌, arith}
 use Rattle.std.proofs.lemmas.Grind.{common_steps}
 use Rattle.std.proofs.lemmas.Option.{slice_get-get_or}
 use Rattle.scenario.specs.Cursors.{progress}
-use Rattle.scenario.specs.Parts.{behind, sought}
+use Rattle.scenario.specs.inner.Parts.{behind, sought}
 use Rattle.scenario.specs.Taking.{offers}
 use Rattle.scenario.proofs.Cursors.{highest-get, found-in-parts, passed-in-parts, sought-cursor, sought-cursor-then, sought-cursor-else}
 use Rattle.scenario.proofs.part.looking.+seeking_in_parts.Goals as goal

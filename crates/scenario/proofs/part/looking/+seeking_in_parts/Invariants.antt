@@ -1,6 +1,6 @@
 use Rattle.std.proofs.Common.{◌≡◌, ◌+◌, ◌*◌, drop, map}
 use Rattle.scenario.specs.Cursors.{progress}
-use Rattle.scenario.specs.Parts.{all_left, height, highest, sought}
+use Rattle.scenario.specs.inner.Parts.{all_left, height, highest, sought}
 use Rattle.scenario.specs.Taking.{offers_of_all}
 use Rattle.scenario.proofs.part.looking.+seeking_in_parts.Given as goal
 

@@ -1,6 +1,9 @@
-use Rattle.std.proofs.Common.{◌<◌, length, arith}
+use Rattle.std.proofs.Common.{◌≡◌, ◌<◌, Some, length, slice_get, ap, ◌∙◌, arith, rules}
 use Rattle.std.proofs.lemmas.Grind.{common_steps}
+use Rattle.std.proofs.lemmas.Option.{slice_get-get_or}
+use Rattle.scenario.specs.Stock.{stock}
 use Rattle.scenario.proofs.Cursors.{parts}
+use Rattle.scenario.proofs.Leading.{same-set}
 use Rattle.scenario.proofs.Passing.{first-set}
 use Rattle.scenario.proofs.part.passing.end_first.Goals as goal
 
@@ -12,3 +15,12 @@ returns-else-is_empty-clause-ended g c done =
 
 pub enum_noted-parts : goal.enum_noted-parts
 enum_noted-parts g c = grind (arith, parts)
+
+pub returns-else-is_empty-clause-held : goal.returns-else-is_empty-clause-held
+returns-else-is_empty-clause-held g c =
+    let items = c.in-Begun.parts.items in
+    let some : 0 < length items = grind (arith, common_steps) in
+    let old = c.index_mut.result.now in
+    let at : slice_get items 0 ≡ Some old = slice_get-get_or items 0 old some ∙ ap Some (search rules) in
+    let same = same-set stock items 0 old c.move_to.new.self at c.move_to.ensures.held in
+    grind (arith, common_steps, parts, same)

@@ -3,7 +3,7 @@ use Rattle.scenario.specs.Cursors.{progress}
 use Rattle.scenario.specs.Tree.{plain_all}
 use Rattle.std.proofs.lemmas.Grind.{common_steps}
 use Rattle.scenario.proofs.Children.{children}
-use Rattle.scenario.proofs.Passing.{passes-turn, passes-whole}
+use Rattle.scenario.proofs.Passing.{passes-row, passes-turn, passes-whole}
 use Rattle.scenario.proofs.part.passing.pass_at_once.Goals as goal
 
 pub returns-else-not-first_is_over-clause-passed : goal.returns-else-not-first_is_over-clause-passed
@@ -17,3 +17,8 @@ returns-in-Whole-Seq-clause-passed g c done =
     passes-whole c.args.part.now c.in-Whole-Seq.field-0 (plain_all c.as_slice.result.now) c.args.at (progress c.pass_ask-in-Whole-Seq.new.part)
     (sym c.place.ensures ∙ c.in-Whole-Seq.is)
     (grind (arith, common_steps, children)) c.requires.offer (c.pass_ask-in-Whole-Seq.ensures.passed done)
+
+pub returns-then-first_is_over-clause-passed : goal.returns-then-first_is_over-clause-passed
+returns-then-first_is_over-clause-passed g c done =
+    passes-row c.args.part.now c.in-InSeq.others c.args.at (progress c.pass_ask.new.part) (sym c.place.ensures ∙ c.in-InSeq.is)
+    (c.first_is_over-in-InSeq.ensures c.if-first_is_over.true) c.requires.offer (c.pass_ask.ensures.passed done)

@@ -1,6 +1,6 @@
 use Rattle.std.proofs.Common.{◌≡◌, drop}
 use Rattle.scenario.specs.Tree.{plain_all}
-use Rattle.scenario.specs.Turns.{all_asks}
+use Rattle.scenario.specs.inner.Turns.{all_asks}
 use Rattle.scenario.proofs.part.repeating.are_asks.Given as goal
 
 abbrev pub invariant-loop-child : goal.invariant-loop-child

@@ -1,6 +1,6 @@
 use Rattle.std.proofs.Common.{sym, ap, subst, ◌∙◌}
 use Rattle.scenario.specs.Tree.{plain}
-use Rattle.scenario.specs.Turns.{is_choice}
+use Rattle.scenario.specs.inner.Turns.{is_choice}
 use Rattle.scenario.specs.Repeats.{Repeats}
 use Rattle.scenario.proofs.Repeating.{repeats-Times}
 use Rattle.scenario.proofs.part.repeating.tree_repeats.Goals as goal

@@ -1,19 +1,21 @@
-use Rattle.std.proofs.Common.{◌≡◌, ◌+◌, ◌<◌, Some, drop, length, slice_get, refl, ap, sym, subst, ◌∙◌, arith, rules}
+use Rattle.std.proofs.Common.{◌≡◌, ◌+◌, ◌<◌, Some, drop, length, map, slice_get, refl, ap, sym, subst, ◌∙◌, arith, rules}
 use Rattle.std.proofs.lemmas.Grind.{common_steps}
 use Rattle.std.proofs.lemmas.List.{length-map, length-set}
 use Rattle.std.proofs.lemmas.Option.{slice_get-get_or}
-use Rattle.scenario.specs.Cursors.{InSeq, Nothing, first_part, nodes, progress}
+use Rattle.scenario.specs.Cursors.{InSeq, Nothing, first_part, progress}
 use Rattle.scenario.specs.Limits.{depth, deepest}
-use Rattle.scenario.specs.Parts.{Leads, parts_of}
-use Rattle.scenario.specs.Rests.{IsPlaceAmong}
+use Rattle.scenario.specs.Stock.{Within, room, stock}
+use Rattle.scenario.specs.inner.Parts.{Adds, MovesTo, holding, parts_of}
+use Rattle.scenario.specs.inner.Rests.{IsPlaceAmong}
 use Rattle.scenario.specs.Tree as tree
 use Rattle.scenario.specs.Tree.{plain, plain_all}
 use Rattle.scenario.proofs.Children.{children, plain-Any, plain-Both, plain-Seq}
 use Rattle.scenario.proofs.Cursors.{parts, parts-row}
 use Rattle.scenario.proofs.Failing.{on_err-always, on_err-map, on_ok-failed, on_ok-map}
 use Rattle.scenario.proofs.Fronts.{rest-whole}
-use Rattle.scenario.proofs.Leading.{depth-deepest, leads-any, leads-both, leads-row, leads-seq, leads-turn, same-set}
+use Rattle.scenario.proofs.Leading.{depth-deepest, moves-any, moves-both, moves-row, moves-turn, same-set}
 use Rattle.scenario.proofs.Places.{within_child, within_turn}
+use Rattle.scenario.proofs.Stock.{adds-one, all-bare, all-room, one-room, turn-bare, turn-room}
 use Rattle.scenario.proofs.Wholes.{map-set}
 use Rattle.scenario.proofs.part.starting.+starting.Goals as goal
 
@@ -80,22 +82,21 @@ start-returns-in-Any-clause-ok g t c =
     let place = subst (λ us. IsPlaceAmong us c.args.at offer.child offer.at) c.as_slice-in-Any.ensures.value c.place_among-offer.ensures.place in
     let whole = ap plain c.in-Any.is ∙ plain-Any c.in-Any.children in
     on_ok-map c.start.result _ _
-    (λ h. subst (λ u. Leads u c.args.at (nodes u) (progress c.start.new.part)) (sym whole)
-    (leads-any ss c.args.at offer.child offer.at child (progress c.start.new.part) at place h)) c.start.ensures.ok
+    (λ h. subst (λ u. MovesTo u c.args.at (room u) (progress c.start.new.part)) (sym whole)
+    (moves-any ss c.args.at offer.child offer.at child (progress c.start.new.part) at place h)) c.start.ensures.ok
 
 pub start-returns-in-Seq-clause-ok : goal.start-returns-in-Seq-clause-ok
 start-returns-in-Seq-clause-ok g t c =
     let new = progress c.start_row.new.part in
     let whole = ap plain c.in-Seq.is ∙ (plain-Seq c.in-Seq.children ∙ ap (λ us. tree.Seq (plain_all us)) (sym c.as_slice.ensures.value)) in
     on_ok-map c.start_row.result _ _
-    (λ h. subst (λ u. Leads u c.args.at (nodes u) new) (sym whole)
-    (leads-seq (plain_all c.as_slice.result.now) c.args.at new h)) c.start_row.ensures.ok
+    (λ h. subst (λ u. MovesTo u c.args.at (room u) new) (sym whole) h) c.start_row.ensures.ok
 
 pub start-returns-in-Both-clause-ok : goal.start-returns-in-Both-clause-ok
 start-returns-in-Both-clause-ok g t c =
     let new = progress c.start_both.new.part in
     let whole = ap plain c.in-Both.is ∙ (plain-Both c.in-Both.children ∙ ap (λ us. tree.Both (plain_all us)) (sym c.as_slice-in-Both.ensures.value)) in
-    on_ok-map c.start_both.result _ _ (λ h. subst (λ u. Leads u c.args.at (nodes u) new) (sym whole) h) c.start_both.ensures.ok
+    on_ok-map c.start_both.result _ _ (λ h. subst (λ u. MovesTo u c.args.at (room u) new) (sym whole) h) c.start_both.ensures.ok
 
 pub start_row-returns-clause-ok : goal.start_row-returns-clause-ok
 start_row-returns-clause-ok g t c =
@@ -105,12 +106,12 @@ start_row-returns-clause-ok g t c =
     let at = slice_get-get_or ss offer.child child c.place_in_turn-offer.ensures.within ∙ ap Some (sym c.index-children-offer.is) in
     let now : progress c.move_to.new.self ≡ InSeq (first_part (parts_of c.start_part.new.part)) (plain_all (drop (offer.child + 1) ss)) =
     c.move_to.ensures.place ∙ ap (λ us. InSeq (first_part (parts_of c.start_part.new.part)) (plain_all us)) (rest-whole ss (offer.child + 1)) in
-    rw now (leads-row ss c.args.at offer.child offer.at child (parts_of c.make_room.new.part) (parts_of c.start_part.new.part) at
+    rw now (moves-row ss c.args.at offer.child offer.at child (parts_of c.make_room.new.part) (parts_of c.start_part.new.part) at
     c.in_ok-make_room.ensures.room c.place_in_turn-offer.ensures.place c.in_ok-start_part.ensures.ok)
 
 pub start_turn-returns-clause-ok : goal.start_turn-returns-clause-ok
 start_turn-returns-clause-ok g t c =
-    rw c.move_to.ensures.place (leads-turn c.args.turns (plain c.args.child.now) c.args.at (parts_of c.make_room.new.part) (parts_of c.start_part.new.part)
+    rw c.move_to.ensures.place (moves-turn c.args.turns (plain c.args.child.now) c.args.at (parts_of c.make_room.new.part) (parts_of c.start_part.new.part)
     c.in_ok-make_room.ensures.room c.in_ok-start_part.ensures.ok)
 
 pub start_both-returns-clause-ok : goal.start_both-returns-clause-ok
@@ -119,7 +120,7 @@ start_both-returns-clause-ok g t c =
     let child = c.index-children-offer.result in
     let ss = c.args.children.now in
     let at = slice_get-get_or ss offer.child child c.place_among-offer.ensures.within ∙ ap Some (sym c.index-children-offer.is) in
-    rw c.move_to.ensures.place (leads-both ss c.args.at offer.child offer.at child (parts_of c.make_room.new.part) (parts_of c.start_part.new.part)
+    rw c.move_to.ensures.place (moves-both ss c.args.at offer.child offer.at child (parts_of c.make_room.new.part) (parts_of c.start_part.new.part)
     (parts_of c.keep_others.new.part) at c.in_ok-make_room.ensures.room c.place_among-offer.ensures.place c.in_ok-start_part.ensures.ok
     c.keep_others.ensures.whole)
 
@@ -127,7 +128,7 @@ pub start-returns-in-One-clause-ok : goal.start-returns-in-One-clause-ok
 start-returns-in-One-clause-ok g t c =
     let new : progress c.move_to.new.self ≡ Nothing = c.move_to.ensures.place in
     let whole = ap plain c.in-One.is in
-    rw (new, whole) (refl, omega arith)
+    rw (new, whole) (refl, tt)
 
 pub start-returns-in-One-clause-err : goal.start-returns-in-One-clause-err
 start-returns-in-One-clause-err g t c = tt
@@ -142,7 +143,7 @@ pub start-returns-in-Times-clause-ok : goal.start-returns-in-Times-clause-ok
 start-returns-in-Times-clause-ok g t c =
     let new = progress c.start_turn.new.part in
     let whole : plain c.args.tree.now ≡ tree.Times c.in-Times.turns (plain c.deref.result.now) = grind (arith, common_steps) in
-    on_ok-map c.start_turn.result _ _ (λ h. subst (λ u. Leads u c.args.at (nodes u) new) (sym whole) h) c.start_turn.ensures.ok
+    on_ok-map c.start_turn.result _ _ (λ h. subst (λ u. MovesTo u c.args.at (room u) new) (sym whole) h) c.start_turn.ensures.ok
 
 pub start-returns-in-Times-clause-err : goal.start-returns-in-Times-clause-err
 start-returns-in-Times-clause-err g t c = c.start_turn.ensures.err
@@ -256,3 +257,77 @@ start_both-place_among-offer-requires g t c = c.requires
 
 pub start_row-place_in_turn-offer-requires : goal.start_row-place_in_turn-offer-requires
 start_row-place_in_turn-offer-requires g t c = c.requires
+
+pub start-returns-in-Seq-clause-held : goal.start-returns-in-Seq-clause-held
+start-returns-in-Seq-clause-held g t c =
+    let whole = ap plain c.in-Seq.is ∙ (plain-Seq c.in-Seq.children ∙ ap (λ us. tree.Seq (plain_all us)) (sym c.as_slice.ensures.value)) in
+    subst (λ u. Adds (stock c.args.part.now) (room u) (stock c.start_row.new.part)) (sym whole) c.start_row.ensures.held
+
+pub start-returns-in-Any-clause-held : goal.start-returns-in-Any-clause-held
+start-returns-in-Any-clause-held g t c most was wanted =
+    let offer = c.place_among-offer.result in
+    let child = c.index.result.now in
+    let ss = c.in-Any.children.items in
+    let at : slice_get ss offer.child ≡ Some child = slice_get-get_or ss offer.child child (search rules) ∙ ap Some (search rules) in
+    let whole = ap plain c.in-Any.is ∙ plain-Any c.in-Any.children in
+    c.start.ensures.held most was (one-room ss offer.child child most at (subst (λ u. Within (room u) most) whole wanted))
+
+pub start-returns-in-Both-clause-held : goal.start-returns-in-Both-clause-held
+start-returns-in-Both-clause-held g t c =
+    let whole = ap plain c.in-Both.is ∙ (plain-Both c.in-Both.children ∙ ap (λ us. tree.Both (plain_all us)) (sym c.as_slice-in-Both.ensures.value)) in
+    subst (λ u. Adds (stock c.args.part.now) (room u) (stock c.start_both.new.part)) (sym whole) c.start_both.ensures.held
+
+pub start_both-returns-in_err-make_room-clause-held : goal.start_both-returns-in_err-make_room-clause-held
+start_both-returns-in_err-make_room-clause-held g t c most was wanted =
+    c.make_room.ensures.held most was (all-bare c.args.children.now most wanted)
+
+pub start_both-returns-in_err-start_part-clause-held : goal.start_both-returns-in_err-start_part-clause-held
+start_both-returns-in_err-start_part-clause-held g t c most was wanted =
+    let offer = c.place_among-offer.result in
+    let child = c.index-children-offer.result in
+    let ss = c.args.children.now in
+    let at = slice_get-get_or ss offer.child child c.place_among-offer.ensures.within ∙ ap Some (sym c.index-children-offer.is) in
+    c.start_part.ensures.held most (c.make_room.ensures.held most was (all-bare ss most wanted)) (all-room ss offer.child child most at wanted)
+
+pub start_both-returns-clause-held : goal.start_both-returns-clause-held
+start_both-returns-clause-held g t c most was wanted =
+    let offer = c.place_among-offer.result in
+    let child = c.index-children-offer.result in
+    let ss = c.args.children.now in
+    let at = slice_get-get_or ss offer.child child c.place_among-offer.ensures.within ∙ ap Some (sym c.index-children-offer.is) in
+    rw (c.move_to.ensures.held ∙ c.keep_others.ensures.held)
+    (c.start_part.ensures.held most (c.make_room.ensures.held most was (all-bare ss most wanted)) (all-room ss offer.child child most at wanted))
+
+pub start_row-returns-in_err-make_room-clause-held : goal.start_row-returns-in_err-make_room-clause-held
+start_row-returns-in_err-make_room-clause-held g t c most was wanted =
+    c.make_room.ensures.held most was
+    (turn-bare c.args.children.now c.place_in_turn-offer.result.child most c.place_in_turn-offer.ensures.within wanted)
+
+pub start_row-returns-in_err-start_part-clause-held : goal.start_row-returns-in_err-start_part-clause-held
+start_row-returns-in_err-start_part-clause-held g t c most was wanted =
+    let offer = c.place_in_turn-offer.result in
+    let child = c.index-children-offer.result in
+    let ss = c.args.children.now in
+    let at = slice_get-get_or ss offer.child child c.place_in_turn-offer.ensures.within ∙ ap Some (sym c.index-children-offer.is) in
+    c.start_part.ensures.held most (c.make_room.ensures.held most was (turn-bare ss offer.child most c.place_in_turn-offer.ensures.within wanted))
+    (turn-room ss offer.child child most at wanted)
+
+pub start_row-returns-clause-held : goal.start_row-returns-clause-held
+start_row-returns-clause-held g t c most was wanted =
+    let offer = c.place_in_turn-offer.result in
+    let child = c.index-children-offer.result in
+    let ss = c.args.children.now in
+    let at = slice_get-get_or ss offer.child child c.place_in_turn-offer.ensures.within ∙ ap Some (sym c.index-children-offer.is) in
+    rw c.move_to.ensures.held
+    (c.start_part.ensures.held most (c.make_room.ensures.held most was (turn-bare ss offer.child most c.place_in_turn-offer.ensures.within wanted))
+    (turn-room ss offer.child child most at wanted))
+
+pub start_part-returns-clause-held : goal.start_part-returns-clause-held
+start_part-returns-clause-held g t c most was wanted =
+    let items = c.in-Begun.parts.items in
+    let within : c.args.number < length items = grind (arith, common_steps, parts, length-map) in
+    let old = c.index_mut.result.now in
+    let at : slice_get items c.args.number ≡ Some old = slice_get-get_or items c.args.number old within ∙ ap Some (search rules) in
+    let before : Within (holding (map stock items)) most = grind (arith, common_steps, parts, was) in
+    let all = adds-one stock items c.args.number old c.start.new.part (room (plain c.args.tree.now)) at c.start.ensures.held most before wanted in
+    grind (arith, common_steps, parts, all)

@@ -1,7 +1,7 @@
 use Rattle.std.proofs.Common.{◌≤◌, length, subst, arith}
 use Rattle.std.proofs.lemmas.Grind.{common_steps}
 use Rattle.std.proofs.lemmas.List.{length-map}
-use Rattle.scenario.specs.Parts.{parts_of}
+use Rattle.scenario.specs.inner.Parts.{parts_of}
 use Rattle.scenario.proofs.Cursors.{parts}
 use Rattle.scenario.proofs.part.starting.keep_others.Goals as goal
 

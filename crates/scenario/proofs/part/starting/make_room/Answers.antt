@@ -2,6 +2,8 @@ use Rattle.std.proofs.Common.{[], map, arith, rules}
 use Rattle.std.proofs.lemmas.Grind.{common_steps}
 use Rattle.std.proofs.lemmas.List.{length-map}
 use Rattle.scenario.specs.Cursors.{progress}
+use Rattle.scenario.specs.Stock.{Within, stock}
+use Rattle.scenario.specs.inner.Parts.{holding}
 use Rattle.scenario.proofs.Cursors.{parts, parts-row}
 use Rattle.scenario.proofs.Failing.{on_ok-failed}
 use Rattle.scenario.proofs.Growing.{grown-same, progress-same}
@@ -57,14 +59,13 @@ returns-in_err-push_ended-in-Fresh-clause-same g c = grind (arith, common_steps,
 pub returns-in_err-push_ended-in-Fresh-clause-room : goal.returns-in_err-push_ended-in-Fresh-clause-room
 returns-in_err-push_ended-in-Fresh-clause-room g c = on_ok-failed _ _ c.from_residual-in_err-push_ended-in-Fresh.ensures.0
 
-pub returns-in-Begun-clause-most : goal.returns-in-Begun-clause-most
-returns-in-Begun-clause-most g c = grind (arith, common_steps, parts, length-map)
+pub returns-in-Begun-clause-held : goal.returns-in-Begun-clause-held
+returns-in-Begun-clause-held g c most was bare =
+    let all = c.push_ended.ensures.held most (grind (arith, common_steps, parts, was)) bare in
+    grind (arith, common_steps, parts, all)
 
-pub returns-in_ok-push_ended-in-Fresh-clause-most : goal.returns-in_ok-push_ended-in-Fresh-clause-most
-returns-in_ok-push_ended-in-Fresh-clause-most g c = grind (arith, common_steps, parts, length-map)
-
-pub returns-in_err-clone-in-Fresh-clause-most : goal.returns-in_err-clone-in-Fresh-clause-most
-returns-in_err-clone-in-Fresh-clause-most g c = grind (arith, common_steps)
-
-pub returns-in_err-push_ended-in-Fresh-clause-most : goal.returns-in_err-push_ended-in-Fresh-clause-most
-returns-in_err-push_ended-in-Fresh-clause-most g c = grind (arith, common_steps)
+pub returns-in_ok-push_ended-in-Fresh-clause-held : goal.returns-in_ok-push_ended-in-Fresh-clause-held
+returns-in_ok-push_ended-in-Fresh-clause-held g c most was bare =
+    let before : Within (holding (map stock c.new-parts.result.items)) most = rw c.new-parts.ensures.items tt in
+    let all = c.push_ended-in-Fresh.ensures.held most before bare in
+    grind (arith, common_steps, parts, all)

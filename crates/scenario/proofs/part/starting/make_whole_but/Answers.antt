@@ -3,18 +3,23 @@ use Rattle.std.proofs.lemmas.Grind.{common_steps}
 use Rattle.std.proofs.lemmas.List.{length-map}
 use Rattle.std.proofs.lemmas.Option.{slice_get-get_or}
 use Rattle.scenario.specs.Cursors.{Whole, progress}
+use Rattle.scenario.specs.Stock.{stock}
 use Rattle.scenario.specs.Tree.{plain}
 use Rattle.scenario.proofs.Fronts.{front-whole}
-use Rattle.scenario.proofs.Wholes.{whole-more, whole-but}
+use Rattle.scenario.proofs.Leading.{same-set}
+use Rattle.scenario.proofs.Wholes.{put-back, whole-but, whole-more}
 use Rattle.scenario.proofs.part.starting.make_whole_but.Goals as goal
 
 pub loop-i-preserved : goal.loop-i-preserved
 loop-i-preserved g c =
     let at = slice_get-get_or c.args.children.now c.loop-i.i c.index-children-i.result c.loop-i-test.true ∙ ap Some (sym c.index-children-i.is) in
-    let within : c.loop-i.i < length c.loop-i.parts.items = grind (arith, common_steps) in (
+    let within : c.loop-i.i < length c.loop-i.parts.items = grind (arith, common_steps) in
+    let old = c.index_mut-in-loop-i.result.now in
+    let here : slice_get c.loop-i.parts.items c.loop-i.i ≡ Some old = slice_get-get_or c.loop-i.parts.items c.loop-i.i old within ∙ ap Some (search rules) in (
       whole-more progress c.loop-i.parts.items c.args.children.now c.loop-i.i c.move_to.new.self c.index-children-i.result within at
           c.move_to.ensures.place c.loop-i.invariant.0,
       grind (arith, common_steps),
+      same-set stock c.loop-i.parts.items c.loop-i.i old c.move_to.new.self here c.move_to.ensures.held ∙ c.loop-i.invariant.2,
     )
 
 pub returns-clause-whole : goal.returns-clause-whole
@@ -52,3 +57,10 @@ returns-clause-count g c = grind (arith, common_steps)
 
 pub loop-i-smaller : goal.loop-i-smaller
 loop-i-smaller g c = omega arith
+
+pub returns-clause-held : goal.returns-clause-held
+returns-clause-held g c =
+    let old = c.args.parts.now.items in
+    let begun = c.replace-begun.result in
+    let there : slice_get old c.args.number ≡ Some begun = slice_get-get_or old c.args.number begun (search rules) ∙ ap Some (search rules) in
+    put-back stock old c.loop-i.parts.items c.args.number begun c.replace-begun.new.dest there c.loop-i.invariant.2

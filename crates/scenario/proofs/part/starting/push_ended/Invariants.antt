@@ -1,9 +1,11 @@
-use Rattle.std.proofs.Common.{◌≡◌, ◌≤◌, length, map, max}
+use Rattle.std.proofs.Common.{◌≡◌, ◌≤◌, length, map, vec_capacity}
 use Rattle.scenario.specs.Cursors.{progress}
-use Rattle.scenario.specs.Parts.{Grows}
+use Rattle.scenario.specs.Stock.{stock}
+use Rattle.scenario.specs.inner.Parts.{Adds, Grows, bare, holding}
 use Rattle.scenario.proofs.part.starting.push_ended.Given as goal
 
 abbrev pub invariant-loop : goal.invariant-loop
 invariant-loop g l =
     Grows (map progress l.initial.parts.items) (map progress l.parts.items)
-    × (length l.parts.items ≡ l.counter) × (length l.parts.items ≤ max l.count (length l.initial.parts.items))
+    × Adds (holding (map stock l.initial.parts.items)) (bare l.count) (holding (map stock l.parts.items))
+    × (length l.parts.items ≡ l.counter) × (l.count ≤ vec_capacity l.parts)

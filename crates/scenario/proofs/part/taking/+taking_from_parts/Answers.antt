@@ -1,16 +1,18 @@
-use Rattle.std.proofs.Common.{◌≡◌, ◌+◌, ◌<◌, length, slice_get, Some, ap, subst, ◌∙◌, arith, rules}
+use Rattle.std.proofs.Common.{◌≡◌, ◌+◌, ◌<◌, length, map, slice_get, Some, ap, subst, ◌∙◌, arith, rules}
 use Rattle.std.proofs.lemmas.Grind.{common_steps}
 use Rattle.std.proofs.lemmas.List.{length-map}
 use Rattle.std.proofs.lemmas.Option.{slice_get-get_or, slice_get_within}
 use Rattle.scenario.specs.Cursors.{Progress, progress, tree_left}
-use Rattle.scenario.specs.Parts.{count_at, parts_of, place_of}
+use Rattle.scenario.specs.Stock.{Within, stock, wants}
+use Rattle.scenario.specs.inner.Parts.{count_at, holding, parts_of, place_of}
 use Rattle.scenario.specs.Taking.{offers, offers_of_all}
 use Rattle.scenario.specs.Tree.{trees_of}
 use Rattle.scenario.proofs.Cursors.{map-left, parts, parts-Begun, parts-row}
 use Rattle.scenario.proofs.Failing.{on_err-map, on_ok-map}
-use Rattle.scenario.proofs.Going.{found-in-use, goes-behind, goes-part, height-at, none-in-use, offered-behind, some-same}
+use Rattle.scenario.proofs.Going.{found-in-use, goes-behind, goes-part, height-at, none-in-use, offered-behind, part-wanted, rest-wanted, some-same}
 use Rattle.scenario.proofs.Items.{get-map}
 use Rattle.scenario.proofs.Leading.{same-set}
+use Rattle.scenario.proofs.Stock.{adds-one, wants-at}
 use Rattle.scenario.proofs.Wholes.{map-set}
 use Rattle.scenario.proofs.part.taking.+taking_from_parts.Goals as goal
 
@@ -104,3 +106,29 @@ take_from-returns-in-Ok-clause-err g t c = c.take_from_part.ensures.err
 
 pub take_from_part-unreachable-unreachable : goal.take_from_part-unreachable-unreachable
 take_from_part-unreachable-unreachable g t c = grind (arith, common_steps)
+
+pub take_from-returns-in-Ok-clause-held : goal.take_from-returns-in-Ok-clause-held
+take_from-returns-in-Ok-clause-held g t c most was wanted =
+    let old = c.args.part.now in
+    let number = c.in-Ok.offer.child in
+    let there = found-in-use c.in_use.result.now (parts_of old) (count_at (place_of old)) c.args.at
+    number c.in-Ok.offer.at c.in_use.ensures.parts c.in-Ok.ensures.ok in
+    c.take_from_part.ensures.held most was (part-wanted old number most there.2 wanted)
+
+pub take_from-returns-in-Err-clause-held : goal.take_from-returns-in-Err-clause-held
+take_from-returns-in-Err-clause-held g t c most was wanted = c.go_on.ensures.held most was (rest-wanted c.args.part.now most wanted)
+
+pub take_from_part-returns-clause-held : goal.take_from_part-returns-clause-held
+take_from_part-returns-clause-held g t c most was wanted =
+    let items = c.in-Begun.parts.items in
+    let number = c.args.number in
+    let inside = slice_get_within (parts_of c.args.part.now) number c.requires.0 c.requires.1 in
+    let within : number < length items = grind (arith, common_steps, parts, length-map, inside) in
+    let old = c.index_mut.result.now in
+    let at : slice_get items number ≡ Some old = slice_get-get_or items number old within ∙ ap Some (search rules) in
+    let own = ap parts_of c.in-Begun.is ∙ parts-Begun c.in-Begun._place c.in-Begun.parts in
+    let first = ap (λ qs. slice_get qs number) own ∙ get-map progress items number old at in
+    let wanted' = subst (λ s. Within s most) (wants-at (parts_of c.args.part.now) number (progress old) first) wanted in
+    let before : Within (holding (map stock items)) most = grind (arith, common_steps, parts, was) in
+    let all = adds-one stock items number old c.take_from.new.part (wants (progress old)) at c.take_from.ensures.held most before wanted' in
+    grind (arith, common_steps, parts, all)

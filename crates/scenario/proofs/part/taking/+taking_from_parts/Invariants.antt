@@ -1,6 +1,6 @@
 use Rattle.std.proofs.Common.{◌+◌, ◌*◌}
 use Rattle.scenario.specs.Cursors.{progress}
-use Rattle.scenario.specs.Parts.{height, parts_of}
+use Rattle.scenario.specs.inner.Parts.{height, parts_of}
 use Rattle.scenario.proofs.Going.{height_at}
 use Rattle.scenario.proofs.part.taking.+taking_from_parts.Given as goal
 

@@ -1,7 +1,7 @@
 use Rattle.std.proofs.Common.{◌<◌, length, sym, subst, ◌∙◌, arith}
 use Rattle.std.proofs.lemmas.Grind.{common_steps}
 use Rattle.scenario.specs.Cursors.{progress}
-use Rattle.scenario.specs.Parts.{Leads, behind, most_behind, place_of}
+use Rattle.scenario.specs.inner.Parts.{MovesTo, behind, wants_behind, place_of}
 use Rattle.scenario.specs.Taking.{offers}
 use Rattle.scenario.specs.Tree.{plain}
 use Rattle.scenario.proofs.Failing.{on_ok-map}
@@ -31,13 +31,13 @@ pub returns-in-Whole-clause-ok : goal.returns-in-Whole-clause-ok
 returns-in-Whole-clause-ok g c =
     let is = sym (sym c.place.ensures ∙ c.in-Whole.is) in
     let new = progress c.start.new.part in
-    on_ok-map c.start.result _ _ (λ h. subst (λ at. Leads (behind at) c.args.at (most_behind at) new) is h) c.start.ensures.ok
+    on_ok-map c.start.result _ _ (λ h. subst (λ at. MovesTo (behind at) c.args.at (wants_behind at) new) is h) c.start.ensures.ok
 
 pub returns-in-InSeq-clause-ok : goal.returns-in-InSeq-clause-ok
 returns-in-InSeq-clause-ok g c =
     let is = sym (sym c.place.ensures ∙ c.in-InSeq.is) in
     let new = progress c.start_row.new.part in
-    on_ok-map c.start_row.result _ _ (λ h. subst (λ at. Leads (behind at) c.args.at (most_behind at) new) is h) c.start_row.ensures.ok
+    on_ok-map c.start_row.result _ _ (λ h. subst (λ at. MovesTo (behind at) c.args.at (wants_behind at) new) is h) c.start_row.ensures.ok
 
 pub unreachable-unreachable : goal.unreachable-unreachable
 unreachable-unreachable g c = grind (arith, common_steps)

@@ -2,7 +2,6 @@ use Rattle.std.proofs.Common.{Some, arith, refl, sym, ◌∙◌}
 use Rattle.std.proofs.lemmas.Grind.{common_steps}
 use Rattle.scenario.specs.Taking.{offers}
 use Rattle.scenario.specs.Tree.{plain}
-use Rattle.scenario.proofs.Depths.{leaves-peak}
 use Rattle.scenario.proofs.Flat.{leaves_takes}
 use Rattle.scenario.proofs.Sought.{sought-ok, sought-err}
 use Rattle.scenario.proofs.tree.Scenario.take.Goals as goal
@@ -19,24 +18,14 @@ pub returns-clause-ok : goal.returns-clause-ok
 returns-clause-ok g c =
     leaves_takes (plain c.args.self.now) c.args.at (Some c.in_ok-take_one.field-0) (plain c.take_one.new.tree) c.in_ok-take_one.ensures.ok
 
-pub returns-clause-shallow : goal.returns-clause-shallow
-returns-clause-shallow g c =
-    leaves-peak (plain c.args.self.now) c.args.at (Some c.in_ok-take_one.field-0) (plain c.take_one.new.tree) c.in_ok-take_one.ensures.ok
-
 pub returns-in-Err-clause-err : goal.returns-in-Err-clause-err
 returns-in-Err-clause-err g c = grind (arith, common_steps)
-
-pub returns-in-Err-clause-shallow : goal.returns-in-Err-clause-shallow
-returns-in-Err-clause-shallow g c = grind (arith, common_steps)
 
 pub returns-in_err-take_one-clause-ok : goal.returns-in_err-take_one-clause-ok
 returns-in_err-take_one-clause-ok g c = grind (arith, common_steps)
 
 pub returns-in_err-take_one-clause-err : goal.returns-in_err-take_one-clause-err
 returns-in_err-take_one-clause-err g c = grind (arith, common_steps)
-
-pub returns-in_err-take_one-clause-shallow : goal.returns-in_err-take_one-clause-shallow
-returns-in_err-take_one-clause-shallow g c = grind (arith, common_steps)
 
 pub returns-clause-err : goal.returns-clause-err
 returns-clause-err g c = grind (arith, common_steps)

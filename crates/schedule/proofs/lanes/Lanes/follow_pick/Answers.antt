@@ -1,7 +1,9 @@
 use Rattle.std.proofs.Common.{ℕ, ◌∙◌, ap, subst, sym, arith}
 use Rattle.std.proofs.lemmas.Grind.{common_steps}
 use Rattle.base.specs.Steps.{block_of}
-use Rattle.schedule.specs.Lanes.{AgreeBut, laned}
+use Rattle.schedule.specs.Lanes.{AgreeBut, Laned, laned}
+use Rattle.schedule.specs.Fitting.{lane_trees}
+use Rattle.schedule.proofs.Fitting.{fits-same}
 use Rattle.schedule.proofs.Counting.{all-counted, counted-at-all}
 use Rattle.schedule.proofs.lanes.Lanes.follow_pick.Goals as goal
 
@@ -34,3 +36,12 @@ returns-clause-kept g c = grind (arith, common_steps)
 pub count_taken-requires-clause-counted : goal.count_taken-requires-clause-counted
 count_taken-requires-clause-counted g c =
     counted-at-all c.args.cores.now c.args.at (laned c.mark_again.new.self) (laned c.count_at.new.self) c.count_at.ensures.counts c.count_at.ensures.each
+
+pub returns-clause-fits : goal.returns-clause-fits
+returns-clause-fits g c tree h =
+    fits-same c.take_picked.new.self.lanes.items c.count_taken.new.self.lanes.items (lane_trees tree)
+    (ap (λ (l : Laned). l.stocks) c.count_taken.ensures.counts.same ∙ ap (λ (l : Laned). l.stocks) c.count_at.ensures.counts.same
+    ∙ c.mark_again.ensures.same.stocks) (c.take_picked.ensures.fits tree h)
+
+pub returns-in_err-taken-clause-fits : goal.returns-in_err-taken-clause-fits
+returns-in_err-taken-clause-fits g c = c.take_picked.ensures.fits

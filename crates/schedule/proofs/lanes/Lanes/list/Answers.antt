@@ -1,10 +1,11 @@
-use Rattle.std.proofs.Common.{◌≡◌, ◌∙◌, ◌<◌, ap, sym, refl, subst, length, slice_get, arith}
+use Rattle.std.proofs.Common.{ℕ, List, get_or, map, set, ◌≡◌, ◌∙◌, ◌<◌, ap, sym, refl, subst, length, slice_get, arith}
 use Rattle.std.proofs.lemmas.Grind.{common_steps}
 use Rattle.std.specs.Vec.{with_item}
 use Rattle.std.proofs.lemmas.List.{get_or-set_same}
+use Rattle.std.proofs.Math.Seq.{map-set_same}
 use Rattle.schedule.specs.declared.lanes.Lane.{Lane}
 use Rattle.schedule.specs.declared.lanes.Lanes.{Lanes}
-use Rattle.schedule.specs.Lanes.{laned, listed_at}
+use Rattle.schedule.specs.Lanes.{laned, listed_at, stocked}
 use Rattle.schedule.specs.Listed.{Listed}
 use Rattle.schedule.specs.inner.Owned.{IsMarkedIf}
 use Rattle.schedule.proofs.Kept.{lane-listed}
@@ -28,13 +29,30 @@ relists g c =
     c.asks-offers.ensures.value
     ∙ ap (λ (x : Lane g.row.A.Denot g.row.B.Denot). x.asks.asks)
     (c.index.ensures ∙ get_or-set_same c.args.self.now.lanes.items c.args.lane c.list.new.self c.index.result.now low) in
-    let fits = c.in-Ok.ensures in
-    lane-relists c.args.self.now (made g c) c.args.lane c.in-Ok.length c.index_mut.result.now c.list.new.self low c.index_mut.ensures.value refl
-    c.list.ensures.rest c.in_ok-anew.ensures.asks c.set.ensures (fits.1 ∙ ap length listed) (subst (λ n. n < 4294967296) (sym fits.1) fits.0) refl
+    lane-relists c.args.self.now (made g c) c.args.lane (length c.asks-offers.result.now) c.index_mut.result.now c.list.new.self low c.index_mut.ensures.value refl
+    c.list.ensures.rest c.in_ok-anew.ensures.asks c.set.ensures (ap length listed)
+    (subst (λ xs. length xs < 4294967296) (sym c.asks-offers.ensures.value) c.asks-offers.ensures.short) refl
     c.reach.ensures.more (λ at ask e. c.in_ok-reach.ensures.ok at ask (ap (λ xs. slice_get xs at) listed ∙ e))
 
 pub returns-clause-trees : goal.returns-clause-trees
 returns-clause-trees g c = (relists g c).trees
+
+-- where one lane's cursor has the same parts, all have
+stocks-stay : {A B : Type 0} (lanes : List (Lane A B)) (n : ℕ) (old new : Lane A B) → old ≡ get_or lanes n old → stocked new.rest ≡ stocked old.rest →
+    map (λ (l : Lane A B). stocked l.rest) (set lanes n new) ≡ map (λ (l : Lane A B). stocked l.rest) lanes
+stocks-stay lanes n old new is same = map-set_same (λ l. stocked l.rest) lanes n new old (same ∙ ap (λ l. stocked l.rest) is)
+
+pub returns-clause-stocks : goal.returns-clause-stocks
+returns-clause-stocks g c =
+    stocks-stay c.args.self.now.lanes.items c.args.lane c.index_mut.result.now c.list.new.self c.index_mut.ensures.value c.list.ensures.stock
+
+pub returns-in_err-anew-clause-stocks : goal.returns-in_err-anew-clause-stocks
+returns-in_err-anew-clause-stocks g c =
+    stocks-stay c.args.self.now.lanes.items c.args.lane c.index_mut.result.now c.list.new.self c.index_mut.ensures.value c.list.ensures.stock
+
+pub returns-in_err-reach-clause-stocks : goal.returns-in_err-reach-clause-stocks
+returns-in_err-reach-clause-stocks g c =
+    stocks-stay c.args.self.now.lanes.items c.args.lane c.index_mut.result.now c.list.new.self c.index_mut.ensures.value c.list.ensures.stock
 
 pub returns-clause-listed : goal.returns-clause-listed
 returns-clause-listed g c =
@@ -66,21 +84,6 @@ returns-in_err-anew-clause-others g c = grind (arith, common_steps)
 
 pub returns-in_err-anew-clause-marks : goal.returns-in_err-anew-clause-marks
 returns-in_err-anew-clause-marks g c = grind (arith, common_steps)
-
-pub returns-in_default-clause-trees : goal.returns-in_default-clause-trees
-returns-in_default-clause-trees g c = grind (arith, common_steps)
-
-pub returns-in_default-clause-level : goal.returns-in_default-clause-level
-returns-in_default-clause-level g c = grind (arith, common_steps)
-
-pub returns-in_default-clause-listed : goal.returns-in_default-clause-listed
-returns-in_default-clause-listed g c = grind (arith, common_steps)
-
-pub returns-in_default-clause-others : goal.returns-in_default-clause-others
-returns-in_default-clause-others g c = grind (arith, common_steps)
-
-pub returns-in_default-clause-marks : goal.returns-in_default-clause-marks
-returns-in_default-clause-marks g c = grind (arith, common_steps)
 
 pub overflow_cast-lane : goal.overflow_cast-lane
 overflow_cast-lane g c = grind (arith, common_steps)

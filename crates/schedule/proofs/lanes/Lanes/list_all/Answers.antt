@@ -45,6 +45,7 @@ loop-lane-preserved g c =
           (laned c.count_lane.new.self) opens before.3,
       one-right tables state cores c.loop-lane.lane (laned c.loop-lane.self) (laned c.list.new.self) (laned c.mark_lane.new.self)
           (laned c.count_lane.new.self) opens before.4,
+      ap (λ (l : Laned). l.stocks) c.count_lane.ensures ∙ ap (λ (l : Laned). l.stocks) c.mark_lane.ensures ∙ made.stocks ∙ before.5,
     )
 
 pub returns-clause-kept : goal.returns-clause-kept
@@ -83,3 +84,9 @@ loop-lane-smaller g c = grind (arith, common_steps)
 
 pub returns-clause-trees : goal.returns-clause-trees
 returns-clause-trees g c = grind (arith, common_steps)
+
+pub returns-in_err-anew-clause-stocks : goal.returns-in_err-anew-clause-stocks
+returns-in_err-anew-clause-stocks g c = c.list.ensures.stocks ∙ c.loop-lane.invariant.5
+
+pub returns-clause-stocks : goal.returns-clause-stocks
+returns-clause-stocks g c = c.loop-lane.invariant.5

@@ -10,3 +10,4 @@ invariant-loop-lane g l =
     × (length l.self.lanes.items ≡ l.lane-end)
     × ((at : ℕ) → at < l.lane → IsListed (laned l.self) at)
     × ((at : ℕ) → at < l.lane → IsRight l.world.tables l.world.state l.cores (laned l.self) at)
+    × ((laned l.self).stocks ≡ (laned l.fn.self).stocks)

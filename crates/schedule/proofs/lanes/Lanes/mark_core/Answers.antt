@@ -3,7 +3,7 @@ use Rattle.std.proofs.lemmas.List.{length-map}
 use Rattle.schedule.specs.Lanes.{laned, lanes_of, listed_at}
 use Rattle.schedule.specs.declared.lanes.Lanes.{Lanes}
 use Rattle.schedule.specs.declared.lanes.Lane.{Lane}
-use Rattle.schedule.specs.inner.Changes.{IsMarkedIn, Marks}
+use Rattle.schedule.specs.inner.Changes.{IsMarkedIn, ChangesMarks}
 use Rattle.schedule.proofs.Counting.{kept-marks, marks-only}
 use Rattle.schedule.proofs.Listing.{lane-low}
 use Rattle.schedule.proofs.Reached.{row-items, rows_in}
@@ -34,13 +34,13 @@ each g c lane low =
     subst (λ ws. IsMarkedIn c.args.world.now.tables c.args.world.now.state c.args.core c.args.block ws (listed_at (laned c.args.self.now) lane)
     (listed_at (laned (made g c)) lane) lane) (which g c) (c.mark_each.ensures.each lane (lane-low c.args.self.now lane low))
 
-marks : (g : given.Over) (c : goal.After-mark_each g) → Marks (laned c.args.self.now) (laned (made g c))
+marks : (g : given.Over) (c : goal.After-mark_each g) → ChangesMarks (laned c.args.self.now) (laned (made g c))
 marks g c =
     let count = c.mark_each.ensures.count in
     let new = length-map c.mark_each.new.lanes.items (λ (l : Lane g.row.A.Denot g.row.B.Denot). l.asks) in
     let old = length-map c.args.self.now.lanes.items (λ (l : Lane g.row.A.Denot g.row.B.Denot). l.asks) in
     marks-only c.args.world.now.tables c.args.world.now.state c.args.core c.args.block (lanes_of (rows_in c.args.self.now.reached.items) c.args.core.0)
-    (laned c.args.self.now) (laned (made g c)) c.mark_each.ensures.trees refl refl refl (omega (arith, count, new, old)) c.requires.kept.level.listed (each g c)
+    (laned c.args.self.now) (laned (made g c)) c.mark_each.ensures.trees c.mark_each.ensures.stocks refl refl refl (omega (arith, count, new, old)) c.requires.kept.level.listed (each g c)
 
 pub returns-clause-kept : goal.returns-clause-kept
 returns-clause-kept g c = kept-marks (laned c.args.self.now) (laned (made g c)) (marks g c) c.requires.kept

@@ -2,6 +2,8 @@ use Rattle.std.proofs.Common.{subst, sym, arith}
 use Rattle.std.proofs.lemmas.Grind.{common_steps}
 use Rattle.scenario.specs.Alike.{Alike}
 use Rattle.scenario.specs.Tree.{Both, plain, trees_of}
+use Rattle.schedule.specs.Fitting.{lane_trees}
+use Rattle.schedule.proofs.Fitting.{fits-same}
 use Rattle.schedule.proofs.lanes.Lanes.open.Goals as goal
 
 pub returns-clause-rest : goal.returns-clause-rest
@@ -22,3 +24,11 @@ returns-clause-kept g c = grind (arith, common_steps)
 
 pub returns-clause-ready : goal.returns-clause-ready
 returns-clause-ready g c = grind (arith, common_steps)
+
+pub returns-clause-fits : goal.returns-clause-fits
+returns-clause-fits g c =
+    fits-same c.in_ok-lanes.lanes.lanes.items c.list_all.new.self.lanes.items (lane_trees (plain c.args.scenario.now)) c.list_all.ensures.stocks
+    c.in_ok-lanes.ensures.fits
+
+pub returns-in_err-lanes-clause-fits : goal.returns-in_err-lanes-clause-fits
+returns-in_err-lanes-clause-fits g c = grind (arith, common_steps)

@@ -1,8 +1,15 @@
-use Rattle.std.proofs.Common.{subst, sym, arith}
+use Rattle.std.proofs.Common.{◌∙◌, subst, sym, arith}
 use Rattle.std.proofs.lemmas.Grind.{common_steps}
+use Rattle.std.proofs.lemmas.List.{length-map}
+use Rattle.scenario.specs.Cursors.{remaining}
+use Rattle.schedule.specs.declared.lanes.Lane.{Lane}
+use Rattle.schedule.specs.declared.lanes.Lanes.{Lanes}
 use Rattle.scenario.specs.Alike.{Alike}
 use Rattle.scenario.specs.Tree.{Both, plain, trees_of}
+use Rattle.schedule.specs.Fitting.{LanesFit, lane_trees}
+use Rattle.schedule.proofs.Fitting.{fits-same}
 use Rattle.schedule.proofs.lanes.Lanes.restart.Goals as goal
+use Rattle.schedule.proofs.lanes.Lanes.restart.Goals.{else-is_level-via-then-is_level+else-restart_each, else-is_level-via-else-is_level}
 
 pub returns-clause-rest : goal.returns-clause-rest
 returns-clause-rest g c =
@@ -49,3 +56,51 @@ returns-clause-kept g c = grind (arith, common_steps)
 
 pub returns-clause-ready : goal.returns-clause-ready
 returns-clause-ready g c = grind (arith, common_steps)
+
+pub returns-in_err-list_all-clause-fits : goal.returns-in_err-list_all-clause-fits
+returns-in_err-list_all-clause-fits g c h =
+    fits-same c.restart_each.new.lanes.items c.list_all.new.self.lanes.items (lane_trees (plain c.args.scenario.now)) c.list_all.ensures.stocks
+    (c.restart_each.ensures.fits h)
+
+pub returns-then-restart_each-clause-fits : goal.returns-then-restart_each-clause-fits
+returns-then-restart_each-clause-fits g c h =
+    fits-same c.restart_each.new.lanes.items c.list_all.new.self.lanes.items (lane_trees (plain c.args.scenario.now)) c.list_all.ensures.stocks
+    (c.restart_each.ensures.fits h)
+
+pub returns-in_err-list_all-2-clause-fits : goal.returns-in_err-list_all-2-clause-fits
+returns-in_err-list_all-2-clause-fits g c h =
+    fits-same c.in_ok-self.field-0.lanes.items c.list_all-2.new.self.lanes.items (lane_trees (plain c.args.scenario.now)) c.list_all-2.ensures.stocks
+    c.in_ok-self.ensures.fits
+
+pub returns-clause-fits : goal.returns-clause-fits
+returns-clause-fits g c h =
+    fits-same c.in_ok-self.field-0.lanes.items c.list_all-2.new.self.lanes.items (lane_trees (plain c.args.scenario.now)) c.list_all-2.ensures.stocks
+    c.in_ok-self.ensures.fits
+
+pub returns-clause-fits_anew : goal.returns-clause-fits_anew
+returns-clause-fits_anew g c h =
+    fits-same c.in_ok-self.field-0.lanes.items c.list_all-2.new.self.lanes.items (lane_trees (plain c.args.scenario.now)) c.list_all-2.ensures.stocks
+    c.in_ok-self.ensures.fits
+
+pub returns-in_err-list_all-clause-fits_anew : goal.returns-in_err-list_all-clause-fits_anew
+returns-in_err-list_all-clause-fits_anew g c = grind (arith, common_steps)
+
+pub returns-then-restart_each-clause-fits_anew : goal.returns-then-restart_each-clause-fits_anew
+returns-then-restart_each-clause-fits_anew g c differ =
+    let many = length-map c.args.self.now.lanes.items (λ (l : Lane g.row.A.Denot g.row.B.Denot). remaining l.rest) in
+    let few = (c.is_level.ensures c.if-is_level.true).few in
+    absurd (differ (many ∙ c.restart_each.ensures.many c.if-restart_each.true (omega (arith, many, few))))
+
+pub returns-in_err-self-clause-fits : goal.returns-in_err-self-clause-fits
+returns-in_err-self-clause-fits g c h = elim c.else-is_level.branch [
+  | else-is_level-via-then-is_level+else-restart_each w ↦
+      subst (λ (l : Lanes g.row.A.Denot g.row.B.Denot). LanesFit l (plain c.args.scenario.now)) (sym w.self-is) (w.restart_each.ensures.fits h)
+  | else-is_level-via-else-is_level w ↦
+      subst (λ (l : Lanes g.row.A.Denot g.row.B.Denot). LanesFit l (plain c.args.scenario.now)) (sym w.self-is) h
+]
+
+pub returns-in_err-self-clause-fits_anew : goal.returns-in_err-self-clause-fits_anew
+returns-in_err-self-clause-fits_anew g c = grind (arith, common_steps)
+
+pub returns-in_err-list_all-2-clause-fits_anew : goal.returns-in_err-list_all-2-clause-fits_anew
+returns-in_err-list_all-2-clause-fits_anew g c = grind (arith, common_steps)

@@ -1,4 +1,4 @@
-use Rattle.std.proofs.Common.{◌<◌, ◌+◌, ap, get_or, length, refl, subst, sym, take}
+use Rattle.std.proofs.Common.{◌<◌, ◌+◌, ap, get_or, length, refl, set, subst, sym, take}
 use Rattle.std.specs.List.{sum}
 use Rattle.std.specs.Vec.{with_item}
 use Rattle.rows.specs.Counts.{Finds}
@@ -11,6 +11,8 @@ use Rattle.schedule.specs.declared.lanes.Lanes.{Lanes}
 use Rattle.schedule.specs.Lanes.{laned, listed_at}
 use Rattle.schedule.specs.Listed.{Listed, nothing_listed}
 use Rattle.schedule.specs.inner.Owned.{IsMarkedIf}
+use Rattle.schedule.specs.Fitting.{lane_trees}
+use Rattle.schedule.proofs.Fitting.{fits-same, fits-set}
 use Rattle.schedule.proofs.Kept.{lane-finds, lane-tree}
 use Rattle.schedule.proofs.Listing.{Steps, found-offered, lane-low, lane-steps, takes-again, takes-from}
 use Rattle.schedule.proofs.lanes.Lanes.take_at.Given as given
@@ -90,3 +92,25 @@ pub returns-clause-marks : goal.returns-clause-marks
 returns-clause-marks g c =
     subst (λ (l : Listed). IsMarkedIf c.args.world.now.tables c.args.world.now.state c.in_ok-anew.anew l (listed_at (laned c.list.new.self) c.args.lane))
     (ap (λ ls. get_or ls c.args.lane nothing_listed) (steps g c).listed) c.in_ok-anew.ensures.marks
+
+pub returns-in_err-repeats-clause-fits : goal.returns-in_err-repeats-clause-fits
+returns-in_err-repeats-clause-fits g c tree h =
+    fits-set c.args.self.now.lanes.items (lane_trees tree) c.args.lane c.index_mut.result.now
+    (record { rest = c.pass_on.new.self; asks = c.index_mut.result.now.asks }) c.index_mut.ensures.value c.pass_on.ensures.fits h
+
+pub returns-then-repeats-clause-fits : goal.returns-then-repeats-clause-fits
+returns-then-repeats-clause-fits g c tree h =
+    fits-set c.args.self.now.lanes.items (lane_trees tree) c.args.lane c.index_mut.result.now
+    (record { rest = c.pass_on.new.self; asks = c.index_mut.result.now.asks }) c.index_mut.ensures.value c.pass_on.ensures.fits h
+
+pub returns-in_err-anew-clause-fits : goal.returns-in_err-anew-clause-fits
+returns-in_err-anew-clause-fits g c tree h =
+    let passed : Lane g.row.A.Denot g.row.B.Denot = record { rest = c.pass_on.new.self; asks = c.index_mut.result.now.asks } in
+    fits-same (set c.args.self.now.lanes.items c.args.lane passed) c.list.new.self.lanes.items (lane_trees tree) c.list.ensures.stocks
+    (fits-set c.args.self.now.lanes.items (lane_trees tree) c.args.lane c.index_mut.result.now passed c.index_mut.ensures.value c.pass_on.ensures.fits h)
+
+pub returns-clause-fits : goal.returns-clause-fits
+returns-clause-fits g c tree h =
+    let passed : Lane g.row.A.Denot g.row.B.Denot = record { rest = c.pass_on.new.self; asks = c.index_mut.result.now.asks } in
+    fits-same (set c.args.self.now.lanes.items c.args.lane passed) c.list.new.self.lanes.items (lane_trees tree) c.list.ensures.stocks
+    (fits-set c.args.self.now.lanes.items (lane_trees tree) c.args.lane c.index_mut.result.now passed c.index_mut.ensures.value c.pass_on.ensures.fits h)

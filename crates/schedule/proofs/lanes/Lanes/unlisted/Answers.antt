@@ -40,3 +40,18 @@ returns-clause-rest g c = grind (arith, common_steps)
 
 pub returns-clause-level : goal.returns-clause-level
 returns-clause-level g c = grind (arith, common_steps)
+
+pub returns-in_err-lanes-clause-fits : goal.returns-in_err-lanes-clause-fits
+returns-in_err-lanes-clause-fits g c = grind (arith, common_steps)
+
+pub returns-in_err-lengths-clause-fits : goal.returns-in_err-lengths-clause-fits
+returns-in_err-lengths-clause-fits g c = grind (arith, common_steps)
+
+pub returns-in_err-ready-clause-fits : goal.returns-in_err-ready-clause-fits
+returns-in_err-ready-clause-fits g c = grind (arith, common_steps)
+
+pub returns-in_err-reached-clause-fits : goal.returns-in_err-reached-clause-fits
+returns-in_err-reached-clause-fits g c = grind (arith, common_steps)
+
+pub returns-clause-fits : goal.returns-clause-fits
+returns-clause-fits g c = c.in_ok-lanes.ensures.fits

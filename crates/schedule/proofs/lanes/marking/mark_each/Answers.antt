@@ -2,6 +2,7 @@ use Rattle.std.proofs.Common.{◌∙◌, ◌≡◌, ◌≢◌, ◌⊎◌, ◌+�
 use Rattle.std.proofs.lemmas.List.{length-set, length-map, map-set}
 use Rattle.std.proofs.Math.Seq.{map-set_same}
 use Rattle.scenario.specs.Cursors.{remaining}
+use Rattle.schedule.specs.Lanes.{stocked}
 use Rattle.schedule.specs.Listed.{IsMarked, Listed, nothing_listed}
 use Rattle.schedule.specs.inner.Marks.{marked_at}
 use Rattle.schedule.specs.declared.lanes.Lane.{Lane}
@@ -23,6 +24,7 @@ loop-number-preserved-then-is_lane g c =
       c.loop-number.invariant.1,
       marked-past c.args.world.now.tables c.args.world.now.state c.args.core c.args.block (listed_in g c.loop-number.lanes.items)
           (listed_in g c.args.lanes.now.items) c.args.which.now c.loop-number.number-index (length c.args.lanes.now.items) c.loop-number.invariant.2 right,
+      c.loop-number.invariant.3,
     )
 
 pub loop-number-preserved : goal.loop-number-preserved
@@ -55,6 +57,8 @@ loop-number-preserved g c = elim c.if-lane-len.branch [
             (marked-more c.args.world.now.tables c.args.world.now.state c.args.core c.args.block (listed_in g c.loop-number.lanes.items)
             (listed_in g c.args.lanes.now.items) c.args.which.now c.loop-number.number-index
             (λ other l. c.loop-number.invariant.2 other (omega (arith, l, many, same))) (omega (arith, low, many)) lane (omega (arith, under, many, same))),
+        map-set_same (λ (l : Lane g.row.A.Denot g.row.B.Denot). stocked l.rest) c.loop-number.lanes.items at made w.index_mut.result.now
+            (ap (λ (l : Lane g.row.A.Denot g.row.B.Denot). stocked l.rest) w.index_mut.ensures.value) ∙ c.loop-number.invariant.3,
       )
   | else-lane-len w ↦
       let past = w.if-lane-len.false in
@@ -68,6 +72,7 @@ loop-number-preserved g c = elim c.if-lane-len.branch [
             ≡ marked_at c.args.world.now.tables c.args.world.now.state c.args.core c.args.block (get_or (listed_in g c.args.lanes.now.items) n nothing_listed))
             (λ n. get_or (listed_in g c.loop-number.lanes.items) n nothing_listed ≡ get_or (listed_in g c.args.lanes.now.items) n nothing_listed)
             c.args.which.now c.loop-number.number-index (length c.args.lanes.now.items) c.loop-number.invariant.2 (omega (arith, past, same, len)) lane low,
+        c.loop-number.invariant.3,
       )
 ]
 

@@ -1,5 +1,5 @@
-use Rattle.floor.specs.FloorId.{names}
+use Rattle.floor.specs.FloorId.{floor_id}
 use Rattle.tests_of_floors.proofs.refusing.floors.a_crew.Given as goal
 
 abbrev pub ghosts-race : goal.ghosts-race
-ghosts-race g a = record { floor = names a.ground a.setup.now 3 600 }
+ghosts-race g a = record { floor = floor_id a.ground a.setup.now 3 600 }

@@ -4,7 +4,7 @@ use Rattle.base.specs.Steps.{block_of}
 use Rattle.base.specs.declared.step.Step.{Step}
 use Rattle.machine.specs.Machine.{next}
 use Rattle.monitor.specs.Watching.{AnswersHistory, SeesNext}
-use Rattle.record.specs.Kept.{with_entry}
+use Rattle.record.specs.View.{with_entry}
 use Rattle.schedule.specs.Lanes.{AgreeBut, AreReady, laned}
 use Rattle.trials.specs.Moments.{cores_after}
 use Rattle.trials.proofs.Counted.{agree-but, sound-before, where-sound}

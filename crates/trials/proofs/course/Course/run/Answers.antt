@@ -2,7 +2,7 @@ use Rattle.std.proofs.Common.{None, ap, arith, refl}
 use Rattle.std.specs.Option.{option_map}
 use Rattle.schedule.specs.Lanes.{laned}
 use Rattle.schedule.specs.Picks.{choice_of}
-use Rattle.trials.specs.Going.{blank, parts_of}
+use Rattle.trials.specs.inner.Going.{blank, parts_of}
 use Rattle.trials.proofs.Likes.{like-both, like-itself, like-same}
 use Rattle.trials.proofs.Runs.{choice-made, cuts, ends-without, room-left, step-goes}
 use Rattle.trials.proofs.course.Course.run.Goals as goal

@@ -1,4 +1,4 @@
-use Rattle.trials.specs.Going.{IsCounted, IsLike}
+use Rattle.trials.specs.inner.Going.{IsCounted, IsLike}
 use Rattle.trials.proofs.Runs.{HasCome}
 use Rattle.trials.proofs.course.Course.run.Given as goal
 

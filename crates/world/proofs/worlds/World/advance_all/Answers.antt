@@ -1,13 +1,17 @@
 use Rattle.std.proofs.Common.{◌++◌, ◌∷◌, [], ◌∙◌, ap, arith, refl}
 use Rattle.std.proofs.lemmas.Grind.{common_steps}
 use Rattle.world.proofs.Running.{run-more}
+use Rattle.world.proofs.Spaces.{keeps-more}
 use Rattle.world.proofs.worlds.World.advance_all.Goals as goal
 
 pub loop-i-preserved : goal.loop-i-preserved
-loop-i-preserved c =
-    run-more c.args.self.now c.loop-i.self c.advance.new.self c.args.steps.now c.loop-i.i _ _ c.args.outcomes.now.items c.loop-i.outcomes.items c.push_reserved.new.self.items c.in-Ok.outcome
-    (omega arith) refl c.loop-i.invariant c.in-Ok.ensures.ok c.in-Ok.ensures.shape c.in-Ok.ensures.tables
-    (c.push_reserved.ensures.items ∙ ap (λ xs. xs ++ c.in-Ok.outcome ∷ []) c.reserve.ensures.items)
+loop-i-preserved c = (
+  run-more c.args.self.now c.loop-i.self c.advance.new.self c.args.steps.now c.loop-i.i _ _ c.args.outcomes.now.items c.loop-i.outcomes.items
+      c.push_reserved.new.self.items c.in-Ok.outcome (omega arith) refl c.loop-i.invariant.0 c.in-Ok.ensures.ok c.in-Ok.ensures.shape c.in-Ok.ensures.tables
+      (c.push_reserved.ensures.items ∙ ap (λ xs. xs ++ c.in-Ok.outcome ∷ []) c.reserve.ensures.items)
+      c.in-Ok.ensures.tests_what_it_sends c.in-Ok.ensures.tests_its_block,
+  keeps-more c.args.self.now c.loop-i.self c.advance.new.self c.args.steps.now c.loop-i.i _ _ (omega arith) refl c.loop-i.invariant.1 c.in-Ok.ensures.keeps,
+)
 
 pub loop-i-init : goal.loop-i-init
 loop-i-init c = grind (arith, common_steps)

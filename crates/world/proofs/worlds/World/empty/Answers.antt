@@ -1,7 +1,7 @@
 use Rattle.std.proofs.Common.{◌∙◌, ap, arith, inl, inr, sym}
 use Rattle.std.proofs.lemmas.Bool.{cases_lt}
 use Rattle.world.specs.inner.Found.{is_quiet_kept}
-use Rattle.world.specs.inner.Held.{kept_at}
+use Rattle.world.specs.inner.Holding.{kept_at}
 use Rattle.world.proofs.Quieting.{all-quiet, not-quiet}
 use Rattle.world.proofs.worlds.World.empty.Goals as goal
 

@@ -1,6 +1,6 @@
 use Rattle.std.proofs.Common.{◌≡◌, ◌<◌, ℕ, true}
 use Rattle.world.specs.inner.Found.{is_quiet_kept}
-use Rattle.world.specs.inner.Held.{kept_at}
+use Rattle.world.specs.inner.Holding.{kept_at}
 use Rattle.world.proofs.worlds.World.empty.Given as goal
 
 abbrev pub invariant-loop-number : goal.invariant-loop-number

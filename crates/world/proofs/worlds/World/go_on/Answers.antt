@@ -1,4 +1,4 @@
-use Rattle.std.proofs.Common.{◌∙◌, ◌<◌, length, ◌≡◌, Some, ap, sym, subst, slice_get, true≢false, List, arith}
+use Rattle.std.proofs.Common.{◌∙◌, ◌<◌, length, ◌≡◌, Some, ap, refl, sym, subst, slice_get, true≢false, List, arith}
 use Rattle.std.proofs.lemmas.Grind.{common_steps}
 use Rattle.base.specs.Steps.{block_of}
 use Rattle.machine.specs.Block.{BlockState}
@@ -7,10 +7,11 @@ use Rattle.std.specs.Option.{option_and_then}
 use Rattle.blocks.specs.Looks.{place_in}
 use Rattle.blocks.specs.Tests.{IsTested, IsToldIf}
 use Rattle.world.specs.View.{state_or, states}
-use Rattle.world.specs.inner.Held.{kept_at}
+use Rattle.world.specs.inner.Holding.{kept_at}
 use Rattle.world.proofs.Crowds.{block-crowded, block-uncrowded}
 use Rattle.world.proofs.Keeping.{state-there, states-stay}
 use Rattle.world.proofs.LineStates.{lines-left}
+use Rattle.world.proofs.Spaces.{kept-as-is}
 use Rattle.world.proofs.Stepping.{below-places, light-in, next-is, room-at, tests-block, tests-sent, world-stays, world-stepped}
 use Rattle.world.proofs.worlds.World.go_on.Goals as goal
 
@@ -244,3 +245,19 @@ returns-then-self-clause-at c = grind (arith, common_steps)
 
 pub returns-in_err-visit-clause-at : goal.returns-in_err-visit-clause-at
 returns-in_err-visit-clause-at c = grind (arith, common_steps)
+
+pub returns-in_err-visit-clause-keeps : goal.returns-in_err-visit-clause-keeps
+returns-in_err-visit-clause-keeps c =
+    rw (← c.self.view_is, c.if-self.false)
+    (kept-as-is c.self.inside.shape c.self.inside.tables c.self.inside.opening.items c.self.inside.blocks.items c.step_at.new.blocks.items
+    c.self.inside.tested c.args.step c.in-Some.value _ (at c)
+    (rw c.block-number.ensures at c.in_err-visit.ensures.others)
+    (rw (c.block-number.ensures, c.caches.ensures.value) at c.in_err-visit.ensures.idle) refl)
+
+pub returns-clause-keeps : goal.returns-clause-keeps
+returns-clause-keeps c =
+    rw (← c.self.view_is, c.if-self.false)
+    (kept-as-is c.self.inside.shape c.self.inside.tables c.self.inside.opening.items c.self.inside.blocks.items c.step_at.new.blocks.items
+    c.self.inside.tested c.args.step c.in-Some.value _ (at-2 c)
+    (rw c.block-number.ensures at c.in_ok-visit.ensures.others)
+    (rw (c.block-number.ensures, c.caches.ensures.value) at c.in_ok-visit.ensures.idle) refl)

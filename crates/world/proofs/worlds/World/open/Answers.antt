@@ -4,6 +4,7 @@ use Rattle.machine.specs.Machine.{State, opened}
 use Rattle.world.specs.View.{states}
 use Rattle.world.proofs.Keeping.{states-opened, world-opened}
 use Rattle.world.proofs.Coherence.{been-safe, not-stuck}
+use Rattle.world.proofs.Spaces.{none-kept}
 use Rattle.world.proofs.worlds.World.open.Goals as goal
 
 one_each : (c : goal.After-open-2) → length c.args.opening.items ≡ c.args.shape.blocks
@@ -36,3 +37,7 @@ returns-clause-safe c = been-safe _ _ _ c.blocks-2.ensures.within
 
 pub returns-clause-unstuck : goal.returns-clause-unstuck
 returns-clause-unstuck c = not-stuck _ _ _ c.blocks-2.ensures.within
+
+pub returns-clause-none_kept : goal.returns-clause-none_kept
+returns-clause-none_kept c =
+    none-kept c.open-2.result.items c.args.shape.blocks (c.open-2.ensures.items ∙ ap (λ n. replicate n None) c.blocks-4.ensures.value)

@@ -1,10 +1,11 @@
-use Rattle.std.proofs.Common.{◌<◌, length, ◌≡◌, ◌∙◌, List, Some, ap, sym, slice_get, arith}
+use Rattle.std.proofs.Common.{◌<◌, length, ◌≡◌, ◌∙◌, List, Some, ap, refl, sym, slice_get, arith}
 use Rattle.std.proofs.lemmas.Grind.{common_steps, elements}
 use Rattle.std.proofs.lemmas.Result.{IfOk-weaker, on_ok_weaker}
 use Rattle.base.specs.Steps.{block_of}
 use Rattle.machine.specs.Block.{BlockState}
 use Rattle.world.specs.View.{states}
 use Rattle.world.proofs.Keeping.{states-stay}
+use Rattle.world.proofs.Spaces.{kept-as-is}
 use Rattle.world.proofs.Stepping.{below-places, light-in, outcome-is, room-at, room-back, world-stays}
 use Rattle.world.proofs.worlds.World.ready.Goals as goal
 
@@ -127,3 +128,11 @@ returns-in_default-clause-room c = grind (arith, elements)
 
 pub ready_at-requires : goal.ready_at-requires
 ready_at-requires c = grind (arith, elements)
+
+pub returns-clause-keeps : goal.returns-clause-keeps
+returns-clause-keeps c =
+    rw (← c.self.view_is, c.if-self.false)
+    (kept-as-is c.self.inside.shape c.self.inside.tables c.self.inside.opening.items c.self.inside.blocks.items c.ready_at.new.blocks.items
+    c.self.inside.tested c.args.step c.in-Some.value _ (at c)
+    (rw c.block-number.ensures at c.ready_at.ensures.others)
+    (rw (c.block-number.ensures, c.caches.ensures.value) at c.ready_at.ensures.idle) refl)

@@ -3,7 +3,7 @@ use Rattle.std.proofs.lemmas.List.{length-map}
 use Rattle.machine.specs.Block.{BlockState}
 use Rattle.machine.specs.Machine.{State, opened}
 use Rattle.world.specs.View.{View, states}
-use Rattle.world.specs.inner.Held.{AreLined, IsOpened, kept_at}
+use Rattle.world.specs.inner.Holding.{AreLined, IsOpened, kept_at}
 use Rattle.world.proofs.Coherence.{been-safe, not-stuck}
 use Rattle.world.proofs.Openings.{lined, states-reset, world-reset}
 use Rattle.world.proofs.worlds.World.reset.Goals as goal

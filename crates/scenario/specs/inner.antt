@@ -1,0 +1,4 @@
+pub mod Parts
+pub mod Rests
+pub mod Turns
+pub mod Walk

@@ -1,0 +1,296 @@
+//! How a crew's seat ends, and what its chooser and the gate are told.
+
+ghost use Rattle.std.specs.Prelude.{◌≡◌};
+ghost use Rattle.floor.specs.FloorId.{floor_id};
+
+use crate::asserting::same;
+use crate::entries::entry_of;
+use crate::setups::setup;
+use base::{Ask, BlockId, CacheId, Step};
+use floor::{Chooser, Floor, Gate, Ground, Naming, Receipt, Seat, TurnFault, Wish, crew};
+use std::alloc::Global;
+use std::marker::Brand;
+use std::process::Abort;
+use std::sync::atomic::{AtomicU32, AtomicU64, Ordering};
+use std::sync::{Mutex, Wait};
+use std::thread::Threads;
+use trials::Setup;
+
+const LOAD: Wish = Wish::Step(Step::Ask {
+    cache: CacheId(0),
+    block: BlockId(0),
+    ask: Ask::Load,
+});
+
+const OTHER_LOAD: Wish = Wish::Step(Step::Ask {
+    cache: CacheId(1),
+    block: BlockId(0),
+    ask: Ask::Load,
+});
+
+const RESPONSE: Wish = Wish::Step(Step::Response {
+    block: BlockId(0),
+    index: 0,
+});
+
+const REQUEST: Wish = Wish::Step(Step::Request {
+    block: BlockId(0),
+    index: 0,
+});
+
+/// What the last seat of a floor wishes, and what comes of it.
+#[derive(Clone, Copy)]
+struct Row<'a> {
+    seats: u32,
+    capacity: u32,
+    wishes: &'a [Wish],
+    /// The entries of its receipts.
+    lines: &'a [&'a str],
+    fault: Option<TurnFault>,
+    /// For each time that its chooser is asked, the number of the receipt that it is told of, counted from 1, or 0.
+    told: &'a [u64],
+    /// How often it comes by at the gate.
+    calls: u32,
+}
+
+/// One at a time: no draw where nothing is ready, a draw among two, a foreign step, and a floor that is full.
+const ROWS: [Row<'static>; 4] = [
+    Row {
+        seats: 1,
+        capacity: 9,
+        wishes: &[LOAD, Wish::Any(0), Wish::Any(0), Wish::Any(7), LOAD],
+        lines: &[
+            "ask 0 0 load = sent",
+            "request 0 0 = moved",
+            "response 0 0 = load 0 0",
+            "ask 0 0 load = load 0 0",
+        ],
+        fault: None,
+        told: &[0, 1, 2, 3, 0, 4],
+        calls: 5,
+    },
+    Row {
+        seats: 1,
+        capacity: 9,
+        wishes: &[LOAD, OTHER_LOAD, Wish::Any(1)],
+        lines: &[
+            "ask 0 0 load = sent",
+            "ask 1 0 load = sent",
+            "request 0 1 = moved",
+        ],
+        fault: None,
+        told: &[0, 1, 2, 3],
+        calls: 3,
+    },
+    Row {
+        seats: 2,
+        capacity: 9,
+        wishes: &[OTHER_LOAD, REQUEST, OTHER_LOAD],
+        lines: &["ask 1 0 load = sent"],
+        fault: Some(TurnFault::NotYours),
+        told: &[0, 1],
+        calls: 2,
+    },
+    Row {
+        seats: 1,
+        capacity: 2,
+        wishes: &[LOAD, REQUEST, RESPONSE, RESPONSE],
+        lines: &["ask 0 0 load = sent", "request 0 0 = moved"],
+        fault: Some(TurnFault::Full),
+        told: &[0, 1, 2],
+        calls: 3,
+    },
+];
+
+/// Wishes these one after the other, and notes what it is told.
+#[derive(Drop)]
+struct Plan<'a> {
+    wishes: &'a [Wish],
+    told: &'a [AtomicU64],
+    asked: &'a AtomicU32,
+}
+
+impl<'a, F: Naming> Chooser<F> for Plan<'a> {
+    fn next(&mut self, last: Option<&Receipt<F>>) -> Option<Wish> {
+        let told = last.map_or(0, |receipt| receipt.number().saturating_add(1));
+        let call = self.asked.fetch_add(1, Ordering::SeqCst) as usize;
+        if let Some(place) = self.told.get(call) {
+            place.store(told, Ordering::SeqCst);
+        }
+        self.wishes.get(call).copied()
+    }
+}
+
+/// Counts who comes by.
+#[derive(Drop)]
+struct Counter {
+    passed: AtomicU32,
+    ended: AtomicU32,
+}
+
+impl Gate for Counter {
+    fn pass(&self, _seat: u32, _call: u32) {
+        self.passed.fetch_add(1, Ordering::SeqCst);
+    }
+
+    fn done(&self, _seat: u32, _call: u32) {
+        self.ended.fetch_add(1, Ordering::SeqCst);
+    }
+}
+
+/// Has one seat play, and gives it back with how it ended.
+fn played<F: Naming + Send + Sync, R: Threads + Wait + Abort + Sync, G: Gate + Sync>(
+    rt: &R,
+    alloc: Global,
+    floor: &Floor<F>,
+    gate: &G,
+    seat: Seat<F>,
+    plan: Plan<'_>,
+) -> (Seat<F>, Option<TurnFault>) {
+    let mut members = Vec::new(alloc);
+    members.push((seat, plan)).expect(rt, "memory");
+    let back = crew(rt, alloc, floor, gate, members).ok();
+    back.expect(rt, "a crew").pop().expect(rt, "a seat")
+}
+
+fn compare<F: Naming, R: Abort>(rt: &R, seat: &Seat<F>, lines: &[&str]) {
+    same(rt, &seat.made(), &lines.len());
+    for (receipt, line) in seat.receipts().iter().zip(lines) {
+        same(rt, &Some(receipt.entry()), &entry_of(line));
+    }
+}
+
+/// Six numbers that nobody is told of.
+fn untold() -> [AtomicU64; 6] {
+    [
+        AtomicU64::new(9),
+        AtomicU64::new(9),
+        AtomicU64::new(9),
+        AtomicU64::new(9),
+        AtomicU64::new(9),
+        AtomicU64::new(9),
+    ]
+}
+
+/// Has a seat play a row, and compares what comes of it.
+fn plays_at<F: Naming + Send + Sync, R: Threads + Wait + Abort + Sync>(
+    rt: &R,
+    alloc: Global,
+    floor: &Floor<F>,
+    seat: Seat<F>,
+    row: Row<'_>,
+) {
+    let told = untold();
+    let asked = AtomicU32::new(0);
+    let gate = Counter {
+        passed: AtomicU32::new(0),
+        ended: AtomicU32::new(0),
+    };
+    let plan = Plan {
+        wishes: row.wishes,
+        told: &told,
+        asked: &asked,
+    };
+    let (seat, fault) = played(rt, alloc, floor, &gate, seat, plan);
+    same(rt, &fault, &row.fault);
+    compare(rt, &seat, row.lines);
+    let times = asked.load(Ordering::SeqCst) as usize;
+    same(rt, &times, &row.told.len());
+    for (found, expected) in told.iter().zip(row.told) {
+        same(rt, &found.load(Ordering::SeqCst), expected);
+    }
+    same(rt, &gate.passed.load(Ordering::SeqCst), &row.calls);
+    same(rt, &gate.ended.load(Ordering::SeqCst), &row.calls);
+}
+
+fn plays<F: Naming + Send + Sync, R: Threads + Wait + Abort + Sync>(
+    rt: &R,
+    alloc: Global,
+    ground: Ground,
+    setup: &Setup,
+    row: Row<'_>,
+)
+    requires { F.floor ≡ floor_id ground setup.now row.seats row.capacity }
+{
+    let opened = Floor::<F>::open(ground, alloc, setup, row.seats, row.capacity);
+    let (floor, mut seats) = opened.expect(rt, "a floor");
+    let seat = seats.pop().expect(rt, "a seat");
+    plays_at(rt, alloc, &floor, seat, row)
+}
+
+#[test]
+fn a_seat_ends_without_a_wish_or_at_a_fault(rt: HostRuntime) {
+    let setup = setup(&rt, rt.alloc(), 2);
+    for row in ROWS {
+        let ground = Ground::new(rt.alloc()).expect(&rt, "memory");
+        plays::<Brand, _>(&rt, rt.alloc(), ground, &setup, row)
+    }
+}
+
+/// Makes a step by a seat of its own whenever somebody comes by.
+#[derive(Drop)]
+struct Neighbour<'a, F: Naming, R> {
+    rt: &'a R,
+    floor: &'a Floor<F>,
+    seat: Mutex<Seat<F>>,
+}
+
+impl<'a, F: Naming, R: Wait + Abort> Neighbour<'a, F, R> {
+    fn makes_one(&self) {
+        let mut seat = self.seat.lock(self.rt);
+        let step = Step::Response {
+            block: BlockId(0),
+            index: 0,
+        };
+        let _ = self
+            .floor
+            .turn(self.rt, &mut seat, step)
+            .expect(self.rt, "a turn");
+    }
+}
+
+impl<'a, F: Naming, R: Wait + Abort> Gate for Neighbour<'a, F, R> {
+    fn pass(&self, _seat: u32, _call: u32) {
+        self.makes_one();
+    }
+
+    fn done(&self, _seat: u32, _call: u32) {
+        self.makes_one();
+    }
+}
+
+fn stands_between<F: Naming + Send + Sync, R: Threads + Wait + Abort + Sync>(
+    rt: &R,
+    alloc: Global,
+    ground: Ground,
+    setup: &Setup,
+)
+    requires { F.floor ≡ floor_id ground setup.now 2 9 }
+{
+    let (floor, mut seats) = Floor::<F>::open(ground, alloc, setup, 2, 9).expect(rt, "a floor");
+    let seat = seats.pop().expect(rt, "a seat");
+    let gate = Neighbour {
+        rt,
+        floor: &floor,
+        seat: Mutex::new(seats.pop().expect(rt, "a seat")),
+    };
+    let asked = AtomicU32::new(0);
+    let plan = Plan {
+        wishes: &[OTHER_LOAD, RESPONSE],
+        told: &[],
+        asked: &asked,
+    };
+    let (seat, fault) = played(rt, alloc, &floor, &gate, seat, plan);
+    same(rt, &fault, &None);
+    same(rt, &seat.made(), &2);
+    for (receipt, number) in seat.receipts().iter().zip([1u64, 4]) {
+        same(rt, &receipt.number(), &number);
+    }
+}
+
+#[test]
+fn a_gate_is_passed_before_a_turn_and_behind_it(rt: HostRuntime) {
+    let setup = setup(&rt, rt.alloc(), 2);
+    let ground = Ground::new(rt.alloc()).expect(&rt, "memory");
+    stands_between::<Brand, _>(&rt, rt.alloc(), ground, &setup)
+}
