@@ -142,16 +142,19 @@ pub(crate) fn behind_word<'a>(line: &'a [u8], word: &[u8]) -> Option<&'a [u8]>
     after_word(line, word)?
 }
 
-/// The digits at the front of a text, as many as a number below 10^19 has: their value, and how many they are.
+/// The digits at the front of a text, nineteen at most: their value, and how many they are.
 #[inline(always)]
 fn digits_in_front(text: &[u8]) -> (u64, usize)
     ensures within { result.1 ≤ length text.now }
+    ensures few { result.1 ≤ 19 }
     ensures digits { AllDigits 10 (take result.1 text.now) }
     ensures value { result.0 ≡ digits_value 10 (take result.1 text.now) }
 {
+    // (zeros in front leave the value 0, however many they are)
+    let most = text.len().min(19);
     let mut value: u64 = 0;
     let mut end = 0;
-    while end < text.len() {
+    while end < most {
         let digit = text[end].wrapping_sub(b'0');
         if digit > 9 || value >= 1_000_000_000_000_000_000 {
             break;

@@ -5,6 +5,9 @@ use Rattle.base.proofs.text.words.digits_in_front.Given as goal
 abbrev pub invariant-loop-end : goal.invariant-loop-end
 invariant-loop-end l = record {
   within : l.end ≤ length l.text;
+  few : l.end ≤ 19;
+  most : l.most ≤ length l.text;
+  bound : l.most ≤ 19;
   digits : AllDigits 10 (take l.end l.text);
   value : l.value ≡ digits_value 10 (take l.end l.text);
 }
