@@ -17,7 +17,19 @@ impl Digest {
         }
     }
 
-    pub fn add(&mut self, bytes: &[u8]) {
+    /// Adds what a command line came to: its exit status, and what it printed, its output and its errors each behind their length.
+    pub fn add_run(&mut self, status: u8, output: &[u8], errors: &[u8]) {
+        self.add(&[status]);
+        self.add_measured(output);
+        self.add_measured(errors);
+    }
+
+    fn add_measured(&mut self, bytes: &[u8]) {
+        self.add(&(bytes.len() as u64).to_le_bytes());
+        self.add(bytes);
+    }
+
+    fn add(&mut self, bytes: &[u8]) {
         for byte in bytes {
             self.hash = (self.hash ^ u64::from(*byte)).wrapping_mul(0x100_0000_01b3);
         }

@@ -151,8 +151,11 @@ fn batch<R: Threads + Wait + Sync>(
 ) -> Result<(), Fault> {
     let line = format!(in alloc; "msi batch {options} --seed {seed} --trials {trials}")?;
     let printed = run(rt, alloc, line.as_str(), scenario)?;
-    digest.add(printed.output.as_slice());
-    digest.add(printed.errors.as_slice());
+    digest.add_run(
+        printed.status,
+        printed.output.as_slice(),
+        printed.errors.as_slice(),
+    );
     match printed.status {
         0 | 1 => Ok(()),
         other => Err(Fault::Status(other)),

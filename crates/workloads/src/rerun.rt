@@ -27,8 +27,11 @@ pub fn rerun<R: Threads + Wait + Sync>(
 
 /// The output, where `msi` found no fault. All that it printed is added to the digest.
 fn ended_well(printed: Printed, digest: &mut Digest) -> Result<Vec<u8>, Fault> {
-    digest.add(printed.output.as_slice());
-    digest.add(printed.errors.as_slice());
+    digest.add_run(
+        printed.status,
+        printed.output.as_slice(),
+        printed.errors.as_slice(),
+    );
     match printed.status {
         0 => Ok(printed.output),
         other => Err(Fault::Status(other)),
