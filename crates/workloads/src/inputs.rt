@@ -63,7 +63,22 @@ pub fn some_asks(sheet: &mut Sheet, cores: u32, blocks: u32, turns: u32, seed: u
         begin_lane(sheet, lane, turns);
         for place in 0..8 {
             begin_next(sheet, place);
-            put_drawn(sheet, lane * 16, blocks, &mut dice);
+            put_drawn(sheet, lane * 16, blocks, 1, &mut dice);
+        }
+        sheet.push("]}}");
+    }
+    sheet.push("]}");
+}
+
+/// Each 16th core, so many times, one of six asks at 200 blocks, 20 apart, of which dice choose: others have them too.
+pub fn shared_asks(sheet: &mut Sheet, cores: u32, turns: u32, seed: u32) {
+    let mut dice = Dice::new(u64::from(seed), 0);
+    sheet.push(r#"{"both":["#);
+    for lane in 0..cores / 16 {
+        begin_lane(sheet, lane, turns);
+        for place in 0..6 {
+            begin_next(sheet, place);
+            put_drawn(sheet, lane * 16, 200, 20, &mut dice);
         }
         sheet.push("]}}");
     }
@@ -82,9 +97,9 @@ fn begin_next(sheet: &mut Sheet, place: u32) {
     }
 }
 
-/// An ask that dice choose, every second one a load.
-fn put_drawn(sheet: &mut Sheet, core: u32, blocks: u32, dice: &mut Dice) {
-    let block = dice.pick(u64::from(blocks.max(1)));
+/// An ask that dice choose, every second one a load, about one of so many blocks that are so far apart.
+fn put_drawn(sheet: &mut Sheet, core: u32, blocks: u32, apart: u32, dice: &mut Dice) {
+    let block = dice.pick(u64::from(blocks.max(1))).saturating_mul(apart);
     match dice.pick(4) {
         0 => put_store(sheet, core, block, dice.pick(VALUES)),
         1 => put_replace(sheet, core, block),

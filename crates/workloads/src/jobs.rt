@@ -1,6 +1,6 @@
 use crate::digest::Digest;
 use crate::fault::Fault;
-use crate::inputs::{all_asks, late_loads, racing_pair, some_asks};
+use crate::inputs::{all_asks, late_loads, racing_pair, shared_asks, some_asks};
 use crate::rerun::rerun;
 use commands::{Files, LoadFault, serve};
 use std::alloc::Global;
@@ -17,6 +17,8 @@ pub enum Job {
     Mixed,
     /// Trials of 64 of 1,024 caches at few of 4,096 blocks, each core so many turns.
     Sparse,
+    /// Sixty trials of 64 of 1,024 caches that share 200 of 4,096 blocks, each core so many turns.
+    Shared,
     /// Trials of 64 cores that all want one block, so many turns each.
     Hot,
     /// So many trials under a table of which a cell was changed, and which breaks.
@@ -30,10 +32,11 @@ const FAULTY: &str =
     r#"{"cache":[{"state":"IS^D","event":"Inv","entry":{"next":"IS^D","do":["inv-ack"]}}]}"#;
 
 impl Job {
-    pub const ALL: [Job; 6] = [
+    pub const ALL: [Job; 7] = [
         Job::Races,
         Job::Mixed,
         Job::Sparse,
+        Job::Shared,
         Job::Hot,
         Job::Faulty,
         Job::Rerun,
@@ -44,6 +47,7 @@ impl Job {
             "races" => Some(Job::Races),
             "mixed" => Some(Job::Mixed),
             "sparse" => Some(Job::Sparse),
+            "shared" => Some(Job::Shared),
             "hot" => Some(Job::Hot),
             "faulty" => Some(Job::Faulty),
             "rerun" => Some(Job::Rerun),
@@ -56,6 +60,7 @@ impl Job {
             Job::Races => "races",
             Job::Mixed => "mixed",
             Job::Sparse => "sparse",
+            Job::Shared => "shared",
             Job::Hot => "hot",
             Job::Faulty => "faulty",
             Job::Rerun => "rerun",
@@ -68,6 +73,7 @@ impl Job {
             Job::Races => racing_pair(sheet, seed),
             Job::Mixed | Job::Rerun => all_asks(sheet, 4, 4, size, seed),
             Job::Sparse => some_asks(sheet, 1024, 4096, size, seed),
+            Job::Shared => shared_asks(sheet, 1024, size, seed),
             Job::Hot => all_asks(sheet, 64, 1, size, seed),
             Job::Faulty => late_loads(sheet, seed),
         }
@@ -78,7 +84,7 @@ impl Job {
         match self {
             Job::Races => "--caches 2 --limit 1000",
             Job::Mixed | Job::Rerun => "--caches 4 --blocks 4 --limit 1000000",
-            Job::Sparse => "--caches 1024 --blocks 4096 --limit 1000000",
+            Job::Sparse | Job::Shared => "--caches 1024 --blocks 4096 --limit 1000000",
             Job::Hot => "--caches 64 --limit 1000000",
             Job::Faulty => "--caches 4 --limit 1000 --tables table.json",
         }
@@ -89,6 +95,7 @@ impl Job {
         match self {
             Job::Races | Job::Faulty => size,
             Job::Mixed | Job::Sparse | Job::Hot => 4,
+            Job::Shared => 60,
             Job::Rerun => 1,
         }
     }
