@@ -29,9 +29,11 @@ impl<R: Read + Drop> Lines<R> {
         })
     }
 
-    /// Whether the next line may have to be waited for.
+    /// Whether the rest of the next line may have to be waited for: no more of it than a part was read ahead.
     pub fn may_wait(&self) -> bool {
-        self.reader.buffer().len() <= self.held
+        let ahead = self.reader.buffer();
+        let next = &ahead[self.held.min(ahead.len())..];
+        next.len() <= MOST_BYTES && memchr(b'\n', next).is_none()
     }
 
     /// Reads the next line, or answers `false` where there is none. The last line needs no LF.

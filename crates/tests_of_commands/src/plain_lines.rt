@@ -26,9 +26,10 @@ impl<R: Read + Drop> Lines<R> {
         })
     }
 
-    /// Whether the next line may have to be waited for.
+    /// Whether the rest of the next line may have to be waited for.
     pub fn may_wait(&self) -> bool {
-        self.reader.buffer().is_empty()
+        let ahead = self.reader.buffer();
+        ahead.len() <= MOST_BYTES && !ahead.contains(&b'\n')
     }
 
     /// Reads the next line, or answers `false` where there is none. The last line needs no LF.
