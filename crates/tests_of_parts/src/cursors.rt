@@ -182,25 +182,38 @@ fn a_refused_take_leaves_a_cursor_as_it_was(rt: HostRuntime) {
     take_all(&rt, rt.alloc(), &mut cursor, &bump);
 }
 
-/// Takes the first offer again and again, and compares before each whether the same is offered behind it.
+/// Takes the first offer again and again, and compares before each whether the same is offered behind it. Another cursor passes
+/// what is taken, and has to say the same.
 fn compare_repeats<'b>(
     rt: &impl Abort,
-    cursor: &mut InArena<'_, 'b>,
+    taken: &mut InArena<'_, 'b>,
+    passed: &mut InArena<'_, 'b>,
     bump: &'b Bump,
     wanted: &[bool],
 ) {
     for repeats in wanted {
-        same(rt, &cursor.repeats(), repeats);
-        let _taken = cursor.take(bump, 0).expect(rt, "memory");
+        same(rt, &taken.repeats(), repeats);
+        let _taken = taken.take(bump, 0).expect(rt, "memory");
+        same(rt, &passed.repeats(), repeats);
+        if passed.offer_count() > 0 {
+            let told = passed.pass_on(bump, 0).expect(rt, "memory");
+            same(rt, &told, repeats);
+        }
+        same(rt, &passed.offer_count(), &taken.offer_count());
     }
 }
 
-/// The same of a scenario in JSON.
+/// The same of a scenario in JSON, and again once the cursors start again.
 fn compare_repeats_of(rt: &impl Abort, heap: Global, text: &str, wanted: &[bool]) {
     let source = read(rt, heap, text);
     let bump = Bump::new(heap);
-    let mut cursor: InArena<'_, '_> = Cursor::open(&source);
-    compare_repeats(rt, &mut cursor, &bump, wanted);
+    let mut taken: InArena<'_, '_> = Cursor::open(&source);
+    let mut passed: InArena<'_, '_> = Cursor::open(&source);
+    for _ in 0..3 {
+        compare_repeats(rt, &mut taken, &mut passed, &bump, wanted);
+        taken.restart(&source);
+        passed.restart(&source);
+    }
 }
 
 const CHOICE: &str =
@@ -220,6 +233,9 @@ fn turns_of_a_choice_offer_the_same_up_to_the_last(rt: HostRuntime) {
     compare_repeats_of(&rt, heap, THREE_CHOICES, &[true, true, false, false]);
     compare_repeats_of(&rt, heap, CHOICE, &[false]);
     compare_repeats_of(&rt, heap, CHOICES_AND_ONE, &[false, false]);
+    // (started again while what was found of its turns is kept in mind)
+    compare_repeats_of(&rt, heap, THREE_CHOICES, &[true]);
+    compare_repeats_of(&rt, heap, THREE_CHOICES, &[true, true]);
 }
 
 /// How many offers a look tells of, where it tells it. An ask that it tells has to be the first offer.

@@ -1,3 +1,6 @@
+ghost use Rattle.std.specs.Prelude.{◌≡◌, false};
+ghost use Rattle.schedule.specs.Lanes.{AreReady, IsKept, laned};
+
 use crate::asserting::same;
 use base::{Ask, BlockId, CacheId, CoreAsk, Shape, Step};
 use both_tables::Tables;
@@ -170,4 +173,127 @@ fn what_is_picked_is_taken(rt: HostRuntime) {
     let world = opened(&rt, rt.alloc());
     let cores = Cores::open(rt.alloc(), 2).expect(&rt, "memory");
     take_only(&rt, rt.alloc(), &world, &cores, &Scenario::One(LOAD));
+}
+
+/// Takes the first choice by its number, where nothing is done in the world, and answers it.
+fn take_choice(
+    rt: &impl Abort,
+    alloc: Global,
+    world: &World,
+    cores: &Cores,
+    lanes: &mut Lanes<'_, Global, Global>,
+) -> Option<Choice>
+    requires unbroken { world.now.state.broken ≡ false }
+    requires kept { IsKept (laned lanes.old) }
+    requires ready { AreReady world.now.tables world.now.state cores.now (laned lanes.old) }
+    ensures kept { IsKept (laned lanes.new) }
+    ensures ready { AreReady world.now.tables world.now.state cores.now (laned lanes.new) }
+{
+    let choice = lanes.choice(world, cores, 0)?;
+    lanes
+        .follow(alloc, choice, None, world, cores)
+        .expect(rt, "memory");
+    Some(choice)
+}
+
+/// The same by its pick, of which the step alone is answered.
+fn take_pick(
+    rt: &impl Abort,
+    alloc: Global,
+    world: &World,
+    cores: &Cores,
+    lanes: &mut Lanes<'_, Global, Global>,
+) -> Option<Step>
+    requires unbroken { world.now.state.broken ≡ false }
+    requires kept { IsKept (laned lanes.old) }
+    requires ready { AreReady world.now.tables world.now.state cores.now (laned lanes.old) }
+    ensures kept { IsKept (laned lanes.new) }
+    ensures ready { AreReady world.now.tables world.now.state cores.now (laned lanes.new) }
+{
+    let pick = lanes.pick(world, cores, 0)?;
+    lanes
+        .follow_pick(alloc, pick, None, true, world, cores)
+        .expect(rt, "memory");
+    Some(pick.step())
+}
+
+/// Compares all that can be seen of lanes.
+fn same_lanes(
+    rt: &impl Abort,
+    world: &World,
+    cores: &Cores,
+    found: &Lanes<'_, Global, Global>,
+    wanted: &Lanes<'_, Global, Global>,
+)
+    requires found { IsKept (laned found.now) }
+    requires found_ready { AreReady world.now.tables world.now.state cores.now (laned found.now) }
+    requires wanted { IsKept (laned wanted.now) }
+    requires wanted_ready { AreReady world.now.tables world.now.state cores.now (laned wanted.now) }
+{
+    same(rt, &found.is_done(), &wanted.is_done());
+    let count = wanted.count(world, cores);
+    same(rt, &found.count(world, cores), &count);
+    for k in 0..=count {
+        let choice = wanted.choice(world, cores, k);
+        same(rt, &found.choice(world, cores, k), &choice);
+    }
+}
+
+/// Takes the first choice again and again, by its number in some lanes and by its pick in others, until it is no offer, and answers
+/// how many were taken.
+fn take_by_both(
+    rt: &impl Abort,
+    alloc: Global,
+    world: &World,
+    cores: &Cores,
+    by_number: &mut Lanes<'_, Global, Global>,
+    by_pick: &mut Lanes<'_, Global, Global>,
+) -> u32
+    requires unbroken { world.now.state.broken ≡ false }
+    requires kept { IsKept (laned by_number.old) }
+    requires ready { AreReady world.now.tables world.now.state cores.now (laned by_number.old) }
+    requires kept_too { IsKept (laned by_pick.old) }
+    requires ready_too { AreReady world.now.tables world.now.state cores.now (laned by_pick.old) }
+{
+    for taken in 0..64 {
+        same_lanes(rt, world, cores, by_pick, by_number);
+        let choice = take_choice(rt, alloc, world, cores, by_number);
+        let step = take_pick(rt, alloc, world, cores, by_pick);
+        same(rt, &step, &choice.map(|it| it.step()));
+        if !matches!(choice, Some(Choice::Offer(..))) {
+            return taken;
+        }
+    }
+    64
+}
+
+/// Takes what can be taken of a scenario, where these steps were made in the world before.
+fn takes(rt: &impl Abort, alloc: Global, steps: &[&str], scenario: &Scenario<Global>, wanted: u32) {
+    let mut world = opened(rt, alloc);
+    play(rt, &mut world, steps);
+    let cores = Cores::open(alloc, 2).expect(rt, "memory");
+    if world.broken() {
+        panic!(rt; "broken");
+    }
+    let made = Lanes::open(alloc, scenario, 2, &world, &cores);
+    let mut by_number: Lanes<'_, Global, Global> = made.expect(rt, "memory");
+    let made = Lanes::open(alloc, scenario, 2, &world, &cores);
+    let mut by_pick: Lanes<'_, Global, Global> = made.expect(rt, "memory");
+    let found = take_by_both(rt, alloc, &world, &cores, &mut by_number, &mut by_pick);
+    same(rt, &found, &wanted);
+}
+
+const TWO_LANES: &str = r#"{"both":[
+    {"times":2,"of":{"any":[{"op":"load","core":0,"block":0},{"op":"store","core":1,"block":0,"value":9}]}},
+    {"seq":[{"op":"load","core":1,"block":0},{"op":"replace","core":0,"block":0}]}
+]}"#;
+
+#[test]
+fn choices_are_taken_as_picks_are(rt: HostRuntime) {
+    let shape = Shape::new(2, 1).expect(&rt, "a shape");
+    let read = Scenario::read(rt.alloc(), rt.alloc(), TWO_LANES.as_bytes(), shape);
+    let scenario = read.expect(&rt, "a scenario");
+    takes(&rt, rt.alloc(), &[], &scenario, 4);
+    // (the asks of core 1 are held)
+    takes(&rt, rt.alloc(), &["ask 1 0 store 9"], &scenario, 2);
 }

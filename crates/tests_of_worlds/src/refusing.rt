@@ -3,7 +3,7 @@
 
 use crate::asserting::same;
 use crate::entries::entry_of;
-use base::{BlockId, CacheId, Outcome, Shape, Step};
+use base::{BlockId, CacheId, NoMemory, Outcome, Shape, Step};
 use both_tables::Tables;
 use record::{Entry, PushFault, ReadFault, ReadKind, Recording, ReplayFault, Replayed, replay};
 use scenario::Scenario;
@@ -99,28 +99,44 @@ fn same_worlds(rt: &impl Abort, found: &World, wanted: &World) {
     same_choices(rt, found, wanted);
 }
 
+/// Makes a step by one of the two calls that make one.
+fn outcome_of(world: &mut World, step: Step, tells: bool) -> Result<Outcome, NoMemory> {
+    if tells {
+        let went = world.go(step)?;
+        return Ok(went.outcome);
+    }
+    world.step(step)
+}
+
 fn made_or_kept(
     rt: &impl Abort,
     world: &mut World,
     before: &World,
     step: Step,
+    tells: bool,
 ) -> Result<Outcome, Fail> {
-    if let Ok(outcome) = world.step(step) {
+    if let Ok(outcome) = outcome_of(world, step, tells) {
         return Ok(outcome);
     }
     same_worlds(rt, world, before);
-    Ok(world.step(step).ok().ok_or("refused again")?)
+    Ok(outcome_of(world, step, tells).ok().ok_or("refused again")?)
 }
 
-fn made(rt: &impl Abort, alloc: Global, world: &mut World, step: Step) -> Result<Outcome, Fail> {
+fn made(
+    rt: &impl Abort,
+    alloc: Global,
+    world: &mut World,
+    step: Step,
+    tells: bool,
+) -> Result<Outcome, Fail> {
     let before = world.try_clone(alloc)?;
-    made_or_kept(rt, world, &before, step)
+    made_or_kept(rt, world, &before, step, tells)
 }
 
-fn make_each(rt: &impl Abort, alloc: Global, world: &mut World) -> Result<(), Fail> {
+fn make_each(rt: &impl Abort, alloc: Global, world: &mut World, tells: bool) -> Result<(), Fail> {
     for line in &LATE_PUTS {
         let entry = entry_of(line).ok_or("not an entry")?;
-        let outcome = made(rt, alloc, world, entry.step)?;
+        let outcome = made(rt, alloc, world, entry.step, tells)?;
         same(rt, &outcome, &entry.outcome);
     }
     Ok(())
@@ -129,7 +145,13 @@ fn make_each(rt: &impl Abort, alloc: Global, world: &mut World) -> Result<(), Fa
 #[test]
 fn a_step(rt: HostRuntime) -> Result<(), Fail> {
     let mut world = opened(rt.alloc())?;
-    make_each(&rt, rt.alloc(), &mut world)
+    make_each(&rt, rt.alloc(), &mut world, false)
+}
+
+#[test]
+fn a_step_of_which_more_is_told(rt: HostRuntime) -> Result<(), Fail> {
+    let mut world = opened(rt.alloc())?;
+    make_each(&rt, rt.alloc(), &mut world, true)
 }
 
 /// Compares the outcomes of the first steps of a run.

@@ -19,35 +19,38 @@ fn acting(
     CacheTable::baseline().with(state, event, CacheEntry::Act { next, actions })
 }
 
-/// Makes a step that has this outcome, and answers what is wrong then. A watch that is handed what the world answered of the step
-/// has to say the same.
+/// A world, and a watch that sees its steps.
+#[derive(Drop)]
+struct Watched {
+    world: World,
+    watch: Watch,
+}
+
+/// Makes a step that has this outcome, and answers what is wrong then. A world that tells more of a step, and a watch that is handed
+/// that, have to say the same.
 fn see(
     rt: &impl Abort,
-    world: &mut World,
-    watch: &mut Watch,
-    told: &mut Watch,
+    plain: &mut Watched,
+    told: &mut Watched,
     made: &str,
     came: &str,
 ) -> Option<Violation> {
     let step = Step::read(made.as_bytes()).expect(rt, "a step");
-    let went = world.go(step).expect(rt, "memory");
-    same_at(
-        rt,
-        &Some(went.outcome),
-        &Outcome::read(came.as_bytes()),
-        &made,
-    );
-    let found = watch.see(world, step, went.outcome);
-    same_at(rt, &told.see_went(world, step, &went), &found, &made);
+    let outcome = plain.world.step(step).expect(rt, "memory");
+    same_at(rt, &Some(outcome), &Outcome::read(came.as_bytes()), &made);
+    let found = plain.watch.see(&plain.world, step, outcome);
+    let went = told.world.go(step).expect(rt, "memory");
+    same_at(rt, &went.outcome, &outcome, &made);
+    let seen = told.watch.see_went(&told.world, step, &went);
+    same_at(rt, &seen, &found, &made);
     found
 }
 
 /// Makes these steps, and answers what is wrong after the last one. Nothing may be wrong before it.
 fn see_all(
     rt: &impl Abort,
-    world: &mut World,
-    watch: &mut Watch,
-    told: &mut Watch,
+    plain: &mut Watched,
+    told: &mut Watched,
     made: &str,
     came: &str,
 ) -> Option<Violation> {
@@ -56,7 +59,7 @@ fn see_all(
     for line in made.split(',') {
         same_at(rt, &last, &None, &line);
         let wanted = outcomes.next().expect(rt, "an outcome");
-        last = see(rt, world, watch, told, line, wanted);
+        last = see(rt, plain, told, line, wanted);
     }
     last
 }
@@ -70,6 +73,12 @@ fn opened(rt: &impl Abort, alloc: Global, cache: CacheTable) -> World {
     World::open(alloc, shape, tables, opening).expect(rt, "a world")
 }
 
+fn watch_opened(rt: &impl Abort, alloc: Global, cache: CacheTable) -> Watched {
+    let world = opened(rt, alloc, cache);
+    let watch = Watch::open(alloc, &[0]).expect(rt, "memory");
+    Watched { world, watch }
+}
+
 /// Makes these steps in a world of two caches and one block at 0, and answers what is wrong after the last one.
 ///
 /// Nothing may be wrong before it.
@@ -80,10 +89,9 @@ fn last_violation(
     made: &str,
     came: &str,
 ) -> Option<Violation> {
-    let mut watch = Watch::open(alloc, &[0]).expect(rt, "memory");
-    let mut told = Watch::open(alloc, &[0]).expect(rt, "memory");
-    let mut world = opened(rt, alloc, cache);
-    see_all(rt, &mut world, &mut watch, &mut told, made, came)
+    let mut plain = watch_opened(rt, alloc, cache);
+    let mut told = watch_opened(rt, alloc, cache);
+    see_all(rt, &mut plain, &mut told, made, came)
 }
 
 /// Compares what a violation is shown as.
