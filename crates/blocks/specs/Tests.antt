@@ -14,12 +14,12 @@ pub record IsFound (tables : Tables) (b : BlockState) (t : Tested) : Type 0 wher
   pub responses : t.responses ≡ free_responses tables b
   pub messages : t.messages ≡ message_count b.traffic
 
--- a step tested the messages of its block, or no cell acted
+-- a step's test found what its block has on the wires, or no cell acted
 abbrev pub IsTested : Tables → BlockState → BlockState → Option Tested → Type 0
 IsTested tables old new None = new ≡ old
 IsTested tables old new (Some t) = IsFound tables new t
 
--- how many messages were tested
+-- how many messages count as tested
 abbrev pub tested_in : Option Tested → ℕ
 tested_in None = 0
 tested_in (Some t) = t.messages

@@ -53,6 +53,17 @@ marked-seen tables (Some k) m = m
 seen-at : (ks : List (Option BlockView)) (i : ℕ) → get_or (map (option_map seen) ks) i None ≡ option_map seen (kept_at ks i)
 seen-at ks i = get_or-map (option_map seen) ks i None
 
+not-seen : (k : Option BlockView) → option_map seen k ≡ None → k ≡ None
+not-seen None none = refl
+not-seen (Some k) none = absurd (cc none)
+
+-- and none is kept but where one was
+pub none-copied : (copy ks : List (Option BlockView)) → map (option_map seen) copy ≡ map (option_map seen) ks → (i : ℕ) → kept_at ks i ≡ None →
+    kept_at copy i ≡ None
+none-copied copy ks e i none =
+    not-seen (kept_at copy i)
+    (sym (seen-at copy i) ∙ ap (λ os. get_or os i None) e ∙ seen-at ks i ∙ ap (option_map seen) none)
+
 -- and have the same marks
 pub marked-copied : (tables : Tables) (copy ks : List (Option BlockView)) → map (option_map seen) copy ≡ map (option_map seen) ks →
     ((i : ℕ) → IsMarked tables (kept_at ks i)) → (i : ℕ) → IsMarked tables (kept_at copy i)

@@ -1,15 +1,15 @@
 -- What steps leave of the room of blocks.
-use Rattle.std.proofs.Common.{◌≡◌, ◌≢◌, ◌<◌, ℕ, zero, suc, List, ◌∷◌, Option, None, Some, false, refl, ap, sym, ◌∙◌}
-use Rattle.std.proofs.Common.{length, replicate, slice_get, get_or}
+use Rattle.std.proofs.Common.{◌≡◌, ◌≢◌, ◌<◌, ℕ, zero, suc, List, [], ◌∷◌, Option, None, Some, Bool, false, true, refl, ap, sym, ◌∙◌, arith}
+use Rattle.std.proofs.Common.{length, replicate, slice_get, get_or, take}
 use Rattle.std.proofs.Math.Seq.{map-set_same}
-use Rattle.std.proofs.lemmas.List.Elements.{All-get_or}
 use Rattle.base.specs.Extent.{Extent}
 use Rattle.base.specs.Steps.{block_of}
 use Rattle.base.specs.declared.step.Step.{Step}
 use Rattle.both_tables.specs.Tables.{Tables}
+use Rattle.machine.specs.Machine.{State, next, state_after}
 use Rattle.machine.specs.Transition.{decision_of}
 use Rattle.blocks.specs.View.{BlockView, acts}
-use Rattle.world.specs.Keeping.{KeepsAsIs, KeepsOthers, acts_at}
+use Rattle.world.specs.Keeping.{KeepsAsIs, KeepsOthers, NoneActsAt, acts_at, is_acted_in, is_acted_on}
 use Rattle.world.specs.View.{View, space_of, spaces_of, state_or, states}
 use Rattle.world.specs.inner.Holding.{kept_at, OthersStay}
 use Rattle.world.proofs.Keeping.{kept-other, space-at, state-there}
@@ -39,8 +39,35 @@ kept-as-is shape tables values old ks tested step v new at others idle is = reco
       is ∙ ap spaces_of others.items ∙ map-set_same space_of old (block_of step) (kept_at ks (block_of step)) None (idle here);
 }
 
--- one more step of a run, none of which is of some blocks
+not-kept : (o : Option BlockView) → space_of o ≡ None → o ≡ None
+not-kept None none = refl
+not-kept (Some k) none = absurd (cc none)
+
+-- no block is kept but where one was
+pub keeps-no-other : (old ks : List (Option BlockView)) (block : ℕ) → ((at : ℕ) → kept_at old at ≡ None → kept_at ks at ≡ None) →
+    get_or (spaces_of old) block None ≡ None → get_or (spaces_of ks) block None ≡ None
+keeps-no-other old ks block none before =
+    space-at ks block ∙ ap space_of (none block (not-kept (kept_at old block) (sym (space-at old block) ∙ before)))
+
+by-cases : {X : Type 0} (b : Bool) → (b ≡ true → X) → (b ≡ false → X) → X
+by-cases true on off = on refl
+by-cases false on off = off refl
+
+-- where a cell acts on one of these steps in its turn, that is of another block
+acts-elsewhere : (tables : Tables) (s : State) (block : ℕ) (steps : List Step) (i : ℕ) (d : Step) → i < length steps → NoneActsAt tables s block steps →
+    is_acted_in tables (state_after tables s (take i steps)) (get_or steps i d) ≡ true → block ≢ block_of (get_or steps i d)
+acts-elsewhere tables s block [] i d low none acted = absurd (omega (arith, low))
+acts-elsewhere tables s block (step ∷ steps) zero d low none acted = none.0 acted
+acts-elsewhere tables s block (step ∷ steps) (suc i) d low none acted =
+    acts-elsewhere tables (next tables s step).state block steps i d (omega (arith, low)) none.1 acted
+
+-- one more step of a run, of which a cell acts on none at some blocks
 pub keeps-more : (old mid new : View) (steps : List Step) (i : ℕ) (step d : Step) → i < length steps → step ≡ get_or steps i d →
+    mid.state ≡ state_after old.tables old.state (take i steps) → mid.tables ≡ old.tables →
     KeepsOthers old steps mid → KeepsAsIs mid step new → KeepsOthers old steps new
-keeps-more old mid new steps i step d low at so_far keeps block apart =
-    keeps.others block (rw at (All-get_or (λ s. block ≢ block_of s) steps i d low apart)) ∙ so_far block apart
+keeps-more old mid new steps i step d low at state tables so_far keeps block none =
+    let acted-at : is_acted_on mid step ≡ is_acted_in old.tables (state_after old.tables old.state (take i steps)) (get_or steps i d) =
+    rw at (rw state (rw tables refl)) in
+    by-cases (is_acted_on mid step)
+    (λ acted. keeps.others block (rw at (acts-elsewhere old.tables old.state block steps i d low none (sym acted-at ∙ acted))) ∙ so_far block none)
+    (λ idle. ap (λ xs. get_or xs block None) (keeps.idle idle) ∙ so_far block none)

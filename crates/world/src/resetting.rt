@@ -11,9 +11,11 @@ impl World {
     ghost use Rattle.std.specs.Prelude.{◌≡◌, [], length};
     ghost use Rattle.machine.specs.Machine.{opened, IsHistory};
     ghost use Rattle.world.specs.Coherent.{HasBeenSafe, IsUnstuck};
+    ghost use Rattle.world.specs.Keeping.{KeepsNoOther};
 
     /// Whatever happened to the world, it is one that nothing has happened to from now on: of the same shape, under the same
-    /// tables, with these opening values. Blocks that were touched are made as they open in the memory that they have.
+    /// tables, with these opening values. Blocks that were kept are made as they open in the memory that they have, and no other
+    /// is kept.
     pub fn reset(&mut self, opening: &[u64])
         requires { length opening.now ≡ self.old.shape.blocks }
         ensures shape { self.new.shape ≡ self.old.shape }
@@ -23,6 +25,7 @@ impl World {
         ensures safe { HasBeenSafe self.new }
         ensures unstuck { IsUnstuck self.new }
         ensures tested { self.new.tested ≡ 0 }
+        ensures kept { KeepsNoOther self.old self.new }
     {
         self.opening.copy_from_slice(opening);
         reset_all(&mut self.blocks, opening);
@@ -35,6 +38,7 @@ impl World {
 /// Makes each block that is kept as it opens.
 fn reset_all(blocks: &mut Sparse<Block>, opening: &[u64])
     ensures count { length blocks.new.items ≡ length blocks.old.items }
+    ensures none { (at : ℕ) → kept_at blocks.old.items at ≡ None → kept_at blocks.new.items at ≡ None }
     ensures opened { (caches : ℕ) → AreLined caches blocks.old.items → (i v : ℕ) → slice_get opening.now i ≡ Some v →
         IsOpened caches v (kept_at blocks.new.items i) }
 {

@@ -38,6 +38,9 @@ loop-index-preserved c =
 pub returns-clause-count : goal.returns-clause-count
 returns-clause-count c = c.loop-index.invariant.1.count
 
+pub returns-clause-none : goal.returns-clause-none
+returns-clause-none c = c.loop-index.invariant.1.none
+
 pub returns-clause-opened : goal.returns-clause-opened
 returns-clause-opened c = λ caches lined i v e.
     let end = c.loop-index-test.false in

@@ -10,8 +10,14 @@ loop-i-preserved c = (
       c.push_reserved.new.self.items c.in-Ok.outcome (omega arith) refl c.loop-i.invariant.0 c.in-Ok.ensures.ok c.in-Ok.ensures.shape c.in-Ok.ensures.tables
       (c.push_reserved.ensures.items ∙ ap (λ xs. xs ++ c.in-Ok.outcome ∷ []) c.reserve.ensures.items)
       c.in-Ok.ensures.tests_what_it_sends c.in-Ok.ensures.tests_its_block,
-  keeps-more c.args.self.now c.loop-i.self c.advance.new.self c.args.steps.now c.loop-i.i _ _ (omega arith) refl c.loop-i.invariant.1 c.in-Ok.ensures.keeps,
+  keeps-more c.args.self.now c.loop-i.self c.advance.new.self c.args.steps.now c.loop-i.i _ _ (omega arith) refl
+      c.loop-i.invariant.0.state c.loop-i.invariant.0.tables c.loop-i.invariant.1 c.in-Ok.ensures.keeps,
 )
+
+pub returns-in_default-advance-clause-keeps : goal.returns-in_default-advance-clause-keeps
+returns-in_default-advance-clause-keeps c =
+    keeps-more c.args.self.now c.loop-i.self c.advance.new.self c.args.steps.now c.loop-i.i _ _ (omega arith) refl
+    c.loop-i.invariant.0.state c.loop-i.invariant.0.tables c.loop-i.invariant.1 c.in_default-advance.ensures.keeps
 
 pub loop-i-init : goal.loop-i-init
 loop-i-init c = grind (arith, common_steps)

@@ -1,4 +1,4 @@
-use Rattle.std.proofs.Common.{◌≡◌, ◌∙◌, ℕ, List, Some, ap, false, length, refl, replicate, slice_get, sym}
+use Rattle.std.proofs.Common.{◌≡◌, ◌∙◌, ℕ, List, None, Some, ap, get_or, false, length, refl, replicate, slice_get, sym}
 use Rattle.std.proofs.lemmas.List.{length-map}
 use Rattle.machine.specs.Block.{BlockState}
 use Rattle.machine.specs.Machine.{State, opened}
@@ -6,6 +6,7 @@ use Rattle.world.specs.View.{View, states}
 use Rattle.world.specs.inner.Holding.{AreLined, IsOpened, kept_at}
 use Rattle.world.proofs.Coherence.{been-safe, not-stuck}
 use Rattle.world.proofs.Openings.{lined, states-reset, world-reset}
+use Rattle.world.proofs.Spaces.{keeps-no-other}
 use Rattle.world.proofs.worlds.World.reset.Goals as goal
 use Rattle.world.proofs.worlds.World.reset.Goals.{After-self-2-1}
 
@@ -44,6 +45,11 @@ invariant_of-self c =
 
 pub returns-clause-state : goal.returns-clause-state
 returns-clause-state c = rw (← c.self.view_is) (opened-state c)
+
+pub returns-clause-kept : goal.returns-clause-kept
+returns-clause-kept c = λ block before.
+    keeps-no-other c.self.inside.blocks.items c.reset_all.new.blocks.items block c.reset_all.ensures.none
+    (ap (λ (w : View). get_or w.spaces block None) c.self.view_is ∙ before)
 
 pub returns-clause-history : goal.returns-clause-history
 returns-clause-history c = rw (opened-state c) (record { opens = one_each c; leads = refl })

@@ -1,7 +1,8 @@
-use Rattle.std.proofs.Common.{◌≡◌, ◌∙◌, List, Option, ap, sym, ℕ, refl, length, map, arith}
+use Rattle.std.proofs.Common.{None, get_or, ◌≡◌, ◌∙◌, List, Option, ap, sym, ℕ, refl, length, map, arith}
 use Rattle.std.proofs.lemmas.Grind.{common_steps}
-use Rattle.world.specs.View.{states}
-use Rattle.world.proofs.Copying.{Seen, marked-copied, seen, states-copied}
+use Rattle.world.specs.View.{View, states}
+use Rattle.world.proofs.Copying.{Seen, marked-copied, none-copied, seen, states-copied}
+use Rattle.world.proofs.Spaces.{keeps-no-other}
 use Rattle.std.specs.Option.{option_map}
 use Rattle.std.proofs.lemmas.List.{length-map}
 use Rattle.world.proofs.worlds.World.try_clone.Goals as goal
@@ -32,6 +33,12 @@ invariant_of-result c =
       },
       c.self.invariant.1,
     )
+
+pub returns-clause-kept : goal.returns-clause-kept
+returns-clause-kept c = λ block before.
+    keeps-no-other c.self.inside.blocks.items c.in_ok-blocks.blocks.items block
+    (none-copied c.in_ok-blocks.blocks.items c.self.inside.blocks.items (items c))
+    (ap (λ (w : View). get_or w.spaces block None) c.self.view_is ∙ before)
 
 pub returns-clause-state : goal.returns-clause-state
 returns-clause-state c = rw (← c.self.view_is, blocks c) refl
