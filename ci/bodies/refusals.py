@@ -87,3 +87,8 @@ def goal_that_refuses(refusals):
 def calls_of_refused(said):
     """The names of the functions that are refused because of another that they call, of which nothing else is known."""
     return {it.split("::")[-1] for it in CALLS.findall(said)}
+
+
+def is_verdict(said):
+    """Whether the check came to the verdict that the crate isn't proved."""
+    return re.search(r"\blogic=not-proved$", said, re.M) is not None
