@@ -1,10 +1,14 @@
 """Starts and stops daemons of one's own, each in the foreground, with its files in one folder."""
 
 import os
+import pwd
 import shutil
+import signal
 import socket
 import subprocess
 import time
+
+from engines.family import END_WITH_PARENT, control
 
 SECONDS = 60
 ALSO = os.pathsep.join(["/usr/local/sbin", "/usr/sbin", "/sbin"])
@@ -17,6 +21,14 @@ class Unready(Exception):
 def where(program):
     """Where a program is: those of the administrator needn't be on the path. None where it isn't installed."""
     return shutil.which(program) or shutil.which(program, path=ALSO)
+
+
+def user():
+    """What the machine calls who runs this. None where it has no name for the user's number."""
+    try:
+        return pwd.getpwuid(os.getuid()).pw_name
+    except KeyError:
+        return None
 
 
 def free_ports(count):
@@ -45,13 +57,18 @@ def stop(daemon):
         daemon.wait()
 
 
+def stand_apart():
+    """Has a daemon apart from the terminal, whose interrupt would end it before its turn, and ended where the script is killed."""
+    os.setsid()
+    control(END_WITH_PARENT, signal.SIGTERM)
+
+
 def start(stack, folder, words, is_ready):
     """Starts a daemon, which ends with the stack, and waits until it is ready."""
     name = words[0]
     with open(folder / f"{name}.errors", "wb") as told:
-        # (apart from the terminal, whose interrupt would end it before its turn)
         streams = {"stdin": subprocess.DEVNULL, "stdout": told, "stderr": told}
-        daemon = subprocess.Popen([where(name), *words[1:]], preexec_fn=os.setsid, **streams)
+        daemon = subprocess.Popen([where(name), *words[1:]], preexec_fn=stand_apart, **streams)
     stack.callback(stop, daemon)
 
     def is_ready_or_gone():

@@ -5,7 +5,7 @@ import signal
 import subprocess
 from contextlib import suppress
 
-from engines.daemons import Unready
+from engines.daemons import Unready, user, where
 from engines.document import SEEDS, TOP
 
 SECONDS = 600
@@ -14,12 +14,18 @@ SECONDS = 600
 class Engine:
     """Makes campaigns by a command of the document, in a room for its files, with an environment."""
 
-    name, wants, sums_up = "", (), False
-    """What it is called, the programs that it wants, and whether it sums up."""
+    name, wants, wants_name, sums_up = "", (), False, False
+    """What it is called, the programs that it wants, whether it wants a name of the user, and whether it sums up."""
     broke, refused = 0, (0, [2] * len(SEEDS))
     """What its command ends with where trials broke; and it and its jobs where the folder has other words."""
     cuts = {"ended": signal.SIGTERM, "killed": signal.SIGKILL}
     """How it is cut off, by which signal. Killed, an engine can't end its jobs."""
+
+    @classmethod
+    def lacks(cls):
+        """What it wants and isn't there."""
+        absent = [it for it in cls.wants if not where(it)]
+        return absent + [f"a name for user {os.getuid()}"] * (cls.wants_name and user() is None)
 
     def __init__(self, room, environment):
         self.room, self.environment, self.begun = room, environment, None

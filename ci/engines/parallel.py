@@ -1,12 +1,11 @@
 """Campaigns by GNU `parallel`, on one machine and over `ssh`."""
 
 import os
-import pwd
 import shlex
 import subprocess
 from pathlib import Path
 
-from engines.daemons import free_ports, listens, start
+from engines.daemons import free_ports, listens, start, user
 from engines.document import RUN, SEEDS, command
 from engines.engine import Engine
 
@@ -53,7 +52,7 @@ class OneMachine(Engine):
 
 
 class OverSsh(Engine):
-    name, wants = "ssh", ("parallel", "ssh", "sshd", "ssh-keygen")
+    name, wants, wants_name = "ssh", ("parallel", "ssh", "sshd", "ssh-keygen"), True
     refused = len(SEEDS), [2] * len(SEEDS)
 
     def command(self, folder, seeds, trials):
@@ -64,7 +63,7 @@ class OverSsh(Engine):
         [port] = free_ports(1)
         for name in ("machine", "user"):
             subprocess.run(["ssh-keygen", "-q", "-t", "ed25519", "-N", "", "-f", self.room / name], check=True)
-        told = {"port": port, "room": self.room, "user": pwd.getpwuid(os.getuid()).pw_name}
+        told = {"port": port, "room": self.room, "user": user()}
         self.put("known", f"machine {(self.room / 'machine.pub').read_text()}")
         self.put("authorized", (self.room / "user.pub").read_text())
         self.put("sshd.conf", SSHD.format(**told))

@@ -26,9 +26,13 @@ class Results:
 
     def __init__(self, program):
         self.program = program
-        scenario, options = words_of_batch()
-        self.batches = {seed: self.printed(["batch", "--seed", str(seed), *options], scenario) for seed in SEEDS}
+        self.batches = {seed: self.batch(seed) for seed in SEEDS}
         expect("the totals of the document's batches", totals(self.batches.values()), TOTALS)
+
+    def batch(self, seed):
+        """What the program prints of the document's batch of this seed."""
+        scenario, options = words_of_batch()
+        return self.printed(["batch", "--seed", str(seed), *options], scenario)
 
     def printed(self, words, file):
         with open(file, "rb") as given:

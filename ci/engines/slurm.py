@@ -1,13 +1,12 @@
 """Campaigns by Slurm: a controller and one node, on this machine."""
 
 import os
-import pwd
 import re
 import signal
 import socket
 import subprocess
 
-from engines.daemons import free_ports, listens, start, wait_until
+from engines.daemons import free_ports, listens, start, user, wait_until
 from engines.document import command
 from engines.engine import SECONDS, Engine
 
@@ -40,13 +39,16 @@ KillWait=2
 NodeName={host} NodeAddr=127.0.0.1 CPUs={processors} State=UNKNOWN
 PartitionName=all Nodes=ALL Default=YES State=UP
 """
+# No job is put into a control group, and no service manager asked for one: slurmd finds this beside its configuration.
+GROUPS = """CgroupPlugin=cgroup/v1
+IgnoreSystemd=yes
+"""
 JOB = re.compile(r"^JobId=.* ExitCode=(\d+):\d+", re.M)
 
 
 class Slurm(Engine):
-    name, wants = "slurm", ("sbatch", "squeue", "scancel", "sinfo", "slurmctld", "slurmd", "munged")
+    name, wants, wants_name = "slurm", ("sbatch", "squeue", "scancel", "sinfo", "slurmctld", "slurmd", "munged"), True
     cuts = {"cancelled": signal.SIGTERM, "killed": signal.SIGKILL}
-    user = pwd.getpwuid(os.getuid()).pw_name
 
     def command(self, folder, seeds, trials):
         changes = {"--array=1-1000 ": f"--array={seeds[0]}-{seeds[-1]} ", "--trials 1000 ": f"--trials {trials} "}
@@ -56,11 +58,12 @@ class Slurm(Engine):
         self.start_munged(stack)
         control, node = free_ports(2)
         host = socket.gethostname().split(".")[0]
-        told = {"control": control, "node": node, "host": host, "user": self.user, "processors": os.cpu_count()}
+        told = {"control": control, "node": node, "host": host, "user": user(), "processors": os.cpu_count()}
         for name in ("state", "spool"):
             (self.room / name).mkdir()
         configuration = self.room / "slurm.conf"
         configuration.write_text(CONFIGURATION.format(room=self.room, **told))
+        (self.room / "cgroup.conf").write_text(GROUPS)
         self.environment["SLURM_CONF"] = str(configuration)
         start(stack, self.room, ["slurmctld", "-D", "-f", configuration], lambda: listens(control))
         start(stack, self.room, ["slurmd", "-D", "-f", configuration], lambda: self.ask("sinfo", "--format=%T") == ["idle"])
@@ -92,7 +95,7 @@ class Slurm(Engine):
         """Cancels the jobs: they are told to end, or are killed with all that they started."""
         ways = [["--full", "--signal=KILL"], []] if number == signal.SIGKILL else [[]]
         for words in ways:
-            subprocess.run(["scancel", f"--user={self.user}", *words], env=self.environment, check=True)
+            subprocess.run(["scancel", f"--user={user()}", *words], env=self.environment, check=True)
         wait_until(lambda: self.ask("squeue") == [], "the jobs are cancelled")
 
     def logged(self, folder):
