@@ -28,7 +28,7 @@ def lanes(bytes_each):
 
 
 def copy_into(top):
-    """Copies what rt reads of the repository. Two runs of rt in one checkout can wait for each other at a crate that both stand on."""
+    """Copies what rt reads of the repository, as two runs of rt in one checkout wait for each other at a crate below both."""
     shutil.copytree(TOP / "crates", top / "crates", ignore=shutil.ignore_patterns("out"))
     for file in ("crates.txt", "HANDLES"):
         shutil.copy(TOP / file, top)

@@ -58,8 +58,9 @@ LEFT_OVER = 'ln "$2/words" "$2/words.$(uname -n)-$$" && exec {shell} "$@"'
 
 def call(shell, words, **variables):
     """What a script of the campaign ends with where `sh` is this shell, its output and its errors."""
-    words = [f"examples/campaign/{words[0]}", *words[1:]]
-    done = subprocess.run(["sh", *words], executable=shell, cwd=TOP, env={**os.environ, **variables}, capture_output=True, text=True)
+    words = ["sh", f"examples/campaign/{words[0]}", *words[1:]]
+    how = {"cwd": TOP, "env": {**os.environ, **variables}, "capture_output": True, "text": True}
+    done = subprocess.run(words, executable=shell, **how)
     return done.returncode, done.stdout, done.stderr
 
 
