@@ -1,4 +1,4 @@
--- What floor_id a floor.
+-- What names a floor.
 use Rattle.std.specs.Prelude.{ℕ, []}
 use Rattle.atomic_table.specs.Seated.{TableId}
 use Rattle.both_tables.specs.Tables.{baseline}

@@ -6,7 +6,7 @@ use crate::entries::entry_of;
 use crate::setups::setup;
 use base::{Ask, BlockId, CacheId, Step};
 use floor::{CloseFault, Closed, Floor, FloorFault, Ground, Naming, Seat, TurnFault};
-use record::replay;
+use record::{Entry, replay};
 use std::alloc::Global;
 use std::marker::Brand;
 use std::process::Abort;
@@ -150,6 +150,43 @@ fn a_drawn_delivery(rt: HostRuntime) {
     let setup = setup(&rt, rt.alloc(), 2);
     let ground = Ground::new(rt.alloc()).expect(&rt, "memory");
     draws::<Brand, _>(&rt, rt.alloc(), ground, &setup)
+}
+
+/// What a word draws behind two asks, whose requests may both be delivered.
+fn drawn_of_two<F: Naming, R: Wait + Abort>(
+    rt: &R,
+    alloc: Global,
+    ground: Ground,
+    setup: &Setup,
+    word: u32,
+) -> Option<Entry>
+    requires { F.floor ≡ floor_id ground setup.now 1 3 }
+{
+    let (floor, mut seats) = Floor::<F>::open(ground, alloc, setup, 1, 3).expect(rt, "a floor");
+    let mut seat = seats.pop().expect(rt, "a seat");
+    make(
+        rt,
+        &floor,
+        &mut seat,
+        &["ask 0 0 load = sent", "ask 1 0 load = sent"],
+    );
+    let drawn = floor.turn_any(rt, &mut seat, word).expect(rt, "a turn");
+    drawn.map(|receipt| receipt.entry())
+}
+
+#[test]
+fn one_of_two_deliveries_is_drawn(rt: HostRuntime) {
+    let setup = setup(&rt, rt.alloc(), 2);
+    let rows = [
+        (0, "request 0 0 = moved"),
+        (1, "request 0 1 = moved"),
+        (2, "request 0 0 = moved"),
+    ];
+    for (word, line) in &rows {
+        let ground = Ground::new(rt.alloc()).expect(&rt, "memory");
+        let drawn = drawn_of_two::<Brand, _>(&rt, rt.alloc(), ground, &setup, *word);
+        same(&rt, &drawn, &entry_of(line));
+    }
 }
 
 /// Asks by a seat for the first cache, and then makes what is everybody's: there is no such response yet.
