@@ -3,4 +3,5 @@ pub mod Ties
 pub mod Entering
 pub mod Drawing
 pub mod Owned
+pub mod Calling
 pub mod Crewing

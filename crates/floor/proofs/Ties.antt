@@ -233,7 +233,7 @@ adds slots id me a b f e keep sit s h len at fits =
           )
         ];
       },
-      ((λ x same. ap (λ y. grown v y) (cc same)), refl),
+      ((λ x same. ap (λ y. grown v y) (cc same)), refl, mine.2 ∙ cc (sym kept.1, sym kept.2)),
     )
 
 pub compares : (slots id : ℕ) (me : Me Entry TokenView) (a b : ℕ) (o : Option Entry) → me.0.keeps ≡ true → me.0.sits ≡ true →

@@ -3,5 +3,6 @@ pub mod Histories
 pub mod FloorId
 pub mod Turning
 pub mod Closing
+pub mod Calling
 pub mod Crews
 pub mod inner

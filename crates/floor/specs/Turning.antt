@@ -1,5 +1,5 @@
 -- What a hall and a seat are to a contract, and what a turn does to both.
-use Rattle.std.specs.Prelude.{◌≡◌, ◌%◌, ℕ, List, [], ◌∷◌, ◌++◌, Option, Some, Bool, false, true, length, slice_get}
+use Rattle.std.specs.Prelude.{◌≡◌, ◌%◌, ℕ, List, [], ◌∷◌, ◌++◌, Option, Some, Bool, length, slice_get}
 use Rattle.base.specs.declared.step.Step.{Step}
 use Rattle.machine.specs.Machine.{State, next, opened, state_after}
 use Rattle.monitor.specs.declared.violation.Violation.{Violation}
@@ -53,26 +53,10 @@ its_ready floor entries seat = ready_for floor.seats floor.setup.shape.caches fl
 abbrev pub Draws : FloorId → List Entry → ℕ → ℕ → Step → Type 0
 Draws floor entries seat word step = slice_get (its_ready floor entries seat) (word % length (its_ready floor entries seat)) ≡ Some step
 
--- nothing was ready for a seat, after some entries
-abbrev pub HadNone : FloorId → ℕ → Type 0
-HadNone floor seat = (before : List Entry) × (its_ready floor before seat ≡ [])
-
--- a step didn't belong to a seat, after some entries
-abbrev pub WasForeign : FloorId → ℕ → Step → Type 0
-WasForeign floor seat step = (before : List Entry) × (is_its floor before seat step ≡ false)
-
 -- a receipt's entry stands behind these: its step was made in the state that they led to
 pub record Follows (floor : FloorId) (before : List Entry) (receipt : ℕ × Entry) : Type 0 where
   pub number : receipt.0 ≡ length before
   pub outcome : receipt.1.outcome ≡ (next floor.setup.tables (state_of floor.setup before) receipt.1.step).outcome
-
--- a receipt is of a step that belonged to a seat when it was made
-abbrev pub WasIts : FloorId → ℕ → ℕ × Entry → Type 0
-WasIts floor seat receipt = (before : List Entry) × Follows floor before receipt × (is_its floor before seat receipt.1.step ≡ true)
-
--- a receipt is of the step that a word drew among those that were ready for a seat
-abbrev pub WasDrawn : FloorId → ℕ → ℕ → ℕ × Entry → Type 0
-WasDrawn floor seat word receipt = (before : List Entry) × Follows floor before receipt × Draws floor before seat word receipt.1.step
 
 -- a turn: the machine's next step is one entry more, which the seat owns and has a receipt of
 pub record Turns (floor : FloorId) (old new : HallView) (seat turned : SeatView) (step : Step) (receipt : ℕ × Entry) : Type 0 where

@@ -1,6 +1,6 @@
 //! Crews: a thread for each seat.
 
-ghost use Rattle.std.specs.Prelude.{◌≡◌, ◌≤◌, [], length, map, vec_capacity, IfOk, IfErr, OnErr};
+ghost use Rattle.std.specs.Prelude.{◌≡◌, ◌≤◌, [], length, map, true, vec_capacity, IfOk, IfErr, OnErr, Some};
 ghost use Rattle.floor.specs.Crews.{ComeBack, GoesOn};
 ghost use Rattle.floor.specs.inner.Wishes.{Meets};
 
@@ -76,13 +76,14 @@ fn run_seat<F: Naming, R: Wait, G: Gate, C: Chooser<F> + Drop>(
     rt: &R,
     floor: &Floor<F>,
     gate: &G,
-    refused: &AtomicBool,
+    is_refused: bool,
     mut seat: Seat<F>,
     mut chooser: C,
 ) -> (Seat<F>, Option<TurnFault>)
-    ensures { GoesOn seat result.0 }
+    ensures goes_on { GoesOn seat result.0 }
+    ensures refused { is_refused ≡ true → (result.0 ≡ seat) × (result.1 ≡ Some TurnFault.NoMemory) }
 {
-    if refused.load(Ordering::SeqCst) {
+    if is_refused {
         return (seat, Some(TurnFault::NoMemory));
     }
     let mut last: Option<Receipt<F>> = None;
@@ -161,7 +162,16 @@ fn start<
     let promise = Keeps(Snapshot::of(&seat));
     let job = move || -> (Seat<F>, Option<TurnFault>)
         ensures { GoesOn seat result.0 }
-    { run_seat(rt, floor, gate, refused, seat, chooser) };
+    {
+        run_seat(
+            rt,
+            floor,
+            gate,
+            refused.load(Ordering::SeqCst),
+            seat,
+            chooser,
+        )
+    };
     match scope.spawn_with(promise, job) {
         Ok(handle) => Running {
             way: Way::Started(handle),

@@ -59,7 +59,8 @@ impl<F: Naming> Floor<F> {
     ghost use Rattle.machine.specs.Restraint.{AreRestrained};
     ghost use Rattle.record.specs.View.{IsLegal};
     ghost use Rattle.floor.specs.FloorId.{floor_id};
-    ghost use Rattle.floor.specs.Turning.{HadNone, IsFirstOf, WasDrawn, WasForeign, WasIts, new_seat, recorded, with_receipt};
+    ghost use Rattle.floor.specs.Turning.{IsFirstOf, new_seat, recorded, with_receipt};
+    ghost use Rattle.floor.specs.Calling.{HadNone, WasDrawn, WasForeign, WasFull, WasIts};
     ghost use Rattle.floor.specs.Closing.{AllReceived, AllStand, AllThere, AreHistories, HaveOwners, IsMissing};
 
     /// Opens a world under a setup, with so many seats round it and room for so many entries. The seats come in the order of
@@ -103,8 +104,9 @@ impl<F: Naming> Floor<F> {
         step: Step,
     ) -> Result<Receipt<F>, TurnFault>
         ensures step { IfOk result (λ receipt. receipt.1.step ≡ step) }
-        ensures its { IfOk result (λ receipt. WasIts F.floor seat.old.number receipt) }
-        ensures foreign { IsErrOf result TurnFault.NotYours → WasForeign F.floor seat.old.number step }
+        ensures its { IfOk result (λ receipt. WasIts F.floor seat.old receipt) }
+        ensures foreign { IsErrOf result TurnFault.NotYours → WasForeign F.floor seat.old step }
+        ensures full { IsErrOf result TurnFault.Full → WasFull F.floor seat.old }
         ensures added { IfOk result (λ receipt. seat.new ≡ with_receipt seat.old receipt) }
         ensures err { OnErr result (seat.new ≡ seat.old) }
     {
@@ -119,8 +121,10 @@ impl<F: Naming> Floor<F> {
         seat: &mut Seat<F>,
         word: u32,
     ) -> Result<Option<Receipt<F>>, TurnFault>
-        ensures drawn { IfOk result (λ made. IfSome made (λ receipt. WasDrawn F.floor seat.old.number word receipt)) }
-        ensures idle { IfOk result (λ made. IfNone made (HadNone F.floor seat.old.number)) }
+        ensures drawn { IfOk result (λ made. IfSome made (λ receipt. WasDrawn F.floor seat.old word receipt)) }
+        ensures idle { IfOk result (λ made. IfNone made (HadNone F.floor seat.old)) }
+        ensures yours { ¬ IsErrOf result TurnFault.NotYours }
+        ensures full { IsErrOf result TurnFault.Full → WasFull F.floor seat.old }
         ensures added { IfOk result (λ made. IfSome made (λ receipt. seat.new ≡ with_receipt seat.old receipt)) }
         ensures none { IfOk result (λ made. IfNone made (seat.new ≡ seat.old)) }
         ensures err { OnErr result (seat.new ≡ seat.old) }

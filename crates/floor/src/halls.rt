@@ -61,7 +61,7 @@ impl<F: Naming> Hall<F> {
     ghost use Rattle.std.specs.Prelude.{◌≡◌, ◌<◌, ◌≤◌, [], length, true, false, IfOk, IfNone, IfSome, IsErrOf, IsOkUnless, OnErr};
     ghost use Rattle.base.specs.declared.step.Step.{Step};
     ghost use Rattle.floor.specs.Turning.{Draws, Turns, is_its, its_ready};
-    ghost use Rattle.floor.specs.Histories.{history};
+    ghost use Rattle.floor.specs.Calling.{IsMoment};
 
     /// Makes one step for a seat, and answers the receipt of its entry. A refused turn changes neither hall nor seat.
     ///
@@ -74,13 +74,16 @@ impl<F: Naming> Hall<F> {
         ensures else_memory { is_its F.floor self.old.entries seat.old.number step ≡ true → length self.old.entries < F.floor.capacity →
             IsOkUnless result TurnFault.NoMemory }
         ensures within { length self.old.entries ≤ F.floor.capacity }
+        ensures moment { IsMoment F.floor seat.old self.old.entries self.old.owners }
         ensures ok { IfOk result (λ receipt. Turns F.floor self.old self.new seat.old seat.new step receipt) }
         ensures err { OnErr result ((self.new ≡ self.old) × (seat.new ≡ seat.old)) }
     {
         if !is_of(&self.world, self.seats, seat.number, step) {
+            self.compare(seat);
             return Err(TurnFault::NotYours);
         }
         if self.recording.entries().len() >= self.capacity as usize {
+            self.compare(seat);
             return Err(TurnFault::Full);
         }
         self.enter(seat, step)
@@ -99,6 +102,7 @@ impl<F: Naming> Hall<F> {
         ensures full { length self.old.entries ≡ F.floor.capacity → IsErrOf result TurnFault.Full }
         ensures else_memory { length self.old.entries < F.floor.capacity → IsOkUnless result TurnFault.NoMemory }
         ensures within { length self.old.entries ≤ F.floor.capacity }
+        ensures moment { IsMoment F.floor seat.old self.old.entries self.old.owners }
         ensures none { IfOk result (λ made. IfNone made (its_ready F.floor self.old.entries seat.old.number ≡ [])) }
         ensures unturned { IfOk result (λ made. IfNone made ((self.new ≡ self.old) × (seat.new ≡ seat.old))) }
         ensures some { IfOk result (λ made. IfSome made (λ receipt. (step : Step) × Draws F.floor self.old.entries seat.old.number word step
@@ -106,12 +110,15 @@ impl<F: Naming> Hall<F> {
         ensures err { OnErr result ((self.new ≡ self.old) × (seat.new ≡ seat.old)) }
     {
         if self.recording.entries().len() >= self.capacity as usize {
+            self.compare(seat);
             return Err(TurnFault::Full);
         }
         let Ok(ready) = ready_for(self.alloc, &self.world, self.seats, seat.number) else {
+            self.compare(seat);
             return Err(TurnFault::NoMemory);
         };
         if ready.is_empty() {
+            self.compare(seat);
             return Ok(None);
         }
         let step = ready[word as usize % ready.len()];
@@ -126,14 +133,17 @@ impl<F: Naming> Hall<F> {
         requires yours { is_its F.floor self.old.entries seat.old.number step ≡ true }
         requires room { length self.old.entries < F.floor.capacity }
         ensures else_memory { IsOkUnless result TurnFault.NoMemory }
+        ensures moment { IsMoment F.floor seat.old self.old.entries self.old.owners }
         ensures ok { IfOk result (λ receipt. Turns F.floor self.old self.new seat.old seat.new step receipt) }
         ensures err { OnErr result ((self.new ≡ self.old) × (seat.new ≡ seat.old)) }
     {
         if let Err(_) = grow(&mut self.owners, &mut seat.receipts) {
+            self.compare(seat);
             return Err(TurnFault::NoMemory);
         }
         let number = self.recording.entries().len() as u64;
         let Ok(entry) = advance(&mut self.world, &mut self.recording, step) else {
+            self.compare(seat);
             return Err(TurnFault::NoMemory);
         };
         let seen = self.watch.see(&self.world, step, entry.outcome);
@@ -144,9 +154,9 @@ impl<F: Naming> Hall<F> {
         Ok(Receipt::new(number, entry))
     }
 
-    /// A seat's receipts are its history.
+    /// A seat's receipts are its history: what a call finds is a moment at its floor.
     pub(crate) fn compare(&mut self, seat: &mut Seat<F>)
-        ensures history { seat.old.made ≡ history seat.old.number self.old.entries self.old.owners }
+        ensures moment { IsMoment F.floor seat.old self.old.entries self.old.owners }
         ensures same { (self.new ≡ self.old) × (seat.new ≡ seat.old) }
     {
         compare_seat(&self.log, &mut self.token, &mut seat.token);

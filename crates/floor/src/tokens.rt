@@ -111,7 +111,7 @@ pub fn deal_seat(log: &Log, hall: &mut Token) -> Token
     log.shared.split_seat::<Deal>(hall)
 }
 
-/// Adds an entry of the seat to the recording.
+/// Adds an entry of the seat to the recording, of which it had what it owns.
 pub fn add_entry(log: &Log, hall: &mut Token, seat: &mut Token, entry: &Entry)
     requires table { hall.old.table_id ≡ log.now.shared.table_id }
     requires one { log.now.shared.table_id.words ≡ 1 }
@@ -121,6 +121,7 @@ pub fn add_entry(log: &Log, hall: &mut Token, seat: &mut Token, entry: &Entry)
     ensures hall { hall.new.me ≡ (keeper (hall.old.me.0.entries ++ entry.now ∷ []) (hall.old.me.0.owners ++ seat.old.me.0.number ∷ []) hall.old.me.0.next, []) }
     ensures seat { seat.new.me ≡ (sitting seat.old.me.0.number (seat.old.me.0.made ++ (length hall.old.me.0.entries, entry.now) ∷ []), []) }
     ensures table { (hall.new.table_id ≡ hall.old.table_id) × (seat.new.table_id ≡ seat.old.table_id) }
+    ensures history { seat.old.me.0.made ≡ history seat.old.me.0.number hall.old.me.0.entries hall.old.me.0.owners }
 {
     let spare = log.shared.split_seat::<Spare>(hall);
     let token = mem::replace(seat, spare);

@@ -68,9 +68,10 @@ grown v e =
       made = v.made ++ (length v.entries, e) ∷ [];
     }
 
--- a step that adds the entry that it is told, as one of the seat in the keeper's hands
+-- a step that adds the entry that it is told, as one of the seat in the keeper's hands, and tells that its receipts were its history
 abbrev pub Adds : Step Entry → Me Entry TokenView → ℕ → Me Entry TokenView → Type 0
 Adds s me k new = ((e : Entry) → s.said ≡ some e → new.0 ≡ grown me.0 e) × (new.1 ≡ me.1)
+    × (me.0.made ≡ history me.0.number me.0.entries me.0.owners)
 
 -- a step that changes nothing, and tells that the receipts of the seat in the keeper's hands are its history
 abbrev pub Compares : Step Entry → Me Entry TokenView → ℕ → Me Entry TokenView → Type 0

@@ -2,13 +2,14 @@
 use Rattle.std.specs.Prelude.{◌≡◌, ℕ, Option, Some, None}
 use Rattle.record.specs.declared.recording.Entry.{Entry}
 use Rattle.floor.specs.FloorId.{FloorId}
-use Rattle.floor.specs.Turning.{SeatView, HadNone, WasDrawn, WasIts, with_receipt}
+use Rattle.floor.specs.Turning.{SeatView, with_receipt}
+use Rattle.floor.specs.Calling.{HadNone, WasDrawn, WasIts}
 use Rattle.floor.specs.declared.crews.Wish.{Wish}
 use Rattle.floor.specs.declared.crews.Wish.TheVariants.{Step, Any}
 
 -- what a seat wished has come of its call: the one receipt more that it has now, or none where nothing was ready
 abbrev pub Meets : FloorId → Wish → SeatView → SeatView → Option (ℕ × Entry) → Type 0
-Meets floor (Step step) old new (Some receipt) = (receipt.1.step ≡ step) × WasIts floor old.number receipt × (new ≡ with_receipt old receipt)
+Meets floor (Step step) old new (Some receipt) = (receipt.1.step ≡ step) × WasIts floor old receipt × (new ≡ with_receipt old receipt)
 Meets floor (Step step) old new None = ⊥
-Meets floor (Any word) old new (Some receipt) = WasDrawn floor old.number word receipt × (new ≡ with_receipt old receipt)
-Meets floor (Any word) old new None = HadNone floor old.number × (new ≡ old)
+Meets floor (Any word) old new (Some receipt) = WasDrawn floor old word receipt × (new ≡ with_receipt old receipt)
+Meets floor (Any word) old new None = HadNone floor old × (new ≡ old)

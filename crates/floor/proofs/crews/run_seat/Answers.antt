@@ -8,14 +8,5 @@ loop-init g c = grind (arith, common_steps)
 pub loop-preserved : goal.loop-preserved
 loop-preserved g c = grind (arith, common_steps)
 
-pub returns : goal.returns
-returns g c = grind (arith, common_steps)
-
-pub returns-then-load : goal.returns-then-load
-returns-then-load g c = grind (arith, common_steps)
-
-pub returns-in-Err : goal.returns-in-Err
-returns-in-Err g c = grind (arith, common_steps)
-
 pub loop-smaller : goal.loop-smaller
 loop-smaller g c = grind (arith, common_steps)

@@ -2,6 +2,7 @@ use Rattle.std.proofs.Common.{rules, ap, length, arith}
 use Rattle.std.proofs.lemmas.Grind.{common_steps}
 use Rattle.floor.specs.inner.Keeping.{IsKeptUp}
 use Rattle.floor.proofs.Entering.{kept_more, fits_more}
+use Rattle.floor.proofs.Calling.{found, told}
 use Rattle.floor.proofs.halls.Hall.enter.Goals as goal
 use Rattle.floor.proofs.halls.Hall.enter.Given.{Over}
 use Rattle.floor.proofs.halls.Hall.enter.Goals.{After-push_reserved}
@@ -89,3 +90,15 @@ returns-clause-else_memory g c = grind (arith, common_steps)
 
 pub returns-clause-err : goal.returns-clause-err
 returns-clause-err g c = grind (arith, common_steps)
+
+pub returns-clause-moment : goal.returns-clause-moment
+returns-clause-moment g c =
+    let i = c.self.inside in
+    found g.F.Naming.floor i.world i.watch i.recording i.owners.items i.violation c.seat.inside.number c.seat.inside.receipts.items
+    c.args.self.now c.args.seat.now
+    c.self.invariant.0
+    c.self.invariant.1.within
+    (told i.token.me c.seat.inside.token.me i.recording.entries i.owners.items g.F.Naming.floor.seats c.seat.inside.number
+    c.seat.inside.receipts.items c.self.invariant.1.keeps c.seat.invariant.sits c.add_entry.ensures.history)
+    c.self.view_is
+    c.seat.view_is
