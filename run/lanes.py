@@ -53,8 +53,14 @@ class Calls:
                 raise Ended
             ran = subprocess.Popen(["rt", *words], cwd=folder, text=True, errors="replace", **streams)
             self.running.add(ran)
-        said, _ = ran.communicate()
-        self.running.discard(ran)
+        try:
+            said, _ = ran.communicate()
+        except BaseException:
+            ran.terminate()
+            ran.wait()
+            raise
+        finally:
+            self.running.discard(ran)
         return ran.returncode, said
 
     def end(self):
