@@ -1,0 +1,8 @@
+-- What is promised of a value, where a result is one.
+use Rattle.std.proofs.Common.{◌≡◌, Ok, Err}
+use Rattle.std.specs.Result.{OnOk}
+use Rattle.std.specs.declared.result.Result.{Result}
+
+pub holds : {T E P : Type 0} (r : Result T E) (x : T) → r ≡ Ok x → OnOk r P → P
+holds (Ok y) x is p = p
+holds (Err e) x is p = absurd (cc is)
