@@ -100,10 +100,10 @@ fn compare(rt: &impl Abort, alloc: Global, text: &[u8], most: usize, fault: Opti
     let mut plain = plain_lines::Lines::new(alloc, input).expect(rt, "memory");
     let again = pieces_of(rt, alloc, text, most, fault);
     let mut lines = Lines::new(alloc, again).expect(rt, "memory");
-    let mut ends = 0;
+    let mut ends = 0_u32;
     for _ in 0..text.len().saturating_add(4) {
         if !advance(rt, &mut lines, &mut plain) {
-            ends += 1;
+            ends = ends.saturating_add(1);
         }
         if ends > 3 {
             break;
