@@ -49,3 +49,7 @@ held-opened caches value =
 -- the lines of a block that opens
 pub lines-opened : (caches : ℕ) → lines_of (replicate caches None) ≡ replicate caches opened_line
 lines-opened caches = map-same _ caches None
+
+-- and of such a block no line is kept
+pub none-kept : (caches : ℕ) → kept_lines (replicate caches None) ≡ replicate caches false
+none-kept caches = map-same _ caches None

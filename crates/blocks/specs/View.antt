@@ -1,4 +1,4 @@
-use Rattle.std.specs.Prelude.{ℕ, ◌≤◌, List, Option, Some, None, Bool, true, false, if◌then◌else◌}
+use Rattle.std.specs.Prelude.{ℕ, ◌≤◌, List, Option, Some, None, Bool, true, false, if◌then◌else◌, slice_set, ◌==◌}
 use Rattle.base.specs.declared.step.Outcome.{Outcome}
 use Rattle.network.specs.Marks.{Marks}
 use Rattle.network.specs.Room.{Room, HasRoomFor}
@@ -43,6 +43,16 @@ acts other = true
 abbrev pub lines_added : Decision → List Bool → ℕ
 lines_added (AtLine cache line input next actions from) lines = if is_set lines cache.0 then 0 else 1
 lines_added other lines = 0
+
+-- whether a cell acts at the line of a cache
+abbrev pub acts_at_line : Decision → ℕ → Bool
+acts_at_line (AtLine own line input next actions from) cache = own.0 == cache
+acts_at_line other cache = false
+
+-- the lines that are kept once a decision was carried out: the one that it acts at is one of them
+abbrev pub lines_after : Decision → List Bool → List Bool
+lines_after (AtLine cache line input next actions from) lines = slice_set lines cache.0 true
+lines_after other lines = lines
 
 -- there is room for what a decision sends, and for the line that it acts at
 pub record HasSpaceFor (d : Decision) (b : BlockState) (space : Space) : Type 0 where

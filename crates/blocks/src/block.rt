@@ -77,7 +77,7 @@ impl Model for Block {
 }
 
 impl Block {
-    ghost use Rattle.std.specs.Prelude.{◌≡◌, IfOk, length, slice_get};
+    ghost use Rattle.std.specs.Prelude.{◌≡◌, false, IfOk, length, replicate, slice_get};
     ghost use Rattle.network.specs.Marks.{no_marks};
     ghost use Rattle.control.specs.Sharing.{shares};
     ghost use Rattle.machine.specs.Block.{opened_block};
@@ -86,6 +86,7 @@ impl Block {
     pub fn open(alloc: Global, caches: u32, value: u64) -> Result<Block, NoMemory>
         ensures state { IfOk result (λ block. block.state ≡ opened_block caches value) }
         ensures marks { IfOk result (λ block. block.marks ≡ no_marks caches) }
+        ensures lines { IfOk result (λ block. block.space.lines ≡ replicate caches false) }
     {
         let home = Home::open(alloc, caches, value)?;
         let wires = Wires::open(alloc, caches)?;
@@ -105,6 +106,7 @@ impl Block {
     pub fn reset(&mut self, value: u64)
         ensures state { self.new.state ≡ opened_block (length self.old.state.lines) value }
         ensures marks { self.new.marks ≡ no_marks (length self.old.state.lines) }
+        ensures lines { self.new.space.lines ≡ replicate (length self.old.state.lines) false }
     {
         self.lines.clear();
         self.home.reset(value);
@@ -142,12 +144,13 @@ impl Block {
 impl TryClone for Block {
     ghost use Rattle.network.specs.Marks.{Marks};
     ghost use Rattle.machine.specs.Block.{BlockState};
+    ghost use Rattle.std.specs.Prelude.{Bool, List};
 
-    ghost Seen = { record { state : BlockState; marks : Marks } };
+    ghost Seen = { record { state : BlockState; marks : Marks; lines : List Bool } };
 
-    ghost seen = { λ block. record { state = block.state; marks = block.marks } };
+    ghost seen = { λ block. record { state = block.state; marks = block.marks; lines = block.space.lines } };
 
-    /// The same block, with the same marks.
+    /// The same block, with the same marks. The same lines are kept.
     fn try_clone(&self, alloc: Global) -> Result<Block, NoMemory> {
         let lines = self.lines.try_clone(alloc)?;
         let home = self.home.try_clone(alloc)?;

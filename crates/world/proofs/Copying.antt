@@ -1,5 +1,5 @@
 -- A copy has the state of what it was copied from.
-use Rattle.std.proofs.Common.{◌≡◌, ℕ, List, [], ◌∷◌, Option, Some, None, refl, ap, sym, subst, ◌∙◌, get_or, map}
+use Rattle.std.proofs.Common.{◌≡◌, ℕ, List, [], ◌∷◌, Option, Some, None, Bool, false, refl, ap, sym, subst, ◌∙◌, get_or, map}
 use Rattle.std.specs.Option.{option_map}
 use Rattle.std.proofs.Math.ListN.{get_or-map}
 use Rattle.network.specs.Marks.{Marks}
@@ -7,16 +7,19 @@ use Rattle.machine.specs.Block.{BlockState, opened_block}
 use Rattle.both_tables.specs.Tables.{Tables}
 use Rattle.blocks.specs.View.{BlockView}
 use Rattle.blocks.specs.Marking.{marks_of}
-use Rattle.world.specs.View.{states}
+use Rattle.rows.specs.Flags.{is_set}
+use Rattle.world.specs.Keeping.{has_line}
+use Rattle.world.specs.View.{space_of, spaces_of, states}
 use Rattle.world.specs.inner.Holding.{kept_at}
 use Rattle.world.specs.inner.Tests.{IsMarked}
+use Rattle.world.proofs.Keeping.{space-at}
 
 -- what a copy of a block has of it
 abbrev pub Seen : Type 0
-Seen = record { state : BlockState; marks : Marks }
+Seen = record { state : BlockState; marks : Marks; lines : List Bool }
 
 abbrev pub seen : BlockView → Seen
-seen k = record { state = k.state; marks = k.marks }
+seen k = record { state = k.state; marks = k.marks; lines = k.space.lines }
 
 abbrev seen_or : ℕ → ℕ → Option Seen → BlockState
 seen_or caches value None = opened_block caches value
@@ -63,6 +66,22 @@ pub none-copied : (copy ks : List (Option BlockView)) → map (option_map seen) 
 none-copied copy ks e i none =
     not-seen (kept_at copy i)
     (sym (seen-at copy i) ∙ ap (λ os. get_or os i None) e ∙ seen-at ks i ∙ ap (option_map seen) none)
+
+abbrev has_line_seen : Option Seen → ℕ → Bool
+has_line_seen None cache = false
+has_line_seen (Some s) cache = is_set s.lines cache
+
+line-seen : (k : Option BlockView) (cache : ℕ) → has_line (space_of k) cache ≡ has_line_seen (option_map seen k) cache
+line-seen None cache = refl
+line-seen (Some k) cache = refl
+
+-- and keep the same lines
+pub lines-copied : (copy ks : List (Option BlockView)) → map (option_map seen) copy ≡ map (option_map seen) ks → (i cache : ℕ) →
+    has_line (get_or (spaces_of copy) i None) cache ≡ has_line (get_or (spaces_of ks) i None) cache
+lines-copied copy ks e i cache =
+    ap (λ o. has_line o cache) (space-at copy i) ∙ line-seen (kept_at copy i) cache
+    ∙ ap (λ o. has_line_seen o cache) (sym (seen-at copy i) ∙ ap (λ os. get_or os i None) e ∙ seen-at ks i) ∙ sym (line-seen (kept_at ks i) cache)
+    ∙ ap (λ o. has_line o cache) (sym (space-at ks i))
 
 -- and have the same marks
 pub marked-copied : (tables : Tables) (copy ks : List (Option BlockView)) → map (option_map seen) copy ≡ map (option_map seen) ks →

@@ -9,7 +9,8 @@ use Rattle.control.specs.LineEffect.{opened_line}
 use Rattle.both_tables.specs.Tables.{Tables}
 use Rattle.machine.specs.Block.{BlockState, opened_block}
 use Rattle.blocks.specs.View.{BlockView}
-use Rattle.world.specs.View.{AllLined, IsShaped, state_or, states}
+use Rattle.world.specs.Keeping.{has_line}
+use Rattle.world.specs.View.{AllLined, IsShaped, space_of, state_or, states}
 use Rattle.world.specs.inner.Counts.{AreCounted, Rows}
 use Rattle.world.specs.inner.Holding.{kept_at, AreLined, IsOpened, IsWorld, OthersStay}
 use Rattle.world.specs.inner.Tests.{IsMarked}
@@ -93,7 +94,7 @@ get-below (k ∷ keys) zero at e = omega arith
 get-below (k ∷ keys) (suc j) at e = omega (arith, get-below keys j at e)
 
 at-none : (caches v : ℕ) (ks : List (Option BlockView)) (i : ℕ) → kept_at ks i ≡ None → IsOpened caches v (kept_at ks i)
-at-none caches v ks i e = subst (IsOpened caches v) (sym e) (record { state = refl; marks = tt })
+at-none caches v ks i e = subst (IsOpened caches v) (sym e) (record { state = refl; marks = tt; lines = λ cache. refl })
 
 -- all that are kept were made as they open
 pub reset-all : (opening keys : List ℕ) (n caches : ℕ) (old new : List (Option BlockView)) → AreReset opening keys n old new → length keys ≤ n →
@@ -106,6 +107,15 @@ reset-all opening keys n caches old new h end all l i v e = by (kept_at old i) r
     by (Some k) is =
         let found = all i (ap is_some is) in
         h.done caches l found.0 i v (omega (arith, end, get-below keys found.0 i found.1)) found.1 e
+
+-- and none of them keeps a line
+pub lines-reset : (opening : List ℕ) (caches : ℕ) (ks : List (Option BlockView)) → length ks ≡ length opening →
+    ((i v : ℕ) → slice_get opening i ≡ Some v → IsOpened caches v (kept_at ks i)) → (i cache : ℕ) → has_line (space_of (kept_at ks i)) cache ≡ false
+lines-reset [] caches [] e h i cache = refl
+lines-reset (v ∷ opening) caches (k ∷ ks) e h zero cache = (h zero v refl).lines cache
+lines-reset (v ∷ opening) caches (k ∷ ks) e h (suc i) cache = lines-reset opening caches ks (omega (arith, e)) (λ j w f. h (suc j) w f) i cache
+lines-reset [] caches (k ∷ ks) e h i cache = absurd (omega (arith, e))
+lines-reset (v ∷ opening) caches [] e h i cache = absurd (omega (arith, e))
 
 -- the states of blocks that are as they open
 pub states-reset : (caches : ℕ) (values : List ℕ) (ks : List (Option BlockView)) →

@@ -1,5 +1,6 @@
 -- What steps leave of the room of blocks.
-use Rattle.std.proofs.Common.{◌≡◌, ◌≢◌, ◌<◌, ℕ, zero, suc, List, [], ◌∷◌, Option, None, Some, Bool, false, true, refl, ap, sym, ◌∙◌, arith}
+use Rattle.std.proofs.Common.{◌≡◌, ◌≢◌, ◌<◌, ℕ, zero, suc, List, [], ◌∷◌, Option, None, Some, Bool, false, true, refl, ap, sym, ◌∙◌, arith, inl, inr}
+use Rattle.std.proofs.lemmas.Bool.{cases_eq}
 use Rattle.std.proofs.Common.{length, replicate, slice_get, get_or, take}
 use Rattle.std.proofs.Math.Seq.{map-set_same}
 use Rattle.base.specs.Extent.{Extent}
@@ -8,8 +9,9 @@ use Rattle.base.specs.declared.step.Step.{Step}
 use Rattle.both_tables.specs.Tables.{Tables}
 use Rattle.machine.specs.Machine.{State, next, state_after}
 use Rattle.machine.specs.Transition.{decision_of}
-use Rattle.blocks.specs.View.{BlockView, acts}
-use Rattle.world.specs.Keeping.{KeepsAsIs, KeepsOthers, NoneActsAt, acts_at, is_acted_in, is_acted_on}
+use Rattle.blocks.specs.View.{BlockView, Space, acts, acts_at_line}
+use Rattle.world.specs.Keeping.{KeepsAsIs, KeepsOthers, NoneActsAt, NoneActsThere, acts_at, acts_there, has_line, is_acted_in, is_acted_on}
+use Rattle.world.specs.Keeping.{is_line_acted_in, is_line_acted_on, keeps_line, space_at}
 use Rattle.world.specs.View.{View, space_of, spaces_of, state_or, states}
 use Rattle.world.specs.inner.Holding.{kept_at, OthersStay}
 use Rattle.world.proofs.Keeping.{kept-other, space-at, state-there}
@@ -23,7 +25,9 @@ none-kept ks (suc n) is = ap spaces_of is ∙ ap (λ xs. None ∷ xs) (none-kept
 pub kept-as-is : (shape : Extent) (tables : Tables) (values : List ℕ) (old ks : List (Option BlockView)) (tested : ℕ) (step : Step) (v : ℕ) (new : View) →
     Some v ≡ slice_get values (block_of step) → OthersStay (block_of step) old ks →
     (acts (decision_of tables step (state_or shape.caches v (kept_at old (block_of step)))) ≡ false →
-    space_of (kept_at ks (block_of step)) ≡ space_of (kept_at old (block_of step))) → new.spaces ≡ spaces_of ks →
+    space_of (kept_at ks (block_of step)) ≡ space_of (kept_at old (block_of step))) →
+    ((cache : ℕ) → acts_at_line (decision_of tables step (state_or shape.caches v (kept_at old (block_of step)))) cache ≡ false →
+    has_line (space_of (kept_at ks (block_of step))) cache ≡ has_line (space_of (kept_at old (block_of step))) cache) → new.spaces ≡ spaces_of ks →
     KeepsAsIs (record {
       shape = shape;
       tables = tables;
@@ -31,12 +35,16 @@ pub kept-as-is : (shape : Extent) (tables : Tables) (values : List ℕ) (old ks 
       spaces = spaces_of old;
       tested = tested;
     }) step new
-kept-as-is shape tables values old ks tested step v new at others idle is = record {
+kept-as-is shape tables values old ks tested step v new at others idle lines is = record {
   others = λ block other.
       ap (λ xs. get_or xs block None) is ∙ space-at ks block ∙ ap space_of (kept-other old ks (block_of step) block others other) ∙ sym (space-at old block);
   idle = λ none.
       let here = sym (ap (acts_at tables step) (state-there shape.caches values old (block_of step) v at)) ∙ none in
       is ∙ ap spaces_of others.items ∙ map-set_same space_of old (block_of step) (kept_at ks (block_of step)) None (idle here);
+  lines = λ cache none.
+      let here = sym (ap (acts_there tables step cache) (state-there shape.caches values old (block_of step) v at)) ∙ none in
+      ap (λ xs. has_line (get_or xs (block_of step) None) cache) is ∙ ap (λ o. has_line o cache) (space-at ks (block_of step)) ∙ lines cache here
+      ∙ ap (λ o. has_line o cache) (sym (space-at old (block_of step)));
 }
 
 not-kept : (o : Option BlockView) → space_of o ≡ None → o ≡ None
@@ -61,13 +69,38 @@ acts-elsewhere tables s block (step ∷ steps) zero d low none acted = none.0 ac
 acts-elsewhere tables s block (step ∷ steps) (suc i) d low none acted =
     acts-elsewhere tables (next tables s step).state block steps i d (omega (arith, low)) none.1 acted
 
--- one more step of a run, of which a cell acts on none at some blocks
+-- the same of a cell at the line of a cache
+acts-on-others : (tables : Tables) (s : State) (block cache : ℕ) (steps : List Step) (i : ℕ) (d : Step) → i < length steps →
+    NoneActsThere tables s block cache steps → is_line_acted_in tables (state_after tables s (take i steps)) (get_or steps i d) cache ≡ true →
+    block ≢ block_of (get_or steps i d)
+acts-on-others tables s block cache [] i d low none acted = absurd (omega (arith, low))
+acts-on-others tables s block cache (step ∷ steps) zero d low none acted = none.0 acted
+acts-on-others tables s block cache (step ∷ steps) (suc i) d low none acted =
+    acts-on-others tables (next tables s step).state block cache steps i d (omega (arith, low)) none.1 acted
+
+-- one more step of a run, of which a cell acts on none at some blocks, and at some lines
 pub keeps-more : (old mid new : View) (steps : List Step) (i : ℕ) (step d : Step) → i < length steps → step ≡ get_or steps i d →
     mid.state ≡ state_after old.tables old.state (take i steps) → mid.tables ≡ old.tables →
     KeepsOthers old steps mid → KeepsAsIs mid step new → KeepsOthers old steps new
-keeps-more old mid new steps i step d low at state tables so_far keeps block none =
-    let acted-at : is_acted_on mid step ≡ is_acted_in old.tables (state_after old.tables old.state (take i steps)) (get_or steps i d) =
-    rw at (rw state (rw tables refl)) in
-    by-cases (is_acted_on mid step)
-    (λ acted. keeps.others block (rw at (acts-elsewhere old.tables old.state block steps i d low none (sym acted-at ∙ acted))) ∙ so_far block none)
-    (λ idle. ap (λ xs. get_or xs block None) (keeps.idle idle) ∙ so_far block none)
+keeps-more old mid new steps i step d low at state tables so_far keeps = record {
+  blocks = λ block none.
+      let acted-at : is_acted_on mid step ≡ is_acted_in old.tables (state_after old.tables old.state (take i steps)) (get_or steps i d) =
+      rw at (rw state (rw tables refl)) in
+      by-cases (is_acted_on mid step)
+      (λ acted. keeps.others block (rw at (acts-elsewhere old.tables old.state block steps i d low none (sym acted-at ∙ acted))) ∙ so_far.blocks block none)
+      (λ idle. ap (λ xs. get_or xs block None) (keeps.idle idle) ∙ so_far.blocks block none);
+  lines = λ block cache none.
+      let acted-at : is_line_acted_on mid step cache
+      ≡ is_line_acted_in old.tables (state_after old.tables old.state (take i steps)) (get_or steps i d) cache =
+      rw at (rw state (rw tables refl)) in
+      by-cases (is_line_acted_on mid step cache)
+      (λ acted. elsewhere block cache (rw at (acts-on-others old.tables old.state block cache steps i d low none (sym acted-at ∙ acted)))
+      ∙ so_far.lines block cache none)
+      (λ idle. elim (cases_eq block (block_of step)) [
+        | inl same ↦ rw same (keeps.lines cache idle) ∙ so_far.lines block cache none
+        | inr other ↦ elsewhere block cache other ∙ so_far.lines block cache none
+      ]);
+}
+  where
+    elsewhere : (block cache : ℕ) → block ≢ block_of step → keeps_line new block cache ≡ keeps_line mid block cache
+    elsewhere block cache other = ap (λ (o : Option Space). has_line o cache) (keeps.others block other)

@@ -2,7 +2,9 @@
 use Rattle.std.proofs.Common.{◌≡◌, ℕ, ◌<◌, List, [], ◌∷◌, Option, Some, None, Bool}
 use Rattle.std.proofs.Common.{true, false, if◌then◌else◌, refl, ap, sym, subst, ◌∙◌, zero, suc, arith}
 use Rattle.std.proofs.Common.{length, set, replicate, slice_get, inl, inr, ◌⊎◌, IsSome, true≢false}
-use Rattle.std.proofs.lemmas.List.{get_or-set_same, length-set}
+use Rattle.std.proofs.lemmas.List.{get_or-set_other, get_or-set_same, length-set}
+use Rattle.std.proofs.lemmas.Bool.{eq-eqb}
+use Rattle.control.proofs.HomeSends.{no-flag}
 use Rattle.base.specs.declared.ids.CacheId.{CacheId}
 use Rattle.base.specs.declared.step.Ask.{Ask}
 use Rattle.base.specs.declared.step.Step.{Step}
@@ -16,12 +18,15 @@ use Rattle.control.specs.declared.line.LineInput.TheVariants as line_input
 use Rattle.control.specs.LineEffect.{opened_line}
 use Rattle.control.specs.Events.{event_at_line}
 use Rattle.machine.specs.declared.decision.Decision.{Decision}
+use Rattle.machine.specs.declared.decision.Decision.TheVariants.{Refused, AtLine, AtHome}
 use Rattle.machine.specs.declared.decision.Origin.TheVariants as origin
 use Rattle.both_tables.specs.Tables.{Tables}
 use Rattle.machine.specs.Block.{opened_block}
 use Rattle.machine.specs.Transition.{at_ask, at_forward, by_line_entry, decision_of, is_idle}
-use Rattle.blocks.specs.View.{BlockView, acts, wakes_line}
-use Rattle.world.specs.View.{state_or}
+use Rattle.rows.specs.Flags.{is_set}
+use Rattle.blocks.specs.View.{BlockView, acts, acts_at_line, lines_after, wakes_line}
+use Rattle.world.specs.Keeping.{has_line}
+use Rattle.world.specs.View.{space_of, state_or}
 use Rattle.blocks.specs.Marking.{marks_of}
 use Rattle.world.specs.inner.Holding.{kept_at, IsLight, OthersStay}
 use Rattle.world.specs.inner.Tests.{IsMarked}
@@ -81,6 +86,26 @@ pub light-at : (tables : Tables) (s : Step) (caches value : ℕ) (old : Option B
     (IsSome old) ⊎ (acts (decision_of tables s (state_or caches value old)) ≡ false)
 light-at tables s caches value None h = inr (opened-wakes tables s caches value h.wakes)
 light-at tables s caches value (Some k) h = inl refl
+
+-- a block that is kept from now on has no line yet
+pub none-yet : (caches : ℕ) (k : BlockView) → k.space.lines ≡ replicate caches false → (cache : ℕ) → has_line (space_of (Some k)) cache ≡ false
+none-yet caches k none cache = ap (λ ls. is_set ls cache) none ∙ no-flag caches cache
+
+-- a block that is kept is put again, with a line kept or not as before
+pub lines-put : (old mid : List (Option BlockView)) (i cache : ℕ) (k new : BlockView) → i < length mid → Some k ≡ kept_at mid i →
+    is_set new.space.lines cache ≡ is_set k.space.lines cache →
+    has_line (space_of (kept_at mid i)) cache ≡ has_line (space_of (kept_at old i)) cache →
+    has_line (space_of (kept_at (set mid i (Some new)) i)) cache ≡ has_line (space_of (kept_at old i)) cache
+lines-put old mid i cache k new below there same before =
+    ap (λ o. has_line (space_of o) cache) (get_or-set_same mid i (Some new) None below) ∙ same
+    ∙ ap (λ o. has_line (space_of o) cache) there ∙ before
+
+-- where a cell acts at no line of a cache, that stays kept or not
+pub line-left : (d : Decision) (lines : List Bool) (cache : ℕ) → acts_at_line d cache ≡ false → is_set (lines_after d lines) cache ≡ is_set lines cache
+line-left (Refused what) lines cache apart = refl
+line-left (AtHome input next actions from) lines cache apart = refl
+line-left (AtLine own line input next actions from) lines cache apart =
+    get_or-set_other lines own.0 cache true false (λ same. true≢false (sym (eq-eqb own.0 cache (sym same)) ∙ apart))
 
 -- the marks of a block that is kept from now on
 pub marked-put : (tables : Tables) (ks : List (Option BlockView)) (i : ℕ) (k : BlockView) → i < length ks → k.marks ≡ marks_of tables k.state →

@@ -1,11 +1,12 @@
-ghost use Rattle.std.specs.Prelude.{◌≡◌, ◌<◌, ◌≤◌, ◌↔◌, IfNone, IfOk, IfSome, IsOk, IsSome, None, OnErr, OnOk, Some, false, true, length, slice_set};
+ghost use Rattle.std.specs.Prelude.{◌≡◌, ℕ, ◌<◌, ◌≤◌, ◌↔◌, IfNone, IfOk, IfSome, IsOk, IsSome, None, OnErr, OnOk, Some, false, true, length, slice_set};
 ghost use Rattle.machine.specs.Transition.{decision_of, messages_of, transition};
 ghost use Rattle.machine.specs.declared.decision.Decision.TheVariants.{Refused};
-ghost use Rattle.blocks.specs.View.{acts, moved_to};
+ghost use Rattle.blocks.specs.View.{acts, acts_at_line, moved_to};
 ghost use Rattle.blocks.specs.LineStates.{states_in};
 ghost use Rattle.blocks.specs.Looks.{place_in};
 ghost use Rattle.blocks.specs.Passing.{ResponsesPass};
 ghost use Rattle.world.specs.Crowds.{IsCrowdedIn, IsUncrowdedIn};
+ghost use Rattle.world.specs.Keeping.{has_line};
 ghost use Rattle.world.specs.View.{HasSpaceAt, space_of};
 ghost use Rattle.world.specs.inner.Holding.{kept_at, state_at, IsLight, OthersStay};
 ghost use Rattle.world.specs.inner.Tests.{IsMarked};
@@ -70,6 +71,7 @@ fn touch(
     ensures there { IsSome (kept_at blocks.old.items number) → IsOk result }
     ensures idle { acts (decision_of tables.now step (state_at caches value blocks.old.items number)) ≡ false →
         kept_at blocks.new.items number ≡ kept_at blocks.old.items number }
+    ensures lines { (cache : ℕ) → has_line (space_of (kept_at blocks.new.items number)) cache ≡ has_line (space_of (kept_at blocks.old.items number)) cache }
     ensures succeeds { acts (decision_of tables.now step (state_at caches value blocks.old.items number)) ≡ false → IsOk result }
 {
     // Looked up as the step does behind it, the block is found once for both.
@@ -101,6 +103,7 @@ fn touch_opened(
     ensures kept { IfOk result (λ done. IfNone done (IsSome (kept_at blocks.new.items number))) }
     ensures idle { acts (decision_of tables.now step (state_at caches value blocks.old.items number)) ≡ false →
         kept_at blocks.new.items number ≡ None }
+    ensures lines { (cache : ℕ) → has_line (space_of (kept_at blocks.new.items number)) cache ≡ has_line (space_of (kept_at blocks.old.items number)) cache }
     ensures succeeds { acts (decision_of tables.now step (state_at caches value blocks.old.items number)) ≡ false → IsOk result }
 {
     let decision = decide_opened(tables, caches, step);
@@ -157,6 +160,8 @@ pub fn step_at(
         (state_at caches value blocks.old.items number) (space_of (kept_at blocks.old.items number)) → IsOk result }
     ensures idle { acts (decision_of tables.now step (state_at caches value blocks.old.items number)) ≡ false →
         space_of (kept_at blocks.new.items number) ≡ space_of (kept_at blocks.old.items number) }
+    ensures lines { (cache : ℕ) → acts_at_line (decision_of tables.now step (state_at caches value blocks.old.items number)) cache ≡ false →
+        has_line (space_of (kept_at blocks.new.items number)) cache ≡ has_line (space_of (kept_at blocks.old.items number)) cache }
     ensures light { IsLight tables.now step (state_at caches value blocks.old.items number) → IsOk result }
 {
     if let Some(outcome) = touch(alloc, blocks, caches, value, number, tables, step)? {
@@ -195,6 +200,7 @@ pub fn ready_at(
         (state_at caches value blocks.old.items number) (space_of (kept_at blocks.old.items number)) → IsOk result }
     ensures idle { acts (decision_of tables.now step (state_at caches value blocks.old.items number)) ≡ false →
         space_of (kept_at blocks.new.items number) ≡ space_of (kept_at blocks.old.items number) }
+    ensures lines { (cache : ℕ) → has_line (space_of (kept_at blocks.new.items number)) cache ≡ has_line (space_of (kept_at blocks.old.items number)) cache }
     ensures light { IsLight tables.now step (state_at caches value blocks.old.items number) → IsOk result }
 {
     if let Some(outcome) = touch(alloc, blocks, caches, value, number, tables, step)? {

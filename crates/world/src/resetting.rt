@@ -11,11 +11,11 @@ impl World {
     ghost use Rattle.std.specs.Prelude.{◌≡◌, [], length};
     ghost use Rattle.machine.specs.Machine.{opened, IsHistory};
     ghost use Rattle.world.specs.Coherent.{HasBeenSafe, IsUnstuck};
-    ghost use Rattle.world.specs.Keeping.{KeepsNoOther};
+    ghost use Rattle.world.specs.Keeping.{KeepsNoLine, KeepsNoOther};
 
     /// Whatever happened to the world, it is one that nothing has happened to from now on: of the same shape, under the same
-    /// tables, with these opening values. Blocks that were kept are made as they open in the memory that they have, and no other
-    /// is kept.
+    /// tables, with these opening values. Blocks that were kept are made as they open in the memory that they have, with no line
+    /// kept, and no other block is kept.
     pub fn reset(&mut self, opening: &[u64])
         requires { length opening.now ≡ self.old.shape.blocks }
         ensures shape { self.new.shape ≡ self.old.shape }
@@ -26,6 +26,7 @@ impl World {
         ensures unstuck { IsUnstuck self.new }
         ensures tested { self.new.tested ≡ 0 }
         ensures kept { KeepsNoOther self.old self.new }
+        ensures lines { KeepsNoLine self.new }
     {
         self.opening.copy_from_slice(opening);
         reset_all(&mut self.blocks, opening);

@@ -113,7 +113,7 @@ impl World {
     ghost use Rattle.machine.specs.Machine.{IsHistory, next, opened, sent_by};
     ghost use Rattle.world.specs.Coherent.{HasBeenSafe, IsUnstuck};
     ghost use Rattle.world.specs.Crowds.{IsCrowded, IsUncrowded};
-    ghost use Rattle.world.specs.Keeping.{KeepsAsIs, KeepsNoOther};
+    ghost use Rattle.world.specs.Keeping.{KeepsAsIs, KeepsNoOther, KeepsSameLines};
     ghost use Rattle.world.specs.LineStates.{line_states};
     ghost use Rattle.world.specs.Looks.{place_at};
     ghost use Rattle.world.specs.Messages.{messages_at, raised};
@@ -163,7 +163,8 @@ impl World {
     ///
     /// Where its cell acts it marks the messages of its block anew, whether they would be held, and counts them as tested: it raises
     /// [`tested`](World::tested) by as many, which stays at `u64::MAX`: no fewer than it sends, and no more than the block has
-    /// after it. It looks at those alone whose marks may have changed.
+    /// after it. It looks at few of them: those that were sent and those whose marks may have changed, and after a step at the home
+    /// all that are on links too.
     ///
     /// A step that sends no message is never refused, but for an ask that acts at a line in I: so no step that is held,
     /// absent, idle, blank or broken, no hit at a line that isn't in I, and no delivery whose cell sends nothing.
@@ -254,13 +255,14 @@ impl World {
     }
 
     /// The same world again: its shape, its tables, its state, and how many messages were tested. It keeps no block but those that
-    /// this one keeps.
+    /// this one keeps, and the same lines.
     pub fn try_clone(&self, alloc: Global) -> Result<World, NoMemory>
         ensures shape { IfOk result (λ world. world.shape ≡ self.now.shape) }
         ensures tables { IfOk result (λ world. world.tables ≡ self.now.tables) }
         ensures state { IfOk result (λ world. world.state ≡ self.now.state) }
         ensures tested { IfOk result (λ world. world.tested ≡ self.now.tested) }
         ensures kept { IfOk result (KeepsNoOther self.now) }
+        ensures lines { IfOk result (KeepsSameLines self.now) }
     {
         let opening = Vec::from_slice(alloc, self.opening.as_slice())?;
         let blocks = self.blocks.try_clone(alloc)?;

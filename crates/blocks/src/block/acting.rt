@@ -1,4 +1,4 @@
-ghost use Rattle.std.specs.Prelude.{◌≡◌, ◌<◌, ◌≤◌, Some, [], false, length, slice_set};
+ghost use Rattle.std.specs.Prelude.{◌≡◌, ◌<◌, ◌≤◌, Some, [], false, true, length, slice_set};
 ghost use Rattle.network.specs.Traffic.{all_sent};
 ghost use Rattle.network.specs.Room.{HasRoomFor, UsesRoomFor};
 ghost use Rattle.control.specs.LineEffect.{line_after, line_completes, line_sends};
@@ -55,7 +55,7 @@ impl Block {
     ghost use Rattle.blocks.specs.inner.Linking.{IsAtOwn, IsRelinked};
     ghost use Rattle.blocks.specs.Passing.{ResponsesPass};
     ghost use Rattle.machine.specs.Transition.{Fits, Transition, carried_out, decision_of, messages_of, transition};
-    ghost use Rattle.blocks.specs.View.{acts, moved_to, wakes_line, HasSpaceFor};
+    ghost use Rattle.blocks.specs.View.{acts, lines_after, moved_to, wakes_line, HasSpaceFor};
     ghost use Rattle.blocks.specs.Marking.{marks_of};
     ghost use Rattle.blocks.specs.inner.Named.{DecisionNames};
     ghost use Rattle.blocks.specs.Tests.{IsTested, IsToldIf, tested_in};
@@ -102,6 +102,7 @@ impl Block {
     pub fn ready(&mut self, tables: &Tables, step: Step) -> Result<Outcome, NoMemory>
         ensures state { self.new.state ≡ self.old.state }
         ensures marks { self.new.marks ≡ self.old.marks }
+        ensures lines { self.new.space.lines ≡ self.old.space.lines }
         ensures outcome { IfOk result (λ what. what ≡ (transition tables.now step self.old.state).outcome) }
         ensures room { OnOk result (HasSpaceFor (decision_of tables.now step self.old.state) self.old.state self.new.space) }
         ensures idle { acts (decision_of tables.now step self.old.state) ≡ false → self.new.space ≡ self.old.space }
@@ -121,6 +122,7 @@ impl Block {
         requires names { DecisionNames self.old.space.lines decision.now }
         requires room { HasSpaceFor decision.now self.old.state self.old.space }
         ensures done { carried_out decision.now self.old.state ≡ moved_to self.new.state result.outcome }
+        ensures lines { self.new.space.lines ≡ lines_after decision.now self.old.space.lines }
         ensures changed { (result.changed ≡ false) ↔ LeavesState decision.now }
         ensures links { (cache : CacheId) → IsAtOwn decision.now cache →
             IsRelinked cache.0 self.old.marks.links self.old.state.traffic.links self.new.marks.links self.new.state.traffic.links }
@@ -176,7 +178,9 @@ impl Block {
         ensures marks { self.new.marks ≡ marks_of tables.now self.new.state }
         ensures tested { IfOk result (λ made. IsTested tables.now self.old.state self.new.state made.tested) }
         ensures sent { IfOk result (λ made. (length (messages_of (decision_of tables.now step self.old.state) self.old.state) ≤ tested_in made.tested)) }
+        ensures lines { OnOk result (self.new.space.lines ≡ lines_after (decision_of tables.now step self.old.state) self.old.space.lines) }
         ensures err { OnErr result (self.new.state ≡ self.old.state) }
+        ensures err_lines { OnErr result (self.new.space.lines ≡ self.old.space.lines) }
         ensures succeeds { HasSpaceFor (decision_of tables.now step self.old.state) self.old.state self.old.space → IsOk result }
         ensures sends_nothing { messages_of (decision_of tables.now step self.old.state) self.old.state ≡ [] →
             wakes_line (decision_of tables.now step self.old.state) ≡ false → IsOk result }
@@ -196,7 +200,9 @@ impl Block {
         ensures marks { self.new.marks ≡ marks_of tables.now self.new.state }
         ensures tested { IfOk result (λ visit. IsTested tables.now self.old.state self.new.state visit.made.tested) }
         ensures sent { IfOk result (λ visit. (length (messages_of (decision_of tables.now step self.old.state) self.old.state) ≤ tested_in visit.made.tested)) }
+        ensures lines { OnOk result (self.new.space.lines ≡ lines_after (decision_of tables.now step self.old.state) self.old.space.lines) }
         ensures err { OnErr result (self.new.state ≡ self.old.state) }
+        ensures err_lines { OnErr result (self.new.space.lines ≡ self.old.space.lines) }
         ensures idle { acts (decision_of tables.now step self.old.state) ≡ false → self.new.space ≡ self.old.space }
         ensures succeeds { HasSpaceFor (decision_of tables.now step self.old.state) self.old.state self.old.space → IsOk result }
         ensures sends_nothing { messages_of (decision_of tables.now step self.old.state) self.old.state ≡ [] →
@@ -250,6 +256,7 @@ fn put_line(lines: &mut Sparse<Line>, cache: CacheId, line: Line)
     requires room { is_set (kept_lines lines.old.items) cache.0 ≡ false → 0 < lines.old.spare }
     ensures items { lines.new.items ≡ slice_set lines.old.items cache.0 (Some line) }
     ensures lines { lines_of lines.new.items ≡ slice_set (lines_of lines.old.items) cache.0 line }
+    ensures kept { kept_lines lines.new.items ≡ slice_set (kept_lines lines.old.items) cache.0 true }
 {
     if let Err(_) = lines.put(cache.0, line) {
         unreachable!();

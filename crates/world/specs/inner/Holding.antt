@@ -9,7 +9,8 @@ use Rattle.both_tables.specs.Tables.{Tables}
 use Rattle.machine.specs.Transition.{decision_of, messages_of}
 use Rattle.blocks.specs.View.{BlockView, wakes_line}
 use Rattle.world.specs.inner.Counts.{AreCounted}
-use Rattle.world.specs.View.{IsShaped, state_or}
+use Rattle.world.specs.Keeping.{has_line}
+use Rattle.world.specs.View.{IsShaped, space_of, state_or}
 use Rattle.world.specs.inner.Counts.{Rows}
 use Rattle.world.specs.inner.Tests.{IsMarked}
 
@@ -30,10 +31,11 @@ abbrev pub HasNoMarks : ℕ → Option BlockView → Type 0
 HasNoMarks caches None = Unit {0}
 HasNoMarks caches (Some k) = k.marks ≡ no_marks caches
 
--- a block is as it opens, whether it is kept or not
+-- a block is as it opens, whether it is kept or not, and keeps no line
 pub record IsOpened (caches value : ℕ) (k : Option BlockView) : Type 0 where
   pub state : state_or caches value k ≡ opened_block caches value
   pub marks : HasNoMarks caches k
+  pub lines : (cache : ℕ) → has_line (space_of k) cache ≡ false
 
 -- each block that is kept has so many lines
 abbrev pub AreLined : ℕ → List (Option BlockView) → Type 0

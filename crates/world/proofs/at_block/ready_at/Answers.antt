@@ -4,7 +4,8 @@ use Rattle.world.specs.inner.Holding.{kept_at}
 use Rattle.std.proofs.lemmas.List.{length-set}
 use Rattle.blocks.specs.Marking.{marks_of}
 use Rattle.world.specs.inner.Tests.{IsMarked}
-use Rattle.world.proofs.Touching.{light-at, marked-put, others-set}
+use Rattle.rows.specs.Flags.{is_set}
+use Rattle.world.proofs.Touching.{light-at, lines-put, marked-put, others-set}
 use Rattle.world.proofs.at_block.ready_at.Goals as goal
 
 pub returns-in_err-outcome-clause-light : goal.returns-in_err-outcome-clause-light
@@ -83,3 +84,10 @@ returns-clause-succeeds c = grind (arith, common_steps)
 
 pub returns-clause-light : goal.returns-clause-light
 returns-clause-light c = grind (arith, common_steps)
+
+pub returns-clause-lines : goal.returns-clause-lines
+returns-clause-lines c cache =
+    let there = rw c.in-Some-get_mut.is at c.get_mut.follows in
+    let long = ap length c.touch.ensures.others.items ∙ length-set c.args.blocks.now.items c.args.number _ in
+    lines-put c.args.blocks.now.items c.touch.new.blocks.items c.args.number cache _ c.ready.new.self (omega (arith, long, c.requires)) there
+    (ap (λ ls. is_set ls cache) c.ready.ensures.lines) (c.touch.ensures.lines cache)

@@ -1,7 +1,12 @@
-use Rattle.std.proofs.Common.{Some, inl, inr, sym, true≢false, arith}
+use Rattle.std.proofs.Common.{◌≡◌, ◌∙◌, Some, ap, false, inl, inr, length, subst, sym, true≢false, arith}
+use Rattle.std.proofs.lemmas.List.{length-set}
+use Rattle.rows.specs.Flags.{is_set}
+use Rattle.machine.specs.Transition.{decision_of}
+use Rattle.blocks.specs.View.{acts_at_line}
+use Rattle.world.specs.View.{state_or}
 use Rattle.std.proofs.lemmas.Grind.{common_steps}
 use Rattle.world.specs.inner.Holding.{kept_at}
-use Rattle.world.proofs.Touching.{light-at, others-set}
+use Rattle.world.proofs.Touching.{light-at, line-left, lines-put, others-set}
 use Rattle.world.proofs.at_block.step_at.Goals as goal
 
 pub returns-in_err-outcome-clause-light : goal.returns-in_err-outcome-clause-light
@@ -132,3 +137,19 @@ returns-in_err-visit-clause-succeeds c = grind (arith, common_steps)
 
 pub returns-in_err-visit-clause-light : goal.returns-in_err-visit-clause-light
 returns-in_err-visit-clause-light c = grind (arith, common_steps)
+
+pub returns-clause-lines : goal.returns-clause-lines
+returns-clause-lines c cache apart =
+    let there = rw c.in-Some-get_mut.is at c.get_mut.follows in
+    let same = ap (state_or c.args.caches c.args.value) there ∙ c.touch.ensures.state in
+    let long = ap length c.touch.ensures.others.items ∙ length-set c.args.blocks.now.items c.args.number _ in
+    lines-put c.args.blocks.now.items c.touch.new.blocks.items c.args.number cache _ c.visit.new.self (omega (arith, long, c.requires.below)) there
+    (ap (λ ls. is_set ls cache) c.in_ok-visit.ensures.lines ∙ line-left _ _ cache
+    (subst (λ b. acts_at_line (decision_of c.args.tables.now c.args.step b) cache ≡ false) (sym same) apart)) (c.touch.ensures.lines cache)
+
+pub returns-in_err-visit-clause-lines : goal.returns-in_err-visit-clause-lines
+returns-in_err-visit-clause-lines c cache apart =
+    let there = rw c.in-Some-get_mut.is at c.get_mut.follows in
+    let long = ap length c.touch.ensures.others.items ∙ length-set c.args.blocks.now.items c.args.number _ in
+    lines-put c.args.blocks.now.items c.touch.new.blocks.items c.args.number cache _ c.visit.new.self (omega (arith, long, c.requires.below)) there
+    (ap (λ ls. is_set ls cache) c.in_err-visit.ensures.err_lines) (c.touch.ensures.lines cache)

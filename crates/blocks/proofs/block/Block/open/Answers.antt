@@ -1,5 +1,5 @@
 use Rattle.std.proofs.Common.{refl}
-use Rattle.blocks.proofs.Opening.{held-opened, lines-opened}
+use Rattle.blocks.proofs.Opening.{held-opened, lines-opened, none-kept}
 use Rattle.blocks.proofs.block.Block.open.Goals as goal
 
 pub invariant_of-result : goal.invariant_of-result
@@ -10,3 +10,6 @@ invariant_of-result c =
 
 pub returns-clause-state : goal.returns-clause-state
 returns-clause-state c = rw (c.open-4.ensures.items, c.in_ok-home.ensures.home, c.in_ok-wires.ensures.traffic, lines-opened c.args.caches) refl
+
+pub returns-clause-lines : goal.returns-clause-lines
+returns-clause-lines c = rw (c.open-4.ensures.items) (none-kept c.args.caches)

@@ -3,7 +3,7 @@ use Rattle.std.proofs.lemmas.List.{length-map}
 use Rattle.control.specs.HomeEffect.{opened_home}
 use Rattle.network.specs.Traffic.{quiet}
 use Rattle.blocks.specs.inner.Lined.{lines_of}
-use Rattle.blocks.proofs.Opening.{held-opened, lines-opened}
+use Rattle.blocks.proofs.Opening.{held-opened, lines-opened, none-kept}
 use Rattle.blocks.proofs.block.Block.reset.Goals as goal
 use Rattle.blocks.proofs.block.Block.reset.Goals.{After-clear-3}
 
@@ -37,3 +37,6 @@ invariant_of-self c =
 pub returns-clause-state : goal.returns-clause-state
 returns-clause-state c =
     rw (← c.self.view_is) (rw (lines c, home c, traffic c, lines-opened (length (lines_of c.self.inside.lines.items))) refl)
+
+pub returns-clause-lines : goal.returns-clause-lines
+returns-clause-lines c = rw (← c.self.view_is) (rw (lines c) (none-kept (length (lines_of c.self.inside.lines.items))))

@@ -252,7 +252,8 @@ returns-in_err-visit-clause-keeps c =
     (kept-as-is c.self.inside.shape c.self.inside.tables c.self.inside.opening.items c.self.inside.blocks.items c.step_at.new.blocks.items
     c.self.inside.tested c.args.step c.in-Some.value _ (at c)
     (rw c.block-number.ensures at c.in_err-visit.ensures.others)
-    (rw (c.block-number.ensures, c.caches.ensures.value) at c.in_err-visit.ensures.idle) refl)
+    (rw (c.block-number.ensures, c.caches.ensures.value) at c.in_err-visit.ensures.idle)
+    (rw (c.block-number.ensures, c.caches.ensures.value) at c.in_err-visit.ensures.lines) refl)
 
 pub returns-clause-keeps : goal.returns-clause-keeps
 returns-clause-keeps c =
@@ -260,4 +261,5 @@ returns-clause-keeps c =
     (kept-as-is c.self.inside.shape c.self.inside.tables c.self.inside.opening.items c.self.inside.blocks.items c.step_at.new.blocks.items
     c.self.inside.tested c.args.step c.in-Some.value _ (at-2 c)
     (rw c.block-number.ensures at c.in_ok-visit.ensures.others)
-    (rw (c.block-number.ensures, c.caches.ensures.value) at c.in_ok-visit.ensures.idle) refl)
+    (rw (c.block-number.ensures, c.caches.ensures.value) at c.in_ok-visit.ensures.idle)
+    (rw (c.block-number.ensures, c.caches.ensures.value) at c.in_ok-visit.ensures.lines) refl)

@@ -135,4 +135,5 @@ returns-clause-keeps c =
     (kept-as-is c.self.inside.shape c.self.inside.tables c.self.inside.opening.items c.self.inside.blocks.items c.ready_at.new.blocks.items
     c.self.inside.tested c.args.step c.in-Some.value _ (at c)
     (rw c.block-number.ensures at c.ready_at.ensures.others)
-    (rw (c.block-number.ensures, c.caches.ensures.value) at c.ready_at.ensures.idle) refl)
+    (rw (c.block-number.ensures, c.caches.ensures.value) at c.ready_at.ensures.idle)
+    (λ cache apart. (rw c.block-number.ensures at c.ready_at.ensures.lines) cache) refl)

@@ -5,7 +5,9 @@ use Rattle.machine.specs.Machine.{State, opened}
 use Rattle.world.specs.View.{View, states}
 use Rattle.world.specs.inner.Holding.{AreLined, IsOpened, kept_at}
 use Rattle.world.proofs.Coherence.{been-safe, not-stuck}
-use Rattle.world.proofs.Openings.{lined, states-reset, world-reset}
+use Rattle.world.specs.Keeping.{has_line}
+use Rattle.world.proofs.Keeping.{space-at}
+use Rattle.world.proofs.Openings.{lined, lines-reset, states-reset, world-reset}
 use Rattle.world.proofs.Spaces.{keeps-no-other}
 use Rattle.world.proofs.worlds.World.reset.Goals as goal
 use Rattle.world.proofs.worlds.World.reset.Goals.{After-self-2-1}
@@ -50,6 +52,12 @@ pub returns-clause-kept : goal.returns-clause-kept
 returns-clause-kept c = λ block before.
     keeps-no-other c.self.inside.blocks.items c.reset_all.new.blocks.items block c.reset_all.ensures.none
     (ap (λ (w : View). get_or w.spaces block None) c.self.view_is ∙ before)
+
+pub returns-clause-lines : goal.returns-clause-lines
+returns-clause-lines c = λ block cache.
+    ap (λ o. has_line o cache) (space-at c.reset_all.new.blocks.items block)
+    ∙ lines-reset c.args.opening.now c.self.inside.shape.caches c.reset_all.new.blocks.items
+    (c.reset_all.ensures.count ∙ c.self.invariant.0.places ∙ sym (one_each c)) (again c) block cache
 
 pub returns-clause-history : goal.returns-clause-history
 returns-clause-history c = rw (opened-state c) (record { opens = one_each c; leads = refl })

@@ -1,7 +1,8 @@
 use Rattle.std.proofs.Common.{None, get_or, ◌≡◌, ◌∙◌, List, Option, ap, sym, ℕ, refl, length, map, arith}
 use Rattle.std.proofs.lemmas.Grind.{common_steps}
 use Rattle.world.specs.View.{View, states}
-use Rattle.world.proofs.Copying.{Seen, marked-copied, none-copied, seen, states-copied}
+use Rattle.world.specs.Keeping.{has_line}
+use Rattle.world.proofs.Copying.{Seen, lines-copied, marked-copied, none-copied, seen, states-copied}
 use Rattle.world.proofs.Spaces.{keeps-no-other}
 use Rattle.std.specs.Option.{option_map}
 use Rattle.std.proofs.lemmas.List.{length-map}
@@ -39,6 +40,11 @@ returns-clause-kept c = λ block before.
     keeps-no-other c.self.inside.blocks.items c.in_ok-blocks.blocks.items block
     (none-copied c.in_ok-blocks.blocks.items c.self.inside.blocks.items (items c))
     (ap (λ (w : View). get_or w.spaces block None) c.self.view_is ∙ before)
+
+pub returns-clause-lines : goal.returns-clause-lines
+returns-clause-lines c = λ block cache.
+    lines-copied c.in_ok-blocks.blocks.items c.self.inside.blocks.items (items c) block cache
+    ∙ ap (λ (w : View). has_line (get_or w.spaces block None) cache) c.self.view_is
 
 pub returns-clause-state : goal.returns-clause-state
 returns-clause-state c = rw (← c.self.view_is, blocks c) refl
