@@ -58,6 +58,7 @@ use Rattle.machine.proofs.StepValues.{transition-right}
 use Rattle.machine.proofs.SingleWriter.{sound-single}
 use Rattle.machine.proofs.Invariant.{Keeps, guards}
 use Rattle.machine.proofs.Runs.{Guards}
+use Rattle.machine.proofs.Ranks.{Ranked, line-ranked, same-links, put-ranked, transition-ranked}
 use Rattle.machine.proofs.Restraining.{Decides, line-decides, home-decides, as-decided}
 use Rattle.machine.proofs.ProvedCells.{IsAsk, Proved, proved}
 
@@ -65,6 +66,7 @@ use Rattle.machine.proofs.ProvedCells.{IsAsk, Proved, proved}
 pub record Passes (n : ℕ) (b : BlockState) (t : Transition) : Type 0 where
   pub fine : Fine n t
   pub right : Right b t
+  pub order : Ranked b → Ranked t.block
 
 -- a decision is as the own one, or passes
 abbrev pub Goes : ℕ → BlockState → Decision → Decision → Type 0
@@ -85,6 +87,7 @@ kept n b cache a line c same e p there h v =
     record {
       fine = fine;
       right = ask-right n b cache a line c.entry v there rule put (p.settles a view line.value line.acks line.pending b.latest e value waits) fine.sound;
+      order = λ k. line-ranked b cache line (line_input.Ask a) origin.Core c.entry k (same-links b.traffic b.traffic refl);
     }
 
 -- the cell of a home that stays in S
@@ -105,7 +108,11 @@ left : (n : ℕ) (b : BlockState) (i : ℕ) (r : CacheId) (x : DirectoryEntry) �
     Passes n b (carried_out (by_home_entry x (home_input.Request (req request.PutS r)) (origin.Request i)) b)
 left n b i r x e at h v =
     subst (λ (x : DirectoryEntry). Passes n b (carried_out (by_home_entry x (home_input.Request (req request.PutS r)) (origin.Request i)) b)) (sym e.2)
-    (record { fine = puts-fine n b i r home.S e.0 h at; right = puts-right n b i r home.S e.0 h v at })
+    (record {
+      fine = puts-fine n b i r home.S e.0 h at;
+      right = puts-right n b i r home.S e.0 h v at;
+      order = λ k. put-ranked n b i request.PutS r _ h k at refl;
+    })
 
 -- a line's input goes as under the own tables, or by a proved cell
 line-goes : (n : ℕ) (tables : Tables) (b : BlockState) (cache : CacheId) (input : LineInput) (from : Origin) (found : Option Line) → AreRestrained tables →
@@ -196,8 +203,8 @@ step-goes n tables (step.Response block i) b r h v = response-goes n tables b i 
 
 pub step-passes : (n : ℕ) (tables : Tables) (s : Step) (b : BlockState) → AreRestrained tables → Sound n b → Valued b → Passes n b (transition tables s b)
 step-passes n tables s b r h v = elim (step-goes n tables s b r h v) [
-  | inl e ↦ as-decided (Passes n b) b (decision_of baseline s b) (decision_of tables s b) e (record { fine = transition-fine n s b h; right = transition-right n s b h v })
-      (record { fine = record { sound = h; met = λ x. absurd (cc) }; right = record { valued = v; fits = refl } }) (transition-fine n s b h).met
+  | inl e ↦ as-decided (Passes n b) b (decision_of baseline s b) (decision_of tables s b) e (record { fine = transition-fine n s b h; right = transition-right n s b h v; order = transition-ranked n s b h })
+      (record { fine = record { sound = h; met = λ x. absurd (cc) }; right = record { valued = v; fits = refl }; order = λ k. k }) (transition-fine n s b h).met
   | inr p ↦ p
 ]
 

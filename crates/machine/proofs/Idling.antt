@@ -1,4 +1,4 @@
--- In a block without messages nothing waits, and nothing is held.
+-- In a block without messages nothing waits, and nothing is held, under tables that keep going.
 use Rattle.std.proofs.Common.{◌≡◌, ◌≢◌, ℕ, ◌<◌, [], inl, inr, refl, ap, arith}
 use Rattle.std.proofs.Common.{Option, Some, None, if◌then◌else◌, slice_get, sum_by, map}
 use Rattle.std.proofs.lemmas.Bool.{cases_eq}
@@ -10,7 +10,6 @@ use Rattle.base.specs.declared.step.Step.TheVariants as step
 use Rattle.base.specs.declared.step.Outcome.TheVariants as outcome
 use Rattle.network.specs.declared.message.Forward.{Forward}
 use Rattle.network.specs.Traffic.{Traffic, link}
-use Rattle.cache_table.specs.Baseline as cache_table
 use Rattle.control.specs.declared.line.Line.{Line}
 use Rattle.control.specs.declared.line.LineInput.TheVariants as line_input
 use Rattle.machine.specs.Block.{BlockState}
@@ -18,18 +17,27 @@ use Rattle.machine.specs.Transition.{carried_out, at_line, at_ask}
 use Rattle.machine.specs.Transition.{is_idle, transition}
 use Rattle.machine.specs.declared.decision.Origin.TheVariants as origin
 use Rattle.machine.specs.declared.decision.Decision.TheVariants.{Refused}
-use Rattle.both_tables.specs.Tables.{baseline}
+use Rattle.both_tables.specs.Tables.{Tables, baseline}
 use Rattle.machine.proofs.Quiet.{IsQuiet}
 use Rattle.machine.proofs.Counts.{total}
 use Rattle.machine.proofs.Seen.{seen, names, is_fwd_gets, is_fwd_getm, is_inv, dir_data, owner_data, inv_ack}
 use Rattle.machine.proofs.Sound.{Sound, local-at}
 use Rattle.machine.proofs.Values.{Valued}
 use Rattle.machine.proofs.LineValues.{waits-at}
-use Rattle.machine.proofs.StallRules.{Idle}
+use Rattle.machine.proofs.StallRules.{Idle, Serves}
 use Rattle.machine.proofs.StallRules.{idle_pending}
 use Rattle.machine.proofs.StallRules.{idle_load, idle_store, idle_replace}
 use Rattle.machine.proofs.Cases.{by-test}
-use Rattle.machine.proofs.Moves.{line-moves}
+use Rattle.machine.proofs.Moves.{IsMet, line-goes}
+use Rattle.machine.proofs.StepTransitions.{transition-fine}
+use Rattle.machine.proofs.Views.{View, Local}
+use Rattle.machine.specs.Going.{KeepsGoing, ServesAsks, IsSettled}
+use Rattle.cache_table.specs.Table.{CacheEntry}
+use Rattle.cache_table.specs.Baseline.{baseline_entry}
+use Rattle.control.specs.Events.{ask_event}
+use Rattle.machine.specs.Transition.{by_line_entry}
+use Rattle.cache_table.specs.declared.state.CacheState.{CacheState}
+use Rattle.cache_table.specs.declared.state.CacheState.TheVariants.{I, IsD, ImAd, ImA, S, SmAd, SmA, M, MiA, SiA, IiA}
 use Rattle.machine.proofs.HeadMoves.{find-link}
 
 -- a block without messages is idle
@@ -60,27 +68,58 @@ pub quiet-done : (n : ℕ) (b : BlockState) → Sound n b → Valued b → IsQui
 quiet-done n b h v q c line there =
     idle_pending line.state (seen line b.home b.traffic c) line.pending (quiet-idle b c line q) (local-at n b c line h there) (waits-at b c line v there)
 
-asks-ready : (n : ℕ) (b : BlockState) (cache : CacheId) (ask : Ask) (found : Option Line) → found ≡ slice_get b.lines cache.0 → Sound n b →
-    IsQuiet b.traffic → (carried_out (at_ask cache_table.baseline_cells cache ask found) b).outcome ≢ outcome.Held
-asks-ready n b cache ask None e h q = λ x. absurd (cc)
-asks-ready n b cache Load (Some line) e h q =
-    (line-moves b cache (line_input.Ask Load) origin.Core (Some line) line refl
-    (idle_load line.state (seen line b.home b.traffic cache.0) (quiet-idle b cache.0 line q) (local-at n b cache.0 line h e))).served
-asks-ready n b cache (Store x) (Some line) e h q =
-    (line-moves b cache (line_input.Ask (Store x)) origin.Core (Some line) line refl
-    (idle_store line.state (seen line b.home b.traffic cache.0) (quiet-idle b cache.0 line q) (local-at n b cache.0 line h e))).served
-asks-ready n b cache Replace (Some line) e h q =
+-- a line without messages waits for nothing
+idle-settled : (s : CacheState) (v : View) → Idle v → Local s v → IsSettled s
+idle-settled I v i h = tt
+idle-settled IsD v i h = grind (arith)
+idle-settled ImAd v i h = grind (arith)
+idle-settled ImA v i h = grind (arith)
+idle-settled S v i h = tt
+idle-settled SmAd v i h = grind (arith)
+idle-settled SmA v i h = grind (arith)
+idle-settled M v i h = tt
+idle-settled MiA v i h = grind (arith)
+idle-settled SiA v i h = grind (arith)
+idle-settled IiA v i h = grind (arith)
+
+-- at such a line an ask isn't held
+ask-served : (tables : Tables) → KeepsGoing tables → ServesAsks tables → (b : BlockState) (cache : CacheId) (ask : Ask) (line : Line) →
+    Serves (baseline_entry line.state (ask_event ask)) → IsSettled line.state → IsMet (at_line baseline.cache cache (line_input.Ask ask) origin.Core (Some line)) b →
+    (carried_out (at_line tables.cache cache (line_input.Ask ask) origin.Core (Some line)) b).outcome ≢ outcome.Held
+ask-served tables k asks b cache ask line own settled met =
+    elim (line-goes tables k b cache (line_input.Ask ask) origin.Core (Some line) line refl own met) [
+      | inl moves ↦ moves.served
+      | inr waits ↦ absurd (met (ap (λ (x : CacheEntry). (carried_out (by_line_entry x cache line (line_input.Ask ask) origin.Core) b).outcome)
+          (asks.served line.state (ask_event ask) settled waits.1)))
+    ]
+
+asks-ready : (n : ℕ) (tables : Tables) → KeepsGoing tables → ServesAsks tables → (b : BlockState) (cache : CacheId) (ask : Ask) (found : Option Line) →
+    found ≡ slice_get b.lines cache.0 → Sound n b → IsQuiet b.traffic → IsMet (at_ask baseline.cache cache ask found) b →
+    (carried_out (at_ask tables.cache cache ask found) b).outcome ≢ outcome.Held
+asks-ready n tables k asks b cache ask None e h q met = λ x. absurd (cc)
+asks-ready n tables k asks b cache Load (Some line) e h q met =
+    let v : View = seen line b.home b.traffic cache.0 in
+    let idle : Idle v = quiet-idle b cache.0 line q in
+    let local : Local line.state v = local-at n b cache.0 line h e in
+    ask-served tables k asks b cache Load line (idle_load line.state v idle local) (idle-settled line.state v idle local) met
+asks-ready n tables k asks b cache (Store x) (Some line) e h q met =
+    let v : View = seen line b.home b.traffic cache.0 in
+    let idle : Idle v = quiet-idle b cache.0 line q in
+    let local : Local line.state v = local-at n b cache.0 line h e in
+    ask-served tables k asks b cache (Store x) line (idle_store line.state v idle local) (idle-settled line.state v idle local) met
+asks-ready n tables k asks b cache Replace (Some line) e h q met =
+    let v : View = seen line b.home b.traffic cache.0 in
+    let idle : Idle v = quiet-idle b cache.0 line q in
+    let local : Local line.state v = local-at n b cache.0 line h e in
     by-test
     (λ t.
-    (carried_out
-    (if t then Refused outcome.Idle else at_line cache_table.baseline_cells cache (line_input.Ask Replace) origin.Core
-    (Some line)) b).outcome ≢ outcome.Held)
+    IsMet (if t then Refused outcome.Idle else at_line baseline.cache cache (line_input.Ask Replace) origin.Core (Some line)) b →
+    (carried_out (if t then Refused outcome.Idle else at_line tables.cache cache (line_input.Ask Replace) origin.Core (Some line)) b).outcome ≢ outcome.Held)
     (is_idle Replace line.state)
-    (λ t x. absurd (cc))
-    (λ t.
-    (line-moves b cache (line_input.Ask Replace) origin.Core (Some line) line refl
-    (idle_replace line.state (seen line b.home b.traffic cache.0) (quiet-idle b cache.0 line q) (local-at n b cache.0 line h e))).served)
+    (λ t m x. absurd (cc))
+    (λ t m. ask-served tables k asks b cache Replace line (idle_replace line.state v idle local) (idle-settled line.state v idle local) m) met
 
-pub quiet-ready : (n : ℕ) (b : BlockState) (block : BlockId) → Sound n b → IsQuiet b.traffic → (cache : CacheId) (ask : Ask) →
-    (transition baseline (step.Ask cache block ask) b).outcome ≢ outcome.Held
-quiet-ready n b block h q cache ask = asks-ready n b cache ask (slice_get b.lines cache.0) refl h q
+pub quiet-ready : (n : ℕ) (tables : Tables) → KeepsGoing tables → ServesAsks tables → (b : BlockState) (block : BlockId) → Sound n b → IsQuiet b.traffic →
+    (cache : CacheId) (ask : Ask) → (transition tables (step.Ask cache block ask) b).outcome ≢ outcome.Held
+quiet-ready n tables k asks b block h q cache ask =
+    asks-ready n tables k asks b cache ask (slice_get b.lines cache.0) refl h q (transition-fine n (step.Ask cache block ask) b h).met

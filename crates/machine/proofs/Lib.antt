@@ -46,8 +46,11 @@ pub mod Latest
 pub mod Quiet
 pub mod StallRules
 pub mod Ranks
+pub mod Gathering
 pub mod Moves
+pub mod ResponseMoves
 pub mod HeadMoves
+pub mod AckMoves
 pub mod Idling
 pub mod Invariant
 pub mod Restraining

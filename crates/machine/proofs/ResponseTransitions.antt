@@ -131,7 +131,7 @@ zero-true : (a : ℤ) → is_count a 0 ≡ true → early_of a + late_of a ≡ 0
 zero-true (pos m) e = grind (arith, nat_tests)
 zero-true (negsuc m) e = absurd (cc)
 
-zero-false : (a : ℤ) → is_count a 0 ≡ false → early_of a + late_of a ≢ 0
+pub zero-false : (a : ℤ) → is_count a 0 ≡ false → early_of a + late_of a ≢ 0
 zero-false (pos m) e = grind (arith, nat_tests)
 zero-false (negsuc m) e = grind (arith)
 

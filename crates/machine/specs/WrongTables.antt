@@ -24,7 +24,8 @@ use Rattle.both_tables.specs.Tables.{Tables, baseline}
 use Rattle.machine.specs.Machine.{opened, after}
 use Rattle.machine.specs.Restraint.{AreRestrained}
 use Rattle.machine.specs.Coherence.{Safe}
-use Rattle.machine.specs.Unstuck.{Unstuck}
+use Rattle.machine.specs.Going.{KeepsGoing}
+use Rattle.machine.specs.Unstuck.{Unstuck, Flowing}
 use Rattle.machine.specs.Rows.{cache, block, load, store, request, forward, response}
 
 -- two caches and one block
@@ -104,3 +105,30 @@ DeafSharerIsStuck = ¬ Unstuck deaf_sharer (after deaf_sharer (opened two_by_one
 -- yet all that its table does is stall where the own one acts
 abbrev pub DeafSharerIsRestrained : Type 0
 DeafSharerIsRestrained = AreRestrained deaf_sharer
+
+-- the Data of a store waits until its acks have come
+abbrev pub patient_data : Tables
+patient_data = with_cache_cell cache_state.ImAd cache_event.DataDirMore table_entry.Stall
+
+-- acks wait for the Data
+abbrev pub patient_acks : Tables
+patient_acks = with_cache_cell cache_state.ImAd cache_event.InvAck table_entry.Stall
+
+-- both: each waits for the other
+abbrev pub crossed_waits : Tables
+crossed_waits = record baseline { cache = cache_table.with_cell patient_data.cache cache_state.ImAd cache_event.InvAck table_entry.Stall }
+
+-- each alone lets messages flow
+abbrev pub PatientDataKeepsGoing : Type 0
+PatientDataKeepsGoing = KeepsGoing patient_data
+
+abbrev pub PatientAcksKeepGoing : Type 0
+PatientAcksKeepGoing = KeepsGoing patient_acks
+
+abbrev pub CrossedWaitsAreRestrained : Type 0
+CrossedWaitsAreRestrained = AreRestrained crossed_waits
+
+-- but a sharer's ack and the home's Data stay on their way
+abbrev pub CrossedWaitsAreStuck : Type 0
+CrossedWaitsAreStuck = ¬ Flowing crossed_waits (after crossed_waits (opened two_by_one (0 ∷ []))
+    (load 0 ∷ request 0 ∷ response 0 ∷ store 1 5 ∷ request 0 ∷ forward 0 ∷ [])).state

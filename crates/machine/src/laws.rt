@@ -7,10 +7,12 @@ ghost use Rattle.machine.specs.declared.decision.Decision.{Decision};
 ghost use Rattle.both_tables.specs.Tables.{Tables, baseline};
 ghost use Rattle.machine.specs.Coherence.{Met, Safe};
 ghost use Rattle.machine.specs.Restraint.{AreRestrained};
-ghost use Rattle.machine.specs.Unstuck.{Unstuck};
+ghost use Rattle.machine.specs.Going.{KeepsGoing, ServesAsks};
+ghost use Rattle.machine.specs.Unstuck.{Unstuck, Flowing};
 ghost use Rattle.machine.specs.CoherenceRows.{StoreThenLoad, StaleLoadIsRefused, EarlyLoadIsRefused, OneWriterOrManyReaders};
 ghost use Rattle.machine.specs.WrongTables.{HastyReaderIsUnsafe, HastyLoadIsUnsafe, BlankCacheIsUnsafe, HastyWriterIsUnsafe, SecondWriterIsUnsafe};
 ghost use Rattle.machine.specs.WrongTables.{DroppedValueIsUnsafe, BlankDirectoryIsUnsafe, DeafSharerIsStuck, DeafSharerIsRestrained};
+ghost use Rattle.machine.specs.WrongTables.{PatientDataKeepsGoing, PatientAcksKeepGoing, CrossedWaitsAreRestrained, CrossedWaitsAreStuck};
 ghost use Rattle.machine.specs.Block.{BlockState, IsBlockAmong};
 ghost use Rattle.machine.specs.Transition.{decision_of, decided_outcome, messages_of, transition};
 ghost use Rattle.machine.specs.Machine.{State, IsRefusal, next, opened, after, sent_by};
@@ -87,6 +89,19 @@ pub fn restrained_tables_are_safe()
         IsWithinLimits shape → length opening ≡ shape.blocks → ¬ Met baseline (after tables (opened shape opening) steps).state step }
 {}
 
+/// Nor does a run under restrained tables get stuck where they keep going: each of their stalls is
+/// an own one, or stands where no run comes, or is one of those that let messages flow. Then every
+/// message on its way is delivered, or another of its block can be; and where asks are served too,
+/// nothing is ever stuck.
+pub fn restrained_tables_are_unstuck()
+    ensures own { KeepsGoing baseline }
+    ensures own_asks { ServesAsks baseline }
+    ensures flowing { (tables : Tables) (shape : Extent) (opening : List ℕ) (steps : List Step) → AreRestrained tables → KeepsGoing tables →
+        IsWithinLimits shape → length opening ≡ shape.blocks → Flowing tables (after tables (opened shape opening) steps).state }
+    ensures unstuck { (tables : Tables) (shape : Extent) (opening : List ℕ) (steps : List Step) → AreRestrained tables → KeepsGoing tables → ServesAsks tables →
+        IsWithinLimits shape → length opening ≡ shape.blocks → Unstuck tables (after tables (opened shape opening) steps).state }
+{}
+
 /// A run under restrained tables can get stuck all the same.
 pub fn restraint_can_get_stuck()
     ensures restrained { DeafSharerIsRestrained }
@@ -94,3 +109,11 @@ pub fn restraint_can_get_stuck()
 {
     wrong_tables_are_refused();
 }
+
+/// Two stalls each of which lets messages flow can get stuck together.
+pub fn harmless_stalls_can_cross()
+    ensures patient_data { PatientDataKeepsGoing }
+    ensures patient_acks { PatientAcksKeepGoing }
+    ensures restrained { CrossedWaitsAreRestrained }
+    ensures stuck { CrossedWaitsAreStuck }
+{}
