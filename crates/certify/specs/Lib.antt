@@ -1,2 +1,4 @@
 pub mod Cells
 pub mod Standings
+pub mod Certificates
+pub mod inner

@@ -1,5 +1,5 @@
 -- How the cells of changed tables stand to the protocol's own.
-use Rattle.std.specs.Prelude.{◌≡◌, ◌≢◌, ◌<◌, ℕ, List, Some, Contains, slice_get}
+use Rattle.std.specs.Prelude.{◌≡◌, ◌≢◌, List, Contains}
 use Rattle.base.specs.declared.controller.entry.Entry.{Entry}
 use Rattle.base.specs.declared.controller.entry.Entry.TheVariants as table_entry
 use Rattle.base.specs.declared.controller.entry.Change.{Change}
@@ -7,7 +7,6 @@ use Rattle.cache_table.specs.Table as cache_table
 use Rattle.directory_table.specs.Table as directory_table
 use Rattle.both_tables.specs.Tables.{Tables, baseline}
 use Rattle.machine.specs.Restraint.{Admits, proved_lines, proved_homes, line_cell, home_cell}
-use Rattle.certify.specs.Cells.{all_cells}
 use Rattle.certify.specs.declared.cells.Cell.{Cell}
 use Rattle.certify.specs.declared.cells.Cell.TheVariants.{Cache, Directory}
 use Rattle.certify.specs.declared.standings.Standing.{Standing}
@@ -31,10 +30,3 @@ HasStanding tables (Directory state event) s =
 abbrev pub IsAdmitted : Tables → Cell → Type 0
 IsAdmitted tables (Cache state event) = Admits proved_lines (cache_table.cell baseline.cache state event) (line_cell tables state event)
 IsAdmitted tables (Directory state event) = Admits proved_homes (directory_table.cell baseline.directory state event) (home_cell tables state event)
-
--- the first cell, in the order of all, that holds what it may not hold
-pub record IsFirstOpen (tables : Tables) (cell : Cell) : Type 0 where
-  pub number : ℕ
-  pub there : slice_get all_cells number ≡ Some cell
-  pub barred : ¬ IsAdmitted tables cell
-  pub before : (k : ℕ) (other : Cell) → k < number → slice_get all_cells k ≡ Some other → IsAdmitted tables other

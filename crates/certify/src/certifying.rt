@@ -1,50 +1,118 @@
 //! The certificate of changed tables.
 
-ghost use Rattle.std.specs.Prelude.{◌≡◌, ◌↔◌, ℕ, List, length, IfNone, IfSome, IsNone, MatchBool};
+ghost use Rattle.std.specs.Prelude.{◌≡◌, ◌↔◌, ℕ, List, length, IfNone, IfSome, MatchBool};
 ghost use Rattle.base.specs.Extent.{Extent, IsWithinLimits};
 ghost use Rattle.base.specs.declared.step.Step.{Step};
-ghost use Rattle.certify.specs.Standings.{IsAdmitted, IsFirstOpen};
 ghost use Rattle.both_tables.specs.Tables.{baseline};
 ghost use Rattle.machine.specs.Coherence.{Met, Safe};
+ghost use Rattle.machine.specs.Going.{KeepsGoing};
 ghost use Rattle.machine.specs.Machine.{after, opened};
 ghost use Rattle.machine.specs.Restraint.{AreRestrained};
+ghost use Rattle.machine.specs.Unstuck.{Flowing, Unstuck};
+ghost use Rattle.certify.specs.declared.cells.Cell.{Cell};
+ghost use Rattle.certify.specs.Certificates.{IsCertificate, SaysSafe, SaysFlowing, IsFirstAgainst};
+ghost use Rattle.certify.specs.inner.Demands.{Meets};
 
 use crate::cells::{CELLS, Cell, cell_at};
+use crate::going::{holds_ask, is_jam};
 use crate::standings::{Standing, standing_of};
 use both_tables::Tables;
-use machine::restrained_tables_are_safe;
+use machine::{restrained_tables_are_safe, restrained_tables_are_unstuck};
 
-/// The first cell that isn't admitted, in the order of [`Cell::at`]. `None` comes exactly where all are: then each run
-/// under these tables is safe, for any number of caches and blocks, though it can get stuck, and no step of it comes to a
-/// cell where the protocol's own entry is blank. Tables with a cell that isn't admitted may be safe too.
-pub fn certify(tables: &Tables) -> Option<Cell>
-    ensures restrained { IsNone result ↔ AreRestrained tables.now }
-    ensures first { IfSome result (λ cell. IsFirstOpen tables.now cell) }
-    ensures safe { IfNone result ((shape : Extent) (opening : List ℕ) (steps : List Step) → IsWithinLimits shape →
-        length opening ≡ shape.blocks → Safe shape tables.now opening steps) }
-    ensures never_met { IfNone result ((shape : Extent) (opening : List ℕ) (steps : List Step) (step : Step) →
-        IsWithinLimits shape → length opening ≡ shape.blocks →
-        ¬ Met baseline (after tables.now (opened shape opening) steps).state step) }
-{
-    restrained_tables_are_safe();
-    first_open(tables)
+/// What is proved of changed tables, for any number of caches and blocks and any list of steps. A cell that it names is the
+/// first one of its kind, in the order of [`Cell::at`].
+#[derive(Clone, Copy, Debug, PartialEq, Eq)]
+pub enum Certificate {
+    /// Nothing is: this cell isn't admitted. The tables may be safe all the same.
+    NotProved(Cell),
+    /// They are safe, and no run under them ever gets stuck.
+    NeverStuck,
+    /// They are safe, and no message is ever stuck; but this cell holds an ask at a line that waits for nothing, for ever
+    /// where no message comes.
+    AsksMayBeHeld(Cell),
+    /// They are safe; but this cell holds a stall of which it isn't proved that messages flow in spite of it.
+    MessagesMayGetStuck(Cell),
 }
 
-fn first_open(tables: &Tables) -> Option<Cell>
-    ensures none { IfNone result (AreRestrained tables.now) }
-    ensures some { IfSome result (λ cell. IsFirstOpen tables.now cell) }
+/// What is proved of these tables: each answer comes exactly where it is true and those that promise more aren't. Where it
+/// isn't `NotProved`, each run under them is safe, and no step of one comes to a cell where the protocol's own entry is blank.
+pub fn certify(tables: &Tables) -> Certificate
+    ensures answer { IsCertificate tables.now result }
+    ensures restrained { SaysSafe result ↔ AreRestrained tables.now }
+    ensures safe { SaysSafe result → (shape : Extent) (opening : List ℕ) (steps : List Step) →
+        IsWithinLimits shape → length opening ≡ shape.blocks → Safe shape tables.now opening steps }
+    ensures never_met { SaysSafe result → (shape : Extent) (opening : List ℕ) (steps : List Step) (step : Step) →
+        IsWithinLimits shape → length opening ≡ shape.blocks → ¬ Met baseline (after tables.now (opened shape opening) steps).state step }
+    ensures flowing { SaysFlowing result → (shape : Extent) (opening : List ℕ) (steps : List Step) →
+        IsWithinLimits shape → length opening ≡ shape.blocks → Flowing tables.now (after tables.now (opened shape opening) steps).state }
+    ensures unstuck { result ≡ Certificate.NeverStuck → (shape : Extent) (opening : List ℕ) (steps : List Step) →
+        IsWithinLimits shape → length opening ≡ shape.blocks → Unstuck tables.now (after tables.now (opened shape opening) steps).state }
+{
+    restrained_tables_are_safe();
+    restrained_tables_are_unstuck();
+    answer_to(tables)
+}
+
+fn answer_to(tables: &Tables) -> Certificate
+    ensures { IsCertificate tables.now result }
+{
+    match first_against(tables, Demand::Admission) {
+        Some(cell) => Certificate::NotProved(cell),
+        None => answer_to_restrained(tables),
+    }
+}
+
+fn answer_to_restrained(tables: &Tables) -> Certificate
+    requires { AreRestrained tables.now }
+    ensures { IsCertificate tables.now result }
+{
+    match first_against(tables, Demand::Flow) {
+        Some(cell) => Certificate::MessagesMayGetStuck(cell),
+        None => answer_to_flowing(tables),
+    }
+}
+
+fn answer_to_flowing(tables: &Tables) -> Certificate
+    requires restrained { AreRestrained tables.now }
+    requires going { KeepsGoing tables.now }
+    ensures { IsCertificate tables.now result }
+{
+    match first_against(tables, Demand::Service) {
+        Some(cell) => Certificate::AsksMayBeHeld(cell),
+        None => Certificate::NeverStuck,
+    }
+}
+
+/// What is asked of each cell.
+#[derive(Clone, Copy)]
+enum Demand {
+    /// That it is admitted.
+    Admission,
+    /// That messages flow in spite of its stall, if it holds one.
+    Flow,
+    /// That it holds no ask of a line that waits for nothing.
+    Service,
+}
+
+fn first_against(tables: &Tables, demand: Demand) -> Option<Cell>
+    ensures none { IfNone result ((cell : Cell) → Meets tables.now demand cell) }
+    ensures some { IfSome result (λ cell. IsFirstAgainst (Meets tables.now demand) cell) }
 {
     for number in 0..CELLS {
         let cell = cell_at(number);
-        if is_open(tables, cell) {
+        if is_against(tables, demand, cell) {
             return Some(cell);
         }
     }
     None
 }
 
-fn is_open(tables: &Tables, cell: Cell) -> bool
-    ensures { MatchBool result (¬ IsAdmitted tables.now cell) (IsAdmitted tables.now cell) }
+fn is_against(tables: &Tables, demand: Demand, cell: Cell) -> bool
+    ensures { MatchBool result (¬ Meets tables.now demand cell) (Meets tables.now demand cell) }
 {
-    matches!(standing_of(tables, cell), Standing::Open)
+    match demand {
+        Demand::Admission => matches!(standing_of(tables, cell), Standing::Open),
+        Demand::Flow => is_jam(tables, cell),
+        Demand::Service => holds_ask(tables, cell),
+    }
 }

@@ -1,12 +1,13 @@
-//! Says of changed tables that they are safe for any number of caches and blocks, or names the first cell of which that
-//! isn't proved.
+//! Says of changed tables whether they are safe and whether runs under them can get stuck, for any number of caches and
+//! blocks, or names the first cell of which that isn't proved.
 #![tactic(auto)]
 
 mod cells;
 mod certifying;
+mod going;
 mod proved;
 mod standings;
 
 pub use cells::{CELLS, Cell};
-pub use certifying::certify;
+pub use certifying::{Certificate, certify};
 pub use standings::{Standing, standing_of};

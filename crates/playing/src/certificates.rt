@@ -1,44 +1,73 @@
 use crate::fault::Fault;
 use crate::finding::Finding;
+use crate::jamming::jam_from;
 use crate::printing::Printer;
+use crate::schedules::CACHES;
 use base::controller::Side;
 use both_tables::Tables;
 use cache_table::CacheChange;
-use certify::{CELLS, Cell, Standing, certify, standing_of};
+use certify::{CELLS, Cell, Certificate, Standing, certify, standing_of};
 use directory_table::DirectoryChange;
 use std::alloc::Global;
 use std::io::Write;
 
-/// Prints that tables are proved safe, and why each cell that isn't the protocol's own may be as it is; or the first cell
-/// for which nothing is proved.
+/// Prints what is proved of tables, with the cells that it is about, and why each cell that isn't the protocol's own may be as
+/// it is; and a schedule that gets stuck, where one of those that are known does.
 pub fn print_certificate<O: Write + Drop>(
     alloc: Global,
     tables: &Tables,
     output: O,
 ) -> Result<Finding, Fault> {
     let mut printer = Printer::new(alloc, output)?;
-    let finding = print_answer(tables, &mut printer);
-    printer.finish(Ok(finding))
+    let finding = print_answer(alloc, tables, &mut printer);
+    printer.finish(finding)
 }
 
-fn print_answer<O: Write + Drop>(tables: &Tables, printer: &mut Printer<O>) -> Finding {
+fn print_answer<O: Write + Drop>(
+    alloc: Global,
+    tables: &Tables,
+    printer: &mut Printer<O>,
+) -> Result<Finding, Fault> {
     match certify(tables) {
-        None => {
-            print_safe(tables, printer);
-            Finding::Nothing
-        }
-        Some(cell) => {
+        Certificate::NotProved(cell) => {
             print_unknown(tables, cell, printer);
-            Finding::Unknown
+            return Ok(Finding::Unknown);
+        }
+        Certificate::NeverStuck => {
+            printer.line("safe\nnever stuck");
+            print_reasons(tables, printer);
+        }
+        Certificate::AsksMayBeHeld(cell) => {
+            printer.line("safe");
+            print_cell(tables, cell, "asks may be held", printer);
+            print_reasons(tables, printer);
+        }
+        Certificate::MessagesMayGetStuck(cell) => {
+            let jam = jam_from(alloc, tables, cell)?;
+            print_jam(tables, cell, jam, printer);
         }
     }
+    Ok(Finding::Nothing)
 }
 
-fn print_safe<O: Write + Drop>(tables: &Tables, printer: &mut Printer<O>) {
+/// Prints of tables that are proved safe that messages may get stuck; or that they do, if steps are known that show it.
+fn print_jam<O: Write + Drop>(
+    tables: &Tables,
+    cell: Cell,
+    steps: Option<&str>,
+    printer: &mut Printer<O>,
+) {
     printer.line("safe");
-    for number in 0..CELLS {
-        if let Some(cell) = Cell::at(number) {
-            print_reason(tables, cell, printer);
+    match steps {
+        None => {
+            print_cell(tables, cell, "messages may get stuck", printer);
+            print_reasons(tables, printer);
+        }
+        Some(steps) => {
+            print_cell(tables, cell, "messages get stuck", printer);
+            print_reasons(tables, printer);
+            printer.line(format_args!("stuck with {CACHES} caches after:"));
+            printer.bytes(steps.as_bytes());
         }
     }
 }
@@ -47,6 +76,14 @@ fn print_unknown<O: Write + Drop>(tables: &Tables, cell: Cell, printer: &mut Pri
     printer.line("unknown");
     print_reason(tables, cell, printer);
     printer.line("That doesn't say unsafe: make trials, with msi batch.");
+}
+
+fn print_reasons<O: Write + Drop>(tables: &Tables, printer: &mut Printer<O>) {
+    for number in 0..CELLS {
+        if let Some(cell) = Cell::at(number) {
+            print_reason(tables, cell, printer);
+        }
+    }
 }
 
 /// Prints a cell and how it stands, unless it is the protocol's own.

@@ -5,11 +5,13 @@
 mod certificates;
 mod fault;
 mod finding;
+mod jamming;
 mod lines;
 mod picturing;
 mod playing;
 mod printing;
 mod replaying;
+mod schedules;
 mod tables;
 
 pub use certificates::print_certificate;

@@ -7,19 +7,36 @@ use std::sync::Wait;
 use std::thread::Threads;
 
 /// Tables that are proved safe, and what is printed of them.
-const SAFE: [(&str, &str); 4] = [
-    ("{}", "safe\n"),
+const SAFE: [(&str, &str); 7] = [
+    ("{}", "safe\nnever stuck\n"),
     (
         r#"{"cache":[{"state":"SI^A","event":"Inv","entry":"stall"}]}"#,
-        "safe\nstall: cell cache SI^A Inv stall\n",
+        "safe\nmessages get stuck: cell cache SI^A Inv stall\nstall: cell cache SI^A Inv stall\nstuck with 3 caches after:\n\
+         ask 0 0 load\nrequest 0 0\nresponse 0 0\nask 0 0 replace\nask 1 0 store 5\nrequest 0 1\nrequest 0 0\nresponse 0 0\n",
+    ),
+    (
+        r#"{"cache":[{"state":"M","event":"Replacement","entry":"stall"}],"directory":[{"state":"S^D","event":"PutS-Last","entry":"stall"}]}"#,
+        "safe\nasks may be held: cell cache M Replacement stall\nstall: cell cache M Replacement stall\n\
+         stall: cell directory S^D PutS-Last stall\n",
+    ),
+    (
+        r#"{"cache":[{"state":"I","event":"Load","entry":"stall"},{"state":"IS^D","event":"Data-Dir-Zero","entry":"stall"}]}"#,
+        "safe\nmessages may get stuck: cell cache IS^D Data-Dir-Zero stall\nstall: cell cache I Load stall\n\
+         stall: cell cache IS^D Data-Dir-Zero stall\n",
+    ),
+    (
+        r#"{"cache":[{"state":"IM^AD","event":"Inv-Ack","entry":"stall"},{"state":"IM^AD","event":"Data-Dir-More","entry":"stall"}]}"#,
+        "safe\nmessages get stuck: cell cache IM^AD Inv-Ack stall\nstall: cell cache IM^AD Data-Dir-More stall\n\
+         stall: cell cache IM^AD Inv-Ack stall\nstuck with 3 caches after:\n\
+         ask 0 0 load\nrequest 0 0\nresponse 0 0\nask 1 0 store 5\nrequest 0 0\nforward 0 0\n",
     ),
     (
         r#"{"cache":[{"state":"I","event":"Inv","entry":{"next":"I","do":["inv-ack"]}},{"state":"I","event":"Put-Ack","entry":"stall"}]}"#,
-        "safe\nnever met: cell cache I Inv act I inv-ack\nstall: cell cache I Put-Ack stall\n",
+        "safe\nnever stuck\nnever met: cell cache I Inv act I inv-ack\nstall: cell cache I Put-Ack stall\n",
     ),
     (
         r#"{"directory":[{"state":"S","event":"PutS-Last","entry":{"next":"S","do":["remove-req","put-ack"]}}],"cache":[{"state":"S","event":"Replacement","entry":{"next":"SI^A","do":["putm"]}},{"state":"IS^D","event":"Load","entry":{"next":"IS^D","do":[]}}]}"#,
-        "safe\nproved: cell cache IS^D Load act IS^D\nproved: cell cache S Replacement act SI^A putm\nproved: cell directory S PutS-Last act S remove-req put-ack\n",
+        "safe\nnever stuck\nproved: cell cache IS^D Load act IS^D\nproved: cell cache S Replacement act SI^A putm\nproved: cell directory S PutS-Last act S remove-req put-ack\n",
     ),
 ];
 

@@ -10,6 +10,8 @@ mod certificates;
 #[cfg(test)]
 mod charted;
 #[cfg(test)]
+mod jams;
+#[cfg(test)]
 mod lines;
 #[cfg(test)]
 mod pictures;

@@ -1,0 +1,15 @@
+use Rattle.both_tables.specs.Tables.{Tables}
+use Rattle.machine.specs.Going.{ServesAsks}
+use Rattle.certify.specs.Certificates.{ServesAt}
+use Rattle.certify.specs.declared.cells.Cell.{Cell}
+use Rattle.certify.specs.declared.cells.Cell.TheVariants.{Cache}
+use Rattle.certify.proofs.certifying.answer_to_flowing.Goals as goal
+
+serving : (tables : Tables) → ((cell : Cell) → ServesAt tables cell) → ServesAsks tables
+serving tables h = record { served = λ s e settled x. h (Cache s e) settled x }
+
+pub returns-in-Some : goal.returns-in-Some
+returns-in-Some c = (c.requires.restrained, c.requires.going, c.in-Some.ensures.some)
+
+pub returns-in-None : goal.returns-in-None
+returns-in-None c = (c.requires.restrained, c.requires.going, serving c.args.tables.now c.in-None.ensures.none)

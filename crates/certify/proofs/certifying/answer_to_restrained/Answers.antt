@@ -1,0 +1,15 @@
+use Rattle.both_tables.specs.Tables.{Tables}
+use Rattle.machine.specs.Going.{KeepsGoing}
+use Rattle.certify.specs.Certificates.{LetsFlow}
+use Rattle.certify.specs.declared.cells.Cell.{Cell}
+use Rattle.certify.specs.declared.cells.Cell.TheVariants.{Cache, Directory}
+use Rattle.certify.proofs.certifying.answer_to_restrained.Goals as goal
+
+going : (tables : Tables) → ((cell : Cell) → LetsFlow tables cell) → KeepsGoing tables
+going tables h = record { cache = λ s e x. h (Cache s e) x; directory = λ s e x. h (Directory s e) x }
+
+pub answer_to_flowing-requires-clause-going : goal.answer_to_flowing-requires-clause-going
+answer_to_flowing-requires-clause-going c = going c.args.tables.now c.in-None.ensures.none
+
+pub returns-in-Some : goal.returns-in-Some
+returns-in-Some c = (c.requires, c.in-Some.ensures.some)

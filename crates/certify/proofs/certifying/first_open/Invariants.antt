@@ -1,8 +1,0 @@
-use Rattle.std.proofs.Common.{◌≡◌, ℕ, ◌<◌, Some, slice_get}
-use Rattle.certify.specs.Cells.{all_cells}
-use Rattle.certify.specs.Standings.{IsAdmitted}
-use Rattle.certify.specs.declared.cells.Cell.{Cell}
-use Rattle.certify.proofs.certifying.first_open.Given as goal
-
-abbrev pub invariant-loop-number : goal.invariant-loop-number
-invariant-loop-number l = (k : ℕ) → k < l.number → (other : Cell) → slice_get all_cells k ≡ Some other → IsAdmitted l.tables other

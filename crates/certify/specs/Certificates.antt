@@ -1,0 +1,54 @@
+-- What is answered of changed tables.
+use Rattle.std.specs.Prelude.{◌≡◌, ◌⊎◌, ◌<◌, ℕ, Some, slice_get}
+use Rattle.base.specs.declared.controller.entry.Entry.TheVariants.{Blank, Stall}
+use Rattle.cache_table.specs.Table as cache_table
+use Rattle.directory_table.specs.Table as directory_table
+use Rattle.both_tables.specs.Tables.{Tables, baseline}
+use Rattle.machine.specs.Going.{KeepsGoing, ServesAsks, MayWait, MayWaitAtHome, IsSettled}
+use Rattle.machine.specs.Restraint.{AreRestrained}
+use Rattle.certify.specs.Cells.{all_cells}
+use Rattle.certify.specs.Standings.{IsAdmitted}
+use Rattle.certify.specs.declared.cells.Cell.{Cell}
+use Rattle.certify.specs.declared.cells.Cell.TheVariants.{Cache, Directory}
+use Rattle.certify.specs.declared.certifying.Certificate.{Certificate}
+use Rattle.certify.specs.declared.certifying.Certificate.TheVariants.{NotProved, NeverStuck, AsksMayBeHeld, MessagesMayGetStuck}
+
+-- a stall in this cell lets messages flow
+abbrev pub LetsFlow : Tables → Cell → Type 0
+LetsFlow tables (Cache state event) = cache_table.cell tables.cache state event ≡ Stall →
+    (cache_table.cell baseline.cache state event ≡ Stall) ⊎ (cache_table.cell baseline.cache state event ≡ Blank) ⊎ MayWait tables state event
+LetsFlow tables (Directory state event) = directory_table.cell tables.directory state event ≡ Stall →
+    (directory_table.cell baseline.directory state event ≡ Stall) ⊎ (directory_table.cell baseline.directory state event ≡ Blank) ⊎ MayWaitAtHome state event
+
+-- at a line that waits for nothing this cell holds none that comes
+abbrev pub ServesAt : Tables → Cell → Type 0
+ServesAt tables (Cache state event) = IsSettled state → cache_table.cell tables.cache state event ≡ Stall → cache_table.cell baseline.cache state event ≡ Blank
+ServesAt tables (Directory state event) = Unit {0}
+
+-- the first cell, in the order of all, that isn't so
+pub record IsFirstAgainst (holds : Cell → Type 0) (cell : Cell) : Type 0 where
+  pub number : ℕ
+  pub there : slice_get all_cells number ≡ Some cell
+  pub barred : ¬ holds cell
+  pub before : (k : ℕ) (other : Cell) → k < number → slice_get all_cells k ≡ Some other → holds other
+
+-- when each answer is given
+abbrev pub IsCertificate : Tables → Certificate → Type 0
+IsCertificate tables (NotProved cell) = IsFirstAgainst (IsAdmitted tables) cell
+IsCertificate tables NeverStuck = AreRestrained tables × KeepsGoing tables × ServesAsks tables
+IsCertificate tables (AsksMayBeHeld cell) = AreRestrained tables × KeepsGoing tables × IsFirstAgainst (ServesAt tables) cell
+IsCertificate tables (MessagesMayGetStuck cell) = AreRestrained tables × IsFirstAgainst (LetsFlow tables) cell
+
+-- an answer that says that all runs are safe
+abbrev pub SaysSafe : Certificate → Type 0
+SaysSafe (NotProved cell) = ⊥
+SaysSafe NeverStuck = Unit {0}
+SaysSafe (AsksMayBeHeld cell) = Unit {0}
+SaysSafe (MessagesMayGetStuck cell) = Unit {0}
+
+-- an answer that says that no message is ever stuck either
+abbrev pub SaysFlowing : Certificate → Type 0
+SaysFlowing (NotProved cell) = ⊥
+SaysFlowing NeverStuck = Unit {0}
+SaysFlowing (AsksMayBeHeld cell) = Unit {0}
+SaysFlowing (MessagesMayGetStuck cell) = ⊥

@@ -1,0 +1,44 @@
+use both_tables::Tables;
+use cache_table::CacheEntry;
+use certify::{CELLS, Cell, Certificate, certify};
+use directory_table::DirectoryEntry;
+use playing::print_certificate;
+use std::alloc::Global;
+use std::process::Abort;
+
+/// The protocol's own tables with a stall in one cell.
+fn stalled(cell: Cell) -> Tables {
+    let own = Tables::baseline();
+    match cell {
+        Cell::Cache(state, event) => Tables {
+            cache: own.cache.with(state, event, CacheEntry::Stall),
+            directory: own.directory,
+        },
+        Cell::Directory(state, event) => Tables {
+            cache: own.cache,
+            directory: own.directory.with(state, event, DirectoryEntry::Stall),
+        },
+    }
+}
+
+/// Whether it is shown by steps that messages get stuck under these tables.
+fn is_shown(rt: &impl Abort, alloc: Global, tables: &Tables) -> bool {
+    let mut output = Vec::new(alloc);
+    print_certificate(alloc, tables, &mut output).expect(rt, "printed");
+    let text = str::from_utf8(output.as_slice()).expect(rt, "a text");
+    text.starts_with("safe\nmessages get stuck: cell ")
+}
+
+#[test]
+fn each_stall_that_jams_is_shown(rt: HostRuntime) {
+    let mut count = 0u32;
+    for number in 0..CELLS {
+        if let Some(cell) = Cell::at(number) {
+            let tables = stalled(cell);
+            let jams = matches!(certify(&tables), Certificate::MessagesMayGetStuck(_));
+            assert_eq!(rt; is_shown(&rt, rt.alloc(), &tables), jams, "at {cell:?}");
+            count = count.saturating_add(u32::from(jams));
+        }
+    }
+    assert_eq!(rt; count, 34);
+}
