@@ -4,7 +4,7 @@ use Rattle.base.specs.declared.controller.entry.Entry.TheVariants.{Blank, Stall}
 use Rattle.cache_table.specs.Table as cache_table
 use Rattle.directory_table.specs.Table as directory_table
 use Rattle.both_tables.specs.Tables.{Tables, baseline}
-use Rattle.machine.specs.Going.{KeepsGoing, ServesAsks, MayWait, MayWaitAtHome, IsSettled}
+use Rattle.machine.specs.Going.{AreNeverStuck, KeepsGoing, MayWait, MayWaitAtHome, IsSettled}
 use Rattle.machine.specs.Restraint.{AreRestrained}
 use Rattle.certify.specs.Cells.{all_cells}
 use Rattle.certify.specs.Standings.{IsAdmitted}
@@ -35,7 +35,7 @@ pub record IsFirstAgainst (holds : Cell → Type 0) (cell : Cell) : Type 0 where
 -- when each answer is given
 abbrev pub IsCertificate : Tables → Certificate → Type 0
 IsCertificate tables (NotProved cell) = IsFirstAgainst (IsAdmitted tables) cell
-IsCertificate tables NeverStuck = AreRestrained tables × KeepsGoing tables × ServesAsks tables
+IsCertificate tables NeverStuck = AreNeverStuck tables
 IsCertificate tables (AsksMayBeHeld cell) = AreRestrained tables × KeepsGoing tables × IsFirstAgainst (ServesAt tables) cell
 IsCertificate tables (MessagesMayGetStuck cell) = AreRestrained tables × IsFirstAgainst (LetsFlow tables) cell
 

@@ -10,7 +10,7 @@ use Rattle.base.specs.declared.step.Outcome.{Outcome}
 use Rattle.base.specs.declared.step.Outcome.TheVariants as outcome
 use Rattle.machine.specs.Block.{BlockState, opened_block}
 use Rattle.machine.specs.Restraint.{AreRestrained}
-use Rattle.machine.specs.Going.{KeepsGoing, ServesAsks, IsSettled}
+use Rattle.machine.specs.Going.{AreNeverStuck, KeepsGoing, ServesAsks, IsSettled}
 use Rattle.cache_table.specs.declared.state.CacheState.{CacheState}
 use Rattle.cache_table.specs.declared.state.CacheState.TheVariants.{I, S, M}
 use Rattle.cache_table.specs.declared.event.CacheEvent.{CacheEvent}
@@ -181,13 +181,13 @@ pub restrained-flowing : (tables : Tables) (shape : Extent) (opening : List ℕ)
 restrained-flowing tables shape opening steps r going within = reached tables shape opening steps (Flowing tables) r within (flowing-at shape.caches tables going)
 
 -- and nothing is stuck where they serve asks too
-pub restrained-unstuck : (tables : Tables) (shape : Extent) (opening : List ℕ) (steps : List Step) → AreRestrained tables → KeepsGoing tables → ServesAsks tables →
-    IsWithinLimits shape → Unstuck tables (state_after tables (opened shape opening) steps)
-restrained-unstuck tables shape opening steps r going asks within =
-    reached tables shape opening steps (Unstuck tables) r within (unstuck-at shape.caches tables going asks)
+pub never_stuck : (tables : Tables) (shape : Extent) (opening : List ℕ) (steps : List Step) → AreNeverStuck tables → IsWithinLimits shape →
+    Unstuck tables (state_after tables (opened shape opening) steps)
+never_stuck tables shape opening steps never within =
+    reached tables shape opening steps (Unstuck tables) never.restrained within (unstuck-at shape.caches tables never.going never.serving)
 
 -- the own tables keep going
-pub own-going : KeepsGoing baseline
+own-going : KeepsGoing baseline
 own-going = record { cache = λ s e x. inl x; directory = λ s e x. inl x }
 
 -- and serve asks
@@ -198,10 +198,13 @@ settled-serves e S h = tt
 settled-serves e M h = tt
 settled-serves e s h = absurd h
 
-pub own-serves-asks : ServesAsks baseline
+own-serves-asks : ServesAsks baseline
 own-serves-asks = record { served = λ s e h x. absurd (subst (λ (y : CacheEntry). Serves y) (sym (cell-baseline s e) ∙ x) (settled-serves e s h)) }
+
+pub own-never_stuck : AreNeverStuck baseline
+own-never_stuck = record { restrained = own-restrained; going = own-going; serving = own-serves-asks }
 
 -- so under them no reached state is stuck
 pub unstuck : (shape : Extent) (opening : List ℕ) (steps : List Step) → IsWithinLimits shape →
     Unstuck baseline (state_after baseline (opened shape opening) steps)
-unstuck shape opening steps within = restrained-unstuck baseline shape opening steps own-restrained own-going own-serves-asks within
+unstuck shape opening steps within = never_stuck baseline shape opening steps own-never_stuck within

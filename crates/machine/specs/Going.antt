@@ -12,6 +12,7 @@ use Rattle.directory_table.specs.declared.event.DirectoryEvent.{DirectoryEvent}
 use Rattle.directory_table.specs.declared.event.DirectoryEvent.TheVariants.{PutSNotLast, PutSLast, PutMNonOwner}
 use Rattle.directory_table.specs.Table as directory_table
 use Rattle.both_tables.specs.Tables.{Tables, baseline}
+use Rattle.machine.specs.Restraint.{AreRestrained}
 
 -- a store waits for its Data
 abbrev pub AwaitsData : CacheState → Type 0
@@ -74,3 +75,9 @@ IsSettled other = ⊥
 pub record ServesAsks (tables : Tables) : Type 0 where
   pub served : (state : CacheState) (event : CacheEvent) → IsSettled state → cache_table.cell tables.cache state event ≡ Stall →
       cache_table.cell baseline.cache state event ≡ Blank
+
+-- tables under which nothing is ever stuck: restrained ones that keep going and serve asks
+pub record AreNeverStuck (tables : Tables) : Type 0 where
+  pub restrained : AreRestrained tables
+  pub going : KeepsGoing tables
+  pub serving : ServesAsks tables

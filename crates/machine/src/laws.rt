@@ -7,7 +7,7 @@ ghost use Rattle.machine.specs.declared.decision.Decision.{Decision};
 ghost use Rattle.both_tables.specs.Tables.{Tables, baseline};
 ghost use Rattle.machine.specs.Coherence.{Met, Safe};
 ghost use Rattle.machine.specs.Restraint.{AreRestrained};
-ghost use Rattle.machine.specs.Going.{KeepsGoing, ServesAsks};
+ghost use Rattle.machine.specs.Going.{AreNeverStuck, KeepsGoing};
 ghost use Rattle.machine.specs.Unstuck.{Unstuck, Flowing};
 ghost use Rattle.machine.specs.CoherenceRows.{StoreThenLoad, StaleLoadIsRefused, EarlyLoadIsRefused, OneWriterOrManyReaders};
 ghost use Rattle.machine.specs.WrongTables.{HastyReaderIsUnsafe, HastyLoadIsUnsafe, BlankCacheIsUnsafe, HastyWriterIsUnsafe, SecondWriterIsUnsafe};
@@ -94,11 +94,10 @@ pub fn restrained_tables_are_safe()
 /// message on its way is delivered, or another of its block can be; and where asks are served too,
 /// nothing is ever stuck.
 pub fn restrained_tables_are_unstuck()
-    ensures own { KeepsGoing baseline }
-    ensures own_asks { ServesAsks baseline }
+    ensures own { AreNeverStuck baseline }
     ensures flowing { (tables : Tables) (shape : Extent) (opening : List ℕ) (steps : List Step) → AreRestrained tables → KeepsGoing tables →
         IsWithinLimits shape → length opening ≡ shape.blocks → Flowing tables (after tables (opened shape opening) steps).state }
-    ensures unstuck { (tables : Tables) (shape : Extent) (opening : List ℕ) (steps : List Step) → AreRestrained tables → KeepsGoing tables → ServesAsks tables →
+    ensures unstuck { (tables : Tables) (shape : Extent) (opening : List ℕ) (steps : List Step) → AreNeverStuck tables →
         IsWithinLimits shape → length opening ≡ shape.blocks → Unstuck tables (after tables (opened shape opening) steps).state }
 {}
 

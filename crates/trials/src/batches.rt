@@ -1,11 +1,11 @@
 ghost use Rattle.std.specs.Prelude.{◌≡◌, ◌<◌, ◌≤◌, ◌↔◌, [], IfOk, IsErrOf, OnOk, vec_capacity};
-ghost use Rattle.both_tables.specs.Tables.{baseline};
+ghost use Rattle.machine.specs.Going.{AreNeverStuck};
 ghost use Rattle.machine.specs.Restraint.{AreRestrained};
 ghost use Rattle.scenario.specs.Tree.{plain};
 ghost use Rattle.trials.specs.Series.{planned};
 ghost use Rattle.trials.specs.Trial.{AreResults, AreSound, AreUnbroken};
 
-use crate::laws::{trials_under_restrained_tables, trials_under_the_own_tables};
+use crate::laws::{trials_under_restrained_tables, trials_under_tables_that_keep_going};
 use crate::series::Series;
 use crate::setup::Setup;
 use crate::verdict::TrialResult;
@@ -30,7 +30,8 @@ pub enum BatchFault {
 }
 
 /// The results of the trials of numbers 0 to `n` - 1, in order. It keeps no recording. Under restrained
-/// tables, of which the protocol's own are some, none of them broke; under the protocol's own none is stuck either.
+/// tables, of which the protocol's own are some, none of them broke; under those that keep going and
+/// serve asks, of which the protocol's own are some too, none is stuck either.
 ///
 /// It is refused `TooMany` exactly where `n` is over 1,000,000.
 pub fn batch<A: Allocator>(
@@ -40,12 +41,12 @@ pub fn batch<A: Allocator>(
     n: u32,
 ) -> Result<Vec<TrialResult>, BatchFault>
     ensures ok { IfOk result (λ results. AreResults setup.now (plain scenario.now) n results.items) }
-    ensures sound { setup.now.tables ≡ baseline → IfOk result (λ results. AreSound results.items) }
+    ensures sound { AreNeverStuck setup.now.tables → IfOk result (λ results. AreSound results.items) }
     ensures unbroken { AreRestrained setup.now.tables → IfOk result (λ results. AreUnbroken results.items) }
     ensures too_many { IsErrOf result BatchFault.TooMany ↔ (1000000 < n) }
 {
     trials_under_restrained_tables();
-    trials_under_the_own_tables();
+    trials_under_tables_that_keep_going();
     // Called for its contract: a setup is lawful.
     let _limit = setup.limit();
     if n > MOST_TRIALS {

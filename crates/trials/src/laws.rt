@@ -3,7 +3,7 @@
 ghost use Rattle.std.specs.Prelude.{◌≡◌, ◌↔◌, ℕ, List};
 ghost use Rattle.machine.specs.Coherence.{Safe};
 ghost use Rattle.machine.specs.Restraint.{AreRestrained};
-ghost use Rattle.both_tables.specs.Tables.{baseline};
+ghost use Rattle.machine.specs.Going.{AreNeverStuck};
 ghost use Rattle.record.specs.View.{RecordingView, IsLegal, steps_of};
 ghost use Rattle.record.specs.declared.recording.Entry.{Entry};
 ghost use Rattle.scenario.specs.Tree.{Tree};
@@ -48,16 +48,16 @@ pub fn trials_under_restrained_tables()
     trials_break_where_they_arent_safe();
 }
 
-/// Under the protocol's own tables no trial breaks or is stuck.
-pub fn trials_under_the_own_tables()
+/// Under restrained tables that keep going and serve asks, of which the protocol's own are some, no trial breaks or is stuck.
+pub fn trials_under_tables_that_keep_going()
     ensures sound { (terms : Terms) (tree : Tree) (number : ℕ) (recording : RecordingView) (verdict : Verdict) →
-        terms.tables ≡ baseline → AreLawful terms → IsTrial terms tree number recording verdict →
+        AreNeverStuck terms.tables → AreLawful terms → IsTrial terms tree number recording verdict →
         IsSound verdict }
     ensures sound_batch { (terms : Terms) (tree : Tree) (n : ℕ) (results : List TrialResult) →
-        terms.tables ≡ baseline → AreLawful terms → AreResults terms tree n results → AreSound results }
+        AreNeverStuck terms.tables → AreLawful terms → AreResults terms tree n results → AreSound results }
 {
-    machine::safe();
-    machine::unstuck();
+    machine::restrained_tables_are_safe();
+    machine::restrained_tables_are_unstuck();
     trials_break_where_they_arent_safe();
 }
 

@@ -1,7 +1,7 @@
 ghost use Rattle.std.specs.Prelude.{◌≡◌, ◌↔◌, IfOk, length};
 ghost use Rattle.machine.specs.Coherence.{Safe};
 ghost use Rattle.machine.specs.Restraint.{AreRestrained};
-ghost use Rattle.both_tables.specs.Tables.{baseline};
+ghost use Rattle.machine.specs.Going.{AreNeverStuck};
 ghost use Rattle.record.specs.View.{IsLegal, steps_of};
 ghost use Rattle.scenario.specs.Tree.{plain};
 ghost use Rattle.trials.specs.Answering.{AnswersInTurn, AreSequential};
@@ -10,7 +10,7 @@ ghost use Rattle.trials.specs.Trial.{HasBroken, IsSound, IsTrial, IsUnbroken};
 use crate::course::Course;
 use crate::laws::{
     cores_are_answered_in_turn, trials_break_where_they_arent_safe, trials_under_restrained_tables,
-    trials_under_the_own_tables,
+    trials_under_tables_that_keep_going,
 };
 use crate::setup::Setup;
 use crate::verdict::{Trial, TrialResult, Verdict};
@@ -27,7 +27,7 @@ use std::alloc::{Allocator, Global};
 /// its completions answer its loads and stores in its order. The trial breaks exactly where its steps aren't safe: where
 /// a block has a writer beside another reader or writer, a blank cell is met, or a load doesn't return the latest store.
 /// Under restrained tables, of which the protocol's own are some, it never breaks, and its completions are sequentially consistent; under
-/// the protocol's own it is never stuck either.
+/// those that keep going and serve asks, of which the protocol's own are some too, it is never stuck either.
 pub fn trial<A: Allocator>(
     alloc: Global,
     scenario: &Scenario<A>,
@@ -41,14 +41,14 @@ pub fn trial<A: Allocator>(
     ensures in_turn { IfOk result (λ made. AnswersInTurn made.recording.entries) }
     ensures broke { IfOk result (λ made. HasBroken made.result.verdict ↔
         (¬ Safe setup.now.shape setup.now.tables setup.now.opening (steps_of made.recording))) }
-    ensures sound { setup.now.tables ≡ baseline → IfOk result (λ made. IsSound made.result.verdict) }
+    ensures sound { AreNeverStuck setup.now.tables → IfOk result (λ made. IsSound made.result.verdict) }
     ensures unbroken { AreRestrained setup.now.tables → IfOk result (λ made. IsUnbroken made.result.verdict) }
     ensures sequential { AreRestrained setup.now.tables → IfOk result (λ made. AreSequential setup.now.opening made.recording.entries) }
 {
     cores_are_answered_in_turn();
     trials_break_where_they_arent_safe();
     trials_under_restrained_tables();
-    trials_under_the_own_tables();
+    trials_under_tables_that_keep_going();
     let arena = Bump::new(alloc);
     // Called for its contract: a setup is lawful.
     let _limit = setup.limit();

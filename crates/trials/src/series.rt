@@ -8,7 +8,7 @@ ghost use Rattle.trials.specs.inner.Notes.{counts};
 ghost use Rattle.trials.specs.Trial.{IsResult};
 
 use crate::course::Course;
-use crate::laws::trials_under_the_own_tables;
+use crate::laws::trials_under_tables_that_keep_going;
 use crate::notes::Tally;
 use crate::setup::Setup;
 use crate::verdict::TrialResult;
@@ -43,7 +43,7 @@ impl<'s, 'b, A: Allocator> Drop for Series<'s, 'b, A> {
 
 impl<'s, 'b, A: Allocator> Series<'s, 'b, A> {
     ghost use Rattle.std.specs.Prelude.{◌≡◌, IfOk};
-    ghost use Rattle.both_tables.specs.Tables.{baseline};
+    ghost use Rattle.machine.specs.Going.{AreNeverStuck};
     ghost use Rattle.scenario.specs.Tree.{plain};
     ghost use Rattle.trials.specs.Series.{planned};
     ghost use Rattle.trials.specs.Trial.{IsResult, IsSound};
@@ -69,10 +69,10 @@ impl<'s, 'b, A: Allocator> Series<'s, 'b, A> {
     /// The result of the trial of this number, which is that of [`trial`](crate::trial). Its steps are counted, and not kept.
     pub fn result(&mut self, number: u32) -> Result<TrialResult, NoMemory>
         ensures result { IfOk result (λ made. IsResult (planned self.old).terms (planned self.old).tree number made) }
-        ensures sound { (planned self.old).terms.tables ≡ baseline → IfOk result (λ made. IsSound made.verdict) }
+        ensures sound { AreNeverStuck (planned self.old).terms.tables → IfOk result (λ made. IsSound made.verdict) }
         ensures plan { planned self.new ≡ planned self.old }
     {
-        trials_under_the_own_tables();
+        trials_under_tables_that_keep_going();
         // Called for its contract: a setup is lawful.
         let _limit = self.setup.limit();
         if let Some(course) = &mut self.course {

@@ -1,11 +1,11 @@
 ghost use Rattle.std.specs.Prelude.{◌≡◌, ◌<◌, ◌↔◌, IfOk, IsErrOf};
-ghost use Rattle.both_tables.specs.Tables.{baseline};
+ghost use Rattle.machine.specs.Going.{AreNeverStuck};
 ghost use Rattle.machine.specs.Restraint.{AreRestrained};
 ghost use Rattle.scenario.specs.Tree.{plain};
 ghost use Rattle.trials.specs.Trial.{AreResults, AreSound, AreUnbroken, IsResult};
 
 use crate::batches::{BatchFault, MOST_TRIALS};
-use crate::laws::{trials_under_restrained_tables, trials_under_the_own_tables};
+use crate::laws::{trials_under_restrained_tables, trials_under_tables_that_keep_going};
 use crate::making::trial;
 use crate::setup::Setup;
 use crate::verdict::TrialResult;
@@ -26,12 +26,12 @@ pub fn spread(
     n: u32,
 ) -> Result<Vec<TrialResult>, BatchFault>
     ensures ok { IfOk result (λ results. AreResults setup.now (plain scenario.now) n results.items) }
-    ensures sound { setup.now.tables ≡ baseline → IfOk result (λ results. AreSound results.items) }
+    ensures sound { AreNeverStuck setup.now.tables → IfOk result (λ results. AreSound results.items) }
     ensures unbroken { AreRestrained setup.now.tables → IfOk result (λ results. AreUnbroken results.items) }
     ensures too_many { IsErrOf result BatchFault.TooMany ↔ (1000000 < n) }
 {
     trials_under_restrained_tables();
-    trials_under_the_own_tables();
+    trials_under_tables_that_keep_going();
     // Called for its contract: a setup is lawful.
     let _limit = setup.limit();
     if n > MOST_TRIALS {

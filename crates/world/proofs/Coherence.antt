@@ -1,14 +1,15 @@
 -- The headline, carried from the machine's runs to a world's histories.
-use Rattle.std.proofs.Common.{◌≡◌, ◌∙◌, ℕ, List, ap, sym}
+use Rattle.std.proofs.Common.{ℕ, List}
 use Rattle.base.specs.Extent.{Extent, IsWithinLimits}
 use Rattle.base.specs.declared.step.Step.{Step}
-use Rattle.both_tables.specs.Tables.{Tables, baseline}
-use Rattle.machine.specs.Machine.{State, IsHistory, opened, after}
+use Rattle.both_tables.specs.Tables.{Tables}
+use Rattle.machine.specs.Machine.{State, IsHistory}
 use Rattle.machine.specs.Coherence.{Safe}
 use Rattle.machine.specs.Unstuck.{Unstuck}
+use Rattle.machine.specs.Going.{AreNeverStuck}
 use Rattle.machine.specs.Restraint.{AreRestrained}
 use Rattle.machine.proofs.Safety.{restrained-safe}
-use Rattle.machine.proofs.Progress.{unstuck}
+use Rattle.machine.proofs.Progress.{never_stuck}
 
 -- each history is one of the machine's runs
 pub been-safe : (shape : Extent) (tables : Tables) (state : State) → IsWithinLimits shape →
@@ -16,8 +17,5 @@ pub been-safe : (shape : Extent) (tables : Tables) (state : State) → IsWithinL
 been-safe shape tables state within opening steps restrained history = restrained-safe tables shape opening steps restrained within
 
 pub not-stuck : (shape : Extent) (tables : Tables) (state : State) → IsWithinLimits shape →
-    (opening : List ℕ) (steps : List Step) → tables ≡ baseline → IsHistory shape tables opening steps state → Unstuck tables state
-not-stuck shape tables state within opening steps own history =
-    let leads : (after baseline (opened shape opening) steps).state ≡ state =
-    ap (λ t. (after t (opened shape opening) steps).state) (sym own) ∙ history.leads in
-    rw (own, ← leads) (unstuck shape opening steps within)
+    (opening : List ℕ) (steps : List Step) → AreNeverStuck tables → IsHistory shape tables opening steps state → Unstuck tables state
+not-stuck shape tables state within opening steps never history = rw (← history.leads) (never_stuck tables shape opening steps never within)

@@ -12,4 +12,8 @@ pub returns-in-Some : goal.returns-in-Some
 returns-in-Some c = (c.requires.restrained, c.requires.going, c.in-Some.ensures.some)
 
 pub returns-in-None : goal.returns-in-None
-returns-in-None c = (c.requires.restrained, c.requires.going, serving c.args.tables.now c.in-None.ensures.none)
+returns-in-None c = record {
+  restrained = c.requires.restrained;
+  going = c.requires.going;
+  serving = serving c.args.tables.now c.in-None.ensures.none;
+}

@@ -1,6 +1,6 @@
 use Rattle.std.proofs.Common.{◌≡◌}
 use Rattle.both_tables.specs.Tables.{Tables}
-use Rattle.machine.specs.Going.{KeepsGoing, ServesAsks}
+use Rattle.machine.specs.Going.{AreNeverStuck, KeepsGoing}
 use Rattle.machine.specs.Restraint.{AreRestrained}
 use Rattle.certify.specs.Certificates.{IsCertificate, SaysSafe, SaysFlowing}
 use Rattle.certify.specs.Standings.{IsAdmitted}
@@ -13,21 +13,21 @@ use Rattle.certify.proofs.certifying.certify.Goals as goal
 -- what an answer says of tables, by the answers
 says-restrained : (tables : Tables) (x : Certificate) → IsCertificate tables x → SaysSafe x → AreRestrained tables
 says-restrained tables (NotProved cell) h said = absurd said
-says-restrained tables NeverStuck h said = h.0
+says-restrained tables NeverStuck h said = h.restrained
 says-restrained tables (AsksMayBeHeld cell) h said = h.0
 says-restrained tables (MessagesMayGetStuck cell) h said = h.0
 
 says-going : (tables : Tables) (x : Certificate) → IsCertificate tables x → SaysFlowing x → AreRestrained tables × KeepsGoing tables
 says-going tables (NotProved cell) h said = absurd said
-says-going tables NeverStuck h said = (h.0, h.1)
+says-going tables NeverStuck h said = (h.restrained, h.going)
 says-going tables (AsksMayBeHeld cell) h said = (h.0, h.1)
 says-going tables (MessagesMayGetStuck cell) h said = absurd said
 
-says-serving : (tables : Tables) (x : Certificate) → IsCertificate tables x → x ≡ NeverStuck → AreRestrained tables × KeepsGoing tables × ServesAsks tables
-says-serving tables (NotProved cell) h said = absurd (cc)
-says-serving tables NeverStuck h said = h
-says-serving tables (AsksMayBeHeld cell) h said = absurd (cc)
-says-serving tables (MessagesMayGetStuck cell) h said = absurd (cc)
+says-never_stuck : (tables : Tables) (x : Certificate) → IsCertificate tables x → x ≡ NeverStuck → AreNeverStuck tables
+says-never_stuck tables (NotProved cell) h said = absurd (cc)
+says-never_stuck tables NeverStuck h said = h
+says-never_stuck tables (AsksMayBeHeld cell) h said = absurd (cc)
+says-never_stuck tables (MessagesMayGetStuck cell) h said = absurd (cc)
 
 admits : (tables : Tables) → AreRestrained tables → (cell : Cell) → IsAdmitted tables cell
 admits tables r (Cache s e) = r.cache s e
@@ -58,6 +58,5 @@ returns-clause-flowing c = λ said shape opening steps.
 
 pub returns-clause-unstuck : goal.returns-clause-unstuck
 returns-clause-unstuck c = λ said shape opening steps.
-    let keeps : AreRestrained c.args.tables.now × KeepsGoing c.args.tables.now × ServesAsks c.args.tables.now =
-    says-serving c.args.tables.now c.answer_to.result c.answer_to.ensures said in
-    c.restrained_tables_are_unstuck.ensures.unstuck c.args.tables.now shape opening steps keeps.0 keeps.1 keeps.2
+    c.restrained_tables_are_unstuck.ensures.unstuck c.args.tables.now shape opening steps
+    (says-never_stuck c.args.tables.now c.answer_to.result c.answer_to.ensures said)

@@ -20,9 +20,9 @@ returns-clause-broke g c =
     c.in_ok-recording.ensures
 
 pub returns-clause-sound : goal.returns-clause-sound
-returns-clause-sound g c own =
-    c.trials_under_the_own_tables.ensures.sound c.args.setup.now
-    (plain c.args.scenario.now) c.args.number _ c.in_ok-recording.verdict own c.limit-limit.ensures.lawful c.in_ok-recording.ensures
+returns-clause-sound g c never =
+    c.trials_under_tables_that_keep_going.ensures.sound c.args.setup.now
+    (plain c.args.scenario.now) c.args.number _ c.in_ok-recording.verdict never c.limit-limit.ensures.lawful c.in_ok-recording.ensures
 
 pub returns-clause-unbroken : goal.returns-clause-unbroken
 returns-clause-unbroken g c restrained =
