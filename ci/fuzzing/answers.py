@@ -25,7 +25,10 @@ FORMS = {
     "play": OUTCOME + rb"|violation " + VIOLATION,
     "replay": rb"same \d+|violation \d+ " + VIOLATION + rb"|differs \d+ told " + OUTCOME + rb" found " + OUTCOME,
     "tables": CELL,
-    "certify": rb"safe|unknown|(stall|never met|proved|not proved): " + CELL + b"|" + ADVICE.encode(),
+    "certify": rb"safe|unknown|never stuck|(messages (may )?get stuck|asks may be held|stall|never met|proved|not proved): "
+    + CELL
+    + rb"|stuck with 3 caches after:|ask \d 0 (load|store 5|replace)|(request|forward|response) 0 \d|"
+    + ADVICE.encode(),
     "trial": RECORDING,
     "batch": rb"\d+ " + RESULT + rb"|total (quiet|cut|stuck|broke) \d+",
     "floor": rb"safe|violation \d+ " + VIOLATION,

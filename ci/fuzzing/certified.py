@@ -1,10 +1,12 @@
-"""Tables that are certified, and trials under them: none may break."""
+"""Tables that are certified, and trials and walks under them: none may break, or get stuck where none is said to."""
 
 import json
+import re
 
-from model.certificates import PROVED
+from model.certificates import PROVED, certificate
 from model.making import random_overrides, random_scenario
-from model.tables import CACHE, DIRECTORY, STALL, baseline
+from model.tables import CACHE, DIRECTORY, STALL, baseline, overridden
+from model.walks import gets_stuck
 
 SHAPE, TRIALS = (3, 1), 50
 TABLES = "certified.json"
@@ -35,12 +37,33 @@ def admitted_overrides(dice):
 
 
 def fault_of_certified(runner, dice):
-    """What is wrong with trials under random tables, if they are said to be safe."""
+    """What is wrong with what is said of random tables: with trials under those that are said to be safe, or never to get
+    stuck, or with a walk under others, if it finds nothing stuck."""
     overrides = admitted_overrides(dice) if dice.random() < 0.9 else random_overrides(dice)
     runner.put(TABLES, json.dumps(overrides).encode())
-    if runner.run([b"certify", b"--tables", TABLES.encode()], b"").status:
+    certified = runner.run([b"certify", b"--tables", TABLES.encode()], b"")
+    status, wanted = certificate(overridden(overrides))
+    said = certified.out.decode().splitlines()
+    if (certified.status, said) != (status, wanted):
+        return f"{json.dumps(overrides)} is answered by {said}, and has to be by {wanted}"
+    if status:
         return None
+    return fault_of_trials(runner, dice, overrides, said[1]) or fault_of_walk(overrides, said)
+
+
+def fault_of_trials(runner, dice, overrides, said):
     scenario = {"both": [random_scenario(dice, SHAPE, 4) for _ in range(3)]}
     setup = f"batch --caches {SHAPE[0]} --blocks {SHAPE[1]} --tables {TABLES} --limit 200 --trials {TRIALS} --seed {dice.randrange(2**64)}"
     ended = runner.run([word.encode() for word in setup.split()], json.dumps(scenario).encode())
-    return None if ended.status == 0 else f"{json.dumps(overrides)} is said to be safe; {json.dumps(scenario)} broke: {ended.out!r}"
+    if ended.status:
+        return f"{json.dumps(overrides)} is said to be safe; {json.dumps(scenario)} broke: {ended.out!r}"
+    if said == "never stuck" and re.search(rb"(?m)^\d+ stuck ", ended.out):
+        return f"{json.dumps(overrides)} is said never to get stuck; {json.dumps(scenario)} did: {ended.out!r}"
+    return None
+
+
+def fault_of_walk(overrides, said):
+    """Where only stalls stand over acting cells, runs get stuck wherever it isn't proved that they don't."""
+    if said[1] == "never stuck" or any(line.startswith("proved: ") for line in said):
+        return None
+    return None if gets_stuck(overridden(overrides), SHAPE[0]) else f"{json.dumps(overrides)}: {said[1]}; a walk finds none stuck"

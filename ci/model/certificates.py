@@ -1,7 +1,12 @@
-"""Which tables are proved safe, as docs/CERTIFY.md has it."""
+"""What is proved of tables, as docs/CERTIFY.md has it."""
 
+from pathlib import Path
+
+from model.machine import World
 from model.recordings import cell_lines
 from model.tables import CACHE, DIRECTORY, STALL, Act, baseline
+from model.texts import step_of
+from model.trials import deliveries
 
 UNCHANGED = {"Load": "IS^D", "Store": "IM^AD IM^A SM^AD SM^A", "Replacement": "IS^D IM^AD IM^A S SM^AD SM^A M SI^A II^A"}
 PROVED = [("cache", event, state, Act((), state)) for event, states in UNCHANGED.items() for state in states.split()]
@@ -9,7 +14,13 @@ PROVED += [
     ("cache", "Replacement", "S", Act(("putm",), "SI^A")),
     ("directory", "PutS-Last", "S", Act(("remove-req", "put-ack"), "S")),
 ]
+ASKS = "Load Store Replacement".split()
+SETTLED = "I S M".split()
+HOME_WAITS = {"S^D": "PutS-NotLast PutS-Last PutM-NonOwner", "I": "PutS-Last", "M": "PutS-Last"}
 OPEN = "not proved"
+CACHES = 3
+# Cells, in order, each with the steps after which messages are on their way and all are held.
+SCHEDULES = [line.split(": ") for line in (Path(__file__).parent / "schedules.txt").read_text().splitlines()]
 ADVICE = "That doesn't say unsafe: make trials, with msi batch."
 
 
@@ -37,10 +48,68 @@ def reasons(tables):
                     yield reason, line
 
 
+def may_wait(tables, name, state, event):
+    """Whether messages flow though this cell holds a stall where the protocol's own one acts."""
+    if name == "directory":
+        return event in HOME_WAITS.get(state, "").split()
+    if event in ASKS:
+        return True
+    data_waits = tables.cache.get((state.rstrip("D") + "D", "Data-Dir-More")) == STALL
+    if state in ("IM^AD", "SM^AD"):
+        return event == "Data-Dir-More" or event == "Inv-Ack" and not data_waits
+    return state in ("IM^A", "SM^A") and event in ("Inv-Ack", "Last-Inv-Ack") and data_waits
+
+
+def stalls(tables):
+    """Each cell that holds a stall where the protocol's own one acts, in order, and its line."""
+    own, spelled = baseline(), cell_lines(tables)
+    for name, side in (("cache", CACHE), ("directory", DIRECTORY)):
+        for state in side.states:
+            for event in side.events:
+                entry, line = getattr(own, name).get((state, event)), next(spelled)
+                if entry not in (None, STALL) and getattr(tables, name).get((state, event)) == STALL:
+                    yield name, state, event, line
+
+
+def jams(tables, steps):
+    """Whether all these steps are made, and then messages are on their way and all are held."""
+    world = World(CACHES, [0], tables)
+    refused = ("held", "absent", "blank")
+    return all(world.step(step_of(step.encode())) not in refused for step in steps) and is_jammed(world)
+
+
+def is_jammed(world):
+    return not world.blocks[0].is_quiet() and not any(deliveries(world))
+
+
+def jam_from(tables, place):
+    """The first schedule, from that of a place on, that gets stuck under these tables, if one does."""
+    places = [place for place, _ in SCHEDULES]
+    for _, steps in SCHEDULES[places.index(place) :]:
+        if jams(tables, steps.split(", ")):
+            return steps.split(", ")
+    return None
+
+
+def going(tables):
+    """Whether restrained tables can get stuck, and steps after which they are, if such are known."""
+    found = list(stalls(tables))
+    for name, state, event, line in found:
+        if not may_wait(tables, name, state, event):
+            steps = jam_from(tables, f"{name} {state} {event}")
+            return f"messages {'get' if steps else 'may get'} stuck: {line}", steps
+    for name, state, _, line in found:
+        if name == "cache" and state in SETTLED:
+            return f"asks may be held: {line}", None
+    return "never stuck", None
+
+
 def certificate(tables):
     """The status and the lines of `msi certify`."""
     found = list(reasons(tables))
     unproved = [f"{OPEN}: {line}" for reason, line in found if reason == OPEN]
     if unproved:
         return 1, ["unknown", unproved[0], ADVICE]
-    return 0, ["safe", *(f"{reason}: {line}" for reason, line in found)]
+    said, steps = going(tables)
+    shown = [f"stuck with {CACHES} caches after:", *steps] if steps else []
+    return 0, ["safe", said, *(f"{reason}: {line}" for reason, line in found), *shown]
