@@ -204,7 +204,7 @@ const COMMANDS: [Usage; 9] = [
     },
     Usage {
         name: "certify",
-        about: "Says of tables that they are proved safe, or names the first cell that isn't: then make trials",
+        about: "Says whether tables are proved safe, and never stuck, and names the first cell that stands against it",
         choices: &[TABLES],
     },
 ];

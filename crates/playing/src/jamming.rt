@@ -1,3 +1,8 @@
+ghost use Rattle.std.specs.Prelude.{◌≡◌, IfOk, IfSome, IsTrue};
+ghost use Rattle.machine.specs.Unstuck.{Flowing};
+ghost use Rattle.playing.specs.Jams.{GetsStuck};
+ghost use Rattle.playing.specs.inner.Leading.{HasGoneOn, IsFresh};
+
 use crate::schedules::{CACHES, SCHEDULES};
 use base::{NoMemory, Outcome, Shape, Step};
 use both_tables::Tables;
@@ -11,7 +16,9 @@ pub(crate) fn jam_from(
     alloc: Global,
     tables: &Tables,
     cell: Cell,
-) -> Result<Option<&'static str>, NoMemory> {
+) -> Result<Option<&'static str>, NoMemory>
+    ensures { IfOk result (λ found. IfSome found (λ steps. GetsStuck tables.now)) }
+{
     let mut is_due = false;
     for (from, steps) in &SCHEDULES {
         is_due = is_due || *from == cell;
@@ -22,12 +29,16 @@ pub(crate) fn jam_from(
     Ok(None)
 }
 
-fn jams(alloc: Global, tables: &Tables, steps: &str) -> Result<bool, NoMemory> {
+fn jams(alloc: Global, tables: &Tables, steps: &str) -> Result<bool, NoMemory>
+    ensures { IfOk result (λ found. IsTrue found → GetsStuck tables.now) }
+{
     let mut world = open(alloc, tables)?;
-    Ok(makes_all(&mut world, steps)? && is_jammed(&world))
+    is_jammed_after(&mut world, steps)
 }
 
-fn open(alloc: Global, tables: &Tables) -> Result<World, NoMemory> {
+fn open(alloc: Global, tables: &Tables) -> Result<World, NoMemory>
+    ensures { IfOk result (λ world. IsFresh tables.now world) }
+{
     let Ok(shape) = Shape::new(CACHES, 1) else {
         unreachable!();
     };
@@ -39,8 +50,22 @@ fn open(alloc: Global, tables: &Tables) -> Result<World, NoMemory> {
     }
 }
 
+/// Makes the steps of these lines, up to the first that is refused, and answers whether none was and messages are stuck then.
+fn is_jammed_after(world: &mut World, steps: &str) -> Result<bool, NoMemory>
+    ensures gone { IfOk result (λ found. IsTrue found → HasGoneOn world.old world.new) }
+    ensures stuck { IfOk result (λ found. IsTrue found → ¬ Flowing world.new.tables world.new.state) }
+{
+    if makes_all(world, steps)? {
+        Ok(is_jammed(world))
+    } else {
+        Ok(false)
+    }
+}
+
 /// Makes the steps of these lines, up to the first that is refused, and answers whether none was.
-fn makes_all(world: &mut World, steps: &str) -> Result<bool, NoMemory> {
+fn makes_all(world: &mut World, steps: &str) -> Result<bool, NoMemory>
+    ensures { IfOk result (λ all. IsTrue all → HasGoneOn world.old world.new) }
+{
     for line in steps.lines() {
         let Some(step) = Step::read(line.as_bytes()) else {
             return Ok(false);
@@ -54,6 +79,12 @@ fn makes_all(world: &mut World, steps: &str) -> Result<bool, NoMemory> {
 }
 
 /// Whether messages are on their way and none of them can be delivered.
-fn is_jammed(world: &World) -> bool {
-    !world.empty() && world.enabled_count() == 0
+fn is_jammed(world: &World) -> bool
+    ensures { IsTrue result → ¬ Flowing world.now.tables world.now.state }
+{
+    let is_quiet = world.empty();
+    if world.broken() || is_quiet {
+        return false;
+    }
+    world.enabled_count() == 0
 }

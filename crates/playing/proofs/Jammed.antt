@@ -1,0 +1,72 @@
+-- A world without a delivery, in which messages are on their way, shows that messages get stuck.
+use Rattle.std.proofs.Common.{◌≡◌, ◌∙◌, ℕ, suc, List, [], ◌∷◌, ◌++◌, length, Some, Bool, true, false, ◌&&◌, slice_get, IsTrue, refl, sym, ap, subst, append_assoc, arith}
+use Rattle.std.proofs.lemmas.List.{append-nil}
+use Rattle.base.specs.Extent.{IsWithinLimits}
+use Rattle.base.specs.declared.ids.BlockId.{BlockId}
+use Rattle.base.specs.declared.step.Step.{Step}
+use Rattle.network.specs.Traffic.{is_quiet}
+use Rattle.both_tables.specs.Tables.{Tables}
+use Rattle.machine.specs.Block.{BlockState}
+use Rattle.machine.specs.Machine.{State, IsHistory, opened, after}
+use Rattle.machine.specs.Unstuck.{Flowing}
+use Rattle.world.specs.Enabled.{enabled_steps}
+use Rattle.world.specs.Looks.{all_quiet}
+use Rattle.world.specs.View.{View, LeadsOn}
+use Rattle.trials.proofs.Disabled.{nothing-delivers}
+use Rattle.playing.specs.Jams.{GetsStuck}
+use Rattle.playing.specs.inner.Leading.{IsFresh, HasGoneOn}
+
+is-quiet : (t : Bool) → ¬ (¬ IsTrue t) → t ≡ true
+is-quiet true h = refl
+is-quiet false h = absurd (h (λ e. absurd (cc e)))
+
+blocks-quiet : (bs : List BlockState) → ((k : ℕ) (b : BlockState) → slice_get bs k ≡ Some b → is_quiet b.traffic ≡ true) → all_quiet bs ≡ true
+blocks-quiet [] h = refl
+blocks-quiet (b ∷ bs) h = ap (λ t. t && all_quiet bs) (h 0 b refl) ∙ blocks-quiet bs (λ k c e. h (suc k) c e)
+
+empty : (steps : List Step) → length steps ≡ 0 → steps ≡ []
+empty [] e = refl
+empty (s ∷ steps) e = absurd (omega arith)
+
+-- where messages are on their way and no delivery is enabled, messages don't flow
+pub jammed : (tables : Tables) (state : State) → state.broken ≡ false → all_quiet state.blocks ≡ false → length (enabled_steps tables state) ≡ 0 →
+    ¬ Flowing tables state
+jammed tables state whole some none flowing =
+    let quiet : all_quiet state.blocks ≡ true = blocks-quiet state.blocks (λ k b at.
+    let block : BlockId = record { 0 = k } in
+    is-quiet (is_quiet b.traffic)
+    (λ moving. let moves = (flowing block b at).moves moving in
+    nothing-delivers tables state block b moves.0 whole (empty (enabled_steps tables state) none) at moves.1)) in
+    let no : false ≡ true = sym some ∙ quiet in absurd (cc)
+
+pub gone-none : (world : View) → HasGoneOn world world
+gone-none world = record {
+  steps = [];
+  leads = λ opening before h. subst (λ ss. IsHistory world.shape world.tables opening ss world.state) (sym (append-nil before)) h;
+  under = refl;
+  shape = refl;
+}
+
+pub gone-more : (old mid new : View) (s : Step) → HasGoneOn old mid → LeadsOn mid (s ∷ []) new → new.tables ≡ mid.tables → new.shape ≡ mid.shape →
+    HasGoneOn old new
+gone-more old mid new s gone leads under shape = record {
+  steps = gone.steps ++ s ∷ [];
+  leads = λ opening before h. subst (λ ss. IsHistory new.shape new.tables opening ss new.state) (append_assoc before gone.steps (s ∷ []))
+      (leads opening (before ++ gone.steps) (gone.leads opening before h));
+  under = under ∙ gone.under;
+  shape = shape ∙ gone.shape;
+}
+
+pub stuck-run : (tables : Tables) (old new : View) → IsFresh tables old → HasGoneOn old new → ¬ Flowing new.tables new.state → GetsStuck tables
+stuck-run tables old new fresh gone stuck =
+    let history : IsHistory new.shape new.tables fresh.opening gone.steps new.state = gone.leads fresh.opening [] fresh.history in
+    let there : ¬ Flowing new.tables (after new.tables (opened new.shape fresh.opening) gone.steps).state =
+    subst (λ s. ¬ Flowing new.tables s) (sym history.leads) stuck in
+    record {
+      shape = new.shape;
+      opening = fresh.opening;
+      steps = gone.steps;
+      within = subst IsWithinLimits (sym gone.shape) fresh.within;
+      opens = history.opens;
+      stuck = subst (λ (t : Tables). ¬ Flowing t (after t (opened new.shape fresh.opening) gone.steps).state) (gone.under ∙ fresh.under) there;
+    }

@@ -1,0 +1,2 @@
+pub mod Jams
+pub mod inner
