@@ -74,7 +74,8 @@ ack-goes tables b c line there a ne (InvAck by to) p w =
     (same-line b c to.0 w.0 line (only-same to.0 c (omega arith)) w.1 there) w.2)
 
 -- an ack that a line waits for is on its way and can be delivered, or is still to be sent
-acks-found : (n : ℕ) (tables : Tables) → KeepsGoing tables → (b : BlockState) (block : BlockId) (c : ℕ) (line : Line) → Some line ≡ slice_get b.lines c → Sound n b →
+acks-found : (n : ℕ) (tables : Tables) → KeepsGoing tables → (b : BlockState) (block : BlockId) (c : ℕ) (line : Line) → Some line ≡ slice_get b.lines c →
+    Sound n b →
     AwaitsData line.state → cell tables.cache line.state event.InvAck ≢ Stall → 0 < (view_of b c).invs → Found tables b block
 acks-found n tables k b block c line there h a ne some =
     elim (cases_eq (sum_by (inv_ack c) b.traffic.responses) 0) as (λ _. Found tables b block) [
@@ -121,8 +122,10 @@ acks-owed n b i c value acks line there h at a t =
     let few : n ≤ 4294967296 = h.few in
     let one : dir_data c.0 x ≡ 1 = ap (λ t. only t 1) (eq-eqb c.0 c.0 refl) in
     let number : ack_number c.0 x ≡ acks = ap (λ t. only t acks) (eq-eqb c.0 c.0 refl) in
-    let counted : sum_by (dir_data c.0) (remove b.traffic.responses i) + dir_data c.0 x ≡ v.dir_data = sum_by-remove (dir_data c.0) b.traffic.responses i x at in
-    let summed : sum_by (ack_number c.0) (remove b.traffic.responses i) + ack_number c.0 x ≡ v.promised = sum_by-remove (ack_number c.0) b.traffic.responses i x at in
+    let counted : sum_by (dir_data c.0) (remove b.traffic.responses i) + dir_data c.0 x ≡ v.dir_data =
+    sum_by-remove (dir_data c.0) b.traffic.responses i x at in
+    let summed : sum_by (ack_number c.0) (remove b.traffic.responses i) + ack_number c.0 x ≡ v.promised =
+    sum_by-remove (ack_number c.0) b.traffic.responses i x at in
     let some : 0 < v.dir_data = omega (arith, counted, one) in
     let alone : v.dir_data ≡ 1 = awaits-one line.state v a local some in
     let promised : v.promised ≡ acks =

@@ -40,7 +40,8 @@ use Rattle.machine.specs.declared.decision.Origin.TheVariants as origin
 use Rattle.machine.specs.declared.decision.Decision.{Decision}
 use Rattle.both_tables.specs.Tables.{Tables, baseline}
 use Rattle.machine.specs.Block.{BlockState}
-use Rattle.machine.specs.Transition.{Transition, transition, decision_of, carried_out, by_line_entry, by_home_entry, at_line, at_home, at_ask, at_request, at_forward, at_response, is_idle}
+use Rattle.machine.specs.Transition.{Transition, transition, decision_of, carried_out, by_line_entry, by_home_entry, at_line, at_home}
+use Rattle.machine.specs.Transition.{at_ask, at_request, at_forward, at_response, is_idle}
 use Rattle.machine.specs.Restraint.{AreRestrained, proved_homes, line_cell, home_cell}
 use Rattle.machine.proofs.Views.{View, Local}
 use Rattle.machine.proofs.Seen.{seen}
@@ -121,7 +122,8 @@ line-goes : (n : ℕ) (tables : Tables) (b : BlockState) (cache : CacheId) (inpu
     Goes n b (at_line baseline.cache cache input from found) (at_line tables.cache cache input from found)
 line-goes n tables b cache input from None r other = inl (inl refl)
 line-goes n tables b cache input from (Some line) r other =
-    elim (line-decides _ (line_cell tables line.state (event_at_line line.acks input)) cache line input from (r.cache line.state (event_at_line line.acks input))) [
+    elim (line-decides _ (line_cell tables line.state (event_at_line line.acks input)) cache line input from
+    (r.cache line.state (event_at_line line.acks input))) [
       | inl e ↦ inl e
       | inr at ↦ inr (other line (line_cell tables line.state (event_at_line line.acks input)) refl refl refl (proved _ at))
     ]
@@ -140,7 +142,8 @@ if-goes : (n : ℕ) (b : BlockState) (test : Bool) (x own d : Decision) → Goes
 if-goes n b true x own d h = inl (inl refl)
 if-goes n b false x own d h = h
 
-ask-goes : (n : ℕ) (tables : Tables) (b : BlockState) (cache : CacheId) (a : Ask) (found : Option Line) → found ≡ slice_get b.lines cache.0 → AreRestrained tables →
+ask-goes : (n : ℕ) (tables : Tables) (b : BlockState) (cache : CacheId) (a : Ask) (found : Option Line) → found ≡ slice_get b.lines cache.0 →
+    AreRestrained tables →
     Sound n b → Valued b → Goes n b (at_ask baseline.cache cache a found) (at_ask tables.cache cache a found)
 ask-goes n tables b cache a None e r h v = inl (inl refl)
 ask-goes n tables b cache a (Some line) e r h v = if-goes n b (is_idle a line.state) _ _ _
@@ -166,7 +169,8 @@ no-response acks (InvAck from to) h = no-either _ event.LastInvAck event.InvAck 
 no-ask : (e : CacheEvent) (c : CacheChange) → (IsAsk e → ⊥) → e ≡ c.event → Proved c → ⊥
 no-ask e c none same p = none (subst (λ (e : CacheEvent). IsAsk e) (sym same) p.asks)
 
-last-sole : (test : Bool) (x : DirectoryEntry) (s : DirectoryState) → Stays s (if test then home_event.PutSLast else home_event.PutSNotLast) x → Stays s home_event.PutSLast x
+last-sole : (test : Bool) (x : DirectoryEntry) (s : DirectoryState) → Stays s (if test then home_event.PutSLast else home_event.PutSNotLast) x →
+    Stays s home_event.PutSLast x
 last-sole true x s e = e
 last-sole false x s e = (e.0, refl, e.2)
 
@@ -174,28 +178,40 @@ no-putm : (test : Bool) → (if test then home_event.PutMOwner else home_event.P
 no-putm true e = absurd (cc)
 no-putm false e = absurd (cc)
 
-requested : (n : ℕ) (b : BlockState) (i : ℕ) (kind : RequestKind) (r : CacheId) (x : DirectoryEntry) → Some (req kind r) ≡ slice_get b.traffic.requests i → Sound n b → Valued b → Stays b.home.state (event_at_home b.home.owner b.home.sharers (home_input.Request (req kind r))) x
+requested : (n : ℕ) (b : BlockState) (i : ℕ) (kind : RequestKind) (r : CacheId) (x : DirectoryEntry) → Some (req kind r) ≡ slice_get b.traffic.requests i →
+    Sound n b → Valued b → Stays b.home.state (event_at_home b.home.owner b.home.sharers (home_input.Request (req kind r))) x
     → Passes n b (carried_out (by_home_entry x (home_input.Request (req kind r)) (origin.Request i)) b)
 requested n b i request.GetS r x at h v e = let no : home_event.GetS ≡ home_event.PutSLast = e.1 in absurd (cc)
 requested n b i request.GetM r x at h v e = let no : home_event.GetM ≡ home_event.PutSLast = e.1 in absurd (cc)
 requested n b i request.PutS r x at h v e = left n b i r x (last-sole (is_sole r.0 b.home.sharers) x b.home.state e) at h v
 requested n b i (request.PutM value) r x at h v e = absurd (no-putm (owns b.home.owner r) e.1)
 
-request-goes : (n : ℕ) (tables : Tables) (b : BlockState) (i : ℕ) (found : Option Request) → found ≡ slice_get b.traffic.requests i → AreRestrained tables → Sound n b → Valued b → Goes n b (at_request baseline.directory i b.home found) (at_request tables.directory i b.home found)
+request-goes : (n : ℕ) (tables : Tables) (b : BlockState) (i : ℕ) (found : Option Request) → found ≡ slice_get b.traffic.requests i → AreRestrained tables →
+    Sound n b → Valued b → Goes n b (at_request baseline.directory i b.home found) (at_request tables.directory i b.home found)
 request-goes n tables b i None e r h v = inl (inl refl)
 request-goes n tables b i (Some m) e r h v = home-goes n tables b (home_input.Request m) (origin.Request i) r (λ x p. requested n b i m.kind m.from x e h v p)
 
-forward-goes : (n : ℕ) (tables : Tables) (b : BlockState) (cache : CacheId) (found : Option Forward) → AreRestrained tables → Goes n b (at_forward baseline.cache cache b.lines found) (at_forward tables.cache cache b.lines found)
+forward-goes : (n : ℕ) (tables : Tables) (b : BlockState) (cache : CacheId) (found : Option Forward) → AreRestrained tables →
+    Goes n b (at_forward baseline.cache cache b.lines found) (at_forward tables.cache cache b.lines found)
 forward-goes n tables b cache None r = inl (inl refl)
-forward-goes n tables b cache (Some m) r = line-goes n tables b cache (line_input.Forward m) (origin.Head cache) (slice_get b.lines cache.0) r (λ l c same s t p. absurd (no-ask _ c (no-forward m.kind) t p))
+forward-goes n tables b cache (Some m) r =
+    line-goes n tables b cache (line_input.Forward m) (origin.Head cache) (slice_get b.lines cache.0) r
+    (λ l c same s t p. absurd (no-ask _ c (no-forward m.kind) t p))
 
-response-goes : (n : ℕ) (tables : Tables) (b : BlockState) (i : ℕ) (found : Option Response) → AreRestrained tables → Goes n b (at_response baseline i b found) (at_response tables i b found)
+response-goes : (n : ℕ) (tables : Tables) (b : BlockState) (i : ℕ) (found : Option Response) → AreRestrained tables →
+    Goes n b (at_response baseline i b found) (at_response tables i b found)
 response-goes n tables b i None r = inl (inl refl)
-response-goes n tables b i (Some (Data from Dir value acks)) r = home-goes n tables b (home_input.Data value) (origin.Response i) r (λ x p. let no : home_event.Data ≡ home_event.PutSLast = p.1 in absurd (cc))
-response-goes n tables b i (Some (Data from (Cache to) value acks)) r = line-goes n tables b to (line_input.Response (Data from (Cache to) value acks)) (origin.Response i) (slice_get b.lines to.0) r (λ l c same s t p. absurd (no-ask _ c (no-response l.acks (Data from (Cache to) value acks)) t p))
-response-goes n tables b i (Some (InvAck from to)) r = line-goes n tables b to (line_input.Response (InvAck from to)) (origin.Response i) (slice_get b.lines to.0) r (λ l c same s t p. absurd (no-ask _ c (no-response l.acks (InvAck from to)) t p))
+response-goes n tables b i (Some (Data from Dir value acks)) r =
+    home-goes n tables b (home_input.Data value) (origin.Response i) r (λ x p. let no : home_event.Data ≡ home_event.PutSLast = p.1 in absurd (cc))
+response-goes n tables b i (Some (Data from (Cache to) value acks)) r =
+    line-goes n tables b to (line_input.Response (Data from (Cache to) value acks)) (origin.Response i) (slice_get b.lines to.0) r
+    (λ l c same s t p. absurd (no-ask _ c (no-response l.acks (Data from (Cache to) value acks)) t p))
+response-goes n tables b i (Some (InvAck from to)) r =
+    line-goes n tables b to (line_input.Response (InvAck from to)) (origin.Response i) (slice_get b.lines to.0) r
+    (λ l c same s t p. absurd (no-ask _ c (no-response l.acks (InvAck from to)) t p))
 
-step-goes : (n : ℕ) (tables : Tables) (s : Step) (b : BlockState) → AreRestrained tables → Sound n b → Valued b → Goes n b (decision_of baseline s b) (decision_of tables s b)
+step-goes : (n : ℕ) (tables : Tables) (s : Step) (b : BlockState) → AreRestrained tables → Sound n b → Valued b →
+    Goes n b (decision_of baseline s b) (decision_of tables s b)
 step-goes n tables (step.Ask cache block a) b r h v = ask-goes n tables b cache a (slice_get b.lines cache.0) refl r h v
 step-goes n tables (step.Request block i) b r h v = request-goes n tables b i (slice_get b.traffic.requests i) refl r h v
 step-goes n tables (step.Forward block cache) b r h v = forward-goes n tables b cache (slice_get (link b.traffic cache.0) 0) r
@@ -203,7 +219,8 @@ step-goes n tables (step.Response block i) b r h v = response-goes n tables b i 
 
 pub step-passes : (n : ℕ) (tables : Tables) (s : Step) (b : BlockState) → AreRestrained tables → Sound n b → Valued b → Passes n b (transition tables s b)
 step-passes n tables s b r h v = elim (step-goes n tables s b r h v) [
-  | inl e ↦ as-decided (Passes n b) b (decision_of baseline s b) (decision_of tables s b) e (record { fine = transition-fine n s b h; right = transition-right n s b h v; order = transition-ranked n s b h })
+  | inl e ↦ as-decided (Passes n b) b (decision_of baseline s b) (decision_of tables s b) e
+      (record { fine = transition-fine n s b h; right = transition-right n s b h v; order = transition-ranked n s b h })
       (record { fine = record { sound = h; met = λ x. absurd (cc) }; right = record { valued = v; fits = refl }; order = λ k. k }) (transition-fine n s b h).met
   | inr p ↦ p
 ]
@@ -218,10 +235,13 @@ restrained-guards tables n r few =
     let g : Guards (Keeps n) baseline n = guards n few in
     record {
       at_first = λ value. let k : Keeps n _ = g.at_first value in record { sound = k.sound; valued = k.valued };
-      kept = λ s b h. let p : Passes n b (transition tables s b) = step-passes n tables s b r h.sound h.valued in record { sound = p.fine.sound; valued = p.right.valued };
+      kept = λ s b h.
+          let p : Passes n b (transition tables s b) = step-passes n tables s b r h.sound h.valued in
+          record { sound = p.fine.sound; valued = p.right.valued };
       single = λ b h. sound-single n b h.sound;
       unmet = λ s b h. (step-passes n tables s b r h.sound h.valued).fine.met;
     }
 
-pub restrained-fits : (tables : Tables) (n : ℕ) → AreRestrained tables → (s : Step) (b : BlockState) → Holding n b → FitsLatest (transition tables s b).outcome b.latest (transition tables s b).block.latest
+pub restrained-fits : (tables : Tables) (n : ℕ) → AreRestrained tables → (s : Step) (b : BlockState) → Holding n b →
+    FitsLatest (transition tables s b).outcome b.latest (transition tables s b).block.latest
 restrained-fits tables n r s b h = (step-passes n tables s b r h.sound h.valued).right.fits

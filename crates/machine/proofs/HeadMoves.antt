@@ -122,7 +122,8 @@ found-inv n tables k b block c h some =
     ]
 
 -- without responses, some head of a link can be delivered
-heads : (n : ℕ) (tables : Tables) → KeepsGoing tables → (b : BlockState) (block : BlockId) (rk : ℕ → ℕ) → ((a d : ℕ) → 0 < owed_to b.traffic a d → rk a < rk d) → Sound n b →
+heads : (n : ℕ) (tables : Tables) → KeepsGoing tables → (b : BlockState) (block : BlockId) (rk : ℕ → ℕ) →
+    ((a d : ℕ) → 0 < owed_to b.traffic a d → rk a < rk d) → Sound n b →
     b.traffic.responses ≡ [] → (most : ℕ) (c : ℕ) → rk c < most → (m : Forward) → Some m ≡ slice_get (link b.traffic c) 0 → Found tables b block
 heads n tables k b block rk ranked h quiet zero c below m at = absurd (omega arith)
 heads n tables k b block rk ranked h quiet (suc most) c below m at =
@@ -136,7 +137,8 @@ heads n tables k b block rk ranked h quiet (suc most) c below m at =
     let e : (e : ℕ) × (0 < sum_by (names c is_fwd_getm) (link b.traffic e)) = find-link (names c is_fwd_getm) b.traffic p in
     let x : (x : Forward) × (Some x ≡ slice_get (link b.traffic e.0) 0) = head-of (names c is_fwd_getm) (link b.traffic e.0) e.1 in
     heads n tables k b block rk ranked h quiet most e.0 (omega (arith, ranked e.0 c e.1)) x.0 x.1 in
-    by-kind m.kind (λ q. Serves (cache_table.baseline_entry l.0.state (forward_event q))) (Found tables b block) (found-head n tables k b block c m l.0 at l.1 h)
+    by-kind m.kind (λ q. Serves (cache_table.baseline_entry l.0.state (forward_event q))) (Found tables b block)
+    (found-head n tables k b block c m l.0 at l.1 h)
     (λ q. elim (fwd_gets_serves l.0.state v (rest_of b c) (begins ∙ ap (λ x. x ∷ rest_of b c) q) un local) as
     (λ _. Serves (cache_table.baseline_entry l.0.state line_event.FwdGetS) ⊎ Found tables b block) [
       | inl s ↦ inl s
@@ -152,7 +154,8 @@ heads n tables k b block rk ranked h quiet (suc most) c below m at =
     (λ q. inl (inv_serves l.0.state v (rest_of b c) (begins ∙ ap (λ x. x ∷ rest_of b c) q) un local))
     (λ q. inl (put_ack_serves l.0.state))
 
-any-head : (n : ℕ) (tables : Tables) → KeepsGoing tables → (b : BlockState) (block : BlockId) (f : Forward → ℕ) → Ranked b → Sound n b → b.traffic.responses ≡ [] →
+any-head : (n : ℕ) (tables : Tables) → KeepsGoing tables → (b : BlockState) (block : BlockId) (f : Forward → ℕ) → Ranked b → Sound n b →
+    b.traffic.responses ≡ [] →
     0 < total f b.traffic.links → Found tables b block
 any-head n tables k b block f rd h quiet some =
     let e : (e : ℕ) × (0 < sum_by f (link b.traffic e)) = find-link f b.traffic some in
@@ -172,14 +175,16 @@ few-fwd_gets PutAck = omega arith
 ones-above : (ls : List (List Forward)) → total (of_kind is_fwd_gets) ls ≤ total (λ f. 1) ls
 ones-above ls = total-below (of_kind is_fwd_gets) (λ f. 1) (λ f. few-fwd_gets f.kind) ls
 
-requests-left : (n : ℕ) (tables : Tables) → KeepsGoing tables → (b : BlockState) (block : BlockId) (rs : List Request) → rs ≡ b.traffic.requests → Sound n b → b.traffic.responses ≡ [] →
+requests-left : (n : ℕ) (tables : Tables) → KeepsGoing tables → (b : BlockState) (block : BlockId) (rs : List Request) → rs ≡ b.traffic.requests → Sound n b →
+    b.traffic.responses ≡ [] →
     ((c : ℕ) → link b.traffic c ≡ []) → (IsQuiet b.traffic → ⊥) → (b.home.state ≡ home.SD → Never) → Found tables b block
 requests-left n tables k b block [] e h quiet empty not_quiet not_sd = absurd (not_quiet (record { requests = sym e; links = empty; responses = quiet }))
 requests-left n tables k b block (r ∷ rs) e h quiet empty not_quiet not_sd =
     found-request n tables k b block r (ap (λ l. slice_get l 0) e) h (λ sd. absurd (omega (arith, not_sd sd)))
 
 -- a block with a message has one that can be delivered
-pub without-responses : (n : ℕ) (tables : Tables) → KeepsGoing tables → (b : BlockState) (block : BlockId) (rs : List Request) → rs ≡ b.traffic.requests → Ranked b → Sound n b →
+pub without-responses : (n : ℕ) (tables : Tables) → KeepsGoing tables → (b : BlockState) (block : BlockId) (rs : List Request) → rs ≡ b.traffic.requests →
+    Ranked b → Sound n b →
     b.traffic.responses ≡ [] → (IsQuiet b.traffic → ⊥) → Found tables b block
 without-responses n tables k b block rs er rd h quiet not_quiet =
     elim (cases_eq (total (λ f. 1) b.traffic.links) 0) as (λ _. Found tables b block) [
@@ -187,5 +192,6 @@ without-responses n tables k b block rs er rd h quiet not_quiet =
       | inl z ↦
           let empty : (c : ℕ) → link b.traffic c ≡ [] = λ c. no-heads (link b.traffic c) (omega (arith, link-total (λ f. 1) b.traffic c)) in
           let no_fwd_gets : total (of_kind is_fwd_gets) b.traffic.links ≡ 0 = omega (arith, ones-above b.traffic.links) in
-          requests-left n tables k b block rs er h quiet empty not_quiet (λ sd. omega (arith, h.good.blocked sd, ap (λ xs. sum_by home_data xs) quiet, no_fwd_gets))
+          requests-left n tables k b block rs er h quiet empty not_quiet
+          (λ sd. omega (arith, h.good.blocked sd, ap (λ xs. sum_by home_data xs) quiet, no_fwd_gets))
     ]

@@ -84,7 +84,8 @@ idle-settled IiA v i h = grind (arith)
 
 -- at such a line an ask isn't held
 ask-served : (tables : Tables) → KeepsGoing tables → ServesAsks tables → (b : BlockState) (cache : CacheId) (ask : Ask) (line : Line) →
-    Serves (baseline_entry line.state (ask_event ask)) → IsSettled line.state → IsMet (at_line baseline.cache cache (line_input.Ask ask) origin.Core (Some line)) b →
+    Serves (baseline_entry line.state (ask_event ask)) → IsSettled line.state →
+    IsMet (at_line baseline.cache cache (line_input.Ask ask) origin.Core (Some line)) b →
     (carried_out (at_line tables.cache cache (line_input.Ask ask) origin.Core (Some line)) b).outcome ≢ outcome.Held
 ask-served tables k asks b cache ask line own settled met =
     elim (line-goes tables k b cache (line_input.Ask ask) origin.Core (Some line) line refl own met) [

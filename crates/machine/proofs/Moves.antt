@@ -46,7 +46,8 @@ use Rattle.control.specs.Events.{event_at_line, forward_event, response_event, i
 use Rattle.control.specs.LineEffect.{line_completes}
 use Rattle.both_tables.specs.Tables.{Tables, baseline}
 use Rattle.machine.specs.Block.{BlockState}
-use Rattle.machine.specs.Transition.{Transition, outcome_of, carried_out, by_line_entry, by_home_entry, at_line, at_home, at_request, at_forward, at_response, transition}
+use Rattle.machine.specs.Transition.{Transition, outcome_of, carried_out, by_line_entry, by_home_entry, at_line, at_home, at_request}
+use Rattle.machine.specs.Transition.{at_forward, at_response, transition}
 use Rattle.machine.specs.declared.decision.Origin.{Origin}
 use Rattle.machine.specs.declared.decision.Origin.TheVariants as origin
 use Rattle.machine.specs.declared.decision.Decision.{Decision}
@@ -128,7 +129,8 @@ line-goes-on tables k b cache input from line own met =
       )
     ]
 
-pub line-goes : (tables : Tables) → KeepsGoing tables → (b : BlockState) (cache : CacheId) (input : LineInput) (from : Origin) (found : Option Line) (line : Line) →
+pub line-goes : (tables : Tables) → KeepsGoing tables →
+    (b : BlockState) (cache : CacheId) (input : LineInput) (from : Origin) (found : Option Line) (line : Line) →
     Some line ≡ found → Serves (baseline_entry line.state (event_at_line line.acks input)) → IsMet (at_line baseline.cache cache input from found) b →
     Moves (carried_out (at_line tables.cache cache input from found) b) ⊎ Waits tables line.state (event_at_line line.acks input)
 line-goes tables k b cache input from found line e own =
@@ -271,7 +273,12 @@ found-head n tables k b block c m line at there h own =
     let met : IsMet (at_forward baseline.cache cache b.lines (Some m)) b =
     subst (λ (o : Option Forward). IsMet (at_forward baseline.cache cache b.lines o) b) (sym at) (transition-fine n (step.Forward block cache) b h).met in
     elim (line-goes tables k b cache (line_input.Forward m) (origin.Head cache) (slice_get b.lines c) line there own met) [
-      | inl moves ↦ (step.Forward block cache, tt, refl, subst (λ (o : Option Forward). Moves (carried_out (at_forward tables.cache cache b.lines o) b)) at moves)
+      | inl moves ↦ (
+        step.Forward block cache,
+        tt,
+        refl,
+        subst (λ (o : Option Forward). Moves (carried_out (at_forward tables.cache cache b.lines o) b)) at moves,
+      )
       | inr waits ↦ absurd (head-stays tables line.state m.kind waits.0)
     ]
 
@@ -302,7 +309,8 @@ no-putm false e = absurd (cc)
 
 -- a sole sharer shares
 last-shares : (b : BlockState) (kind : RequestKind) (from : CacheId) →
-    event_at_home b.home.owner b.home.sharers (home_input.Request (record { kind = kind; from = from })) ≡ home_event.PutSLast → (view_of b from.0).shares ≡ true
+    event_at_home b.home.owner b.home.sharers (home_input.Request (record { kind = kind; from = from })) ≡ home_event.PutSLast →
+    (view_of b from.0).shares ≡ true
 last-shares b request.GetS from e = let no : home_event.GetS ≡ home_event.PutSLast = e in absurd (cc)
 last-shares b request.GetM from e = let no : home_event.GetM ≡ home_event.PutSLast = e in absurd (cc)
 last-shares b request.PutS from e =
@@ -328,6 +336,7 @@ found-request n tables k b block r at h ne =
       tt,
       refl,
       subst (λ (o : Option Request). Moves (carried_out (at_request tables.directory 0 b.home o) b)) at
-          (home-goes tables k b (home_input.Request r) (origin.Request 0) (request-serves (event_at_home b.home.owner b.home.sharers (home_input.Request r)) b.home.state ne)
+          (home-goes tables k b (home_input.Request r) (origin.Request 0)
+          (request-serves (event_at_home b.home.owner b.home.sharers (home_input.Request r)) b.home.state ne)
           (request-stays n b r h ne) met),
     )

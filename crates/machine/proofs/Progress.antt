@@ -176,9 +176,11 @@ reached tables shape opening steps Q r within told =
     (whole-after (Going shape.caches tables) tables shape.caches g steps (opened shape opening) start refl)
 
 -- under restrained tables that keep going no message is stuck
-pub restrained-flowing : (tables : Tables) (shape : Extent) (opening : List ℕ) (steps : List Step) → AreRestrained tables → KeepsGoing tables → IsWithinLimits shape →
+pub restrained-flowing : (tables : Tables) (shape : Extent) (opening : List ℕ) (steps : List Step) → AreRestrained tables → KeepsGoing tables →
+    IsWithinLimits shape →
     Flowing tables (state_after tables (opened shape opening) steps)
-restrained-flowing tables shape opening steps r going within = reached tables shape opening steps (Flowing tables) r within (flowing-at shape.caches tables going)
+restrained-flowing tables shape opening steps r going within =
+    reached tables shape opening steps (Flowing tables) r within (flowing-at shape.caches tables going)
 
 -- and nothing is stuck where they serve asks too
 pub never_stuck : (tables : Tables) (shape : Extent) (opening : List ℕ) (steps : List Step) → AreNeverStuck tables → IsWithinLimits shape →

@@ -55,7 +55,8 @@ data-waits tables b c line there (Data Dir (Cache to) value acks) p w =
     subst (λ (l : Line). Waits tables l.state event.DataDirMore) (same-line b c to.0 w.0 line (only-same to.0 c (omega arith)) w.1 there)
     (more-waits tables (is_count (more_acks w.0.acks acks) 0) w.0.state w.2).1
 
-data-goes : (n : ℕ) (tables : Tables) → KeepsGoing tables → (b : BlockState) (block : BlockId) (c : ℕ) (line : Line) → Some line ≡ slice_get b.lines c → Sound n b →
+data-goes : (n : ℕ) (tables : Tables) → KeepsGoing tables → (b : BlockState) (block : BlockId) (c : ℕ) (line : Line) → Some line ≡ slice_get b.lines c →
+    Sound n b →
     (i : ℕ) (x : Response) → Some x ≡ slice_get b.traffic.responses i → 0 < dir_data c x + owner_data c x →
     Found tables b block ⊎ Waits tables line.state event.DataDirMore
 data-goes n tables k b block c line there h i x at p = elim (response-goes n tables k b block i x at h) [
