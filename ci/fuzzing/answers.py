@@ -6,9 +6,9 @@ from xml.etree import ElementTree
 
 from model.certificates import ADVICE, certificate
 from model.machine import Watched
-from model.recordings import cell_lines, refusal, text_of
+from model.recordings import cell_lines, moved, refusal, text_of
 from model.refusals import OVERRIDES, SCENARIOS, fault_of_overrides, fault_of_scenario
-from model.replays import replayed
+from model.replays import recording_of, replayed
 from model.tables import baseline, overridden
 from model.texts import lines_of, step_of, value_of
 from model.trials import tree_of, trial
@@ -20,7 +20,15 @@ VIOLATION = (
 )
 RESULT = rb"((quiet|cut|stuck) \d+|broke \d+ " + VIOLATION + rb")"
 CELL = rb"cell (cache|directory) \S+ \S+ (blank|stall|act( \S+){1,9})"
-RECORDING = rb"msi-recording 1|shape \d+ \d+|opening( \d+)+|cells \d+|" + CELL + rb"|entries \d+|[^=]+ = " + OUTCOME + rb"|end"
+RECORDING = (
+    rb"msi-recording 2|protocol msi|shape \d+ \d+|seats \d+|opening( \d+)+|cells \d+|"
+    + CELL
+    + rb"|entries \d+|(by \d+ )?(ask|request|forward|response) [^=]+ = "
+    + OUTCOME
+    + rb"|end"
+)
+RECORDED = "floor --recording"
+RACED = rb"safe|violation \d+ " + VIOLATION
 FORMS = {
     "play": OUTCOME + rb"|violation " + VIOLATION,
     "replay": rb"same \d+|violation \d+ " + VIOLATION + rb"|differs \d+ told " + OUTCOME + rb" found " + OUTCOME,
@@ -31,17 +39,20 @@ FORMS = {
     + ADVICE.encode(),
     "trial": RECORDING,
     "batch": rb"\d+ " + RESULT + rb"|total (quiet|cut|stuck|broke) \d+",
-    "floor": rb"safe|violation \d+ " + VIOLATION,
+    "move": RECORDING,
+    "floor": RACED,
+    RECORDED: RECORDING,
     "show": rb"[ -~]*",
     "chart": rb"[ -~]*",
 }
 TOLD = {
     "trial": rb"verdict " + RESULT + rb"\n",
     "batch": rb"(msi: \d+ of \d+ trials, \d+ steps, \d+ broke\n)*",
+    RECORDED: rb"(" + RACED + rb")\n",
 }
 REFUSED = (
     rb"msi: (line \d+: not a step|line \d+: not an ask of this shape|too many turns|a word isn't UTF-8"
-    rb"|(tables|scenario|recording line \d+) refused [1-6] [A-Z][A-Za-z]+)\n"
+    rb"|(tables|scenario|recording line \d+) refused [1-69] [A-Z][A-Za-z]+)\n"
 )
 BAD_WORDS = rb"error: [^\n]+\n(.*\n)*"
 
@@ -80,6 +91,8 @@ def fault_of_form(command, ended):
         return "output of another form"
     if command == "chart" and not is_picture(ended.out):
         return "a picture that isn't one"
+    if command == RECORDED and not is_race(ended):
+        return "a recording that isn't the race's"
     return None if re.fullmatch(TOLD.get(command, b""), ended.errors) else "text on standard error"
 
 
@@ -88,6 +101,16 @@ def is_picture(text):
         return ElementTree.fromstring(text).tag.endswith("}svg")
     except ElementTree.ParseError:
         return False
+
+
+def is_race(ended):
+    """Whether a recording tells what was found, and each ask in it is of the seat that has its cache."""
+    if refusal(ended.out):
+        return False
+    recording, (replay, *found) = recording_of(ended.out), replayed(ended.out)
+    words = [line.split(" ") for line in recording.told]
+    are_own = all(step != "ask" or int(cache) % recording.seats == int(seat) for _, seat, step, cache, *_ in words)
+    return are_own and replay.startswith("same ") and ended.errors == lines(found or ["safe"])
 
 
 def tables_of(overrides):
@@ -130,6 +153,13 @@ def of_replay(text):
     return Answer(int(len(printed) > 1 or printed[0].startswith("differs")), lines(printed), b"")
 
 
+def of_move(text):
+    refusal_of_text = refusal(text)
+    if refusal_of_text:
+        return Answer(2, b"", f"{refusal_of_text}\n".encode())
+    return Answer(0, moved(text), b"")
+
+
 def of_show(text, whole):
     """What a table or a chart ends with: of all of a recording, 1 where a replay finds something."""
     refusal_of_text = refusal(text)
@@ -163,10 +193,19 @@ def of_batch(shape, tables, text, setup):
     return Answer(int("broke" in totals), lines(told + [f"total {kind} {count}" for kind, count in totals.items()]), b"")
 
 
-def of_floor(shape, text, overrides):
+def refused_asks(shape, text):
+    """How asks are refused of which one isn't of this shape, if one isn't."""
     for number, line in lines_of(text):
         step = step_of(line)
         is_ask = hasattr(step, "kind") and step.cache < shape[0] and step.block < shape[1]
         if not is_ask:
             return Answer(2, b"", f"msi: line {number}: not an ask of this shape\n".encode())
-    return Answer(0, b"safe\n", b"") if overrides is None else None
+    return None
+
+
+def of_floor(shape, text, overrides):
+    return refused_asks(shape, text) or (Answer(0, b"safe\n", b"") if overrides is None else None)
+
+
+def of_recorded_floor(shape, text, overrides):
+    return refused_asks(shape, text) or (Answer(0, None, b"safe\n") if overrides is None else None)

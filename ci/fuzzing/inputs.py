@@ -8,14 +8,14 @@ from fuzzing import answers
 from fuzzing.certified import admitted_overrides
 from fuzzing.damage import damaged
 from model.making import random_ask, random_overrides, random_scenario, random_steps
-from model.recordings import text_of
+from model.recordings import first_text_of, text_of
 from model.tables import baseline, overridden
 from model.trials import tree_of, trial
 
 TABLES = b"overrides.json"
 WORDS = (
-    b"play trial batch replay floor tables certify show chart --block --from --steps --caches --blocks --tables --seed --number --limit --trials --workers --seats --turns "
-    b"--progress --help --version -h -V help -- - --caches=2 --blocks=1 --colour 0 1 2 3 64 65 1024 1025 4096 4097 1000000 1000001 "
+    b"play trial batch replay move floor tables certify show chart --block --from --steps --caches --blocks --tables --seed --number --limit --trials --workers --seats --turns "
+    b"--progress --recording --help --version -h -V help -- - --caches=2 --blocks=1 --colour 0 1 2 3 64 65 4096 4097 65536 65537 1000000 1000001 "
     b"4294967295 4294967296 18446744073709551615 18446744073709551616 -1 +1 01 1.0 two overrides.json absent.json \xff \xe2\x80\x8b"
 ).split(b" ") + [b"", b" "]
 
@@ -97,12 +97,21 @@ def recording(dice):
     shape, changed = shape_of(dice), overridden(random_overrides(dice) if dice.random() < 0.5 else {})
     tree = tree_of({"both": [random_scenario(dice, shape, 3) for _ in range(2)]})
     entries, _ = trial(shape, changed, tree, dice.randrange(2**64), 0, dice.choice([0, 3, 12]))
-    return text_of(shape, changed, [0] * shape[1], entries).encode()
+    recorded = shape, changed, [0] * shape[1], entries
+    if dice.random() < 0.4:
+        return first_text_of(*recorded).encode()
+    seats = dice.choice([0, 0, 1, 3, 64])
+    return text_of(*recorded, seats, [dice.randrange(seats) for _ in entries if seats]).encode()
 
 
 def replay(dice):
     text = perhaps(dice, 0.85, recording(dice))
     return Input("replay", [b"replay"], text, None, lambda: answers.of_replay(text))
+
+
+def moved(dice):
+    text = perhaps(dice, 0.7, recording(dice))
+    return Input("move", [b"move"], text, None, lambda: answers.of_move(text))
 
 
 def shown(dice):
@@ -134,13 +143,16 @@ def floor(dice):
     asks = "".join(f"{random_ask(dice, *shape)}\n" for _ in range(dice.randrange(9)))
     text = perhaps(dice, 0.5, asks.encode())
     own = [b"--seats", b"%d" % dice.randrange(1, 4), b"--turns", b"%d" % dice.randrange(12), b"--seed", b"%d" % dice.randrange(2**64)]
-    answer = with_tables(overrides, lambda tables: answers.of_floor(shape, text, overrides))
-    return Input("floor", [b"floor", *world_words(shape, overrides), *own], text, overrides, answer)
+    if dice.random() < 0.5:
+        answer = with_tables(overrides, lambda tables: answers.of_floor(shape, text, overrides))
+        return Input("floor", [b"floor", *world_words(shape, overrides), *own], text, overrides, answer)
+    answer = with_tables(overrides, lambda tables: answers.of_recorded_floor(shape, text, overrides))
+    return Input(answers.RECORDED, [b"floor", b"--recording", *world_words(shape, overrides), *own], text, overrides, answer)
 
 
 def other_words(dice):
     """Words of a command that are good but for some of them, or any words."""
-    made = dice.choice([play, tables, certify, replay, shown, one_trial, batch, floor])(dice)
+    made = dice.choice([play, tables, certify, replay, moved, shown, one_trial, batch, floor])(dice)
     words = list(made.words) if dice.random() < 0.8 else [dice.choice(WORDS) for _ in range(dice.randrange(8))]
     for _ in range(dice.randrange(1, 4)):
         at = dice.randrange(len(words) + 1)
@@ -148,7 +160,7 @@ def other_words(dice):
     return Input("words", [word for word in words if b"\0" not in word], made.text, made.overrides, lambda: None)
 
 
-KINDS = [play] * 6 + [replay] * 6 + [shown] * 2 + [tables] * 3 + [certify] * 2 + [one_trial] * 3 + [batch] * 2 + [floor, other_words]
+KINDS = [play] * 6 + [replay] * 5 + [moved] * 2 + [shown] * 2 + [tables] * 3 + [certify] * 2 + [one_trial] * 3 + [batch] * 2 + [floor, other_words]
 
 
 def random_input(dice):

@@ -1,9 +1,10 @@
 """Random damage to texts."""
 
 WORDS = (
-    b"0 1 2 00 01 -1 +1 7 160 161 1024 1025 4096 4097 1000000 1000001 4294967295 4294967296 18446744073709551615 "
+    b"0 1 2 00 01 -1 +1 7 63 64 65 160 161 1024 1025 4096 4097 65536 65537 1000000 1000001 4294967295 4294967296 18446744073709551615 "
     b"18446744073709551616 = end ask request forward response load store replace sent moved held cell cache "
     b"directory I S M IS^D Load Inv GetS blank stall act gets inv-ack entries cells opening shape x \xff "
+    b"by seats protocol msi mesi msi+e msi-recording "
 ).split(b" ")
 
 
@@ -20,7 +21,7 @@ def edited(dice, text):
         elif change == "less":
             del words[at]
         elif change == "long":
-            words += [b"7"] * dice.choice([1, 10, 44_990, 45_001])
+            words += [b"7"] * dice.choice([1, 10, 44_990, 45_001, 699_990, 700_001])
         lines[number] = b" ".join(words)
         if change == "line":
             del lines[number]

@@ -2,14 +2,16 @@
 
 import re
 import sys
+from dataclasses import dataclass
 
 from model.tables import CACHE, DIRECTORY, MOST_ACTIONS, STALL, Act, baseline
 
 # Numbers are of any size.
 sys.set_int_max_str_digits(0)
 
-KINDS = "BadHeader BadLine Truncated CountDiffers BadOutcome OverLimit".split()
-MOST_BYTES, MOST_CACHES, MOST_BLOCKS, MOST_CELLS, MOST_ENTRIES = 90_000, 1024, 4096, 160, 1_000_000
+KINDS = "BadHeader BadLine Truncated CountDiffers BadOutcome OverLimit NoMemory Device UnknownProtocol".split()
+HEADER_BYTES, MOST_CELLS, MOST_ENTRIES, MOST_SEATS = 90_000, 160, 1_000_000, 64
+PROTOCOLS = ["msi"]
 CACHE_NUMBER, WORD_NUMBER = 2**32, 2**64
 NUMBER = re.compile("0|[1-9][0-9]*", re.ASCII)
 BARE_OUTCOMES = "sent moved held absent idle blank broken".split()
@@ -26,6 +28,20 @@ OUTCOMES = {
     ("store", 3): [CACHE_NUMBER, WORD_NUMBER],
     **{(word, 1): [] for word in BARE_OUTCOMES},
 }
+
+
+@dataclass(frozen=True)
+class Version:
+    header: str
+    most_bytes: int
+    """The most bytes of a line behind the first."""
+    most_caches: int
+    most_blocks: int
+
+
+FIRST = Version("msi-recording 1", 90_000, 1024, 4096)
+SECOND = Version("msi-recording 2", 1_400_000, 4096, 65_536)
+VERSIONS = {version.header: version for version in (FIRST, SECOND)}
 
 
 class Refusal(Exception):
@@ -49,12 +65,12 @@ def fits(words, forms):
 
 class Lines:
     def __init__(self, text):
-        self.rest, self.number = text, 0
+        self.rest, self.number, self.most_bytes = text, 0, HEADER_BYTES
 
     def next(self):
         self.number += 1
         line, end, rest = self.rest.partition(b"\n")
-        if len(line) > MOST_BYTES:
+        if len(line) > self.most_bytes:
             raise Refusal("OverLimit")
         if not end:
             raise Refusal("Truncated")
@@ -70,9 +86,17 @@ def numbers(line, name, count):
     return [int(word) for word in others]
 
 
-def read_shape(line):
+def read_protocol(line):
+    first, *names = line.split(" ")
+    if first != "protocol" or len(names) != 1 or not names[0]:
+        raise Refusal("BadLine")
+    if names[0] not in PROTOCOLS:
+        raise Refusal("UnknownProtocol")
+
+
+def read_shape(line, version):
     caches, blocks = numbers(line, "shape", 2)
-    if not (1 <= caches <= MOST_CACHES and 1 <= blocks <= MOST_BLOCKS):
+    if not (1 <= caches <= version.most_caches and 1 <= blocks <= version.most_blocks):
         raise Refusal("OverLimit")
     return blocks
 
@@ -123,45 +147,87 @@ def cell_lines(tables):
                 yield " ".join(["cell", name, state, event, *entry])
 
 
-def text_of(shape, tables, opening, entries):
-    """The text of a recording."""
+def text_of(shape, tables, opening, entries, seats=0, owners=()):
+    """The text of a recording in version 2."""
+    told = [f"by {owner} {entry}" for owner, entry in zip(owners, entries)] if seats else entries
+    head = [SECOND.header, "protocol msi", "shape {} {}".format(*shape), f"seats {seats}"]
+    return text_behind(head, tables, opening, told)
+
+
+def first_text_of(shape, tables, opening, entries):
+    """The text of a recording without seats in version 1."""
+    return text_behind([FIRST.header, "shape {} {}".format(*shape)], tables, opening, entries)
+
+
+def text_behind(head, tables, opening, told):
+    """The lines of the head, and those that both versions have behind it."""
     cells = [line for line, own in zip(cell_lines(tables), cell_lines(baseline())) if line != own]
     values = "".join(f" {value}" for value in opening)
-    head = ["msi-recording 1", "shape {} {}".format(*shape), f"opening{values}", f"cells {len(cells)}"]
-    return "".join(f"{line}\n" for line in [*head, *cells, f"entries {len(entries)}", *entries, "end"])
+    lines = [*head, f"opening{values}", f"cells {len(cells)}", *cells, f"entries {len(told)}", *told, "end"]
+    return "".join(f"{line}\n" for line in lines)
 
 
-def entry_fault(line):
+def moved(text):
+    """The text in version 2 of the recording that this one, of either version, tells."""
+    header, shape, rest = text.split(b"\n", 2)
+    if header.decode() == SECOND.header:
+        return text
+    return b"\n".join([SECOND.header.encode(), b"protocol msi", shape, b"seats 0", rest])
+
+
+def behind_seat(line, seats):
+    """What follows the seat in an entry's line, or `None` where a seat is due and none of these stands there."""
+    if seats == 0:
+        return line
+    by, _, rest = line.partition(" ")
+    seat, blank, entry = rest.partition(" ")
+    return entry if by == "by" and blank and is_number(seat) and int(seat) < seats else None
+
+
+def entry_fault(line, seats):
     """What is wrong with the line as an entry's, if anything is."""
-    step, equals, outcome = line.partition(" = ")
+    entry = behind_seat(line, seats)
+    if entry is None:
+        return "BadLine"
+    step, equals, outcome = entry.partition(" = ")
     if not equals or not fits(step.split(" "), STEPS):
         return "BadLine"
     return None if fits(outcome.split(" "), OUTCOMES) else "BadOutcome"
 
 
-def read_entry(line):
-    fault = "CountDiffers" if line == "end" else entry_fault(line)
+def read_entry(line, seats):
+    fault = "CountDiffers" if line == "end" else entry_fault(line, seats)
     if fault:
         raise Refusal(fault)
 
 
-def read_end(line):
+def read_end(line, seats):
     if line != "end":
-        raise Refusal("BadLine" if entry_fault(line) else "CountDiffers")
+        raise Refusal("BadLine" if entry_fault(line, seats) else "CountDiffers")
+
+
+def read_head(lines):
+    """How many blocks and seats the lines in front of the opening values tell of."""
+    version = VERSIONS.get(lines.next())
+    if version is None:
+        raise Refusal("BadHeader")
+    lines.most_bytes = version.most_bytes
+    if version is FIRST:
+        return read_shape(lines.next(), version), 0
+    read_protocol(lines.next())
+    return read_shape(lines.next(), version), read_count(lines.next(), "seats", MOST_SEATS)
 
 
 def read_all(lines):
-    if lines.next() != "msi-recording 1":
-        raise Refusal("BadHeader")
-    blocks = read_shape(lines.next())
+    blocks, seats = read_head(lines)
     if any(value >= WORD_NUMBER for value in numbers(lines.next(), "opening", blocks)):
         raise Refusal("BadLine")
     last = ("", 0, 0)
     for _ in range(read_count(lines.next(), "cells", MOST_CELLS)):
         last = read_cell(lines.next(), last)
     for _ in range(read_count(lines.next(), "entries", MOST_ENTRIES)):
-        read_entry(lines.next())
-    read_end(lines.next())
+        read_entry(lines.next(), seats)
+    read_end(lines.next(), seats)
     if lines.rest:
         lines.number += 1
         raise Refusal("BadLine")

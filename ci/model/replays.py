@@ -1,7 +1,10 @@
 """What a replay of a recording's text prints, as docs/FORMATS.md describes it."""
 
+from dataclasses import dataclass
+
 from model.machine import Watched
-from model.tables import STALL, Act, baseline
+from model.recordings import behind_seat, moved
+from model.tables import STALL, Act, Tables, baseline
 from model.texts import step_of
 
 
@@ -17,15 +20,33 @@ def tables_of(lines):
     return tables
 
 
+@dataclass(frozen=True)
+class Recording:
+    shape: tuple
+    seats: int
+    opening: list
+    tables: Tables
+    told: list
+    """The entries, each behind the seat that owns it, where there are seats."""
+
+    def entries(self):
+        return [behind_seat(line, self.seats) for line in self.told]
+
+
+def recording_of(text):
+    """The recording that a text of either version tells."""
+    lines = moved(text).decode().split("\n")
+    numbers = [list(map(int, line.split(" ")[1:])) for line in lines[2:6]]
+    shape, (seats,), opening, (cells,) = numbers
+    first = 6 + cells
+    return Recording(tuple(shape), seats, opening, tables_of(lines[6:first]), lines[first + 1 : -2])
+
+
 def replayed(text):
     """The lines that a replay of a recording's text prints."""
-    lines = text.decode().split("\n")
-    caches, blocks = map(int, lines[1].split(" ")[1:])
-    opening = list(map(int, lines[2].split(" ")[1:]))
-    first = 4 + int(lines[3].split(" ")[1])
-    watched = Watched(caches, blocks, tables_of(lines[4:first]), opening)
-    entries = lines[first + 1 : -2]
-    violation = []
+    recording = recording_of(text)
+    watched = Watched(*recording.shape, recording.tables, recording.opening)
+    entries, violation = recording.entries(), []
     for number, entry in enumerate(entries):
         step, _, told = entry.partition(" = ")
         outcome, found = watched.step(step_of(step.encode()))

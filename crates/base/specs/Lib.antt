@@ -1,6 +1,7 @@
 pub mod Ends
 pub mod Extent
 pub mod Spelling
+pub mod Protocols
 pub mod Cells
 pub mod Entries
 pub mod inner

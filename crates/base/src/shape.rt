@@ -2,10 +2,10 @@ use std::marker::Model;
 use thiserror::Error;
 
 /// The most caches that a world may have.
-pub const MOST_CACHES: u32 = 1024;
+pub const MOST_CACHES: u32 = 4096;
 
 /// The most blocks that a world may have.
-pub const MOST_BLOCKS: u32 = 4096;
+pub const MOST_BLOCKS: u32 = 65_536;
 
 /// Why these numbers aren't a shape. The faults are tested in this order.
 #[derive(Clone, Copy, Debug, PartialEq, Eq, Error)]
@@ -20,7 +20,7 @@ pub enum ShapeFault {
     TooManyBlocks,
 }
 
-/// How many caches and blocks a world has: 1 to 1,024 caches and 1 to 4,096 blocks.
+/// How many caches and blocks a world has: 1 to 4,096 caches and 1 to 65,536 blocks.
 #[derive(Clone, Copy, Debug, PartialEq, Eq)]
 pub struct Shape {
     caches: u32,

@@ -6,7 +6,9 @@ use monitor::Violation;
 use network::{Message, Response};
 use std::fmt;
 use std::fmt::Write as _;
-use story::{AcksText, AskText, Happening, RequestText, RequestorText, Sight, Trip, forward_name};
+use story::{
+    AcksText, AskText, Happening, RequestText, RequestorText, SeatText, Sight, Trip, forward_name,
+};
 
 /// Which block something in a picture is of, where this has to be told.
 #[derive(Clone, Copy)]
@@ -133,15 +135,21 @@ impl fmt::Display for MarkText {
     }
 }
 
-/// The step of a row, with its outcome where there is no controller to put it beside.
+/// The step of a row behind its seat, if it has one, with its outcome where there is no controller to put it beside.
 #[derive(Clone, Copy)]
 pub struct StepText(pub Happening);
 
 impl fmt::Display for StepText {
     fn fmt<W: fmt::Write>(&self, f: &mut fmt::Formatter<W>) -> fmt::Result {
         match self.0.place {
-            Some(_) => write!(f, "{}", self.0.step),
-            None => write!(f, "{} {}", self.0.step, self.0.outcome),
+            Some(_) => write!(f, "{}{}", SeatText(self.0.seat), self.0.step),
+            None => write!(
+                f,
+                "{}{} {}",
+                SeatText(self.0.seat),
+                self.0.step,
+                self.0.outcome
+            ),
         }
     }
 }

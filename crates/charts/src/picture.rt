@@ -4,7 +4,7 @@ use base::{BlockId, CacheId, NoMemory, Place, Shape};
 use cache_table::CacheState;
 use record::{Entry, Recording};
 use std::alloc::Global;
-use story::{Cut, Happening, List, Part, Shown, Sight, Story, Trip, look};
+use story::{Happening, List, Part, Shown, Sight, Story, Trip, look, seat_at};
 
 /// What is drawn of a part of a recording.
 pub struct Picture {
@@ -87,15 +87,21 @@ impl Picture {
 
     fn fill(&mut self, alloc: Global, recording: &Recording, part: Part) -> Result<(), NoMemory> {
         let mut story = Story::open(alloc, recording)?;
-        self.follow(&mut story, part, part.cut(recording.entries()))
+        self.follow(&mut story, recording, part)
     }
 
     /// Follows a story from its beginning to its end.
-    fn follow(&mut self, story: &mut Story, part: Part, cut: Cut<'_>) -> Result<(), NoMemory> {
+    fn follow(
+        &mut self,
+        story: &mut Story,
+        recording: &Recording,
+        part: Part,
+    ) -> Result<(), NoMemory> {
+        let cut = part.cut(recording.entries());
         self.list_blocks();
         story.skip(cut.before)?;
         self.begin(story);
-        self.tell(story, part, cut.chosen)?;
+        self.tell(story, recording, part, cut.chosen)?;
         let end = story.number();
         self.look_behind(story, cut.behind, end)?;
         self.leave(story, end);
@@ -175,9 +181,16 @@ impl Picture {
     }
 
     /// Makes the steps of the rows.
-    fn tell(&mut self, story: &mut Story, part: Part, chosen: &[Entry]) -> Result<(), NoMemory> {
+    fn tell(
+        &mut self,
+        story: &mut Story,
+        recording: &Recording,
+        part: Part,
+        chosen: &[Entry],
+    ) -> Result<(), NoMemory> {
         for entry in chosen {
-            let happening = story.advance(*entry)?;
+            let seat = seat_at(recording, story.number());
+            let happening = story.advance(*entry, seat)?;
             if part.is_of(happening.step.block()) {
                 self.rows.push(happening);
                 self.numbers.push(happening.number);
@@ -195,7 +208,7 @@ impl Picture {
         end: u64,
     ) -> Result<(), NoMemory> {
         for entry in behind {
-            let happening = story.advance(*entry)?;
+            let happening = story.advance(*entry, None)?;
             if self.looks_at(happening.step.block()) && was_sent_before(&happening, end) {
                 self.end(happening);
             }

@@ -3,7 +3,9 @@ use crate::tasks::Task;
 use crate::usage;
 use clap::error::ErrorKind;
 use clap::{ArgMatches, Error};
-use playing::{Fault, Finding, play, print_certificate, print_recording, print_tables, replay};
+use playing::{
+    Fault, Finding, move_recording, play, print_certificate, print_recording, print_tables, replay,
+};
 use std::alloc::Global;
 use std::io;
 use std::io::{Read, Write};
@@ -100,8 +102,9 @@ fn carry_out<R: Threads + Wait + Sync, I: Read + Drop, O: Write + Drop, E: Write
         Task::Batch(setup, plan) => {
             return batch(rt, alloc, setup, plan, input, output, errors);
         }
-        Task::Floor(setup, seats, turns) => race(rt, alloc, &setup, seats, turns, input, output),
+        Task::Floor(setup, plan) => race(rt, alloc, &setup, plan, input, output, &mut errors),
         Task::Replay => replay(alloc, input, output),
+        Task::Move => move_recording(alloc, input, output),
         Task::Show(form, part) => print_recording(alloc, form, part, input, output),
         Task::Tables(tables) => print_tables(alloc, &tables, output),
         Task::Certify(tables) => print_certificate(alloc, &tables, output),

@@ -7,7 +7,7 @@ use record::MOST_ENTRIES;
 use std::alloc::Global;
 use story::Part;
 use trials::Setup;
-use trying::BatchPlan;
+use trying::{BatchPlan, RacePlan};
 
 /// What a command line asks for, with all that its options and their files say.
 #[derive(Drop)]
@@ -18,10 +18,12 @@ pub enum Task {
     Trial(Setup, u32),
     /// Make a batch of trials.
     Batch(Setup, BatchPlan),
-    /// Have so many seats race at a floor, with so many turns each.
-    Floor(Setup, u32, u32),
+    /// Have seats race at a floor.
+    Floor(Setup, RacePlan),
     /// Replay a recording.
     Replay,
+    /// Print a recording in version 2.
+    Move,
     /// Show a part of a recording in this form.
     Show(Form, Part),
     /// Print the cells of these tables.
@@ -48,6 +50,7 @@ impl Task {
             "batch" => Some(Task::Batch(trying(alloc, options, files)?, plan(options))),
             "floor" => Some(racing(alloc, options, files)?),
             "replay" => Some(Task::Replay),
+            "move" => Some(Task::Move),
             "show" => Some(Task::Show(Form::Table, part(options))),
             "chart" => Some(Task::Show(Form::Chart, part(options))),
             "tables" => Some(Task::Tables(tables(alloc, options, files)?)),
@@ -93,7 +96,12 @@ fn racing<F: Files>(alloc: Global, options: &ArgMatches<'_>, files: &mut F) -> R
     if seats.saturating_mul(turns) as usize > MOST_ENTRIES {
         return Err(Fault::TooManyTurns);
     }
-    Ok(Task::Floor(setup(alloc, options, files, 0)?, seats, turns))
+    let plan = RacePlan {
+        seats,
+        turns,
+        recording: options.get_flag("recording"),
+    };
+    Ok(Task::Floor(setup(alloc, options, files, 0)?, plan))
 }
 
 /// What trials and races are made under. Every block opens at 0.

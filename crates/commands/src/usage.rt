@@ -43,7 +43,7 @@ struct Choice {
 const CACHES: Choice = Choice {
     name: "caches",
     value: "C",
-    help: "How many caches the world has, 1 to 1024",
+    help: "How many caches the world has, 1 to 4096",
     takes: Takes::Number(1, MOST_CACHES),
     left_out: LeftOut::Refused,
 };
@@ -51,7 +51,7 @@ const CACHES: Choice = Choice {
 const BLOCKS: Choice = Choice {
     name: "blocks",
     value: "B",
-    help: "How many blocks the world has, 1 to 4096",
+    help: "How many blocks the world has, 1 to 65536",
     takes: Takes::Number(1, MOST_BLOCKS),
     left_out: LeftOut::Default("1"),
 };
@@ -128,6 +128,14 @@ const TURNS: Choice = Choice {
     left_out: LeftOut::Refused,
 };
 
+const RECORDING: Choice = Choice {
+    name: "recording",
+    value: "",
+    help: "Prints the recording, which names the seat of each step, and on standard error what was found",
+    takes: Takes::Nothing,
+    left_out: LeftOut::Nothing,
+};
+
 const BLOCK: Choice = Choice {
     name: "block",
     value: "B",
@@ -159,7 +167,7 @@ struct Usage {
     choices: &'static [Choice],
 }
 
-const COMMANDS: [Usage; 9] = [
+const COMMANDS: [Usage; 10] = [
     Usage {
         name: "play",
         about: "Reads steps, one a line, and prints what each of them did",
@@ -193,9 +201,14 @@ const COMMANDS: [Usage; 9] = [
         choices: &[BLOCK, FROM, STEPS],
     },
     Usage {
+        name: "move",
+        about: "Reads a recording of either version, and prints it in version 2",
+        choices: &[],
+    },
+    Usage {
         name: "floor",
         about: "Reads asks, one a line, and has threads put them in a race",
-        choices: &[CACHES, BLOCKS, TABLES, SEATS, TURNS, SEED],
+        choices: &[CACHES, BLOCKS, TABLES, SEATS, TURNS, SEED, RECORDING],
     },
     Usage {
         name: "tables",

@@ -1,5 +1,5 @@
 -- One entry more keeps what the lock keeps.
-use Rattle.std.proofs.Common.{◌≡◌, ◌<◌, ◌≤◌, ℕ, List, [], ◌∷◌, ◌++◌, ◌+◌, Option, None, Result, Ok, Err}
+use Rattle.std.proofs.Common.{◌≡◌, ◌<◌, ◌≤◌, ℕ, List, [], ◌∷◌, ◌++◌, ◌+◌, Option, None, Some, Result, Ok, Err}
 use Rattle.std.proofs.Common.{IsOk, IfOk, true, length, take, refl, sym, ap, ◌∙◌, subst, inl, inr, arith, length-append}
 use Rattle.std.proofs.lemmas.List.{map_push, length-map, take-append-le}
 use Rattle.base.specs.Extent.{Extent}
@@ -16,10 +16,10 @@ use Rattle.monitor.specs.Violations.{AnswersFirst}
 use Rattle.monitor.specs.Watching.{HasSeen, LeadTo, AnswersHistory, SeesNext, AreDue, made_after, scene_after}
 use Rattle.monitor.proofs.FirstViolations.{first_seen, first-push}
 use Rattle.record.specs.declared.recording.Entry.{Entry}
-use Rattle.record.specs.View.{RecordingView, opened_recording, steps_of, with_entry}
+use Rattle.record.specs.View.{RecordingView, opened_of, steps_of, with_owned}
 use Rattle.trials.specs.Terms.{Terms}
 use Rattle.floor.specs.FloorId.{FloorId}
-use Rattle.floor.specs.Turning.{recorded, is_its}
+use Rattle.floor.specs.Turning.{recorded, recorded_at, is_its}
 use Rattle.floor.specs.Closing.{HaveOwners}
 use Rattle.floor.specs.inner.Keeping.{IsKeptUp, IsStart, Advances}
 use Rattle.floor.proofs.Lists.{get_push, take_whole}
@@ -63,7 +63,7 @@ kept_push : (f : FloorId) (world new : View) (watch watch' : List ℕ) (recordin
     IsKeptUp f world watch recording os violation → o < f.seats → is_its f recording.entries o e.step ≡ true →
     next world.tables world.state e.step ≡ stepped new.state e.outcome → new.shape ≡ world.shape → new.tables ≡ world.tables →
     AnswersHistory new watch e.step e.outcome seen → SeesNext new watch e.step e.outcome watch' →
-    IsKeptUp f new watch' (recorded f.setup (recording.entries ++ e ∷ [])) (os ++ o ∷ []) (first_seen violation (length recording.entries) seen)
+    IsKeptUp f new watch' (recorded_at f (recording.entries ++ e ∷ []) (os ++ o ∷ [])) (os ++ o ∷ []) (first_seen violation (length recording.entries) seen)
 kept_push f world new watch watch' recording os violation e o seen h lt mine made shape tables answers sees =
     let es : List Entry = recording.entries in
     let setup : Terms = f.setup in
@@ -115,7 +115,7 @@ pub kept_more : (f : FloorId) (world new : View) (watch watch' : List ℕ) (reco
     (violation violation' : Option (ℕ × Violation))
     (step : Step) (e : Entry) (o n : ℕ) (seen : Option Violation) →
     IsKeptUp f world watch recording os violation → o < f.seats → is_its f recording.entries o step ≡ true →
-    Advances world new recording recording' step e → AnswersHistory new watch step e.outcome seen → SeesNext new watch step e.outcome watch' →
+    Advances world new recording recording' o step e → AnswersHistory new watch step e.outcome seen → SeesNext new watch step e.outcome watch' →
     os' ≡ os ++ o ∷ [] → n ≡ length recording.entries → violation' ≡ first_seen violation n seen →
     IsKeptUp f new watch' recording' os' violation'
 kept_more f world new watch watch' recording recording' os os' violation violation' step e o n seen
@@ -127,14 +127,15 @@ kept_more f world new watch watch' recording recording' os os' violation violati
     (subst (λ (s : Step). next world.tables world.state s ≡ stepped new.state e.outcome) is a.made) a.shape a.tables
     (subst (λ (s : Step). AnswersHistory new watch s e.outcome seen) is answers)
     (subst (λ (s : Step). SeesNext new watch s e.outcome watch') is sees) in
-    let same : recording' ≡ recorded f.setup (recording.entries ++ e ∷ []) = a.recorded ∙ ap (λ (k : RecordingView). with_entry k e) h.recorded_is in
+    let same : recording' ≡ recorded_at f (recording.entries ++ e ∷ []) (os ++ o ∷ []) =
+    a.recorded ∙ ap (λ (k : RecordingView). with_owned k e (Some o)) h.recorded_is in
     rw (same, same_owners, same_violation, number) kept
 
 -- there was room for one entry more
-pub fits_more : (recording recording' : RecordingView) (es : List Entry) (e : Entry) (capacity : ℕ) → recording' ≡ with_entry recording e →
+pub fits_more : (recording recording' : RecordingView) (es : List Entry) (e : Entry) (o capacity : ℕ) → recording' ≡ with_owned recording e (Some o) →
     recording.entries ≡ es → length es < capacity →
     length recording'.entries ≤ capacity
-fits_more recording recording' es e capacity same is room =
+fits_more recording recording' es e o capacity same is room =
     let count : length recording'.entries ≡ length recording.entries + 1 =
     ap (λ (k : RecordingView). length k.entries) same ∙ length-append recording.entries (e ∷ []) in
     let low : length recording.entries < capacity = subst (λ (l : List Entry). length l < capacity) (sym is) room in
@@ -142,7 +143,7 @@ fits_more recording recording' es e capacity same is room =
 
 -- a world, a watch and a recording that are opened under the floor's setup are kept up
 pub kept_first : (f : FloorId) (world : View) (watch : List ℕ) (recording : RecordingView) → IsStart f.setup world →
-    ((w : View) → HasSeen w f.setup.opening [] watch) → recording ≡ opened_recording f.setup.shape f.setup.tables f.setup.opening →
+    ((w : View) → HasSeen w f.setup.opening [] watch) → recording ≡ opened_of f.seats f.setup.shape f.setup.tables f.setup.opening →
     IsKeptUp f world watch recording [] None
 kept_first f world watch recording starts seen opens = subst (λ (r : RecordingView). IsKeptUp f world watch r [] None) (sym opens) (record {
   recorded_is = refl;

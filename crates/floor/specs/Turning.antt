@@ -9,6 +9,7 @@ use Rattle.record.specs.View.{RecordingView, steps_of}
 use Rattle.trials.specs.Terms.{Terms}
 use Rattle.floor.specs.Belonging.{belongs, ready_for}
 use Rattle.floor.specs.FloorId.{FloorId}
+use Rattle.base.specs.declared.controller.protocol.Protocol.TheVariants.{Msi}
 
 -- a hall: the entries, the owner of each, and the first violation with the number of its entry
 pub record HallView : Type 0 where
@@ -29,9 +30,22 @@ new_seat number = record { number = number; made = [] }
 abbrev pub with_receipt : SeatView → ℕ × Entry → SeatView
 with_receipt seat receipt = record { number = seat.number; made = seat.made ++ receipt ∷ [] }
 
--- the recording of entries that were made under a setup
+-- the recording of entries that were made under a setup, of which nobody is told to own any
 abbrev pub recorded : Terms → List Entry → RecordingView
-recorded setup entries = record { shape = setup.shape; tables = setup.tables; opening = setup.opening; entries = entries }
+recorded setup entries =
+    record { protocol = Msi; seats = 0; shape = setup.shape; tables = setup.tables; opening = setup.opening; entries = entries; owners = [] }
+
+-- the recording of entries that were made at a floor, each with the seat that owns it
+abbrev pub recorded_at : FloorId → List Entry → List ℕ → RecordingView
+recorded_at floor entries owners = record {
+  protocol = Msi;
+  seats = floor.seats;
+  shape = floor.setup.shape;
+  tables = floor.setup.tables;
+  opening = floor.setup.opening;
+  entries = entries;
+  owners = owners;
+}
 
 -- the state that a setup's world is in after these entries
 abbrev pub state_of : Terms → List Entry → State

@@ -3,7 +3,7 @@
 ghost use Rattle.std.specs.Prelude.{◌≡◌, ◌≢◌, ◌<◌, None, All, MatchBool};
 ghost use Rattle.machine.specs.Restraint.{AreRestrained};
 ghost use Rattle.record.specs.View.{IsLegal};
-ghost use Rattle.floor.specs.Turning.{IsFirstOf, recorded};
+ghost use Rattle.floor.specs.Turning.{IsFirstOf, recorded_at};
 ghost use Rattle.floor.specs.Closing.{AllThere, AreHistories, HaveOwners, IsMissing, IsThere};
 
 use crate::grounds::Naming;
@@ -24,7 +24,7 @@ pub enum CloseFault {
 /// What was done at a floor.
 #[derive(Drop)]
 pub struct Closed<F: Naming> {
-    /// The steps of all turns with their outcomes, in order.
+    /// The steps of all turns with their outcomes and the seats that own them, in order.
     pub recording: Recording,
     /// The number of the seat that owns each entry.
     pub owners: Vec<u32>,
@@ -60,7 +60,7 @@ pub(crate) fn all_there<F: Naming>(seats: &[Seat<F>], count: u32) -> bool
 
 /// What a hall has done, once its entries were compared with what the seats have.
 pub(crate) fn end<F: Naming>(mut hall: Hall<F>, mut seats: Vec<Seat<F>>) -> Closed<F>
-    ensures setup { result.recording ≡ recorded F.floor.setup result.recording.entries }
+    ensures setup { result.recording ≡ recorded_at F.floor result.recording.entries result.owners.items }
     ensures legal { IsLegal result.recording }
     ensures owners { HaveOwners F.floor result.recording.entries result.owners.items }
     ensures histories { AreHistories result.recording.entries result.owners.items seats.items }

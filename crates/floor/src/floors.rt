@@ -1,13 +1,13 @@
 //! The floor: a hall behind its lock.
 
-ghost use Rattle.std.specs.Prelude.{◌≡◌, ◌<◌, [], map, IfOk, OnOk};
+ghost use Rattle.std.specs.Prelude.{◌≡◌, ◌<◌, ◌≤◌, [], map, IfOk, OnOk};
 ghost use Rattle.std.specs.List.{range_with_len};
 ghost use Rattle.floor.specs.FloorId.{floor_id};
 ghost use Rattle.floor.specs.Turning.{new_seat};
 ghost use Rattle.floor.specs.inner.Keeping.{IsStart};
 ghost use Rattle.floor.specs.inner.Tokens.{keeper};
 ghost use Rattle.monitor.specs.Watching.{HasSeen};
-ghost use Rattle.record.specs.View.{opened_recording};
+ghost use Rattle.record.specs.View.{opened_of};
 ghost use Rattle.world.specs.View.{View};
 
 use crate::closing::{CloseFault, Closed, all_there, end};
@@ -59,7 +59,7 @@ impl<F: Naming> Floor<F> {
     ghost use Rattle.machine.specs.Restraint.{AreRestrained};
     ghost use Rattle.record.specs.View.{IsLegal};
     ghost use Rattle.floor.specs.FloorId.{floor_id};
-    ghost use Rattle.floor.specs.Turning.{IsFirstOf, new_seat, recorded, with_receipt};
+    ghost use Rattle.floor.specs.Turning.{IsFirstOf, new_seat, recorded_at, with_receipt};
     ghost use Rattle.floor.specs.Calling.{HadNone, WasDrawn, WasForeign, WasFull, WasIts};
     ghost use Rattle.floor.specs.Closing.{AllReceived, AllStand, AllThere, AreHistories, HaveOwners, IsMissing};
 
@@ -141,7 +141,7 @@ impl<F: Naming> Floor<F> {
     ) -> Result<Closed<F>, (CloseFault, Floor<F>, Vec<Seat<F>>)>
         ensures missing { MatchResult result (λ _. AllThere F.floor.seats seats.items) (λ _. IsMissing F.floor.seats seats.items) }
         ensures back { IfErr result (λ refused. (refused.0 ≡ CloseFault.SeatMissing) × (refused.1 ≡ self) × (refused.2.items ≡ seats.items)) }
-        ensures setup { IfOk result (λ closed. closed.recording ≡ recorded F.floor.setup closed.recording.entries) }
+        ensures setup { IfOk result (λ closed. closed.recording ≡ recorded_at F.floor closed.recording.entries closed.owners.items) }
         ensures legal { IfOk result (λ closed. IsLegal closed.recording) }
         ensures owners { IfOk result (λ closed. HaveOwners F.floor closed.recording.entries closed.owners.items) }
         ensures histories { IfOk result (λ closed. AreHistories closed.recording.entries closed.owners.items seats.items) }
@@ -169,9 +169,10 @@ fn open_all<F: Naming>(
 ) -> Result<(Floor<F>, Vec<Seat<F>>), NoMemory>
     requires name { F.floor ≡ floor_id ground setup.now seats capacity }
     requires some { 0 < seats }
+    requires few { seats ≤ 64 }
     ensures { IfOk result (λ opened. opened.1.items ≡ map new_seat (range_with_len 0 seats)) }
 {
-    let (world, watch, recording) = open_parts(alloc, setup)?;
+    let (world, watch, recording) = open_parts(alloc, setup, seats)?;
     let Ground { log, mut token } = ground;
     let row = deal_row(alloc, &log, &mut token, seats)?;
     let hall = Hall {
@@ -196,16 +197,35 @@ fn open_all<F: Naming>(
     ))
 }
 
-/// A world before its first step, a watch that has seen none, and a recording without entries.
-fn open_parts(alloc: Global, setup: &Setup) -> Result<(World, Watch, Recording), NoMemory>
+/// A world before its first step, a watch that has seen none, and a recording of so many seats without entries.
+fn open_parts(
+    alloc: Global,
+    setup: &Setup,
+    seats: u32,
+) -> Result<(World, Watch, Recording), NoMemory>
+    requires some { 0 < seats }
+    requires few { seats ≤ 64 }
     ensures world { IfOk result (λ parts. IsStart setup.now parts.0) }
     ensures watch { IfOk result (λ parts. (world : View) → HasSeen world setup.now.opening [] parts.1) }
-    ensures recording { IfOk result (λ parts. parts.2 ≡ opened_recording setup.now.shape setup.now.tables setup.now.opening) }
+    ensures recording { IfOk result (λ parts. parts.2 ≡ opened_of seats setup.now.shape setup.now.tables setup.now.opening) }
 {
     let world = setup.open_world(alloc)?;
     let watch = Watch::open(alloc, setup.opening())?;
-    let recording = setup.open_recording(alloc)?;
+    let recording = open_recording(alloc, setup, seats)?;
     Ok((world, watch, recording))
+}
+
+/// A recording of so many seats under a setup, without entries.
+fn open_recording(alloc: Global, setup: &Setup, seats: u32) -> Result<Recording, NoMemory>
+    requires some { 0 < seats }
+    requires few { seats ≤ 64 }
+    ensures { IfOk result (λ recording. recording ≡ opened_of seats setup.now.shape setup.now.tables setup.now.opening) }
+{
+    let opening = Vec::from_slice(alloc, setup.opening())?;
+    match Recording::open_seats(alloc, setup.shape(), setup.tables(), opening, seats) {
+        Ok(recording) => Ok(recording),
+        Err(_) => Err(NoMemory),
+    }
 }
 
 /// So many seats, each with its number and a token of its own.

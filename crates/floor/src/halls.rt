@@ -142,7 +142,7 @@ impl<F: Naming> Hall<F> {
             return Err(TurnFault::NoMemory);
         }
         let number = self.recording.entries().len() as u64;
-        let Ok(entry) = advance(&mut self.world, &mut self.recording, step) else {
+        let Ok(entry) = advance(&mut self.world, &mut self.recording, seat.number, step) else {
             self.compare(seat);
             return Err(TurnFault::NoMemory);
         };
@@ -173,14 +173,20 @@ fn grow<F: Naming>(owners: &mut Vec<u32>, receipts: &mut Vec<Receipt<F>>) -> Res
     Ok(())
 }
 
-/// Makes a step, and adds it to a recording. Where memory is refused, world and recording are as they were.
-fn advance(world: &mut World, recording: &mut Recording, step: Step) -> Result<Entry, NoMemory>
-    ensures ok { IfOk result (λ entry. Advances world.old world.new recording.old recording.new step entry) }
+/// Makes a step of a seat's, and adds it to a recording. Where memory is refused, world and recording are as they were.
+fn advance(
+    world: &mut World,
+    recording: &mut Recording,
+    seat: u32,
+    step: Step,
+) -> Result<Entry, NoMemory>
+    requires { seat < recording.old.seats }
+    ensures ok { IfOk result (λ entry. Advances world.old world.new recording.old recording.new seat step entry) }
     ensures err { OnErr result (IsSame world.old world.new × (recording.new ≡ recording.old)) }
 {
     let outcome = world.ready(step)?;
     let entry = Entry { step, outcome };
-    if let Err(_) = recording.push(entry) {
+    if let Err(_) = recording.push_by(entry, seat) {
         return Err(NoMemory);
     }
     // Directly after its `ready` the step succeeds.

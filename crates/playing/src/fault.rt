@@ -1,7 +1,7 @@
 use base::{NoMemory, ShapeFault};
 use both_tables::TablesFault;
 use charts::{ChartFault, MOST_ROWS};
-use record::{ReadFault, ReadKind, WriteFault};
+use record::{MoveFault, ReadFault, ReadKind, WriteFault};
 use scenario::ScenarioFault;
 use std::alloc::{AllocError, AllocFailed};
 use std::{fmt, io};
@@ -164,6 +164,15 @@ impl From<ScenarioFault> for Fault {
 impl From<WriteFault> for Fault {
     fn from(_fault: WriteFault) -> Fault {
         Fault::Device
+    }
+}
+
+impl From<MoveFault> for Fault {
+    fn from(fault: MoveFault) -> Fault {
+        match fault {
+            MoveFault::Read(fault) => Fault::from(fault),
+            MoveFault::Write(fault) => Fault::from(fault),
+        }
     }
 }
 

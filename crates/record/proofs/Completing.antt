@@ -4,6 +4,7 @@ use Rattle.std.proofs.Common.{◌∙◌, arith, append-nil, append_assoc}
 use Rattle.std.specs.List.{AllByRecursion, flat_map}
 use Rattle.std.proofs.lemmas.List.Elements.{All-from_recursion}
 use Rattle.std.proofs.lemmas.Grind.{flat_map-append}
+use Rattle.std.proofs.lemmas.List.{length-map}
 use Rattle.base.specs.Spelling.{words}
 use Rattle.base.proofs.Cells.{TableOf, HasSize-replaced, replaced-here, replaced-other}
 use Rattle.cache_table.specs.Baseline as cache_baseline
@@ -20,11 +21,20 @@ use Rattle.record.specs.declared.cells.Cell.TheVariants as cell
 use Rattle.record.specs.declared.recording.Entry.{Entry}
 use Rattle.record.specs.Cells.{all_spots, cell_at, cell_words, spot_number, spot_of, FitsCell}
 use Rattle.record.specs.View.{RecordingView}
-use Rattle.record.specs.Text.{text, line, header_words, shape_words, opening_words, cells_words, entries_words, entry_words, end_words, changed, changed_cells}
+use Rattle.record.specs.Text.{text, line, header_words, shape_words, opening_words, cells_words, entries_words, told, told_words, end_words, changed, changed_cells}
+use Rattle.base.specs.Extent.{Extent}
+use Rattle.base.specs.declared.controller.protocol.Protocol.{Protocol}
+use Rattle.base.specs.declared.controller.protocol.Protocol.TheVariants.{Msi}
 use Rattle.record.specs.declared.due.Due.{Due}
-use Rattle.record.specs.declared.due.Due.TheVariants.{Header, ShapeLine, OpeningLine, CellCount, CellLine, EntryCount, EntryLine, EndLine, Nothing}
+use Rattle.record.specs.declared.due.Form.{Form}
+use Rattle.record.specs.declared.told.Told.{Told}
+use Rattle.record.specs.declared.version.Version.{Version}
+use Rattle.record.specs.declared.version.Version.TheVariants.{One, Two}
+use Rattle.record.specs.Versions.{form, header_leads, protocol_lines, protocol_words, seats_lines, seats_words, CanTell, HasTextIn, IsShapeIn}
+use Rattle.record.proofs.Owners.{are-owners, entries-fit, entries_of, owners_of, told-of}
+use Rattle.record.specs.declared.due.Due.TheVariants.{Header, ProtocolLine, ShapeLine, SeatsLine, OpeningLine, CellCount, CellLine, EntryCount, EntryLine, EndLine, Nothing}
 use Rattle.record.specs.Grammar.{cells_due}
-use Rattle.record.specs.Grammar.{entries_due, FitsEntry, Leads, Follow}
+use Rattle.record.specs.Grammar.{entries_due, AreValues, FitsEntry, FitsTold, Leads, Follow}
 use Rattle.record.specs.Recordable.{AreWhole, IsRecordable}
 use Rattle.record.specs.Refused.{ended, IsWellFormed}
 use Rattle.record.specs.inner.Drafts.{IsBaselineFrom}
@@ -134,23 +144,23 @@ one-line : (ls rest : List (List ℕ)) (l : List ℕ) (ws : List (List ℕ)) →
 one-line ls rest l ws is spelled = ap (flat_map ended) is ∙ ap (λ x. x ++ flat_map ended rest) (ended-line l ws spelled)
 
 -- the lines of so many cells, and others
-record Cells (from count : ℕ) (ls : List (List ℕ)) : Type 0 where
+record Cells (f : Form) (from count : ℕ) (ls : List (List ℕ)) : Type 0 where
   cells : List Cell
   rest : List (List ℕ)
   listed : AreListed from cells
   many : length cells ≡ count
-  follow : Follow EntryCount rest Nothing
+  follow : Follow (EntryCount f) rest Nothing
   bytes : flat_map ended ls ≡ flat_map line (map cell_words cells) ++ flat_map ended rest
 
-cells-of : (n from : ℕ) (ls : List (List ℕ)) → Follow (cells_due n from) ls Nothing → Cells from n ls
-cells-of zero from ls f = record { cells = []; rest = ls; listed = tt; many = refl; follow = f; bytes = refl }
-cells-of (suc n) from ls f =
-    let b = begins-of (CellLine (suc n) from) ls Nothing (λ e. cc) f in
+cells-of : (f : Form) (n from : ℕ) (ls : List (List ℕ)) → Follow (cells_due f n from) ls Nothing → Cells f from n ls
+cells-of f zero from ls g = record { cells = []; rest = ls; listed = tt; many = refl; follow = g; bytes = refl }
+cells-of f (suc n) from ls g =
+    let b = begins-of (CellLine f (suc n) from) ls Nothing (λ e. cc) g in
     let c : Cell = b.leads.0 in
     let left : suc n - 1 ≡ n = omega arith in
     let more =
-    cells-of n (spot_number (spot_of c) + 1) b.rest
-    (turned b.next _ b.rest Nothing (b.leads.3 ∙ ap (λ k. cells_due k (spot_number (spot_of c) + 1)) left) b.follow) in
+    cells-of f n (spot_number (spot_of c) + 1) b.rest
+    (turned b.next _ b.rest Nothing (b.leads.3 ∙ ap (λ k. cells_due f k (spot_number (spot_of c) + 1)) left) b.follow) in
     record {
       cells = c ∷ more.cells;
       rest = more.rest;
@@ -163,91 +173,197 @@ cells-of (suc n) from ls f =
     }
 
 -- the lines of so many entries, and the last one
-record Entries (count : ℕ) (ls : List (List ℕ)) : Type 0 where
-  entries : List Entry
-  many : length entries ≡ count
-  fit : AllByRecursion FitsEntry entries
-  bytes : flat_map ended ls ≡ flat_map line (map entry_words entries ++ end_words ∷ [])
+record Tolds (f : Form) (count : ℕ) (ls : List (List ℕ)) : Type 0 where
+  tolds : List Told
+  many : length tolds ≡ count
+  fit : AllByRecursion (FitsTold f.seats) tolds
+  bytes : flat_map ended ls ≡ flat_map line (map told_words tolds ++ end_words ∷ [])
 
-entries-of : (n : ℕ) (ls : List (List ℕ)) → Follow (entries_due n) ls Nothing → Entries n ls
-entries-of zero ls f =
-    let b = begins-of EndLine ls Nothing (λ e. cc) f in
+tolds-of : (f : Form) (n : ℕ) (ls : List (List ℕ)) → Follow (entries_due f n) ls Nothing → Tolds f n ls
+tolds-of f zero ls g =
+    let b = begins-of (EndLine f) ls Nothing (λ e. cc) g in
     let none = none-behind b.rest (turned b.next Nothing b.rest Nothing b.leads.1 b.follow) in
     record {
-      entries = [];
+      tolds = [];
       many = refl;
       fit = tt;
       bytes = one-line ls b.rest b.first end_words b.is b.leads.0 ∙ ap (λ l. line end_words ++ flat_map ended l) none;
     }
-entries-of (suc n) ls f =
-    let b = begins-of (EntryLine (suc n)) ls Nothing (λ e. cc) f in
-    let e : Entry = b.leads.0 in
+tolds-of f (suc n) ls g =
+    let b = begins-of (EntryLine f (suc n)) ls Nothing (λ e. cc) g in
+    let t : Told = b.leads.0 in
     let left : suc n - 1 ≡ n = omega arith in
-    let more = entries-of n b.rest (turned b.next _ b.rest Nothing (b.leads.3 ∙ ap entries_due left) b.follow) in
+    let more = tolds-of f n b.rest (turned b.next _ b.rest Nothing (b.leads.3 ∙ ap (entries_due f) left) b.follow) in
     record {
-      entries = e ∷ more.entries;
+      tolds = t ∷ more.tolds;
       many = ap suc more.many;
       fit = (b.leads.1, more.fit);
-      bytes = one-line ls b.rest b.first (entry_words e) b.is b.leads.2 ∙ ap (λ l. line (entry_words e) ++ l) more.bytes;
+      bytes = one-line ls b.rest b.first (told_words t) b.is b.leads.2 ∙ ap (λ l. line (told_words t) ++ l) more.bytes;
+    }
+
+-- ---- the lines behind the first, up to that of the opening values
+
+record Head (v : Version) (ls : List (List ℕ)) : Type 0 where
+  protocol : Protocol
+  seats : ℕ
+  shape : Extent
+  opening : List ℕ
+  rest : List (List ℕ)
+  can : CanTell v protocol seats
+  few : seats ≤ 64
+  within : IsShapeIn v shape
+  values : AreValues shape opening
+  follow : Follow (CellCount (form v protocol seats)) rest Nothing
+  bytes :
+      flat_map ended ls ≡ flat_map line (protocol_lines v protocol ++ (shape_words shape ∷ seats_lines v seats ++ opening_words opening ∷ [])) ++
+      flat_map ended rest
+
+two-lines : (a b rest : List ℕ) → a ++ (b ++ rest) ≡ (a ++ (b ++ [])) ++ rest
+two-lines a b rest = simp (append_assoc, append-nil)
+
+four-lines : (a b c d rest : List ℕ) → a ++ (b ++ (c ++ (d ++ rest))) ≡ (a ++ (b ++ (c ++ (d ++ [])))) ++ rest
+four-lines a b c d rest = simp (append_assoc, append-nil)
+
+head-of : (v : Version) (ls : List (List ℕ)) → Follow (header_leads v) ls Nothing → Head v ls
+head-of One ls g =
+    let f : Form = form One Msi 0 in
+    let b = begins-of (ShapeLine f) ls Nothing (λ e. cc) g in
+    let d = begins-of (OpeningLine f b.leads.0) b.rest Nothing (λ e. cc) (turned b.next _ b.rest Nothing b.leads.3 b.follow) in
+    record {
+      protocol = Msi;
+      seats = 0;
+      shape = b.leads.0;
+      opening = d.leads.0;
+      rest = d.rest;
+      can = (refl, refl);
+      few = omega arith;
+      within = b.leads.1;
+      values = d.leads.1;
+      follow = turned d.next _ d.rest Nothing d.leads.3 d.follow;
+      bytes =
+          one-line ls b.rest b.first (shape_words b.leads.0) b.is b.leads.2
+          ∙ ap (λ l. line (shape_words b.leads.0) ++ l) (one-line b.rest d.rest d.first (opening_words d.leads.0) d.is d.leads.2)
+          ∙ two-lines (line (shape_words b.leads.0)) (line (opening_words d.leads.0)) (flat_map ended d.rest);
+    }
+head-of Two ls g =
+    let a = begins-of ProtocolLine ls Nothing (λ e. cc) g in
+    let p : Protocol = a.leads.0 in
+    let f : Form = form Two p 0 in
+    let b = begins-of (ShapeLine f) a.rest Nothing (λ e. cc) (turned a.next _ a.rest Nothing a.leads.2 a.follow) in
+    let c = begins-of (SeatsLine f b.leads.0) b.rest Nothing (λ e. cc) (turned b.next _ b.rest Nothing b.leads.3 b.follow) in
+    let n : ℕ = c.leads.0 in
+    let d = begins-of (OpeningLine (form Two p n) b.leads.0) c.rest Nothing (λ e. cc) (turned c.next _ c.rest Nothing c.leads.3 c.follow) in
+    record {
+      protocol = p;
+      seats = n;
+      shape = b.leads.0;
+      opening = d.leads.0;
+      rest = d.rest;
+      can = tt;
+      few = c.leads.1;
+      within = b.leads.1;
+      values = d.leads.1;
+      follow = turned d.next _ d.rest Nothing d.leads.3 d.follow;
+      bytes =
+          one-line ls a.rest a.first (protocol_words p) a.is a.leads.1
+          ∙ ap (λ l. line (protocol_words p) ++ l) (one-line a.rest b.rest b.first (shape_words b.leads.0) b.is b.leads.2
+          ∙ ap (λ l. line (shape_words b.leads.0) ++ l) (one-line b.rest c.rest c.first (seats_words n) c.is c.leads.2
+          ∙ ap (λ l. line (seats_words n) ++ l) (one-line c.rest d.rest d.first (opening_words d.leads.0) d.is d.leads.2)))
+          ∙ four-lines (line (protocol_words p)) (line (shape_words b.leads.0)) (line (seats_words n)) (line (opening_words d.leads.0)) (flat_map ended d.rest);
     }
 
 -- ---- whole texts
 
 -- a recording whose text is these bytes
-abbrev IsTextOf : List ℕ → RecordingView → Type 0
-IsTextOf bytes r = IsRecordable r × (bytes ≡ text r)
+abbrev IsTextOf : Version → List ℕ → RecordingView → Type 0
+IsTextOf v bytes r = IsRecordable r × HasTextIn v r × (bytes ≡ text v r)
 
-tail_text : List Cell → List Entry → List ℕ
-tail_text cs es =
+tail_text : List Cell → List Told → List ℕ
+tail_text cs ts =
     line (cells_words (length cs)) ++
-    (flat_map line (map cell_words cs) ++ (line (entries_words (length es)) ++ flat_map line (map entry_words es ++ end_words ∷ [])))
+    (flat_map line (map cell_words cs) ++ (line (entries_words (length ts)) ++ flat_map line (map told_words ts ++ end_words ∷ [])))
 
-tail-is : (cs : List Cell) (es : List Entry) →
-    flat_map line (cells_words (length cs) ∷ map cell_words cs ++ (entries_words (length es) ∷ map entry_words es ++ end_words ∷ [])) ≡ tail_text cs es
+tail-is : (cs : List Cell) (ts : List Told) →
+    flat_map line (cells_words (length cs) ∷ map cell_words cs ++ (entries_words (length ts) ∷ map told_words ts ++ end_words ∷ [])) ≡ tail_text cs ts
 unfolding tail_text
-tail-is cs es =
-    ap (λ l. line (cells_words (length cs)) ++ l) (flat_map-append line (map cell_words cs) (entries_words (length es) ∷ map entry_words es ++ end_words ∷ []))
+tail-is cs ts =
+    ap (λ l. line (cells_words (length cs)) ++ l) (flat_map-append line (map cell_words cs) (entries_words (length ts) ∷ map told_words ts ++ end_words ∷ []))
 
-tail-of : (ls : List (List ℕ)) → Follow CellCount ls Nothing →
-    (cs : List Cell) × (es : List Entry) × AreListed 0 cs × (length es ≤ 1000000) × AllByRecursion FitsEntry es × (flat_map ended ls ≡ tail_text cs es)
+tail-of : (f : Form) (ls : List (List ℕ)) → Follow (CellCount f) ls Nothing →
+    (cs : List Cell) × (ts : List Told) × AreListed 0 cs × (length ts ≤ 1000000) × AllByRecursion (FitsTold f.seats) ts × (flat_map ended ls ≡ tail_text cs ts)
 unfolding tail_text
-tail-of ls f =
-    let b = begins-of CellCount ls Nothing (λ e. cc) f in
-    let c = cells-of b.leads.0 0 b.rest (turned b.next _ b.rest Nothing b.leads.3 b.follow) in
-    let d = begins-of EntryCount c.rest Nothing (λ e. cc) c.follow in
-    let e = entries-of d.leads.0 d.rest (turned d.next _ d.rest Nothing d.leads.3 d.follow) in (
+tail-of f ls g =
+    let b = begins-of (CellCount f) ls Nothing (λ e. cc) g in
+    let c = cells-of f b.leads.0 0 b.rest (turned b.next _ b.rest Nothing b.leads.3 b.follow) in
+    let d = begins-of (EntryCount f) c.rest Nothing (λ e. cc) c.follow in
+    let e = tolds-of f d.leads.0 d.rest (turned d.next _ d.rest Nothing d.leads.3 d.follow) in (
       c.cells,
-      e.entries,
+      e.tolds,
       c.listed,
       omega (arith, e.many, d.leads.1),
       e.fit,
       one-line ls b.rest b.first (cells_words (length c.cells)) b.is (b.leads.2 ∙ ap cells_words (sym c.many))
           ∙ ap (λ l. line (cells_words (length c.cells)) ++ l) (c.bytes
           ∙ ap (λ l. flat_map line (map cell_words c.cells) ++ l)
-          (one-line c.rest d.rest d.first (entries_words (length e.entries)) d.is (d.leads.2 ∙ ap entries_words (sym e.many))
-          ∙ ap (λ l. line (entries_words (length e.entries)) ++ l) e.bytes)),
+          (one-line c.rest d.rest d.first (entries_words (length e.tolds)) d.is (d.leads.2 ∙ ap entries_words (sym e.many))
+          ∙ ap (λ l. line (entries_words (length e.tolds)) ++ l) e.bytes)),
     )
 
-lines-text : (ls : List (List ℕ)) → Follow Header ls Nothing → (r : RecordingView) × IsTextOf (flat_map ended ls) r
+-- a recording of these parts has these bytes behind its head
+tail-told : (t : Tables) (ts : List Told) (owners : List ℕ) (entries : List Entry) → told owners entries ≡ ts → length ts ≡ length entries →
+    tail_text (changed_cells t) ts ≡
+    flat_map line (cells_words (length (changed_cells t)) ∷ map cell_words (changed_cells t) ++
+    (entries_words (length entries) ∷ map told_words (told owners entries) ++ end_words ∷ []))
+tail-told t ts owners entries is n =
+    let cs : List Cell = changed_cells t in
+    sym (tail-is cs ts)
+    ∙ ap (λ k. flat_map line (cells_words (length cs) ∷ map cell_words cs ++ (entries_words k ∷ map told_words ts ++ end_words ∷ []))) n
+    ∙ ap (λ us. flat_map line (cells_words (length cs) ∷ map cell_words cs ++ (entries_words (length entries) ∷ map told_words us ++ end_words ∷ []))) (sym is)
+
+lines-text : (ls : List (List ℕ)) → Follow Header ls Nothing → (v : Version) × (r : RecordingView) × IsTextOf v (flat_map ended ls) r
 lines-text ls f =
     let a = begins-of Header ls Nothing (λ e. cc) f in
-    let b = begins-of ShapeLine a.rest Nothing (λ e. cc) (turned a.next _ a.rest Nothing a.leads.1 a.follow) in
-    let d = begins-of (OpeningLine b.leads.0) b.rest Nothing (λ e. cc) (turned b.next _ b.rest Nothing b.leads.3 b.follow) in
-    let rest = tail-of d.rest (turned d.next _ d.rest Nothing d.leads.3 d.follow) in
+    let v : Version = a.leads.0 in
+    let h = head-of v a.rest (turned a.next _ a.rest Nothing a.leads.2 a.follow) in
+    let rest = tail-of (form v h.protocol h.seats) h.rest h.follow in
     let made = made-of rest.0 rest.2 in
-    let r : RecordingView = record { shape = b.leads.0; tables = made.tables; opening = d.leads.0; entries = rest.1 } in
-    let tail : flat_map ended d.rest ≡ tail_text (changed_cells made.tables) rest.1 = rest.5 ∙ ap (λ cs. tail_text cs rest.1) (sym made.just) in (
+    let ts : List Told = rest.1 in
+    let entries : List Entry = entries_of ts in
+    let owners : List ℕ = owners_of ts in
+    let r : RecordingView = record {
+      protocol = h.protocol;
+      seats = h.seats;
+      shape = h.shape;
+      tables = made.tables;
+      opening = h.opening;
+      entries = entries;
+      owners = owners;
+    } in
+    let n : length entries ≡ length ts = length-map ts (λ t. t.entry) in
+    let few : length entries ≤ 1000000 = omega (arith, n, rest.3) in
+    let tail : flat_map ended h.rest ≡ tail_text (changed_cells made.tables) ts = rest.5 ∙ ap (λ cs. tail_text cs ts) (sym made.just) in
+    let all = tail-told made.tables ts owners entries (told-of h.seats ts rest.4) (sym n) in
+    let head : List (List (List ℕ)) = protocol_lines v h.protocol ++ (shape_words h.shape ∷ seats_lines v h.seats ++ opening_words h.opening ∷ []) in (
+      v,
       r,
       (
-        record { shape = b.leads.1; tables = made.whole; opening = d.leads.1; few = rest.3; fits = All-from_recursion FitsEntry rest.1 rest.4 },
-        one-line ls a.rest a.first header_words a.is a.leads.0
-            ∙ ap (λ l. line header_words ++ l) (one-line a.rest b.rest b.first (shape_words b.leads.0) b.is b.leads.2
-            ∙ ap (λ l. line (shape_words b.leads.0) ++ l) (one-line b.rest d.rest d.first (opening_words d.leads.0) d.is d.leads.2
-            ∙ ap (λ l. line (opening_words d.leads.0) ++ l) (tail ∙ sym (tail-is (changed_cells made.tables) rest.1)))),
+        record {
+          shape = h.within.within;
+          tables = made.whole;
+          opening = h.values;
+          few = few;
+          owners = are-owners h.seats ts h.few rest.4;
+          fits = All-from_recursion FitsEntry entries (entries-fit h.seats ts rest.4);
+        },
+        record { shape = h.within; told = h.can },
+        one-line ls a.rest a.first (header_words v) a.is a.leads.1
+            ∙ ap (λ l. line (header_words v) ++ l) (h.bytes ∙ ap (λ l. flat_map line head ++ l) (tail ∙ all)
+            ∙ sym (flat_map-append line head _)),
       ),
     )
 
-pub whole-text_of : (bytes : List ℕ) → IsWellFormed (Some bytes) (Some []) → (r : RecordingView) × IsRecordable r × (bytes ≡ text r)
+pub whole-text_of : (bytes : List ℕ) → IsWellFormed (Some bytes) (Some []) →
+    (v : Version) × (r : RecordingView) × IsRecordable r × HasTextIn v r × (bytes ≡ text v r)
 whole-text_of bytes w =
     let found = lines-text w.lines w.follow in
-    (found.0, found.1.0, w.read ∙ append-nil (flat_map ended w.lines) ∙ found.1.1)
+    (found.0, found.1, found.2.0, found.2.1, w.read ∙ append-nil (flat_map ended w.lines) ∙ found.2.2)

@@ -1,16 +1,16 @@
 -- Bytes that are refused are refused in one place, as one fault.
-use Rattle.std.proofs.Common.{◌≡◌, ◌<◌, ℕ, List, [], ◌∷◌, ◌++◌, length, refl, ap, sym, subst, ◌∙◌, arith, suc, Option, Some, None, append_assoc}
+use Rattle.std.proofs.Common.{◌≡◌, ◌<◌, ◌+◌, ℕ, List, [], ◌∷◌, ◌++◌, length, refl, ap, sym, subst, ◌∙◌, arith, suc, Option, Some, None, append_assoc}
 use Rattle.std.specs.List.{flat_map}
 use Rattle.base.specs.Spelling.{words}
 use Rattle.record.specs.declared.fault.ReadKind.{ReadKind}
-use Rattle.record.specs.declared.fault.ReadKind.TheVariants.{BadHeader, BadLine, Truncated, CountDiffers, BadOutcome, OverLimit, NoMemory, Device}
+use Rattle.record.specs.declared.fault.ReadKind.TheVariants.{BadHeader, BadLine, Truncated, CountDiffers, BadOutcome, OverLimit, NoMemory, Device, UnknownProtocol}
 use Rattle.record.specs.declared.due.Due.{Due}
-use Rattle.record.specs.declared.due.Due.TheVariants.{Header, ShapeLine, OpeningLine, CellCount, CellLine, EntryCount, EntryLine, EndLine, Nothing}
+use Rattle.record.specs.declared.due.Due.TheVariants.{Header, ProtocolLine, ShapeLine, SeatsLine, OpeningLine, CellCount, CellLine, EntryCount, EntryLine, EndLine, Nothing}
 use Rattle.record.specs.Grammar.{Leads, Follow}
-use Rattle.record.specs.Refused.{IsOver, IsMiscounted, IsBadOutcome, IsFaultOfLine, ended, BeginsFaulty, IsTooLong, IsUnfinished, IsRefused, IsOutside}
+use Rattle.record.specs.Refused.{IsOver, IsMiscounted, IsBadOutcome, IsUnknown, IsFaultOfLine, ended, limit, BeginsFaulty, IsTooLong, IsUnfinished, IsRefused, IsOutside}
 use Rattle.record.proofs.Leading.{IsDue, leads-due, leads-one}
 use Rattle.record.proofs.Ending.{line-ends_in, line-ends_within, one-line_first}
-use Rattle.record.proofs.Faulting.{two-words}
+use Rattle.record.proofs.Faulting.{owned-two}
 use Rattle.record.proofs.Refusals.{Fault, ends, long, begins, behind, outside, fault-of, good-outside, good-open}
 
 -- ---- a line has one fault where it is due
@@ -25,37 +25,65 @@ header-outcome : (due : Due) (line : List (List ℕ)) → due ≡ Header → IsB
 header-outcome due line is h = subst (λ d. IsBadOutcome d line) is h
 
 over-miscounted : (due : Due) (line : List (List ℕ)) → IsOver due line → IsMiscounted due line → ⊥
-over-miscounted (EntryLine left) line h k = h
-over-miscounted EndLine line h k = h
+over-miscounted (EntryLine f left) line h k = h
+over-miscounted (EndLine f) line h k = h
 over-miscounted Header line h k = k
-over-miscounted ShapeLine line h k = k
-over-miscounted (OpeningLine shape) line h k = k
-over-miscounted CellCount line h k = k
-over-miscounted (CellLine left from) line h k = k
-over-miscounted EntryCount line h k = k
+over-miscounted ProtocolLine line h k = k
+over-miscounted (SeatsLine f shape) line h k = k
+over-miscounted (ShapeLine f) line h k = k
+over-miscounted (OpeningLine f shape) line h k = k
+over-miscounted (CellCount f) line h k = k
+over-miscounted (CellLine f left from) line h k = k
+over-miscounted (EntryCount f) line h k = k
 over-miscounted Nothing line h k = k
 
 over-outcome : (due : Due) (line : List (List ℕ)) → IsOver due line → IsBadOutcome due line → ⊥
-over-outcome (EntryLine left) line h k = h
-over-outcome EndLine line h k = k
+over-outcome (EntryLine f left) line h k = h
+over-outcome (EndLine f) line h k = k
 over-outcome Header line h k = k
-over-outcome ShapeLine line h k = k
-over-outcome (OpeningLine shape) line h k = k
-over-outcome CellCount line h k = k
-over-outcome (CellLine left from) line h k = k
-over-outcome EntryCount line h k = k
+over-outcome ProtocolLine line h k = k
+over-outcome (SeatsLine f shape) line h k = k
+over-outcome (ShapeLine f) line h k = k
+over-outcome (OpeningLine f shape) line h k = k
+over-outcome (CellCount f) line h k = k
+over-outcome (CellLine f left from) line h k = k
+over-outcome (EntryCount f) line h k = k
 over-outcome Nothing line h k = k
 
 miscounted-outcome : (due : Due) (line : List (List ℕ)) → IsMiscounted due line → IsBadOutcome due line → ⊥
-miscounted-outcome (EntryLine left) line h k = two-words k.step _ k.fits (sym k.spelled ∙ h)
-miscounted-outcome EndLine line h k = k
+miscounted-outcome (EntryLine f left) line h k = owned-two k.owner k.step _ k.fits (sym k.spelled ∙ h)
+miscounted-outcome (EndLine f) line h k = k
 miscounted-outcome Header line h k = k
-miscounted-outcome ShapeLine line h k = k
-miscounted-outcome (OpeningLine shape) line h k = k
-miscounted-outcome CellCount line h k = k
-miscounted-outcome (CellLine left from) line h k = k
-miscounted-outcome EntryCount line h k = k
+miscounted-outcome ProtocolLine line h k = k
+miscounted-outcome (SeatsLine f shape) line h k = k
+miscounted-outcome (ShapeLine f) line h k = k
+miscounted-outcome (OpeningLine f shape) line h k = k
+miscounted-outcome (CellCount f) line h k = k
+miscounted-outcome (CellLine f left from) line h k = k
+miscounted-outcome (EntryCount f) line h k = k
 miscounted-outcome Nothing line h k = k
+
+-- a protocol is due where none of the others is
+only-unknown : (due : Due) (line : List (List ℕ)) (kind : ReadKind) → IsUnknown due line → IsFaultOfLine due line kind → kind ≡ UnknownProtocol
+only-unknown ProtocolLine line UnknownProtocol h k = refl
+only-unknown ProtocolLine line OverLimit h k = absurd k
+only-unknown ProtocolLine line BadHeader h k = let no = k.0 in absurd (cc)
+only-unknown ProtocolLine line CountDiffers h k = absurd k
+only-unknown ProtocolLine line BadOutcome h k = absurd k
+only-unknown ProtocolLine line BadLine h k = absurd (k.known h)
+only-unknown ProtocolLine line Truncated h k = absurd k
+only-unknown ProtocolLine line NoMemory h k = absurd k
+only-unknown ProtocolLine line Device h k = absurd k
+only-unknown Header line kind h k = absurd h
+only-unknown (ShapeLine f) line kind h k = absurd h
+only-unknown (SeatsLine f shape) line kind h k = absurd h
+only-unknown (OpeningLine f shape) line kind h k = absurd h
+only-unknown (CellCount f) line kind h k = absurd h
+only-unknown (CellLine f left from) line kind h k = absurd h
+only-unknown (EntryCount f) line kind h k = absurd h
+only-unknown (EntryLine f left) line kind h k = absurd h
+only-unknown (EndLine f) line kind h k = absurd h
+only-unknown Nothing line kind h k = absurd h
 
 abbrev OneFault : Due → List (List ℕ) → ReadKind → ReadKind → Type 0
 OneFault due line one other = IsFaultOfLine due line one → IsFaultOfLine due line other → one ≡ other
@@ -66,6 +94,7 @@ one-fault_of_line due line OverLimit BadHeader h k = absurd (header-over due lin
 one-fault_of_line due line OverLimit CountDiffers h k = absurd (over-miscounted due line h k)
 one-fault_of_line due line OverLimit BadOutcome h k = absurd (over-outcome due line h k)
 one-fault_of_line due line OverLimit BadLine h k = absurd (k.not_over h)
+one-fault_of_line due line OverLimit UnknownProtocol h k = only-unknown due line OverLimit k h
 one-fault_of_line due line OverLimit Truncated h k = absurd k
 one-fault_of_line due line OverLimit NoMemory h k = absurd k
 one-fault_of_line due line OverLimit Device h k = absurd k
@@ -74,6 +103,7 @@ one-fault_of_line due line BadHeader BadHeader h k = refl
 one-fault_of_line due line BadHeader CountDiffers h k = absurd (header-miscounted due line h.0 k)
 one-fault_of_line due line BadHeader BadOutcome h k = absurd (header-outcome due line h.0 k)
 one-fault_of_line due line BadHeader BadLine h k = absurd (k.behind_header h.0)
+one-fault_of_line due line BadHeader UnknownProtocol h k = only-unknown due line BadHeader k h
 one-fault_of_line due line BadHeader Truncated h k = absurd k
 one-fault_of_line due line BadHeader NoMemory h k = absurd k
 one-fault_of_line due line BadHeader Device h k = absurd k
@@ -82,6 +112,7 @@ one-fault_of_line due line CountDiffers BadHeader h k = absurd (header-miscounte
 one-fault_of_line due line CountDiffers CountDiffers h k = refl
 one-fault_of_line due line CountDiffers BadOutcome h k = absurd (miscounted-outcome due line h k)
 one-fault_of_line due line CountDiffers BadLine h k = absurd (k.not_miscounted h)
+one-fault_of_line due line CountDiffers UnknownProtocol h k = only-unknown due line CountDiffers k h
 one-fault_of_line due line CountDiffers Truncated h k = absurd k
 one-fault_of_line due line CountDiffers NoMemory h k = absurd k
 one-fault_of_line due line CountDiffers Device h k = absurd k
@@ -90,6 +121,7 @@ one-fault_of_line due line BadOutcome BadHeader h k = absurd (header-outcome due
 one-fault_of_line due line BadOutcome CountDiffers h k = absurd (miscounted-outcome due line k h)
 one-fault_of_line due line BadOutcome BadOutcome h k = refl
 one-fault_of_line due line BadOutcome BadLine h k = absurd (k.no_bad_outcome h)
+one-fault_of_line due line BadOutcome UnknownProtocol h k = only-unknown due line BadOutcome k h
 one-fault_of_line due line BadOutcome Truncated h k = absurd k
 one-fault_of_line due line BadOutcome NoMemory h k = absurd k
 one-fault_of_line due line BadOutcome Device h k = absurd k
@@ -98,24 +130,26 @@ one-fault_of_line due line BadLine BadHeader h k = absurd (h.behind_header k.0)
 one-fault_of_line due line BadLine CountDiffers h k = absurd (h.not_miscounted k)
 one-fault_of_line due line BadLine BadOutcome h k = absurd (h.no_bad_outcome k)
 one-fault_of_line due line BadLine BadLine h k = refl
+one-fault_of_line due line BadLine UnknownProtocol h k = only-unknown due line BadLine k h
 one-fault_of_line due line BadLine Truncated h k = absurd k
 one-fault_of_line due line BadLine NoMemory h k = absurd k
 one-fault_of_line due line BadLine Device h k = absurd k
+one-fault_of_line due line UnknownProtocol other h k = sym (only-unknown due line other h k)
 one-fault_of_line due line Truncated other h k = absurd h
 one-fault_of_line due line NoMemory other h k = absurd h
 one-fault_of_line due line Device other h k = absurd h
 
 -- ---- one fault
 
-long-line : (due : Due) (bytes : List ℕ) (kind : ReadKind) → IsTooLong bytes → BeginsFaulty due bytes kind → ⊥
+long-line : (due : Due) (bytes : List ℕ) (kind : ReadKind) → IsTooLong (limit due) bytes → BeginsFaulty due bytes kind → ⊥
 long-line due bytes kind h k =
-    let short : length k.line < 90001 = omega (arith, k.short) in line-ends_within 90001 k.line k.behind bytes k.stands short h.no_end
+    let short : length k.line < limit due + 1 = omega (arith, k.short) in line-ends_within (limit due + 1) k.line k.behind bytes k.stands short h.no_end
 
-ends-line : (due : Due) (bytes : List ℕ) (kind : ReadKind) → IsUnfinished bytes → BeginsFaulty due bytes kind → ⊥
+ends-line : (due : Due) (bytes : List ℕ) (kind : ReadKind) → IsUnfinished (limit due) bytes → BeginsFaulty due bytes kind → ⊥
 ends-line due bytes kind h k = line-ends_in k.line k.behind bytes k.stands h.no_end
 
-ends-long : (bytes : List ℕ) → IsUnfinished bytes → IsTooLong bytes → ⊥
-ends-long bytes h k = absurd (omega (arith, h.short, k.long))
+ends-long : (most : ℕ) (bytes : List ℕ) → IsUnfinished most bytes → IsTooLong most bytes → ⊥
+ends-long most bytes h k = absurd (omega (arith, h.short, k.long))
 
 nothing-fault : (due : Due) (line : List (List ℕ)) (kind : ReadKind) → due ≡ Nothing → IsFaultOfLine due line kind → kind ≡ BadLine
 nothing-fault due line OverLimit is h = absurd (subst (λ d. IsFaultOfLine d line OverLimit) is h)
@@ -123,6 +157,7 @@ nothing-fault due line BadHeader is h = let no : Nothing ≡ Header = sym is ∙
 nothing-fault due line CountDiffers is h = absurd (subst (λ d. IsFaultOfLine d line CountDiffers) is h)
 nothing-fault due line BadOutcome is h = absurd (subst (λ d. IsFaultOfLine d line BadOutcome) is h)
 nothing-fault due line BadLine is h = refl
+nothing-fault due line UnknownProtocol is h = absurd (subst (λ d. IsFaultOfLine d line UnknownProtocol) is h)
 nothing-fault due line Truncated is h = absurd h
 nothing-fault due line NoMemory is h = absurd h
 nothing-fault due line Device is h = absurd h
@@ -137,11 +172,11 @@ one-fault : (due : Due) (bytes : List ℕ) (one other : ReadKind) → ¬ IsOutsi
 one-fault due bytes one other p q (outside h) k = absurd (p h)
 one-fault due bytes one other p q (ends a x h) (outside k) = absurd (q k)
 one-fault due bytes one other p q (ends a x h) (ends b y k) = a ∙ sym b
-one-fault due bytes one other p q (ends a x h) (long b y k) = absurd (ends-long bytes h k)
+one-fault due bytes one other p q (ends a x h) (long b y k) = absurd (ends-long (limit due) bytes h k)
 one-fault due bytes one other p q (ends a x h) (begins k) = absurd (ends-line due bytes other h k)
 one-fault due bytes one other p q (ends a x h) (behind b y k) = absurd (x y)
 one-fault due bytes one other p q (long a x h) (outside k) = absurd (q k)
-one-fault due bytes one other p q (long a x h) (ends b y k) = absurd (ends-long bytes k h)
+one-fault due bytes one other p q (long a x h) (ends b y k) = absurd (ends-long (limit due) bytes k h)
 one-fault due bytes one other p q (long a x h) (long b y k) = a ∙ sym b
 one-fault due bytes one other p q (long a x h) (begins k) = absurd (long-line due bytes other h k)
 one-fault due bytes one other p q (long a x h) (behind b y k) = absurd (x y)
@@ -173,7 +208,7 @@ one-place due last final (x ∷ xs) (y ∷ ys) bytes others one other is f g e p
     (sym (append_assoc (ended x) (flat_map ended xs) bytes) ∙ e ∙ append_assoc (ended y) (flat_map ended ys) others) in
     let next : g.0 ≡ f.0 = leads-one due (words x) g.0 f.0 (subst (λ l. Leads due (words l) g.0) (sym same.0) g.1) f.1 in
     let rest =
-    one-place f.0 last final xs ys bytes others one other (leads-due due (words x) f.0 f.1) f.2 (subst (λ d. Follow d ys final) next g.2) same.1 p q h k in
+    one-place f.0 last final xs ys bytes others one other (leads-due due (words x) f.0 is f.1) f.2 (subst (λ d. Follow d ys final) next g.2) same.1 p q h k in
     (ap suc rest.0, rest.1)
 
 -- two refusals of the same bytes are one, where the bytes are at fault

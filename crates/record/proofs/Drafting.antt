@@ -1,24 +1,32 @@
 -- A recording that is read grows line by line.
-use Rattle.std.proofs.Common.{◌≡◌, ◌≢◌, ◌≤◌, ◌+◌, ◌-◌, ℕ, zero, suc, List, [], ◌∷◌, ◌++◌, length, map, refl, ap, sym, subst, ◌∙◌, arith}
+use Rattle.std.proofs.Common.{◌≡◌, ◌≢◌, ◌≤◌, ◌<◌, ◌+◌, ◌-◌, ℕ, zero, suc, List, [], ◌∷◌, ◌++◌, length, map, refl, ap, sym, subst, ◌∙◌, arith}
 use Rattle.std.proofs.Common.{append_assoc}
 use Rattle.std.specs.List.{All}
 use Rattle.std.proofs.lemmas.List.{length_push, map-append}
-use Rattle.std.proofs.lemmas.List.Elements.{All-push}
-use Rattle.base.specs.Extent.{IsWithinLimits}
+use Rattle.std.proofs.lemmas.List.Elements.{All-from_recursion, All-push}
+use Rattle.base.specs.Extent.{Extent, IsWithinLimits}
+use Rattle.base.specs.declared.controller.protocol.Protocol.{Protocol}
+use Rattle.record.specs.declared.due.Form.{Form}
+use Rattle.record.specs.declared.told.Told.{Told}
+use Rattle.record.specs.declared.version.Version.{Version}
+use Rattle.record.specs.declared.version.Version.TheVariants.{One, Two}
+use Rattle.record.specs.Refused.{limit}
+use Rattle.record.specs.Versions.{form, header_leads, shape_leads_in, protocol_lines, protocol_words, seats_lines, seats_words, CanTell, IsShapeIn}
+use Rattle.record.proofs.Owners.{more-owners, told-more}
 use Rattle.both_tables.specs.Tables.{Tables, baseline}
 use Rattle.record.specs.declared.cells.Spot.{Spot}
 use Rattle.record.specs.declared.cells.Cell.{Cell}
 use Rattle.record.specs.declared.draft.Draft.{Draft}
 use Rattle.record.specs.declared.due.Due.{Due}
-use Rattle.record.specs.declared.due.Due.TheVariants.{CellCount, CellLine, EntryCount, EntryLine, Nothing}
+use Rattle.record.specs.declared.due.Due.TheVariants.{Header, ProtocolLine, ShapeLine, SeatsLine, OpeningLine, CellCount, CellLine, EntryCount, EntryLine, Nothing}
 use Rattle.record.specs.declared.reader.Reader.{Reader}
 use Rattle.record.specs.declared.recording.Entry.{Entry}
 use Rattle.record.specs.Cells.{cell_at, cell_words, spot_of, spot_number}
-use Rattle.record.specs.Grammar.{cells_due, entries_due, AreValues, FitsEntry, IsListed, Leads}
-use Rattle.record.specs.View.{RecordingView}
+use Rattle.record.specs.Grammar.{cells_due, entries_due, AreValues, FitsEntry, FitsTold, IsListed, IsOwner, Leads}
+use Rattle.record.specs.View.{owner_list, AreOwners}
 use Rattle.record.specs.Recordable.{AreWhole}
-use Rattle.record.specs.Text.{header_words, shape_words, opening_words, changed_cells, cells_words, entries_words, entry_words}
-use Rattle.record.specs.inner.Drafts.{kept, head_lines, lines_to_cells, lines_to_entries, lines_before, lines_left, IsBaselineFrom, IsReadTo, IsTaken}
+use Rattle.record.specs.Text.{head_lines, header_words, shape_words, opening_words, changed_cells, cells_words, entries_words, told, told_words}
+use Rattle.record.specs.inner.Drafts.{kept, recorded, Kept, lines_to_cells, lines_to_entries, lines_before, lines_left, IsBaselineFrom, IsHeadedAs, IsReadTo, IsTaken}
 use Rattle.record.specs.inner.Drafts.{HasRoom}
 use Rattle.record.specs.inner.Readers.{IsReady}
 use Rattle.record.specs.inner.Reading.{IsTakenOff}
@@ -27,149 +35,423 @@ use Rattle.record.proofs.Steps.{fewer-left}
 
 -- ---- what is due behind a count, and behind one of so many
 
-cells-before : (n from : ℕ) (r : RecordingView) → lines_before (cells_due n from) r ≡ lines_to_cells r (length (changed_cells r.tables) + n)
-cells-before zero from r = ap (lines_to_cells r) (omega arith)
-cells-before (suc n) from r = refl
+cells-before : (f : Form) (n from : ℕ) (r : Kept) → lines_before (cells_due f n from) r ≡ lines_to_cells r (length (changed_cells r.tables) + n)
+cells-before f zero from r = ap (lines_to_cells r) (omega arith)
+cells-before f (suc n) from r = refl
 
-entries-before : (n : ℕ) (r : RecordingView) → lines_before (entries_due n) r ≡ lines_to_entries r (length r.entries + n)
-entries-before zero r = ap (lines_to_entries r) (omega arith)
-entries-before (suc n) r = refl
+entries-before : (f : Form) (n : ℕ) (r : Kept) → lines_before (entries_due f n) r ≡ lines_to_entries r (length r.entries + n)
+entries-before f zero r = ap (lines_to_entries r) (omega arith)
+entries-before f (suc n) r = refl
 
-cells-read : (n from : ℕ) (r : RecordingView) → IsWithinLimits r.shape → AreWhole r.tables → AreValues r.shape r.opening → r.entries ≡ [] → from ≤ 160 →
-    IsBaselineFrom from r.tables → All FitsEntry r.entries → IsReadTo (cells_due n from) r
-cells-read zero from r shape tables opening entries low plain fits =
-    record { shape = shape; tables = tables; fits = fits; opening = opening; cells = tt; entries = entries }
-cells-read (suc n) from r shape tables opening entries low plain fits =
-    record { shape = shape; tables = tables; fits = fits; opening = opening; cells = (omega arith, low, plain); entries = entries }
+-- what is told in the head, and a shape of its version
+abbrev IsHead : Form → Kept → Type 0
+IsHead f r = IsHeadedAs f r × IsShapeIn r.version r.shape
 
-entries-read : (n : ℕ) (r : RecordingView) → IsWithinLimits r.shape → AreWhole r.tables → AreValues r.shape r.opening → length r.entries + n ≤ 1000000 →
-    All FitsEntry r.entries → IsReadTo (entries_due n) r
-entries-read zero r shape tables opening few fits =
-    record { shape = shape; tables = tables; fits = fits; opening = opening; cells = tt; entries = omega (arith, few) }
-entries-read (suc n) r shape tables opening few fits =
-    record { shape = shape; tables = tables; fits = fits; opening = opening; cells = tt; entries = (omega arith, few) }
+cells-read : (f : Form) (n from : ℕ) (r : Kept) → IsWithinLimits r.shape → AreWhole r.tables → AreValues r.shape r.opening → r.entries ≡ [] → from ≤ 160 →
+    IsBaselineFrom from r.tables → All FitsEntry r.entries → AreOwners r.seats r.owners r.entries → IsHead f r → IsReadTo (cells_due f n from) r
+cells-read f zero from r shape tables opening entries low plain fits owners head =
+    record { shape = shape; tables = tables; fits = fits; opening = opening; cells = tt; entries = entries; owners = owners; head = head }
+cells-read f (suc n) from r shape tables opening entries low plain fits owners head = record {
+  shape = shape;
+  tables = tables;
+  fits = fits;
+  opening = opening;
+  cells = (omega arith, low, plain);
+  entries = entries;
+  owners = owners;
+  head = head;
+}
+
+entries-read : (f : Form) (n : ℕ) (r : Kept) → IsWithinLimits r.shape → AreWhole r.tables → AreValues r.shape r.opening → length r.entries + n ≤ 1000000 →
+    All FitsEntry r.entries → AreOwners r.seats r.owners r.entries → IsHead f r → IsReadTo (entries_due f n) r
+entries-read f zero r shape tables opening few fits owners head =
+    record { shape = shape; tables = tables; fits = fits; opening = opening; cells = tt; entries = omega (arith, few); owners = owners; head = head }
+entries-read f (suc n) r shape tables opening few fits owners head = record {
+  shape = shape;
+  tables = tables;
+  fits = fits;
+  opening = opening;
+  cells = tt;
+  entries = (omega arith, few);
+  owners = owners;
+  head = head;
+}
 
 baseline-changed : changed_cells baseline ≡ []
 baseline-changed = sym (listed-all baseline 0 (omega arith) (λ s high. refl))
 
+-- nobody owns an entry where there is none
+pub no-owners : (seats : ℕ) (owners : List ℕ) (entries : List Entry) → AreOwners seats owners entries → entries ≡ [] → owners ≡ []
+no-owners zero owners entries h none = h.none refl
+no-owners (suc n) owners entries h none = by-length owners (h.each (λ e. absurd (omega (arith, e))) ∙ ap length none)
+  where
+    by-length : (owners : List ℕ) → length owners ≡ 0 → owners ≡ []
+    by-length [] e = refl
+    by-length (k ∷ ks) e = absurd (omega (arith, e))
+
 -- ---- lines that leave the recording as it is
 
-at-cell_count : (r : RecordingView) (line : List (List ℕ)) (next : Due) → IsReadTo CellCount r → Leads CellCount line next →
-    IsTaken CellCount r line next r
-at-cell_count r line next h leads =
+at-cell_count : (f : Form) (r : Kept) (line : List (List ℕ)) (next : Due) → IsReadTo (CellCount f) r → Leads (CellCount f) line next →
+    IsTaken (CellCount f) r line next r
+at-cell_count f r line next h leads =
     let none : changed_cells r.tables ≡ [] = ap changed_cells h.cells ∙ baseline-changed in
     let n : length (changed_cells r.tables) + leads.0 ≡ leads.0 = omega (arith, ap length none) in
     let plain : IsBaselineFrom 0 r.tables = λ s high. ap (λ (t : Tables). cell_at t s) h.cells in
+    let head : List (List (List ℕ)) = head_lines r.version (recorded r) in
     record {
       leads = leads;
       before =
-          ap (λ d. lines_before d r) leads.3 ∙ cells-before leads.0 0 r ∙ ap (lines_to_cells r) n
-          ∙ ap (λ cs. head_lines r ++ cells_words leads.0 ∷ map cell_words cs) none ∙ ap (λ l. head_lines r ++ l ∷ []) (sym leads.2);
+          ap (λ d. lines_before d r) leads.3 ∙ cells-before f leads.0 0 r ∙ ap (lines_to_cells r) n
+          ∙ ap (λ cs. head ++ cells_words leads.0 ∷ map cell_words cs) none ∙ ap (λ l. head ++ l ∷ []) (sym leads.2);
       read =
           subst (λ d. IsReadTo d r) (sym leads.3)
-          (cells-read leads.0 0 r h.shape h.tables h.opening h.entries (omega arith) plain h.fits);
+          (cells-read f leads.0 0 r h.shape h.tables h.opening h.entries (omega arith) plain h.fits h.owners h.head);
     }
 
-at-entry_count : (r : RecordingView) (line : List (List ℕ)) (next : Due) → IsReadTo EntryCount r → Leads EntryCount line next →
-    IsTaken EntryCount r line next r
-at-entry_count r line next h leads =
+at-entry_count : (f : Form) (r : Kept) (line : List (List ℕ)) (next : Due) → IsReadTo (EntryCount f) r → Leads (EntryCount f) line next →
+    IsTaken (EntryCount f) r line next r
+at-entry_count f r line next h leads =
     let n : length r.entries + leads.0 ≡ leads.0 = omega (arith, ap length h.entries) in
     let cells = lines_to_cells r (length (changed_cells r.tables)) in
+    let none : told r.owners r.entries ≡ [] = ap (told r.owners) h.entries in
     record {
       leads = leads;
       before =
-          ap (λ d. lines_before d r) leads.3 ∙ entries-before leads.0 r ∙ ap (lines_to_entries r) n
-          ∙ ap (λ es. cells ++ entries_words leads.0 ∷ map entry_words es) h.entries ∙ ap (λ l. cells ++ l ∷ []) (sym leads.2);
-      read = subst (λ d. IsReadTo d r) (sym leads.3) (entries-read leads.0 r h.shape h.tables h.opening (omega (arith, n, leads.1)) h.fits);
+          ap (λ d. lines_before d r) leads.3 ∙ entries-before f leads.0 r ∙ ap (lines_to_entries r) n
+          ∙ ap (λ ts. cells ++ entries_words leads.0 ∷ map told_words ts) none ∙ ap (λ l. cells ++ l ∷ []) (sym leads.2);
+      read =
+          subst (λ d. IsReadTo d r) (sym leads.3)
+          (entries-read f leads.0 r h.shape h.tables h.opening (omega (arith, n, leads.1)) h.fits h.owners h.head);
     }
 
-pub cell_count-taken : (due : Due) (r : RecordingView) (line : List (List ℕ)) (next : Due) → due ≡ CellCount → IsReadTo due r → Leads CellCount line next →
-    IsTaken due r line next r
-cell_count-taken due r line next is h leads =
-    subst (λ d. IsTaken d r line next r) (sym is) (at-cell_count r line next (subst (λ d. IsReadTo d r) is h) leads)
+pub cell_count-taken : (due : Due) (f : Form) (r : Kept) (line : List (List ℕ)) (next : Due) → due ≡ CellCount f → IsReadTo due r →
+    Leads (CellCount f) line next → IsTaken due r line next r
+cell_count-taken due f r line next is h leads =
+    subst (λ d. IsTaken d r line next r) (sym is) (at-cell_count f r line next (subst (λ d. IsReadTo d r) is h) leads)
 
-pub entry_count-taken : (due : Due) (r : RecordingView) (line : List (List ℕ)) (next : Due) → due ≡ EntryCount → IsReadTo due r → Leads EntryCount line next →
-    IsTaken due r line next r
-entry_count-taken due r line next is h leads =
-    subst (λ d. IsTaken d r line next r) (sym is) (at-entry_count r line next (subst (λ d. IsReadTo d r) is h) leads)
+pub entry_count-taken : (due : Due) (f : Form) (r : Kept) (line : List (List ℕ)) (next : Due) → due ≡ EntryCount f → IsReadTo due r →
+    Leads (EntryCount f) line next → IsTaken due r line next r
+entry_count-taken due f r line next is h leads =
+    subst (λ d. IsTaken d r line next r) (sym is) (at-entry_count f r line next (subst (λ d. IsReadTo d r) is h) leads)
 
 -- ---- one cell or one entry more
 
-pub cell-taken : (r s : RecordingView) (left from : ℕ) (cell : Cell) (line : List (List ℕ)) (next : Due) → IsReadTo (CellLine left from) r →
-    IsListed from cell → line ≡ cell_words cell → s.shape ≡ r.shape → s.opening ≡ r.opening → s.entries ≡ r.entries → AreWhole s.tables →
-    cell_at s.tables (spot_of cell) ≡ cell → ((spot : Spot) → spot ≢ spot_of cell → cell_at s.tables spot ≡ cell_at r.tables spot) →
-    next ≡ cells_due (left - 1) (spot_number (spot_of cell) + 1) → IsTaken (CellLine left from) r line next s
-cell-taken r s left from cell line next h listed spelled shape opening entries whole here others due =
+-- a recording with these tables
+abbrev pub with_tables : Kept → Tables → Kept
+with_tables r tables = record {
+  version = r.version;
+  protocol = r.protocol;
+  seats = r.seats;
+  shape = r.shape;
+  tables = tables;
+  opening = r.opening;
+  entries = r.entries;
+  owners = r.owners;
+}
+
+pub cell-taken : (f : Form) (r : Kept) (tables : Tables) (left from : ℕ) (cell : Cell) (line : List (List ℕ)) (next : Due) →
+    IsReadTo (CellLine f left from) r → IsListed from cell → line ≡ cell_words cell → AreWhole tables →
+    cell_at tables (spot_of cell) ≡ cell → ((spot : Spot) → spot ≢ spot_of cell → cell_at tables spot ≡ cell_at r.tables spot) →
+    next ≡ cells_due f (left - 1) (spot_number (spot_of cell) + 1) → IsTaken (CellLine f left from) r line next (with_tables r tables)
+cell-taken f r tables left from cell line next h listed spelled whole here others due =
+    let s : Kept = with_tables r tables in
     let own = at-own (spot_of cell) in
     let behind : ℕ = spot_number (spot_of cell) + 1 in
     let low : behind ≤ 160 = omega (arith, own.1) in
-    let plain = plain-more r.tables s.tables from cell h.cells.2 listed.in_order others in
-    let more : changed_cells s.tables ≡ changed_cells r.tables ++ cell ∷ [] =
-    sym (listed-all s.tables behind low plain) ∙ listed-more r.tables s.tables from cell h.cells.2 listed here others
+    let plain = plain-more r.tables tables from cell h.cells.2 listed.in_order others in
+    let more : changed_cells tables ≡ changed_cells r.tables ++ cell ∷ [] =
+    sym (listed-all tables behind low plain) ∙ listed-more r.tables tables from cell h.cells.2 listed here others
     ∙ ap (λ cs. cs ++ cell ∷ []) (listed-all r.tables from h.cells.1 h.cells.2) in
-    let n : length (changed_cells s.tables) + (left - 1) ≡ length (changed_cells r.tables) + left =
+    let n : length (changed_cells tables) + (left - 1) ≡ length (changed_cells r.tables) + left =
     omega (arith, ap length more, length_push (changed_cells r.tables) cell, h.cells.0) in
     let count : ℕ = length (changed_cells r.tables) + left in
-    let values : AreValues s.shape s.opening =
-    subst (λ x. AreValues x s.opening) (sym shape) (subst (AreValues r.shape) (sym opening) h.opening) in
+    let head : List (List (List ℕ)) = head_lines r.version (recorded r) in
     record {
       leads = (cell, listed, spelled, due);
       before =
-          ap (λ d. lines_before d s) due ∙ cells-before (left - 1) behind s ∙ ap (lines_to_cells s) n
-          ∙ ap (λ hs. hs ++ cells_words count ∷ map cell_words (changed_cells s.tables)) (heads-same r s shape opening)
-          ∙ ap (λ cs. head_lines r ++ cells_words count ∷ cs)
+          ap (λ d. lines_before d s) due ∙ cells-before f (left - 1) behind s ∙ ap (lines_to_cells s) n
+          ∙ ap (λ cs. head ++ cells_words count ∷ cs)
           (ap (map cell_words) more ∙ map-append cell_words (changed_cells r.tables) (cell ∷ [])
-          ∙ ap (λ l. map cell_words (changed_cells r.tables) ++ l ∷ []) (sym spelled));
+          ∙ ap (λ l. map cell_words (changed_cells r.tables) ++ l ∷ []) (sym spelled))
+          ∙ sym (append_assoc head (cells_words count ∷ map cell_words (changed_cells r.tables)) (line ∷ []));
       read =
           subst (λ d. IsReadTo d s) (sym due)
-          (cells-read (left - 1) behind s (subst IsWithinLimits (sym shape) h.shape) whole values (entries ∙ h.entries) low plain
-          (subst (All FitsEntry) (sym entries) h.fits));
+          (cells-read f (left - 1) behind s h.shape whole h.opening h.entries low plain h.fits h.owners h.head);
     }
-  where
-    heads-same : (r s : RecordingView) → s.shape ≡ r.shape → s.opening ≡ r.opening → head_lines s ≡ head_lines r
-    heads-same r s shape opening =
-        ap (λ x. header_words ∷ shape_words x ∷ opening_words s.opening ∷ []) shape
-        ∙ ap (λ o. header_words ∷ shape_words r.shape ∷ opening_words o ∷ []) opening
 
--- a recording with these entries, made so
-pub entries-set : (r : RecordingView) (entries more : List Entry) → entries ≡ more →
-    (let s : RecordingView = record { shape = r.shape; tables = r.tables; opening = r.opening; entries = entries } in s)
-    ≡ record { shape = r.shape; tables = r.tables; opening = r.opening; entries = more }
-entries-set r entries more is = ap (λ es. let s : RecordingView = record { shape = r.shape; tables = r.tables; opening = r.opening; entries = es } in s) is
+-- a recording with these entries, and these owners
+abbrev pub with_told : Kept → List Entry → List ℕ → Kept
+with_told r entries owners = record {
+  version = r.version;
+  protocol = r.protocol;
+  seats = r.seats;
+  shape = r.shape;
+  tables = r.tables;
+  opening = r.opening;
+  entries = entries;
+  owners = owners;
+}
 
-pub entry-taken : (r s : RecordingView) (left : ℕ) (e : Entry) (line : List (List ℕ)) (next : Due) → IsReadTo (EntryLine left) r → FitsEntry e →
-    line ≡ entry_words e → s ≡ record { shape = r.shape; tables = r.tables; opening = r.opening; entries = r.entries ++ e ∷ [] } →
-    next ≡ entries_due (left - 1) → IsTaken (EntryLine left) r line next s
-entry-taken r s left e line next h fits spelled is due =
-    let t : RecordingView = record { shape = r.shape; tables = r.tables; opening = r.opening; entries = r.entries ++ e ∷ [] } in
-    let n : length t.entries + (left - 1) ≡ length r.entries + left = omega (arith, length_push r.entries e, h.entries.0) in
+entry-more : (f : Form) (r : Kept) (left : ℕ) (t : Told) (line : List (List ℕ)) (next : Due) → IsReadTo (EntryLine f left) r → FitsTold f.seats t →
+    line ≡ told_words t → next ≡ entries_due f (left - 1) →
+    IsTaken (EntryLine f left) r line next (with_told r (r.entries ++ t.entry ∷ []) (r.owners ++ owner_list t.owner))
+entry-more f r left t line next h fits spelled due =
+    let s : Kept = with_told r (r.entries ++ t.entry ∷ []) (r.owners ++ owner_list t.owner) in
+    let n : length s.entries + (left - 1) ≡ length r.entries + left = omega (arith, length_push r.entries t.entry, h.entries.0) in
     let count : ℕ = length r.entries + left in
     let cells = lines_to_cells r (length (changed_cells r.tables)) in
-    subst (λ x. IsTaken (EntryLine left) r line next x) (sym is) (record {
-      leads = (e, fits, spelled, due);
+    let owner : IsOwner r.seats t.owner = subst (λ k. IsOwner k t.owner) h.head.0.2 fits.0 in
+    record {
+      leads = (t, fits, spelled, due);
       before =
-          ap (λ d. lines_before d t) due ∙ entries-before (left - 1) t ∙ ap (lines_to_entries t) n
+          ap (λ d. lines_before d s) due ∙ entries-before f (left - 1) s ∙ ap (lines_to_entries s) n
+          ∙ ap (λ ts. cells ++ entries_words count ∷ map told_words ts) (told-more r.seats r.owners r.entries t.owner t.entry h.owners owner)
           ∙ ap (λ es. cells ++ entries_words count ∷ es)
-          (map-append entry_words r.entries (e ∷ []) ∙ ap (λ l. map entry_words r.entries ++ l ∷ []) (sym spelled))
-          ∙ sym (append_assoc cells (entries_words count ∷ map entry_words r.entries) (line ∷ []));
+          (map-append told_words (told r.owners r.entries) (t ∷ []) ∙ ap (λ l. map told_words (told r.owners r.entries) ++ l ∷ []) (sym spelled))
+          ∙ sym (append_assoc cells (entries_words count ∷ map told_words (told r.owners r.entries)) (line ∷ []));
       read =
-          subst (λ d. IsReadTo d t) (sym due)
-          (entries-read (left - 1) t h.shape h.tables h.opening (omega (arith, n, h.entries.1)) (All-push FitsEntry r.entries e h.fits fits));
+          subst (λ d. IsReadTo d s) (sym due)
+          (entries-read f (left - 1) s h.shape h.tables h.opening (omega (arith, n, h.entries.1)) (All-push FitsEntry r.entries t.entry h.fits fits.1)
+          (more-owners r.seats r.owners r.entries t.owner t.entry h.owners owner) h.head);
+    }
+
+pub entry-taken : (f : Form) (r : Kept) (entries : List Entry) (owners : List ℕ) (left : ℕ) (t : Told) (line : List (List ℕ)) (next : Due) →
+    IsReadTo (EntryLine f left) r → FitsTold f.seats t → line ≡ told_words t → entries ≡ r.entries ++ t.entry ∷ [] →
+    owners ≡ r.owners ++ owner_list t.owner → next ≡ entries_due f (left - 1) →
+    IsTaken (EntryLine f left) r line next (with_told r entries owners)
+entry-taken f r entries owners left t line next h fits spelled is same due =
+    subst (λ es. IsTaken (EntryLine f left) r line next (with_told r es owners)) (sym is)
+    (subst (λ ks. IsTaken (EntryLine f left) r line next (with_told r (r.entries ++ t.entry ∷ []) ks)) (sym same)
+    (entry-more f r left t line next h fits spelled due))
+
+-- ---- the lines of the head
+
+abbrev pub with_version : Kept → Version → Kept
+with_version r version = record {
+  version = version;
+  protocol = r.protocol;
+  seats = r.seats;
+  shape = r.shape;
+  tables = r.tables;
+  opening = r.opening;
+  entries = r.entries;
+  owners = r.owners;
+}
+
+abbrev pub with_protocol : Kept → Protocol → Kept
+with_protocol r protocol = record {
+  version = r.version;
+  protocol = protocol;
+  seats = r.seats;
+  shape = r.shape;
+  tables = r.tables;
+  opening = r.opening;
+  entries = r.entries;
+  owners = r.owners;
+}
+
+abbrev pub with_shape : Kept → Extent → Kept
+with_shape r shape = record {
+  version = r.version;
+  protocol = r.protocol;
+  seats = r.seats;
+  shape = shape;
+  tables = r.tables;
+  opening = r.opening;
+  entries = r.entries;
+  owners = r.owners;
+}
+
+abbrev pub with_seats : Kept → ℕ → Kept
+with_seats r seats = record {
+  version = r.version;
+  protocol = r.protocol;
+  seats = seats;
+  shape = r.shape;
+  tables = r.tables;
+  opening = r.opening;
+  entries = r.entries;
+  owners = r.owners;
+}
+
+abbrev pub with_opening : Kept → List ℕ → Kept
+with_opening r opening = record {
+  version = r.version;
+  protocol = r.protocol;
+  seats = r.seats;
+  shape = r.shape;
+  tables = r.tables;
+  opening = opening;
+  entries = r.entries;
+  owners = r.owners;
+}
+
+can-second : (v : Version) (p : Protocol) (n : ℕ) → v ≡ Two → CanTell v p n
+can-second v p n is = subst (λ x. CanTell x p n) (sym is) tt
+
+pub protocol-taken : (r : Kept) (line : List (List ℕ)) (p : Protocol) (next : Due) → IsReadTo ProtocolLine r → line ≡ protocol_words p →
+    next ≡ ShapeLine (form Two p 0) → IsTaken ProtocolLine r line next (with_protocol r p)
+protocol-taken r line p next h spelled due =
+    subst (λ d. IsTaken ProtocolLine r line d (with_protocol r p)) (sym due) (record {
+      leads = (p, spelled, refl);
+      before =
+          ap (λ v. header_words v ∷ protocol_lines v p) h.head.0 ∙ ap (λ l. header_words Two ∷ l ∷ []) (sym spelled);
+      read = record {
+        shape = h.shape;
+        tables = h.tables;
+        fits = h.fits;
+        opening = tt;
+        cells = h.cells;
+        entries = h.entries;
+        owners = h.owners;
+        head = (sym h.head.0, refl, sym h.head.1, can-second r.version p r.seats h.head.0);
+      };
     })
+
+pub shape-taken : (f : Form) (r : Kept) (line : List (List ℕ)) (shape : Extent) (next : Due) → IsReadTo (ShapeLine f) r → IsShapeIn f.version shape →
+    line ≡ shape_words shape → next ≡ shape_leads_in f.version f shape → IsTaken (ShapeLine f) r line next (with_shape r shape)
+shape-taken f r line shape next h within spelled due =
+    subst (λ d. IsTaken (ShapeLine f) r line d (with_shape r shape)) (sym due) (by-version f.version refl)
+  where
+    here : IsShapeIn r.version shape
+    here = subst (λ v. IsShapeIn v shape) h.head.0 within
+
+    by-version : (v : Version) → f.version ≡ v → IsTaken (ShapeLine f) r line (shape_leads_in f.version f shape) (with_shape r shape)
+    by-version One is =
+        let first : r.version ≡ One = sym h.head.0 ∙ is in
+        let lead : shape_leads_in f.version f shape ≡ OpeningLine f shape = ap (λ v. shape_leads_in v f shape) is in
+        subst (λ d. IsTaken (ShapeLine f) r line d (with_shape r shape)) (sym lead) (record {
+          leads = (shape, within, spelled, sym lead);
+          before =
+              ap (λ ls. header_words r.version ∷ protocol_lines r.version r.protocol ++ (shape_words shape ∷ ls)) (ap (λ v. seats_lines v r.seats) first)
+              ∙ ap (λ l. header_words r.version ∷ protocol_lines r.version r.protocol ++ (l ∷ [])) (sym spelled);
+          read = record {
+            shape = within.within;
+            tables = h.tables;
+            fits = h.fits;
+            opening = refl;
+            cells = h.cells;
+            entries = h.entries;
+            owners = h.owners;
+            head = (h.head, here);
+          };
+        })
+    by-version Two is =
+        let second : r.version ≡ Two = sym h.head.0 ∙ is in
+        let lead : shape_leads_in f.version f shape ≡ SeatsLine f shape = ap (λ v. shape_leads_in v f shape) is in
+        subst (λ d. IsTaken (ShapeLine f) r line d (with_shape r shape)) (sym lead) (record {
+          leads = (shape, within, spelled, sym lead);
+          before = ap (λ l. header_words r.version ∷ protocol_lines r.version r.protocol ++ (l ∷ [])) (sym spelled);
+          read = record {
+            shape = within.within;
+            tables = h.tables;
+            fits = h.fits;
+            opening = refl;
+            cells = h.cells;
+            entries = h.entries;
+            owners = h.owners;
+            head = (h.head, second, here);
+          };
+        })
+
+pub seats-taken : (f : Form) (shape : Extent) (r : Kept) (line : List (List ℕ)) (n : ℕ) (next : Due) → IsReadTo (SeatsLine f shape) r → n ≤ 64 →
+    line ≡ seats_words n → next ≡ OpeningLine (form f.version f.protocol n) shape → IsTaken (SeatsLine f shape) r line next (with_seats r n)
+seats-taken f shape r line n next h few spelled due =
+    subst (λ d. IsTaken (SeatsLine f shape) r line d (with_seats r n)) (sym due) (record {
+      leads = (n, few, spelled, refl);
+      before =
+          ap (λ ls. header_words r.version ∷ protocol_lines r.version r.protocol ++ (shape_words shape ∷ ls))
+          (ap (λ v. seats_lines v n) h.head.1 ∙ ap (λ l. l ∷ []) (sym spelled))
+          ∙ ap (λ l. header_words r.version ∷ l) (sym (append_assoc (protocol_lines r.version r.protocol) (shape_words shape ∷ []) (line ∷ [])));
+      read = record {
+        shape = h.shape;
+        tables = h.tables;
+        fits = h.fits;
+        opening = h.opening;
+        cells = h.cells;
+        entries = h.entries;
+        owners = record {
+          few = few;
+          none = λ z. no-owners r.seats r.owners r.entries h.owners h.entries;
+          each = λ some. ap length (no-owners r.seats r.owners r.entries h.owners h.entries) ∙ sym (ap length h.entries);
+          within = subst (All (λ k. k < n)) (sym (no-owners r.seats r.owners r.entries h.owners h.entries)) (All-from_recursion (λ k. k < n) [] tt);
+        };
+        head = ((h.head.0.0, h.head.0.1, refl, can-second r.version r.protocol n h.head.1), h.head.2);
+      };
+    })
+
+pub opening-taken : (f : Form) (shape : Extent) (r : Kept) (line : List (List ℕ)) (values : List ℕ) (next : Due) → IsReadTo (OpeningLine f shape) r →
+    AreValues shape values → line ≡ opening_words values → next ≡ CellCount f → IsTaken (OpeningLine f shape) r line next (with_opening r values)
+opening-taken f shape r line values next h are spelled due =
+    subst (λ d. IsTaken (OpeningLine f shape) r line d (with_opening r values)) (sym due) (record {
+      leads = (values, are, spelled, refl);
+      before =
+          ap (λ x. header_words r.version ∷ protocol_lines r.version r.protocol ++ (shape_words x ∷ seats_lines r.version r.seats ++ opening_words values ∷ []))
+          h.opening
+          ∙ ap (λ l. header_words r.version ∷ protocol_lines r.version r.protocol ++ (shape_words shape ∷ seats_lines r.version r.seats ++ l ∷ [])) (sym spelled)
+          ∙ ap (λ l. header_words r.version ∷ l)
+          (sym (append_assoc (protocol_lines r.version r.protocol) (shape_words shape ∷ seats_lines r.version r.seats) (line ∷ [])));
+      read = record {
+        shape = h.shape;
+        tables = h.tables;
+        fits = h.fits;
+        opening = subst (λ x. AreValues x values) (sym h.opening) are;
+        cells = h.cells;
+        entries = h.entries;
+        owners = h.owners;
+        head = (h.head.0, subst (IsShapeIn r.version) (sym h.opening) h.head.1);
+      };
+    })
+
+pub header-taken : (r : Kept) (line : List (List ℕ)) (v : Version) (next : Due) → IsReadTo Header r → line ≡ header_words v → next ≡ header_leads v →
+    IsTaken Header r line next (with_version r v)
+header-taken r line v next h spelled due = subst (λ d. IsTaken Header r line d (with_version r v)) (sym due) (by-version v spelled)
+  where
+    by-version : (v : Version) → line ≡ header_words v → IsTaken Header r line (header_leads v) (with_version r v)
+    by-version One spelled = record {
+      leads = (One, spelled, refl);
+      before = ap (λ l. l ∷ []) (sym spelled);
+      read = record {
+        shape = h.shape;
+        tables = h.tables;
+        fits = h.fits;
+        opening = tt;
+        cells = h.cells;
+        entries = h.entries;
+        owners = h.owners;
+        head = (refl, sym h.head.0, sym h.head.1, h.head);
+      };
+    }
+    by-version Two spelled = record {
+      leads = (Two, spelled, refl);
+      before = ap (λ l. l ∷ []) (sym spelled);
+      read = record {
+        shape = h.shape;
+        tables = h.tables;
+        fits = h.fits;
+        opening = tt;
+        cells = h.cells;
+        entries = h.entries;
+        owners = h.owners;
+        head = (refl, h.head.1);
+      };
+    }
 
 -- ---- what a reader keeps
 
 pub less-room : (draft : Draft) (m n : ℕ) → n ≤ m → HasRoom draft m → HasRoom draft n
-less-room draft m n less h = record { opening = h.opening; entries = omega (arith, less, h.entries) }
+less-room draft m n less h =
+    record { opening = h.opening; entries = omega (arith, less, h.entries); owners = omega (arith, less, h.owners) }
 
 -- bytes that were pulled
 pub ready-gathered : (old new : Reader) → IsReady old → old.due ≢ Nothing → new.due ≡ old.due → kept new.draft ≡ kept old.draft →
-    new.lines.number ≡ old.lines.number → HasRoom new.draft (length new.lines.ahead) → IsReady new
-ready-gathered old new h more due same number room = record {
+    new.lines.number ≡ old.lines.number → HasRoom new.draft (length new.lines.ahead) → length new.lines.line ≤ limit old.due → IsReady new
+ready-gathered old new h more due same number room short = record {
   read = subst (λ d. IsReadTo d (kept new.draft)) (sym due) (subst (IsReadTo old.due) (sym same) h.read);
   room = room;
   few = omega (arith, h.few, number, ap lines_left due);
   line = λ none. absurd (more (sym due ∙ none));
+  short = omega (arith, short, ap limit due);
 }
 
 -- one line more
@@ -180,4 +462,5 @@ ready-taken old new line h taken room off = record {
   room = room (length new.lines.ahead) (less-room old.draft (length old.lines.ahead) (length new.lines.ahead + 1) (omega (arith, ap length off.ahead)) h.room);
   few = omega (arith, h.few, off.number, fewer-left old.due line new.due taken.leads);
   line = λ done. off.line;
+  short = omega (arith, ap length off.line);
 }

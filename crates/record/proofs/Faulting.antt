@@ -1,22 +1,23 @@
 -- A line that is well formed where it is due has no fault.
-use Rattle.std.proofs.Common.{◌≡◌, ◌≢◌, ◌≤◌, ◌<◌, ◌^◌, ℕ, List, [], ◌∷◌, ◌++◌, length, refl, ap, sym, subst, ◌∙◌, arith, codes, length-append}
+use Rattle.std.proofs.Common.{◌≡◌, ◌≢◌, ◌≤◌, ◌<◌, ◌^◌, ℕ, List, [], ◌∷◌, ◌++◌, Option, Some, None, length, refl, ap, sym, subst, ◌∙◌, arith, codes, length-append}
 use Rattle.std.specs.List.{AllByRecursion}
 use Rattle.std.specs.Fmt.{decimal}
-use Rattle.std.proofs.lemmas.Fmt.{decimal_by_steps}
+use Rattle.std.proofs.lemmas.Fmt.{decimal_by_steps, decimal_injective}
 use Rattle.base.specs.Spelling.{ask_words, step_words, FitsAsk, FitsStep}
 use Rattle.base.specs.declared.step.Ask.{Ask}
 use Rattle.base.specs.declared.step.Ask.TheVariants.{Load, Store, Replace}
 use Rattle.base.specs.declared.step.Step.{Step}
 use Rattle.base.specs.declared.step.Step.TheVariants as step
 use Rattle.record.specs.declared.fault.ReadKind.{ReadKind}
-use Rattle.record.specs.declared.fault.ReadKind.TheVariants.{BadHeader, BadLine, Truncated, CountDiffers, BadOutcome, OverLimit, NoMemory, Device}
-use Rattle.record.specs.Text.{end_words}
+use Rattle.record.specs.declared.fault.ReadKind.TheVariants.{BadHeader, BadLine, Truncated, CountDiffers, BadOutcome, OverLimit, NoMemory, Device, UnknownProtocol}
+use Rattle.base.specs.Protocols.{protocol_name}
+use Rattle.record.specs.Text.{by_words, end_words}
 use Rattle.record.specs.declared.due.Due.{Due}
-use Rattle.record.specs.declared.due.Due.TheVariants.{Header, ShapeLine, OpeningLine, CellCount, CellLine, EntryCount, EntryLine, EndLine, Nothing}
-use Rattle.record.specs.Grammar.{Leads}
-use Rattle.record.specs.Refused.{IsOver, IsMiscounted, IsBadOutcome, IsFaultOfLine}
+use Rattle.record.specs.declared.due.Due.TheVariants.{Header, ProtocolLine, ShapeLine, SeatsLine, OpeningLine, CellCount, CellLine, EntryCount, EntryLine, EndLine, Nothing}
+use Rattle.record.specs.Grammar.{IsOwner, Leads}
+use Rattle.record.specs.Refused.{IsOver, IsMiscounted, IsBadOutcome, IsUnknown, IsFaultOfLine}
 use Rattle.record.proofs.Legible.{all-append}
-use Rattle.record.proofs.Leading.{step-line}
+use Rattle.record.proofs.Leading.{IsDue, step-line}
 
 -- ---- a step and what stands behind the equals sign
 
@@ -64,49 +65,97 @@ same-halves s t us vs f g e = behind-sign (step_words s) (step_words t) us vs (s
 pub two-words : (s : Step) (us : List (List ℕ)) → FitsStep s → step_words s ++ codes "=" ∷ us ≢ end_words
 two-words s us f e = let some = step-line s f in absurd (omega (arith, ap length e, length-append (step_words s) (codes "=" ∷ us), some.1))
 
+-- with or without an owner
+pub owned-two : (o : Option ℕ) (s : Step) (us : List (List ℕ)) → FitsStep s → by_words o ++ (step_words s ++ codes "=" ∷ us) ≢ end_words
+owned-two o s us f e =
+    let some = step-line s f in
+    absurd
+    (omega (
+      arith,
+      ap length e,
+      length-append (by_words o) (step_words s ++ codes "=" ∷ us),
+      length-append (step_words s) (codes "=" ∷ us),
+      some.1,
+    ))
+
+-- a line has one owner in front
+pub by-same : (seats : ℕ) (a b : Option ℕ) (xs ys : List (List ℕ)) → seats ≤ 64 → IsOwner seats a → IsOwner seats b →
+    by_words a ++ xs ≡ by_words b ++ ys → (a ≡ b) × (xs ≡ ys)
+by-same seats None None xs ys few h k e = (refl, e)
+by-same seats None (Some b) xs ys few h k e = absurd (omega (arith, h, k))
+by-same seats (Some a) None xs ys few h k e = absurd (omega (arith, h, k))
+by-same seats (Some a) (Some b) xs ys few h k e =
+    let word : decimal a ≡ decimal b = cc in
+    let rest : xs ≡ ys = cc in
+    (ap Some (decimal_injective a b (omega (arith, few, h)) (omega (arith, few, k)) word), rest)
+
 -- ---- a line that is well formed where it is due has no fault
 
 over-not_good : (due : Due) (line : List (List ℕ)) (next : Due) → Leads due line next → IsOver due line → ⊥
 over-not_good Header line next l h = h
-over-not_good ShapeLine line next l h = h.outside l.0 l.1 l.2
-over-not_good (OpeningLine shape) line next l h = h
-over-not_good CellCount line next l h = let same : codes "cells" ∷ h.count ∷ [] ≡ codes "cells" ∷ decimal l.0 ∷ [] = sym h.spelled ∙ l.2 in h.higher l.0 l.1 cc
-over-not_good (CellLine left from) line next l h = h
-over-not_good EntryCount line next l h =
+over-not_good ProtocolLine line next l h = h
+over-not_good (SeatsLine f shape) line next l h = let same : codes "seats" ∷ h.count ∷ [] ≡ codes "seats" ∷ decimal l.0 ∷ [] = sym h.spelled ∙ l.2 in h.higher l.0 l.1 cc
+over-not_good (ShapeLine f) line next l h = h.outside l.0 l.1 l.2
+over-not_good (OpeningLine f shape) line next l h = h
+over-not_good (CellCount f) line next l h = let same : codes "cells" ∷ h.count ∷ [] ≡ codes "cells" ∷ decimal l.0 ∷ [] = sym h.spelled ∙ l.2 in h.higher l.0 l.1 cc
+over-not_good (CellLine f left from) line next l h = h
+over-not_good (EntryCount f) line next l h =
     let same : codes "entries" ∷ h.count ∷ [] ≡ codes "entries" ∷ decimal l.0 ∷ [] = sym h.spelled ∙ l.2 in h.higher l.0 l.1 cc
-over-not_good (EntryLine left) line next l h = h
-over-not_good EndLine line next l h = h
+over-not_good (EntryLine f left) line next l h = h
+over-not_good (EndLine f) line next l h = h
 over-not_good Nothing line next l h = h
 
 miscounted-not_good : (due : Due) (line : List (List ℕ)) (next : Due) → Leads due line next → IsMiscounted due line → ⊥
 miscounted-not_good Header line next l h = h
-miscounted-not_good ShapeLine line next l h = h
-miscounted-not_good (OpeningLine shape) line next l h = h
-miscounted-not_good CellCount line next l h = h
-miscounted-not_good (CellLine left from) line next l h = h
-miscounted-not_good EntryCount line next l h = h
-miscounted-not_good (EntryLine left) line next l h = two-words l.0.step _ l.1.0 (sym l.2 ∙ h)
-miscounted-not_good EndLine line next l h = two-words h.0.step _ h.1.0 (sym h.2 ∙ l.0)
+miscounted-not_good ProtocolLine line next l h = h
+miscounted-not_good (SeatsLine f shape) line next l h = h
+miscounted-not_good (ShapeLine f) line next l h = h
+miscounted-not_good (OpeningLine f shape) line next l h = h
+miscounted-not_good (CellCount f) line next l h = h
+miscounted-not_good (CellLine f left from) line next l h = h
+miscounted-not_good (EntryCount f) line next l h = h
+miscounted-not_good (EntryLine f left) line next l h = owned-two l.0.owner l.0.entry.step _ l.1.1.0 (sym l.2 ∙ h)
+miscounted-not_good (EndLine f) line next l h = owned-two h.0.owner h.0.entry.step _ h.1.1.0 (sym h.2 ∙ l.0)
 miscounted-not_good Nothing line next l h = h
 
-outcome-not_good : (due : Due) (line : List (List ℕ)) (next : Due) → Leads due line next → IsBadOutcome due line → ⊥
-outcome-not_good Header line next l h = h
-outcome-not_good ShapeLine line next l h = h
-outcome-not_good (OpeningLine shape) line next l h = h
-outcome-not_good CellCount line next l h = h
-outcome-not_good (CellLine left from) line next l h = h
-outcome-not_good EntryCount line next l h = h
-outcome-not_good (EntryLine left) line next l h =
-    h.none l.0.outcome l.1.1 (same-halves h.step l.0.step (h.first ∷ h.others) _ h.fits l.1.0 (sym h.spelled ∙ l.2)).1
-outcome-not_good EndLine line next l h = h
-outcome-not_good Nothing line next l h = h
+outcome-not_good : (due : Due) (line : List (List ℕ)) (next : Due) → IsDue due → Leads due line next → IsBadOutcome due line → ⊥
+outcome-not_good Header line next is l h = h
+outcome-not_good ProtocolLine line next is l h = h
+outcome-not_good (SeatsLine f shape) line next is l h = h
+outcome-not_good (ShapeLine f) line next is l h = h
+outcome-not_good (OpeningLine f shape) line next is l h = h
+outcome-not_good (CellCount f) line next is l h = h
+outcome-not_good (CellLine f left from) line next is l h = h
+outcome-not_good (EntryCount f) line next is l h = h
+outcome-not_good (EntryLine f left) line next is l h =
+    let both = by-same f.seats h.owner l.0.owner _ _ is h.owned l.1.0 (sym h.spelled ∙ l.2) in
+    h.none l.0.entry.outcome l.1.1.1 (same-halves h.step l.0.entry.step (h.first ∷ h.others) _ h.fits l.1.1.0 both.1).1
+outcome-not_good (EndLine f) line next is l h = h
+outcome-not_good Nothing line next is l h = h
 
-pub fault-not_good : (due : Due) (line : List (List ℕ)) (next : Due) (kind : ReadKind) → Leads due line next → IsFaultOfLine due line kind → ⊥
-fault-not_good due line next OverLimit l h = over-not_good due line next l h
-fault-not_good due line next BadHeader l h = h.1 (subst (λ d. Leads d line next) h.0 l).0
-fault-not_good due line next CountDiffers l h = miscounted-not_good due line next l h
-fault-not_good due line next BadOutcome l h = outcome-not_good due line next l h
-fault-not_good due line next BadLine l h = h.other next l
-fault-not_good due line next Truncated l h = h
-fault-not_good due line next NoMemory l h = h
-fault-not_good due line next Device l h = h
+unknown-not_good : (due : Due) (line : List (List ℕ)) (next : Due) → Leads due line next → IsUnknown due line → ⊥
+unknown-not_good ProtocolLine line next l h =
+    let same : codes "protocol" ∷ h.name ∷ [] ≡ codes "protocol" ∷ protocol_name l.0 ∷ [] = sym h.spelled ∙ l.1 in
+    let name : h.name ≡ protocol_name l.0 = cc in
+    h.none l.0 name
+unknown-not_good Header line next l h = h
+unknown-not_good (ShapeLine f) line next l h = h
+unknown-not_good (SeatsLine f shape) line next l h = h
+unknown-not_good (OpeningLine f shape) line next l h = h
+unknown-not_good (CellCount f) line next l h = h
+unknown-not_good (CellLine f left from) line next l h = h
+unknown-not_good (EntryCount f) line next l h = h
+unknown-not_good (EntryLine f left) line next l h = h
+unknown-not_good (EndLine f) line next l h = h
+unknown-not_good Nothing line next l h = h
+
+pub fault-not_good : (due : Due) (line : List (List ℕ)) (next : Due) (kind : ReadKind) → IsDue due → Leads due line next → IsFaultOfLine due line kind → ⊥
+fault-not_good due line next OverLimit is l h = over-not_good due line next l h
+fault-not_good due line next BadHeader is l h = let good = subst (λ d. Leads d line next) h.0 l in h.1 good.0 good.1
+fault-not_good due line next UnknownProtocol is l h = unknown-not_good due line next l h
+fault-not_good due line next CountDiffers is l h = miscounted-not_good due line next l h
+fault-not_good due line next BadOutcome is l h = outcome-not_good due line next is l h
+fault-not_good due line next BadLine is l h = h.other next l
+fault-not_good due line next Truncated is l h = h
+fault-not_good due line next NoMemory is l h = h
+fault-not_good due line next Device is l h = h

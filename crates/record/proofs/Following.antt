@@ -1,26 +1,33 @@
 -- The lines of a recording follow one another, each as it is due.
 use Rattle.std.proofs.Common.{◌≡◌, ◌≤◌, ◌+◌, ◌-◌, ℕ, zero, suc, Bool, true, false, not, List, [], ◌∷◌, ◌++◌, Some, length, map, refl, ap, sym, subst}
 use Rattle.std.proofs.Common.{◌∙◌, arith, append-nil}
-use Rattle.std.specs.List.{All, AllByRecursion, range_with_len}
+use Rattle.std.specs.List.{AllByRecursion, range_with_len}
 use Rattle.std.proofs.lemmas.List.Elements.{All-from_recursion, recursion_from_All}
 use Rattle.both_tables.specs.Tables.{Tables, baseline}
 use Rattle.record.specs.declared.cells.Spot.{Spot}
 use Rattle.record.specs.declared.cells.Spot.TheVariants as spot
 use Rattle.record.specs.declared.cells.Cell.{Cell}
-use Rattle.record.specs.declared.recording.Entry.{Entry}
 use Rattle.record.specs.Cells.{all_spots, cell_at, cell_words, is_same, spot_of, spot_number}
 use Rattle.record.specs.View.{RecordingView}
 use Rattle.base.specs.Spelling.{joined}
-use Rattle.record.specs.Text.{text, lines, entries_words, entry_words, end_words, is_changed, changed, changed_cells}
+use Rattle.record.specs.Text.{text, lines, header_words, shape_words, opening_words, cells_words, entries_words, told, told_words, end_words, is_changed, changed, changed_cells}
+use Rattle.base.specs.Extent.{Extent}
+use Rattle.base.specs.declared.controller.protocol.Protocol.TheVariants.{Msi}
 use Rattle.record.specs.declared.due.Due.{Due}
-use Rattle.record.specs.declared.due.Due.TheVariants.{Header, ShapeLine, OpeningLine, CellCount, EntryCount, Nothing}
-use Rattle.record.specs.Grammar.{cells_due, entries_due, IsListed, FitsEntry}
+use Rattle.record.specs.declared.due.Form.{Form}
+use Rattle.record.specs.declared.told.Told.{Told}
+use Rattle.record.specs.declared.version.Version.{Version}
+use Rattle.record.specs.declared.version.Version.TheVariants.{One, Two}
+use Rattle.record.specs.Versions.{form, header_leads, shape_leads_in, most_bytes, protocol_lines, seats_lines, HasTextIn}
+use Rattle.record.proofs.Owners.{told-fit, told-length}
+use Rattle.record.specs.declared.due.Due.TheVariants.{Header, ProtocolLine, ShapeLine, SeatsLine, OpeningLine, CellCount, CellLine, EntryCount, EntryLine, EndLine, Nothing}
+use Rattle.record.specs.Grammar.{cells_due, entries_due, IsListed, FitsEntry, FitsTold}
 use Rattle.record.specs.Grammar.{Leads, Follow}
-use Rattle.record.specs.Refused.{ended, IsWellFormed}
+use Rattle.record.specs.Refused.{ended, limit, AreShort, IsWellFormed}
 use Rattle.record.specs.Recordable.{AreWhole, IsRecordable}
 use Rattle.record.proofs.Changed.{changed-cons}
-use Rattle.record.proofs.Legible.{IsLine, joined-short, words-joined}
-use Rattle.record.proofs.Leading.{IsDue, leads-line, leads-due}
+use Rattle.record.proofs.Legible.{IsLine, words-joined}
+use Rattle.record.proofs.Leading.{IsDue, leads-line, leads-due, leads-short}
 use Rattle.record.proofs.Listed.{numbers}
 use Rattle.record.proofs.Whole.{flat_map-map}
 
@@ -32,11 +39,11 @@ Followed due (ws ∷ more) last = (next : Due) × Leads due ws next × Followed 
 followed-follow : (due last : Due) (xs : List (List (List ℕ))) → IsDue due → Followed due xs last → Follow due (map joined xs) last
 followed-follow due last [] is f = f
 followed-follow due last (x ∷ xs) is f =
-    (f.0, subst (λ ws. Leads due ws f.0) (sym (words-joined x (leads-line due x f.0 is f.1))) f.1, followed-follow f.0 last xs (leads-due due x f.0 f.1) f.2)
+    (f.0, subst (λ ws. Leads due ws f.0) (sym (words-joined x (leads-line due x f.0 is f.1))) f.1, followed-follow f.0 last xs (leads-due due x f.0 is f.1) f.2)
 
 followed-lines : (due last : Due) (xs : List (List (List ℕ))) → IsDue due → Followed due xs last → AllByRecursion IsLine xs
 followed-lines due last [] is f = tt
-followed-lines due last (x ∷ xs) is f = (leads-line due x f.0 is f.1, followed-lines f.0 last xs (leads-due due x f.0 f.1) f.2)
+followed-lines due last (x ∷ xs) is f = (leads-line due x f.0 is f.1, followed-lines f.0 last xs (leads-due due x f.0 is f.1) f.2)
 
 -- ---- the cells that differ
 
@@ -89,57 +96,164 @@ few-changed t (s ∷ ss) = fewer t s ss (is_changed t s) refl (few-changed t ss)
 pub few-cells : (t : Tables) → length (changed_cells t) ≤ 160
 few-cells t = let n : length all_spots ≡ 160 = refl in omega (arith, few-changed t all_spots, n)
 
-cells-followed : (cs : List Cell) (from : ℕ) (rest : List (List (List ℕ))) → AreListed from cs → Followed EntryCount rest Nothing →
-    Followed (cells_due (length cs) from) (map cell_words cs ++ rest) Nothing
-cells-followed [] from rest h f = f
-cells-followed (c ∷ cs) from rest h f =
+cells-followed : (f : Form) (cs : List Cell) (from : ℕ) (rest : List (List (List ℕ))) → AreListed from cs → Followed (EntryCount f) rest Nothing →
+    Followed (cells_due f (length cs) from) (map cell_words cs ++ rest) Nothing
+cells-followed f [] from rest h g = g
+cells-followed f (c ∷ cs) from rest h g =
     let n : ℕ = spot_number (spot_of c) + 1 in
     let left : length cs ≡ suc (length cs) - 1 = omega arith in
-    (cells_due (length cs) n, (c, h.0, refl, ap (λ k. cells_due k n) left), cells-followed cs n rest h.1 f)
+    (cells_due f (length cs) n, (c, h.0, refl, ap (λ k. cells_due f k n) left), cells-followed f cs n rest h.1 g)
 
 -- ---- the entries
 
-entries-followed : (es : List Entry) → AllByRecursion FitsEntry es → Followed (entries_due (length es)) (map entry_words es ++ end_words ∷ []) Nothing
-entries-followed [] h = (Nothing, (refl, refl), refl)
-entries-followed (e ∷ es) h =
-    let left : length es ≡ suc (length es) - 1 = omega arith in
-    (entries_due (length es), (e, h.0, refl, ap entries_due left), entries-followed es h.1)
+told-followed : (f : Form) (ts : List Told) → AllByRecursion (FitsTold f.seats) ts →
+    Followed (entries_due f (length ts)) (map told_words ts ++ end_words ∷ []) Nothing
+told-followed f [] h = (Nothing, (refl, refl), refl)
+told-followed f (t ∷ ts) h =
+    let left : length ts ≡ suc (length ts) - 1 = omega arith in
+    (entries_due f (length ts), (t, h.0, refl, ap (entries_due f) left), told-followed f ts h.1)
 
 -- ---- the whole text
 
-lines-followed : (r : RecordingView) → IsRecordable r → Followed Header (lines r) Nothing
-lines-followed r h =
-    let entries : Followed EntryCount (entries_words (length r.entries) ∷ map entry_words r.entries ++ end_words ∷ []) Nothing =
-    (entries_due (length r.entries), (length r.entries, h.few, refl, refl), entries-followed r.entries (recursion_from_All FitsEntry r.entries h.fits)) in
-    let cells = cells-followed (changed_cells r.tables) 0 _ (listed-from r.tables h.tables all_spots 0 160 numbers) entries in (
-      ShapeLine,
-      (refl, refl),
+tail_lines : RecordingView → List (List (List ℕ))
+tail_lines r =
+    cells_words (length (changed_cells r.tables)) ∷ map cell_words (changed_cells r.tables) ++
+    (entries_words (length r.entries) ∷ map told_words (told r.owners r.entries) ++ end_words ∷ [])
+
+tail-followed : (f : Form) (r : RecordingView) → IsRecordable r → f.seats ≡ r.seats → Followed (CellCount f) (tail_lines r) Nothing
+unfolding tail_lines
+tail-followed f r h seats =
+    let ts : List Told = told r.owners r.entries in
+    let n : length ts ≡ length r.entries = told-length r.owners r.entries in
+    let fits : AllByRecursion (FitsTold f.seats) ts =
+    subst (λ k. AllByRecursion (FitsTold k) ts) (sym seats) (told-fit r.seats r.owners r.entries h.owners (recursion_from_All FitsEntry r.entries h.fits)) in
+    let entries : Followed (EntryCount f) (entries_words (length r.entries) ∷ map told_words ts ++ end_words ∷ []) Nothing =
+    (entries_due f (length ts), (length r.entries, h.few, refl, ap (entries_due f) n), told-followed f ts fits) in (
+      cells_due f (length (changed_cells r.tables)) 0,
+      (length (changed_cells r.tables), few-cells r.tables, refl, refl),
+      cells-followed f (changed_cells r.tables) 0 _ (listed-from r.tables h.tables all_spots 0 160 numbers) entries,
+    )
+
+-- the lines behind the first
+abbrev lines_behind : Version → RecordingView → List (List (List ℕ))
+lines_behind version r =
+    (protocol_lines version r.protocol ++ (shape_words r.shape ∷ seats_lines version r.seats ++ opening_words r.opening ∷ [])) ++
+    (cells_words (length (changed_cells r.tables)) ∷ map cell_words (changed_cells r.tables) ++
+    (entries_words (length r.entries) ∷ map told_words (told r.owners r.entries) ++ end_words ∷ []))
+
+behind-followed : (v : Version) (r : RecordingView) → IsRecordable r → HasTextIn v r → Followed (header_leads v) (lines_behind v r) Nothing
+unfolding tail_lines
+behind-followed One r h t =
+    let f : Form = form One Msi 0 in
+    (OpeningLine f r.shape, (r.shape, t.shape, refl, refl), (CellCount f, (r.opening, h.opening, refl, refl), tail-followed f r h (sym t.told.1)))
+behind-followed Two r h t =
+    let f : Form = form Two r.protocol 0 in
+    let g : Form = form Two r.protocol r.seats in (
+      ShapeLine f,
+      (r.protocol, refl, refl),
       (
-        OpeningLine r.shape,
-        (r.shape, h.shape, refl, refl),
+        SeatsLine f r.shape,
+        (r.shape, t.shape, refl, refl),
         (
-          CellCount,
-          (r.opening, h.opening, refl, refl),
-          (cells_due (length (changed_cells r.tables)) 0, (length (changed_cells r.tables), few-cells r.tables, refl, refl), cells),
+          OpeningLine g r.shape,
+          (r.seats, h.owners.few, refl, refl),
+          (CellCount g, (r.opening, h.opening, refl, refl), tail-followed g r h refl),
         ),
       ),
     )
 
-pub recorded-lines : (r : RecordingView) → IsRecordable r → AllByRecursion IsLine (lines r)
-recorded-lines r h = followed-lines Header Nothing (lines r) tt (lines-followed r h)
+lines-followed : (v : Version) (r : RecordingView) → IsRecordable r → HasTextIn v r → Followed Header (lines v r) Nothing
+lines-followed v r h t = (header_leads v, (v, refl, refl), behind-followed v r h t)
+
+pub recorded-lines : (v : Version) (r : RecordingView) → IsRecordable r → HasTextIn v r → AllByRecursion IsLine (lines v r)
+recorded-lines v r h t = followed-lines Header Nothing (lines v r) tt (lines-followed v r h t)
 
 -- the text of a recording is well formed from the first line to the last
-pub text-whole : (r : RecordingView) → IsRecordable r → IsWellFormed (Some (text r)) (Some [])
-text-whole r h = record {
-  lines = map joined (lines r);
-  follow = followed-follow Header Nothing (lines r) tt (lines-followed r h);
-  read = sym (append-nil _ ∙ flat_map-map ended joined (lines r));
+pub text-whole : (v : Version) (r : RecordingView) → IsRecordable r → HasTextIn v r → IsWellFormed (Some (text v r)) (Some [])
+text-whole v r h t = record {
+  lines = map joined (lines v r);
+  follow = followed-follow Header Nothing (lines v r) tt (lines-followed v r h t);
+  read = sym (append-nil _ ∙ flat_map-map ended joined (lines v r));
   end = refl;
 }
 
-short-all : (xs : List (List (List ℕ))) → AllByRecursion IsLine xs → AllByRecursion (λ ws. length (joined ws) ≤ 90000) xs
-short-all [] h = tt
-short-all (x ∷ xs) h = (joined-short x h.0, short-all xs h.1)
+-- ---- and its lines are short
 
-pub lines-short : (r : RecordingView) → IsRecordable r → All (λ ws. length (joined ws) ≤ 90000) (lines r)
-lines-short r h = All-from_recursion (λ ws. length (joined ws) ≤ 90000) (lines r) (short-all (lines r) (recorded-lines r h))
+-- a line of this version is due, and none of the first
+IsBehind : Version → Due → Type 0
+IsBehind v Header = ⊥
+IsBehind v ProtocolLine = v ≡ Two
+IsBehind v (ShapeLine f) = f.version ≡ v
+IsBehind v (SeatsLine f shape) = f.version ≡ v
+IsBehind v (OpeningLine f shape) = f.version ≡ v
+IsBehind v (CellCount f) = f.version ≡ v
+IsBehind v (CellLine f left from) = f.version ≡ v
+IsBehind v (EntryCount f) = f.version ≡ v
+IsBehind v (EntryLine f left) = f.version ≡ v
+IsBehind v (EndLine f) = f.version ≡ v
+IsBehind v Nothing = Unit {0}
+
+behind-header : (v : Version) → IsBehind v (header_leads v)
+unfolding IsBehind
+behind-header One = refl
+behind-header Two = refl
+
+behind-shape : (v w : Version) (f : Form) (shape : Extent) → f.version ≡ v → IsBehind v (shape_leads_in w f shape)
+unfolding IsBehind
+behind-shape v One f shape is = is
+behind-shape v Two f shape is = is
+
+behind-cells : (v : Version) (f : Form) (n from : ℕ) → f.version ≡ v → IsBehind v (cells_due f n from)
+unfolding IsBehind
+behind-cells v f zero from is = is
+behind-cells v f (suc n) from is = is
+
+behind-entries : (v : Version) (f : Form) (n : ℕ) → f.version ≡ v → IsBehind v (entries_due f n)
+unfolding IsBehind
+behind-entries v f zero is = is
+behind-entries v f (suc n) is = is
+
+still-behind : (v : Version) (due : Due) (line : List (List ℕ)) (next : Due) → IsBehind v due → Leads due line next → IsBehind v next
+unfolding IsBehind
+still-behind v Header line next is l = absurd is
+still-behind v ProtocolLine line next is l = subst (IsBehind v) (sym l.2) (sym is)
+still-behind v (ShapeLine f) line next is l = subst (IsBehind v) (sym l.3) (behind-shape v f.version f l.0 is)
+still-behind v (SeatsLine f shape) line next is l = subst (IsBehind v) (sym l.3) is
+still-behind v (OpeningLine f shape) line next is l = subst (IsBehind v) (sym l.3) is
+still-behind v (CellCount f) line next is l = subst (IsBehind v) (sym l.3) (behind-cells v f l.0 0 is)
+still-behind v (CellLine f left from) line next is l = subst (IsBehind v) (sym l.3) (behind-cells v f _ _ is)
+still-behind v (EntryCount f) line next is l = subst (IsBehind v) (sym l.3) (behind-entries v f l.0 is)
+still-behind v (EntryLine f left) line next is l = subst (IsBehind v) (sym l.3) (behind-entries v f _ is)
+still-behind v (EndLine f) line next is l = subst (IsBehind v) (sym l.1) tt
+still-behind v Nothing line next is l = absurd l
+
+its-limit : (v : Version) (due : Due) (line : List (List ℕ)) (next : Due) → IsBehind v due → Leads due line next → limit due ≡ most_bytes v
+unfolding IsBehind
+its-limit v Header line next is l = absurd is
+its-limit v ProtocolLine line next is l = ap most_bytes (sym is)
+its-limit v (ShapeLine f) line next is l = ap most_bytes is
+its-limit v (SeatsLine f shape) line next is l = ap most_bytes is
+its-limit v (OpeningLine f shape) line next is l = ap most_bytes is
+its-limit v (CellCount f) line next is l = ap most_bytes is
+its-limit v (CellLine f left from) line next is l = ap most_bytes is
+its-limit v (EntryCount f) line next is l = ap most_bytes is
+its-limit v (EntryLine f left) line next is l = ap most_bytes is
+its-limit v (EndLine f) line next is l = ap most_bytes is
+its-limit v Nothing line next is l = absurd l
+
+followed-short : (v : Version) (due last : Due) (xs : List (List (List ℕ))) → IsBehind v due → IsDue due → Followed due xs last →
+    AllByRecursion (λ ws. length (joined ws) ≤ most_bytes v) xs
+followed-short v due last [] behind is f = tt
+followed-short v due last (x ∷ xs) behind is f = (
+  omega (arith, leads-short due x f.0 is f.1, its-limit v due x f.0 behind f.1),
+  followed-short v f.0 last xs (still-behind v due x f.0 behind f.1) (leads-due due x f.0 is f.1) f.2,
+)
+
+pub lines-short : (v : Version) (r : RecordingView) → IsRecordable r → HasTextIn v r → AreShort v (lines v r)
+lines-short v r h t =
+    let first = leads-short Header (header_words v) (header_leads v) tt (v, refl, refl) in
+    let due : IsDue (header_leads v) = leads-due Header (header_words v) (header_leads v) tt (v, refl, refl) in (
+      first,
+      All-from_recursion (λ ws. length (joined ws) ≤ most_bytes v) (lines_behind v r)
+          (followed-short v (header_leads v) Nothing (lines_behind v r) (behind-header v) due (behind-followed v r h t)),
+    )

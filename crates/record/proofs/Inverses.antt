@@ -1,5 +1,5 @@
 -- A text is the text of one recording.
-use Rattle.std.proofs.Common.{◌≡◌, ◌<◌, ◌+◌, ◌^◌, ℕ, zero, suc, Bool, true, false, List, [], ◌∷◌, ◌++◌, Option, None, Some, length, map, get_or}
+use Rattle.std.proofs.Common.{◌≡◌, ◌<◌, ◌≤◌, ◌+◌, ◌^◌, ℕ, zero, suc, Bool, true, false, List, [], ◌∷◌, ◌++◌, Option, None, Some, length, map, get_or}
 use Rattle.std.proofs.Common.{refl, ap, sym, subst, ◌∙◌, arith, append-nil, codes}
 use Rattle.std.specs.List.{AllByRecursion, flat_map, range_with_len}
 use Rattle.std.specs.Fmt.{decimal}
@@ -19,10 +19,16 @@ use Rattle.record.specs.declared.recording.Entry.{Entry}
 use Rattle.record.specs.Cells.{all_spots, cell_at, cell_words, spot_number}
 use Rattle.record.specs.View.{RecordingView}
 use Rattle.base.specs.Spelling.{joined}
-use Rattle.record.specs.Text.{text, line, lines, shape_words, opening_words, cells_words, entries_words, entry_words, end_words, is_changed}
+use Rattle.record.specs.Text.{text, line, lines, shape_words, opening_words, cells_words, entries_words, entry_words, told, told_words, end_words, is_changed}
 use Rattle.record.specs.Text.{changed, changed_cells}
+use Rattle.base.specs.declared.controller.protocol.Protocol.{Protocol}
 use Rattle.record.specs.declared.due.Due.TheVariants.{Header}
-use Rattle.record.specs.Grammar.{FitsEntry}
+use Rattle.record.specs.declared.told.Told.{Told}
+use Rattle.record.specs.declared.version.Version.{Version}
+use Rattle.record.specs.declared.version.Version.TheVariants.{One, Two}
+use Rattle.record.specs.Versions.{HasTextIn}
+use Rattle.record.proofs.Owners.{entries-told, entries_of, owners-told, owners_of, tell, told-fit, told-length}
+use Rattle.record.specs.Grammar.{FitsEntry, FitsTold}
 use Rattle.record.specs.declared.fault.ReadKind.{ReadKind}
 use Rattle.record.specs.Refused.{IsOutside, IsRefused}
 use Rattle.std.specs.Io.KnownBytes.{Consumes}
@@ -31,8 +37,8 @@ use Rattle.record.proofs.Alike.{cell-same, unchanged}
 use Rattle.record.proofs.Changed.{changed-cons}
 use Rattle.record.proofs.Legible.{IsLine, joined-open, words-joined}
 use Rattle.record.proofs.Ending.{some-line, one-line_first}
-use Rattle.record.proofs.Leading.{count-same, shape-same}
-use Rattle.record.proofs.Faulting.{same-halves}
+use Rattle.record.proofs.Leading.{count-same, protocol-same, shape-same, version-same}
+use Rattle.record.proofs.Faulting.{by-same, same-halves}
 use Rattle.record.proofs.Following.{AreListed, spot-own, listed-from, few-cells, recorded-lines, text-whole}
 use Rattle.record.proofs.Listed.{at-own, numbers, some_spot}
 use Rattle.record.proofs.Refusals.{whole-alone, whole-refused}
@@ -92,6 +98,12 @@ entry-same e f h k is =
     let halves = same-halves e.step f.step (outcome_words e.outcome) (outcome_words f.outcome) h.0 k.0 is in
     ap (λ s. made s e.outcome) (same_step e.step f.step h.0 k.0 halves.0) ∙ ap (made f.step) (outcome-same e.outcome f.outcome h.1 k.1 halves.1)
 
+-- an entry with its owner
+told-same : (seats : ℕ) (t u : Told) → seats ≤ 64 → FitsTold seats t → FitsTold seats u → told_words t ≡ told_words u → t ≡ u
+told-same seats t u few h k e =
+    let halves = by-same seats t.owner u.owner (entry_words t.entry) (entry_words u.entry) few h.0 k.0 e in
+    ap (λ o. tell o t.entry) halves.0 ∙ ap (tell u.owner) (entry-same t.entry u.entry h.1 k.1 halves.1)
+
 -- ---- lists of them
 
 values-same : (vs ws : List ℕ) → AllByRecursion (λ value. value < 2 ^ 64) vs → AllByRecursion (λ value. value < 2 ^ 64) ws →
@@ -112,15 +124,15 @@ cells-same (c ∷ cs) (d ∷ ds) us vs n e =
     let both = cells-same cs ds us vs (omega (arith, n)) rest in
     (ap (λ x. x ∷ cs) (cell-same c d first) ∙ ap (λ l. d ∷ l) both.0, both.1)
 
-entries-same : (es fs : List Entry) (us vs : List (List (List ℕ))) → length es ≡ length fs → AllByRecursion FitsEntry es →
-    AllByRecursion FitsEntry fs → map entry_words es ++ us ≡ map entry_words fs ++ vs → es ≡ fs
-entries-same [] [] us vs n h k e = refl
-entries-same [] (y ∷ fs) us vs n h k e = absurd (omega (arith, n))
-entries-same (x ∷ es) [] us vs n h k e = absurd (omega (arith, n))
-entries-same (x ∷ es) (y ∷ fs) us vs n h k e =
-    let first : entry_words x ≡ entry_words y = cc in
-    let rest : map entry_words es ++ us ≡ map entry_words fs ++ vs = cc in
-    ap (λ z. z ∷ es) (entry-same x y h.0 k.0 first) ∙ ap (λ l. y ∷ l) (entries-same es fs us vs (omega (arith, n)) h.1 k.1 rest)
+tolds-same : (seats : ℕ) (ts us : List Told) (xs ys : List (List (List ℕ))) → seats ≤ 64 → length ts ≡ length us → AllByRecursion (FitsTold seats) ts →
+    AllByRecursion (FitsTold seats) us → map told_words ts ++ xs ≡ map told_words us ++ ys → ts ≡ us
+tolds-same seats [] [] xs ys few n h k e = refl
+tolds-same seats [] (u ∷ us) xs ys few n h k e = absurd (omega (arith, n))
+tolds-same seats (t ∷ ts) [] xs ys few n h k e = absurd (omega (arith, n))
+tolds-same seats (t ∷ ts) (u ∷ us) xs ys few n h k e =
+    let first : told_words t ≡ told_words u = cc in
+    let rest : map told_words ts ++ xs ≡ map told_words us ++ ys = cc in
+    ap (λ z. z ∷ ts) (told-same seats t u few h.0 k.0 first) ∙ ap (λ l. u ∷ l) (tolds-same seats ts us xs ys few (omega (arith, n)) h.1 k.1 rest)
 
 -- ---- tables
 
@@ -170,65 +182,116 @@ cells-agree t u h k e s =
 
 -- ---- recordings
 
-kept : Extent → Tables → List ℕ → List Entry → RecordingView
-kept shape tables opening entries = record { shape = shape; tables = tables; opening = opening; entries = entries }
+kept : Protocol → ℕ → Extent → Tables → List ℕ → List Entry → List ℕ → RecordingView
+kept protocol seats shape tables opening entries owners =
+    record { protocol = protocol; seats = seats; shape = shape; tables = tables; opening = opening; entries = entries; owners = owners }
 
-parts-same : (r s : RecordingView) → r.shape ≡ s.shape → r.tables ≡ s.tables → r.opening ≡ s.opening → r.entries ≡ s.entries → r ≡ s
+parts-same : (r s : RecordingView) → r.protocol ≡ s.protocol → r.seats ≡ s.seats → r.shape ≡ s.shape → r.tables ≡ s.tables → r.opening ≡ s.opening →
+    r.entries ≡ s.entries → r.owners ≡ s.owners → r ≡ s
 unfolding kept
-parts-same r s a b c d =
-    ap (λ x. kept x r.tables r.opening r.entries) a ∙ ap (λ x. kept s.shape x r.opening r.entries) b ∙ ap (λ x. kept s.shape s.tables x r.entries) c
-    ∙ ap (λ x. kept s.shape s.tables s.opening x) d
+parts-same r s p n a b c d o =
+    ap (λ x. kept x r.seats r.shape r.tables r.opening r.entries r.owners) p
+    ∙ ap (λ x. kept s.protocol x r.shape r.tables r.opening r.entries r.owners) n
+    ∙ ap (λ x. kept s.protocol s.seats x r.tables r.opening r.entries r.owners) a
+    ∙ ap (λ x. kept s.protocol s.seats s.shape x r.opening r.entries r.owners) b
+    ∙ ap (λ x. kept s.protocol s.seats s.shape s.tables x r.entries r.owners) c
+    ∙ ap (λ x. kept s.protocol s.seats s.shape s.tables s.opening x r.owners) d
+    ∙ ap (λ x. kept s.protocol s.seats s.shape s.tables s.opening s.entries x) o
+
+behind_one : {X : Type 0} → List X → List X
+behind_one [] = []
+behind_one (x ∷ xs) = xs
 
 rest_of : RecordingView → List (List (List ℕ))
-rest_of r = map cell_words (changed_cells r.tables) ++ (entries_words (length r.entries) ∷ map entry_words r.entries ++ end_words ∷ [])
+rest_of r = map cell_words (changed_cells r.tables) ++ (entries_words (length r.entries) ∷ map told_words (told r.owners r.entries) ++ end_words ∷ [])
 
--- a text is the text of one recording
-pub recording-one : (r s : RecordingView) → IsRecordable r → IsRecordable s → text r ≡ text s → r ≡ s
-unfolding rest_of
-recording-one r s h k e =
-    let all : lines r ≡ lines s = lines-same (lines r) (lines s) (recorded-lines r h) (recorded-lines s k) e in
-    let shape : shape_words r.shape ≡ shape_words s.shape = ap (λ l. get_or l 1 []) all in
-    let opening : opening_words r.opening ≡ opening_words s.opening = ap (λ l. get_or l 2 []) all in
-    let count : cells_words (length (changed_cells r.tables)) ≡ cells_words (length (changed_cells s.tables)) = ap (λ l. get_or l 3 []) all in
-    let rest : rest_of r ≡ rest_of s = ap (λ l. behind_four l) all in
+-- what the lines of two recordings in one version tell is the same
+record SameHeads (r s : RecordingView) : Type 0 where
+  protocol : r.protocol ≡ s.protocol
+  seats : r.seats ≡ s.seats
+  shape : shape_words r.shape ≡ shape_words s.shape
+  opening : opening_words r.opening ≡ opening_words s.opening
+  count : cells_words (length (changed_cells r.tables)) ≡ cells_words (length (changed_cells s.tables))
+  rest : rest_of r ≡ rest_of s
+
+heads-same : (v : Version) (r s : RecordingView) → IsRecordable r → HasTextIn v r → IsRecordable s → HasTextIn v s → lines v r ≡ lines v s → SameHeads r s
+unfolding rest_of behind_one
+heads-same One r s h t k u all = record {
+  protocol = t.told.0 ∙ sym u.told.0;
+  seats = t.told.1 ∙ sym u.told.1;
+  shape = ap (λ l. get_or l 1 []) all;
+  opening = ap (λ l. get_or l 2 []) all;
+  count = ap (λ l. get_or l 3 []) all;
+  rest = ap (λ l. behind_one (behind_one (behind_one (behind_one l)))) all;
+}
+heads-same Two r s h t k u all = record {
+  protocol = protocol-same r.protocol s.protocol (ap (λ l. get_or l 1 []) all);
+  seats =
+      count-same (codes "seats") r.seats s.seats (omega (arith, h.owners.few)) (omega (arith, k.owners.few)) (ap (λ l. get_or l 3 []) all);
+  shape = ap (λ l. get_or l 2 []) all;
+  opening = ap (λ l. get_or l 4 []) all;
+  count = ap (λ l. get_or l 5 []) all;
+  rest = ap (λ l. behind_one (behind_one (behind_one (behind_one (behind_one (behind_one l)))))) all;
+}
+
+same-parts : (r s : RecordingView) → IsRecordable r → IsRecordable s → SameHeads r s → r ≡ s
+unfolding rest_of behind_one
+same-parts r s h k same =
     let n =
     count-same (codes "cells") (length (changed_cells r.tables)) (length (changed_cells s.tables)) (omega (arith, few-cells r.tables))
-    (omega (arith, few-cells s.tables)) count in
-    let cells = cells-same (changed_cells r.tables) (changed_cells s.tables) _ _ n rest in
+    (omega (arith, few-cells s.tables)) same.count in
+    let cells = cells-same (changed_cells r.tables) (changed_cells s.tables) _ _ n same.rest in
     let entry_count : entries_words (length r.entries) ≡ entries_words (length s.entries) = ap (λ l. get_or l 0 []) cells.1 in
     let m = count-same (codes "entries") (length r.entries) (length s.entries) h.few k.few entry_count in
-    let entries : map entry_words r.entries ++ end_words ∷ [] ≡ map entry_words s.entries ++ end_words ∷ [] = ap behind_one cells.1 in
-    parts-same r s
-    (shape-same r.shape s.shape h.shape k.shape shape)
+    let ts : List Told = told r.owners r.entries in
+    let us : List Told = told s.owners s.entries in
+    let tolds : map told_words ts ++ end_words ∷ [] ≡ map told_words us ++ end_words ∷ [] = ap behind_one cells.1 in
+    let many : length ts ≡ length us = told-length r.owners r.entries ∙ m ∙ sym (told-length s.owners s.entries) in
+    let fits : AllByRecursion (FitsTold r.seats) ts = told-fit r.seats r.owners r.entries h.owners (recursion_from_All FitsEntry r.entries h.fits) in
+    let others : AllByRecursion (FitsTold r.seats) us =
+    subst (λ x. AllByRecursion (FitsTold x) us) (sym same.seats)
+    (told-fit s.seats s.owners s.entries k.owners (recursion_from_All FitsEntry s.entries k.fits)) in
+    let all : ts ≡ us = tolds-same r.seats ts us (end_words ∷ []) (end_words ∷ []) h.owners.few many fits others tolds in
+    parts-same r s same.protocol same.seats
+    (shape-same r.shape s.shape h.shape k.shape same.shape)
     (tables-same r.tables s.tables h.tables k.tables (cells-agree r.tables s.tables h.tables k.tables cells.0))
-    (values-same r.opening s.opening (recursion_from_All _ r.opening h.opening.small) (recursion_from_All _ s.opening k.opening.small) (ap behind_one opening))
-    (entries-same r.entries s.entries (end_words ∷ []) (end_words ∷ []) m (recursion_from_All FitsEntry r.entries h.fits)
-    (recursion_from_All FitsEntry s.entries k.fits) entries)
-  where
-    behind_one : {X : Type 0} → List X → List X
-    behind_one [] = []
-    behind_one (x ∷ xs) = xs
+    (values-same r.opening s.opening (recursion_from_All _ r.opening h.opening.small) (recursion_from_All _ s.opening k.opening.small)
+    (ap behind_one same.opening))
+    (sym (entries-told r.owners r.entries) ∙ ap entries_of all ∙ entries-told s.owners s.entries)
+    (sym (owners-told r.seats r.owners r.entries h.owners) ∙ ap owners_of all ∙ owners-told s.seats s.owners s.entries k.owners)
 
-    behind_four : List (List (List ℕ)) → List (List (List ℕ))
-    behind_four xs = behind_one (behind_one (behind_one (behind_one xs)))
+-- a text is the text of one recording, in one version
+pub recording-one : (v w : Version) (r s : RecordingView) → IsRecordable r → HasTextIn v r → IsRecordable s → HasTextIn w s → text v r ≡ text w s →
+    (v ≡ w) × (r ≡ s)
+recording-one v w r s h t k u e =
+    let all : lines v r ≡ lines w s = lines-same (lines v r) (lines w s) (recorded-lines v r h t) (recorded-lines w s k u) e in
+    let version : v ≡ w = version-same v w (ap (λ l. get_or l 0 []) all) in
+    let there : HasTextIn v s = subst (λ x. HasTextIn x s) (sym version) u in
+    (version, same-parts r s h k (heads-same v r s h t k there (all ∙ ap (λ x. lines x s) (sym version))))
 
 -- and no text is the beginning of another
-pub recording-alone : (r s : RecordingView) (more : List ℕ) → IsRecordable r → IsRecordable s → text r ≡ text s ++ more → (r ≡ s) × (more ≡ [])
-recording-alone r s more h k e =
-    let none : more ≡ [] = whole-alone (text r) (text s) more (text-whole r h) (text-whole s k) e in
-    (recording-one r s h k (e ∙ ap (λ l. text s ++ l) none ∙ append-nil (text s)), none)
+pub recording-alone : (v w : Version) (r s : RecordingView) (more : List ℕ) → IsRecordable r → HasTextIn v r → IsRecordable s → HasTextIn w s →
+    text v r ≡ text w s ++ more → (v ≡ w) × (r ≡ s) × (more ≡ [])
+recording-alone v w r s more h t k u e =
+    let none : more ≡ [] = whole-alone (text v r) (text w s) more (text-whole v r h t) (text-whole w s k u) e in
+    let one = recording-one v w r s h t k u (e ∙ ap (λ l. text w s ++ l) none ∙ append-nil (text w s)) in
+    (one.0, one.1, none)
 
 -- what was read of a recording's text is that recording
-pub read-back : (before after : Option (List ℕ)) (r s : RecordingView) → IsRecordable r → IsRecordable s → before ≡ Some (text r) →
-    Consumes before after (text s) → s ≡ r
-read-back before after r s h k is read = read-text after (subst (λ b. Consumes b after (text s)) is read)
+pub read-back : (before after : Option (List ℕ)) (v w : Version) (r s : RecordingView) → IsRecordable r → HasTextIn v r → IsRecordable s → HasTextIn w s →
+    before ≡ Some (text v r) → Consumes before after (text w s) → s ≡ r
+read-back before after v w r s h t k u is read = read-text after (subst (λ b. Consumes b after (text w s)) is read)
   where
-    read-text : (after : Option (List ℕ)) → Consumes (Some (text r)) after (text s) → s ≡ r
+    read-text : (after : Option (List ℕ)) → Consumes (Some (text v r)) after (text w s) → s ≡ r
     read-text None read = absurd read
-    read-text (Some left) read = sym (recording-alone r s left h k read).0
+    read-text (Some left) read = sym (recording-alone v w r s left h t k u read).1
 
 -- and it is refused only for want of memory or by a device
-pub refused-outside : (before end : Option (List ℕ)) (line : ℕ) (kind : ReadKind) (r : RecordingView) → IsRecordable r → before ≡ Some (text r) →
-    IsRefused before end 0 Header line kind → IsOutside kind
-refused-outside before end line kind r h is refused =
-    whole-refused (text r) (Some []) end line kind (text-whole r h) (subst (λ b. IsRefused b end 0 Header line kind) is refused)
+pub refused-outside : (before end : Option (List ℕ)) (line : ℕ) (kind : ReadKind) (v : Version) (r : RecordingView) → IsRecordable r → HasTextIn v r →
+    before ≡ Some (text v r) → IsRefused before end 0 Header line kind → IsOutside kind
+refused-outside before end line kind v r h t is refused =
+    whole-refused (text v r) (Some []) end line kind (text-whole v r h t) (subst (λ b. IsRefused b end 0 Header line kind) is refused)
+
+-- version 2 tells each recording
+pub second-tells : (r : RecordingView) → IsRecordable r → HasTextIn Two r
+second-tells r h = record { shape = record { within = h.shape; few_caches = h.shape.few_caches; few_blocks = h.shape.few_blocks }; told = tt }

@@ -16,11 +16,11 @@ pub record IsWord (word : List ℕ) : Type 0 where
   pub dark : AllByRecursion (λ b. 32 < b) word
   pub short : length word ≤ 20
 
--- a line has some words, and at most 4,200
+-- a line has some words, and at most 65,700
 pub record IsLine (parts : List (List ℕ)) : Type 0 where
   pub each : AllByRecursion IsWord parts
   pub some : 0 < length parts
-  pub few : length parts ≤ 4200
+  pub few : length parts ≤ 65700
 
 pub all-append : {X : Type 0} (P : X → Type 0) (xs ys : List X) → AllByRecursion P xs → AllByRecursion P ys → AllByRecursion P (xs ++ ys)
 all-append P [] ys h k = k
@@ -72,9 +72,9 @@ spaced-short : (ws : List (List ℕ)) → AllByRecursion IsWord ws → length (s
 spaced-short [] h = omega arith
 spaced-short (w ∷ ws) h = omega (arith, length-append w (spaced ws), h.0.short, spaced-short ws h.1)
 
-pub joined-short : (ws : List (List ℕ)) → IsLine ws → length (joined ws) ≤ 90000
+pub joined-short : (ws : List (List ℕ)) → IsLine ws → length (joined ws) ≤ 21 * length ws
 joined-short [] h = omega arith
-joined-short (w ∷ ws) h = omega (arith, length-append w (spaced ws), h.each.0.short, spaced-short ws h.each.1, h.few)
+joined-short (w ∷ ws) h = omega (arith, length-append w (spaced ws), h.each.0.short, spaced-short ws h.each.1)
 
 -- ---- no line ends within its words
 

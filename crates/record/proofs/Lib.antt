@@ -13,6 +13,7 @@ pub mod Legible
 pub mod Listed
 pub mod Openings
 pub mod Outs
+pub mod Owners
 pub mod PieceAt
 pub mod Refusals
 pub mod Replays

@@ -1,17 +1,17 @@
 -- Which piece of a recording's text has which number.
-use Rattle.std.proofs.Common.{◌≡◌, ◌<◌, ◌+◌, ℕ, suc, List, [], ◌∷◌, ◌++◌, length, map, get_or, ap, subst, ◌∙◌, arith}
-use Rattle.std.proofs.lemmas.List.{length-map, get_or_append_left, get_or_default, get_or-append-add, get_or-map}
+use Rattle.std.proofs.Common.{◌≡◌, ◌<◌, ◌+◌, ℕ, zero, suc, List, [], ◌∷◌, ◌++◌, Some, length, map, get_or, ap, sym, subst, ◌∙◌, arith}
+use Rattle.std.proofs.lemmas.List.{length-map, get_or_append_left, get_or-append-add, get_or-map}
 use Rattle.std.proofs.Math.Seq.{get_or-append_seam}
-use Rattle.base.specs.declared.step.Ask.TheVariants as ask
-use Rattle.base.specs.declared.step.Step.TheVariants as step
-use Rattle.base.specs.declared.step.Outcome.TheVariants as outcome
 use Rattle.record.specs.Grammar.{FitsEntry}
 use Rattle.record.specs.declared.cells.Spot.{Spot}
 use Rattle.record.specs.declared.recording.Entry.{Entry}
 use Rattle.record.specs.Cells.{all_spots}
+use Rattle.std.specs.Prelude.{slice_get}
+use Rattle.record.specs.declared.told.Told.{Told}
+use Rattle.record.proofs.Owners.{tell, told-at, told-length}
 use Rattle.record.specs.View.{RecordingView}
-use Rattle.record.specs.Text.{changed_cells}
-use Rattle.record.specs.inner.Pieces.{pieces, value_piece, cells_piece, cell_piece, entries_piece, entry_piece, end_piece}
+use Rattle.record.specs.Text.{changed_cells, told}
+use Rattle.record.specs.inner.Pieces.{pieces, value_piece, cells_piece, cell_piece, entries_piece, told_piece, end_piece}
 
 -- one behind a list and what follows it
 seam : {X : Type 0} (xs : List X) (y : X) (ys : List X) (n : ℕ) (d : X) → n ≡ length xs → get_or (xs ++ y ∷ ys) n d ≡ y
@@ -27,7 +27,7 @@ among f xs rest i d low =
 
 -- what stands behind the pieces of the opening values, and behind those of the cells
 abbrev behind_cells : RecordingView → List (List ℕ)
-behind_cells r = entries_piece (length r.entries) ∷ map entry_piece r.entries ++ end_piece ∷ []
+behind_cells r = entries_piece (length r.entries) ∷ map told_piece (told r.owners r.entries) ++ end_piece ∷ []
 
 abbrev behind_values : RecordingView → List (List ℕ)
 behind_values r = map (cell_piece r.tables) all_spots ++ behind_cells r
@@ -42,11 +42,11 @@ past-values r n i e =
     next r n (length r.opening + 1 + i) (omega (arith, e))
     ∙ past (map value_piece r.opening) (cells_piece (length (changed_cells r.tables))) (behind_values r) (length r.opening + 1 + i) i [] (omega (arith, count))
 
-past-cells : (r : RecordingView) (n i : ℕ) → n ≡ length r.opening + 163 + i → get_or (pieces r) n [] ≡ get_or (map entry_piece r.entries ++ end_piece ∷ []) i []
+past-cells : (r : RecordingView) (n i : ℕ) → n ≡ length r.opening + 163 + i → get_or (pieces r) n [] ≡ get_or (map told_piece (told r.owners r.entries) ++ end_piece ∷ []) i []
 past-cells r n i e =
     let count = length-map all_spots (cell_piece r.tables) in
     past-values r n (161 + i) (omega (arith, e))
-    ∙ past (map (cell_piece r.tables) all_spots) (entries_piece (length r.entries)) (map entry_piece r.entries ++ end_piece ∷ []) (161 + i) i []
+    ∙ past (map (cell_piece r.tables) all_spots) (entries_piece (length r.entries)) (map told_piece (told r.owners r.entries) ++ end_piece ∷ []) (161 + i) i []
     (omega (arith, count))
 
 pub value-at : (r : RecordingView) (n i : ℕ) (d : ℕ) → n ≡ i + 1 → i < length r.opening → get_or (pieces r) n [] ≡ value_piece (get_or r.opening i d)
@@ -65,22 +65,35 @@ pub entries-at : (r : RecordingView) (n : ℕ) → n ≡ length r.opening + 162 
 entries-at r n e =
     let count = length-map all_spots (cell_piece r.tables) in
     past-values r n 160 (omega (arith, e))
-    ∙ seam (map (cell_piece r.tables) all_spots) (entries_piece (length r.entries)) (map entry_piece r.entries ++ end_piece ∷ []) 160 [] (omega (arith, count))
+    ∙ seam (map (cell_piece r.tables) all_spots) (entries_piece (length r.entries)) (map told_piece (told r.owners r.entries) ++ end_piece ∷ []) 160 [] (omega (arith, count))
 
-pub entry-at : (r : RecordingView) (n i : ℕ) (d : Entry) → n ≡ length r.opening + 163 + i → i < length r.entries →
-    get_or (pieces r) n [] ≡ entry_piece (get_or r.entries i d)
-entry-at r n i d e low = past-cells r n i e ∙ among entry_piece r.entries (end_piece ∷ []) i d low
+pub entry-at : (r : RecordingView) (n i : ℕ) (t : Told) → n ≡ length r.opening + 163 + i → i < length r.entries → t.owner ≡ slice_get r.owners i →
+    slice_get r.entries i ≡ Some t.entry → get_or (pieces r) n [] ≡ told_piece t
+entry-at r n i t e low owner entry =
+    let ts : List Told = told r.owners r.entries in
+    let m : length ts ≡ length r.entries = told-length r.owners r.entries in
+    past-cells r n i e ∙ among told_piece ts (end_piece ∷ []) i t (omega (arith, m, low))
+    ∙ ap told_piece (told-at r.owners r.entries i t t.entry low ∙ ap (λ o. tell o (get_or r.entries i t.entry)) (sym owner)
+    ∙ ap (tell t.owner) (here r.entries i t.entry low entry))
+  where
+    here : (es : List Entry) (i : ℕ) (x : Entry) → i < length es → slice_get es i ≡ Some x → get_or es i x ≡ x
+    here [] i x low is = absurd (omega (arith, low))
+    here (e ∷ es) zero x low is = let same : e ≡ x = cc in same
+    here (e ∷ es) (suc i) x low is = here es i x (omega (arith, low)) is
 
 pub end-at : (r : RecordingView) (n : ℕ) → n ≡ length r.opening + 163 + length r.entries → get_or (pieces r) n [] ≡ end_piece
 end-at r n e =
-    let count = length-map r.entries entry_piece in
-    past-cells r n (length r.entries) e ∙ seam (map entry_piece r.entries) end_piece [] (length r.entries) [] (omega (arith, count))
+    let ts : List Told = told r.owners r.entries in
+    let count = length-map ts told_piece in
+    let m : length ts ≡ length r.entries = told-length r.owners r.entries in
+    past-cells r n (length r.entries) e ∙ seam (map told_piece ts) end_piece [] (length r.entries) [] (omega (arith, count, m))
 
--- what a place of no list holds
-abbrev pub no_entry : Entry
-no_entry = record { step = step.Ask (record { 0 = 0 }) (record { 0 = 0 }) ask.Load; outcome = outcome.Sent }
-
--- the entry at a place fits, whatever stands for one that isn't there
-pub fits-at : (xs ys : List Entry) (i k : ℕ) (d : Entry) → ys ≡ xs → i ≡ k → k < length xs → FitsEntry (get_or ys i no_entry) → FitsEntry (get_or xs k d)
-fits-at xs ys i k d same here low fits =
-    subst FitsEntry (ap (λ (l : List Entry). get_or l i no_entry) same ∙ ap (λ n. get_or xs n no_entry) here ∙ get_or_default xs k no_entry d low) fits
+-- the entry at a place fits, if the one that is there does
+pub fits-here : (xs : List Entry) (i k : ℕ) (d x : Entry) → i ≡ k → k < length xs → slice_get xs i ≡ Some x → FitsEntry x → FitsEntry (get_or xs k d)
+fits-here xs i k d x here low is fits =
+    subst FitsEntry (sym (at xs k low (ap (λ n. slice_get xs n) (sym here) ∙ is))) fits
+  where
+    at : (es : List Entry) (k : ℕ) → k < length es → slice_get es k ≡ Some x → get_or es k d ≡ x
+    at [] k low is = absurd (omega (arith, low))
+    at (e ∷ es) zero low is = let same : e ≡ x = cc in same
+    at (e ∷ es) (suc k) low is = at es k (omega (arith, low)) is

@@ -8,15 +8,20 @@ use Rattle.std.specs.List.{flat_map}
 use Rattle.std.specs.Io.KnownBytes.{Consumes, IsAtEnd, prepend_known}
 use Rattle.base.specs.Spelling.{words}
 use Rattle.record.specs.declared.due.Due.{Due}
-use Rattle.record.specs.declared.due.Due.TheVariants.{Header, ShapeLine, OpeningLine, CellCount, CellLine, EntryCount, EntryLine, EndLine, Nothing}
+use Rattle.record.specs.declared.due.Due.TheVariants.{Header, ProtocolLine, ShapeLine, SeatsLine, OpeningLine, CellCount, CellLine, EntryCount, EntryLine, EndLine, Nothing}
 use Rattle.record.specs.declared.fault.ReadKind.{ReadKind}
-use Rattle.record.specs.declared.fault.ReadKind.TheVariants.{BadHeader, BadLine, Truncated, CountDiffers, BadOutcome, OverLimit, NoMemory, Device}
+use Rattle.record.specs.declared.fault.ReadKind.TheVariants.{BadHeader, BadLine, Truncated, CountDiffers, BadOutcome, OverLimit, NoMemory, Device, UnknownProtocol}
+use Rattle.base.specs.Extent.{Extent}
+use Rattle.record.specs.declared.due.Form.{Form}
+use Rattle.record.specs.declared.version.Version.{Version}
+use Rattle.record.specs.declared.version.Version.TheVariants.{One, Two}
+use Rattle.record.specs.Versions.{header_leads, shape_leads_in}
 use Rattle.record.specs.declared.reader.Reader.{Reader}
 use Rattle.record.specs.Cells.{spot_number, spot_of}
 use Rattle.record.specs.Grammar.{cells_due, entries_due, Leads, Follow}
-use Rattle.record.specs.Refused.{ended, BeginsFaulty, HasNoEnd, IsFaultOfLine, IsUnfinished, IsFaultOfRest, IsRefused, IsWellFormed}
+use Rattle.record.specs.Refused.{ended, limit, BeginsFaulty, HasNoEnd, IsFaultOfLine, IsUnfinished, IsFaultOfRest, IsRefused, IsWellFormed}
 use Rattle.record.specs.Text.{line, text}
-use Rattle.record.specs.inner.Drafts.{kept, lines_before, lines_left, IsTaken}
+use Rattle.record.specs.inner.Drafts.{kept, recorded, lines_before, lines_left, IsTaken}
 use Rattle.record.specs.inner.Readers.{HasPulled, HasTaken}
 use Rattle.record.specs.inner.Reading.{Gathered, AreSomeIf, IsTakenOff, IsWholeIf, pending, stream}
 use Rattle.record.proofs.Streams.{let-go, line-off, none-held, pulled}
@@ -43,10 +48,10 @@ pub not-whole : (b : Bool) (ahead : List ℕ) → b ≡ false → IsWholeIf b ah
 not-whole false ahead is h = h
 not-whole true ahead is h = absurd (cc)
 
-pub unfinished : (gathered : Gathered) (line : List ℕ) → gathered.ahead ≡ [] → gathered.line ≡ line → HasNoEnd line → length line ≤ 90000 →
-    IsUnfinished (pending gathered)
-unfinished gathered line none is no_end short =
-    subst IsUnfinished (sym (ap (λ l. gathered.line ++ l) none ∙ append-nil gathered.line ∙ is)) (record { no_end = no_end; short = short })
+pub unfinished : (most : ℕ) (gathered : Gathered) (line : List ℕ) → gathered.ahead ≡ [] → gathered.line ≡ line → HasNoEnd line → length line ≤ most →
+    IsUnfinished most (pending gathered)
+unfinished most gathered line none is no_end short =
+    subst (IsUnfinished most) (sym (ap (λ l. gathered.line ++ l) none ∙ append-nil gathered.line ∙ is)) (record { no_end = no_end; short = short })
 
 -- nothing is lost
 then-pulled : (before left more : Option (List ℕ)) (old mid new : Gathered) → Consumes before (stream old left) [] → pending mid ≡ pending old →
@@ -79,9 +84,9 @@ pulled-more left more most old mid new lines h pending none line bytes number du
   kept = same ∙ h.kept;
 }
 
-pub then-longer : (old mid new : Gathered) → pending mid ≡ pending old → mid.ahead ≡ [] → new.line ≡ mid.line → length mid.line ≤ 90000 →
-    0 < length new.ahead → 90001 - length (pending new) < 90001 - length (pending old)
-then-longer old mid new kept none line short some =
+pub then-longer : (most : ℕ) (old mid new : Gathered) → pending mid ≡ pending old → mid.ahead ≡ [] → new.line ≡ mid.line → length mid.line ≤ most →
+    0 < length new.ahead → (most + 1) - length (pending new) < (most + 1) - length (pending old)
+then-longer most old mid new kept none line short some =
     omega (
       arith,
       ap length kept,
@@ -134,9 +139,10 @@ begins due rest end BadHeader h = h
 begins due rest end BadLine h = inr h
 begins due rest end CountDiffers h = h
 begins due rest end BadOutcome h = h
+begins due rest end UnknownProtocol h = h
 
 -- a whole line with a fault
-pub line-fault : (due : Due) (line ahead behind : List ℕ) (end : _) (kind : ReadKind) → ahead ≡ 10 ∷ behind → HasNoEnd line → length line ≤ 90000 →
+pub line-fault : (due : Due) (line ahead behind : List ℕ) (end : _) (kind : ReadKind) → ahead ≡ 10 ∷ behind → HasNoEnd line → length line ≤ limit due →
     IsFaultOfLine due (words line) kind → IsFaultOfRest due (line ++ ahead) end kind
 line-fault due line ahead behind end kind is no_end short fault =
     begins due (line ++ ahead) end kind (record {
@@ -194,7 +200,7 @@ taken-whole before left reader h done none end = record {
 }
 
 pub taken-text : (before left : Option (List ℕ)) (reader : Reader) → HasTaken before left reader → reader.due ≡ Nothing → pending reader.lines ≡ [] →
-    Consumes before left (text (kept reader.draft))
+    Consumes before left (text reader.draft.version (recorded (kept reader.draft)))
 taken-text before left reader h done none =
     subst (Consumes before left)
     (all-ended h.lines ∙ ap (λ ls. flat_map line ls) (h.told ∙ ap (λ d. lines_before d (kept reader.draft)) done))
@@ -202,31 +208,41 @@ taken-text before left reader h done none =
 
 -- ---- each line leaves fewer
 
-fewer-cells : (n from : ℕ) → lines_left (cells_due n from) < n + 1000005
-fewer-cells zero from = omega arith
-fewer-cells (suc n) from = omega arith
+fewer-cells : (f : Form) (n from : ℕ) → lines_left (cells_due f n from) < n + 1000005
+fewer-cells f zero from = omega arith
+fewer-cells f (suc n) from = omega arith
 
-fewer-entries : (n : ℕ) → lines_left (entries_due n) < n + 3
-fewer-entries zero = omega arith
-fewer-entries (suc n) = omega arith
+fewer-entries : (f : Form) (n : ℕ) → lines_left (entries_due f n) < n + 3
+fewer-entries f zero = omega arith
+fewer-entries f (suc n) = omega arith
 
-fewer-cells-behind : (left from : ℕ) → lines_left (cells_due (left - 1) from) < left + 1000004
-fewer-cells-behind zero from = omega arith
-fewer-cells-behind (suc n) from =
-    let is : suc n - 1 ≡ n = omega arith in omega (arith, ap (λ k. lines_left (cells_due k from)) is, fewer-cells n from)
+fewer-cells-behind : (f : Form) (left from : ℕ) → lines_left (cells_due f (left - 1) from) < left + 1000004
+fewer-cells-behind f zero from = omega arith
+fewer-cells-behind f (suc n) from =
+    let is : suc n - 1 ≡ n = omega arith in omega (arith, ap (λ k. lines_left (cells_due f k from)) is, fewer-cells f n from)
 
-fewer-entries-behind : (left : ℕ) → lines_left (entries_due (left - 1)) < left + 2
-fewer-entries-behind zero = omega arith
-fewer-entries-behind (suc n) =
-    let is : suc n - 1 ≡ n = omega arith in omega (arith, ap (λ k. lines_left (entries_due k)) is, fewer-entries n)
+fewer-entries-behind : (f : Form) (left : ℕ) → lines_left (entries_due f (left - 1)) < left + 2
+fewer-entries-behind f zero = omega arith
+fewer-entries-behind f (suc n) =
+    let is : suc n - 1 ≡ n = omega arith in omega (arith, ap (λ k. lines_left (entries_due f k)) is, fewer-entries f n)
+
+fewer-header : (v : Version) → lines_left (header_leads v) < 1000170
+fewer-header One = omega arith
+fewer-header Two = omega arith
+
+fewer-shape : (v : Version) (f : Form) (shape : Extent) → lines_left (shape_leads_in v f shape) < 1000168
+fewer-shape One f shape = omega arith
+fewer-shape Two f shape = omega arith
 
 pub fewer-left : (due : Due) (words : List (List ℕ)) (next : Due) → Leads due words next → lines_left next < lines_left due
-fewer-left Header words next l = omega (arith, ap lines_left l.1)
-fewer-left ShapeLine words next l = omega (arith, ap lines_left l.3)
-fewer-left (OpeningLine shape) words next l = omega (arith, ap lines_left l.3)
-fewer-left CellCount words next l = omega (arith, ap lines_left l.3, fewer-cells l.0 0, l.1)
-fewer-left (CellLine left from) words next l = omega (arith, ap lines_left l.3, fewer-cells-behind left (spot_number (spot_of l.0) + 1))
-fewer-left EntryCount words next l = omega (arith, ap lines_left l.3, fewer-entries l.0, l.1)
-fewer-left (EntryLine left) words next l = omega (arith, ap lines_left l.3, fewer-entries-behind left)
-fewer-left EndLine words next l = omega (arith, ap lines_left l.1)
+fewer-left Header words next l = omega (arith, ap lines_left l.2, fewer-header l.0)
+fewer-left ProtocolLine words next l = omega (arith, ap lines_left l.2)
+fewer-left (ShapeLine f) words next l = omega (arith, ap lines_left l.3, fewer-shape f.version f l.0)
+fewer-left (SeatsLine f shape) words next l = omega (arith, ap lines_left l.3)
+fewer-left (OpeningLine f shape) words next l = omega (arith, ap lines_left l.3)
+fewer-left (CellCount f) words next l = omega (arith, ap lines_left l.3, fewer-cells f l.0 0, l.1)
+fewer-left (CellLine f left from) words next l = omega (arith, ap lines_left l.3, fewer-cells-behind f left (spot_number (spot_of l.0) + 1))
+fewer-left (EntryCount f) words next l = omega (arith, ap lines_left l.3, fewer-entries f l.0, l.1)
+fewer-left (EntryLine f left) words next l = omega (arith, ap lines_left l.3, fewer-entries-behind f left)
+fewer-left (EndLine f) words next l = omega (arith, ap lines_left l.1)
 fewer-left Nothing words next l = absurd l

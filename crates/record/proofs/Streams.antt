@@ -96,9 +96,9 @@ front-moved buffer line new at end count few is =
     ∙ ap (λ l. line ++ (take count held ++ l)) (sym (held-behind buffer at end count few)) ∙ ap (λ l. line ++ l) (take-append-drop count held)
 
 -- and the line isn't too long still
-pub still-short : (buffer line new : List ℕ) (at count : ℕ) → new ≡ line ++ take ((at + count) - at) (drop at buffer) → length line ≤ 90000 →
-    count ≤ 90000 - length line → length new ≤ 90000
-still-short buffer line new at count is short few =
+pub still-short : (most : ℕ) (buffer line new : List ℕ) (at count : ℕ) → new ≡ line ++ take ((at + count) - at) (drop at buffer) → length line ≤ most →
+    count ≤ most - length line → length new ≤ most
+still-short most buffer line new at count is short few =
     omega (
       arith,
       ap length is,
@@ -130,9 +130,9 @@ held-whole false buffer at end count fits few ends decides = elim (cases_lt (at 
 ]
 
 -- the line with the bytes of it that are held is too long
-pub too-long : (line held : List ℕ) (count : ℕ) → HasNoEnd line → HasNoEnd (take count held) → count ≤ length held → 90000 < length line + count →
-    IsTooLong (line ++ held)
-too-long line held count none lasting few long =
+pub too-long : (most : ℕ) (line held : List ℕ) (count : ℕ) → HasNoEnd line → HasNoEnd (take count held) → count ≤ length held → most < length line + count →
+    IsTooLong most (line ++ held)
+too-long most line held count none lasting few long =
     let front = line ++ take count held in
     let n : length front ≡ length line + count = length-append line (take count held) ∙ ap (λ k. length line + k) (length-take-le count held few) in
     let split : line ++ held ≡ front ++ drop count held =
@@ -140,6 +140,6 @@ too-long line held count none lasting few long =
     record {
       long = omega (arith, ap length split, n, length-append front (drop count held), long);
       no_end =
-          subst HasNoEnd (sym (ap (take 90001) split ∙ take-append-le 90001 front (drop count held) (omega (arith, n, long))))
-          (All-take (λ b. b ≢ 10) 90001 front (All-append (λ b. b ≢ 10) line (take count held) none lasting));
+          subst HasNoEnd (sym (ap (take (most + 1)) split ∙ take-append-le (most + 1) front (drop count held) (omega (arith, n, long))))
+          (All-take (λ b. b ≢ 10) (most + 1) front (All-append (λ b. b ≢ 10) line (take count held) none lasting));
     }

@@ -1,5 +1,5 @@
 -- Words of lines.
-use Rattle.std.proofs.Common.{◌≡◌, ◌≢◌, Bool, arith, ℕ, ◌+◌, ◌<◌, List, [], ◌∷◌, ◌++◌, length, take, get_or, map, refl, ap, sym, ◌∙◌, append_assoc}
+use Rattle.std.proofs.Common.{◌≡◌, ◌≢◌, Bool, arith, ℕ, ◌+◌, ◌<◌, List, [], ◌∷◌, ◌++◌, Option, Some, None, length, take, get_or, map, refl, ap, sym, ◌∙◌, append_assoc}
 use Rattle.std.proofs.lemmas.List.{map_more, append-nil}
 use Rattle.std.proofs.lemmas.Grind.{flat_map-append}
 use Rattle.std.specs.List.{join_with_byte, slice_split}
@@ -12,7 +12,9 @@ use Rattle.base.specs.declared.step.Step.TheVariants as step
 use Rattle.base.specs.declared.step.Outcome.{Outcome}
 use Rattle.base.specs.declared.step.Outcome.TheVariants as outcome
 use Rattle.record.specs.declared.recording.Entry.{Entry}
-use Rattle.record.specs.Text.{entry_words}
+use Rattle.record.specs.declared.told.Told.{Told}
+use Rattle.record.specs.Text.{by_words, entry_words, told_words}
+use Rattle.record.specs.inner.Pieces.{by_text}
 use Rattle.base.specs.Spelling.{spaced, joined}
 
 -- one word more
@@ -82,3 +84,28 @@ step_then e = by e.step e.outcome
     by (step.Request block index) o = outcome-behind (codes "request") (decimal block.0 ∷ decimal index ∷ []) o
     by (step.Forward block cache) o = outcome-behind (codes "forward") (decimal block.0 ∷ decimal cache.0 ∷ []) o
     by (step.Response block index) o = outcome-behind (codes "response") (decimal block.0 ∷ decimal index ∷ []) o
+
+-- an entry's text with its owner's in front
+pub told_then : (t : Told) →
+    joined (told_words t) ≡ by_text t.owner ++ (joined (step_words t.entry.step) ++ (32 ∷ 61 ∷ 32 ∷ joined (outcome_words t.entry.outcome)))
+told_then t = by t.owner t.entry.step t.entry.outcome
+  where
+    some : (s : Step) (o : Outcome) → (v : List ℕ) × (vs : List (List ℕ)) × (step_words s ++ codes "=" ∷ outcome_words o ≡ v ∷ vs)
+    some (step.Ask cache block ask) o = (_, _, refl)
+    some (step.Request block index) o = (_, _, refl)
+    some (step.Forward block cache) o = (_, _, refl)
+    some (step.Response block index) o = (_, _, refl)
+
+    by : (p : Option ℕ) (s : Step) (o : Outcome) →
+        joined (by_words p ++ (step_words s ++ codes "=" ∷ outcome_words o))
+        ≡ by_text p ++ (joined (step_words s) ++ (32 ∷ 61 ∷ 32 ∷ joined (outcome_words o)))
+    by None s o = step_then (record { step = s; outcome = o })
+    by (Some k) s o =
+        let parts = some s o in
+        let front : joined (codes "by" ∷ decimal k ∷ []) ≡ codes "by" ++ (32 ∷ decimal k) = ap (λ l. codes "by" ++ l) (append-nil (32 ∷ decimal k)) in
+        ap (λ l. joined (codes "by" ∷ decimal k ∷ l)) parts.2 ∙ joined-then (codes "by") parts.0 (decimal k ∷ []) parts.1
+        ∙ ap (λ l. joined (codes "by" ∷ decimal k ∷ []) ++ 32 ∷ joined l) (sym parts.2)
+        ∙ ap (λ l. joined (codes "by" ∷ decimal k ∷ []) ++ 32 ∷ l) (step_then (record { step = s; outcome = o }))
+        ∙ ap (λ l. l ++ 32 ∷ (joined (step_words s) ++ (32 ∷ 61 ∷ 32 ∷ joined (outcome_words o)))) front
+        ∙ sym (append_assoc (codes "by" ++ (32 ∷ decimal k)) (32 ∷ []) (joined (step_words s) ++ (32 ∷ 61 ∷ 32 ∷ joined (outcome_words o))))
+        ∙ ap (λ l. l ++ (joined (step_words s) ++ (32 ∷ 61 ∷ 32 ∷ joined (outcome_words o)))) (append_assoc (codes "by") (32 ∷ decimal k) (32 ∷ []))

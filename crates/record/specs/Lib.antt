@@ -1,5 +1,6 @@
 pub mod View
 pub mod Cells
+pub mod Versions
 pub mod Text
 pub mod Replaying
 pub mod Grammar

@@ -6,7 +6,7 @@ use Rattle.directory_table.specs.Table as directory_table
 use Rattle.both_tables.specs.Tables.{Tables}
 use Rattle.record.specs.declared.cells.Spot.{Spot}
 use Rattle.record.specs.Cells.{cell_at, FitsCell}
-use Rattle.record.specs.View.{RecordingView}
+use Rattle.record.specs.View.{AreOwners, RecordingView}
 use Rattle.record.specs.Grammar.{AreValues, FitsEntry}
 
 -- both tables have all their cells, each of at most eight actions
@@ -15,10 +15,11 @@ pub record AreWhole (tables : Tables) : Type 0 where
   pub directory : directory_table.IsWhole tables.directory
   pub fits : (spot : Spot) → FitsCell (cell_at tables spot)
 
--- its shape is within the limits, its tables are whole, it has at most a million entries, and its numbers are in range of their types
+-- its shape is within the limits, its tables are whole, it has at most a million entries, each with its owner, and its numbers are in range of their types
 pub record IsRecordable (r : RecordingView) : Type 0 where
   pub shape : IsWithinLimits r.shape
   pub tables : AreWhole r.tables
   pub opening : AreValues r.shape r.opening
   pub few : length r.entries ≤ 1000000
+  pub owners : AreOwners r.seats r.owners r.entries
   pub fits : All FitsEntry r.entries

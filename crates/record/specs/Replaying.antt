@@ -1,6 +1,10 @@
 -- What a replay finds: the first entry that differs.
-use Rattle.std.specs.Prelude.{◌≡◌, ◌≢◌, ℕ, Some, slice_get, take}
+use Rattle.std.specs.Prelude.{◌≡◌, ◌≢◌, ℕ, List, Option, Some, slice_get, take}
 use Rattle.base.specs.declared.step.Outcome.{Outcome}
+use Rattle.std.specs.Io.KnownBytes.{Consumes}
+use Rattle.record.specs.declared.version.Version.{Version}
+use Rattle.record.specs.Text.{text}
+use Rattle.record.specs.Versions.{HasTextIn}
 use Rattle.record.specs.View.{RecordingView, told_by, found_by}
 use Rattle.record.specs.declared.replaying.ReplayFault.{ReplayFault}
 use Rattle.record.specs.declared.replaying.ReplayFault.TheVariants.{Differs, NoMemory}
@@ -11,6 +15,12 @@ pub record IsFirstToDiffer (r : RecordingView) (entry : ℕ) (told found : Outco
   pub is_found : slice_get (found_by r) entry ≡ Some found
   pub differs : told ≢ found
   pub first : take entry (told_by r) ≡ take entry (found_by r)
+
+-- what a source had, up to what it has left, was a text of this recording, in either version
+pub record IsTextRead (before after : Option (List ℕ)) (r : RecordingView) : Type 0 where
+  pub version : Version
+  pub told : HasTextIn version r
+  pub read : Consumes before after (text version r)
 
 -- a replay is refused so: the first entry that differs, or want of memory
 abbrev pub FaultOf : RecordingView → ReplayFault → Type 0

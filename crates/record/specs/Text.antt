@@ -1,5 +1,5 @@
 -- The text of a recording: its lines, and the words of each.
-use Rattle.std.specs.Prelude.{ℕ, List, [], ◌∷◌, ◌++◌, Bool, codes, map, length, filter, not}
+use Rattle.std.specs.Prelude.{ℕ, List, [], ◌∷◌, ◌++◌, Bool, Option, Some, None, codes, map, length, filter, not}
 use Rattle.std.specs.List.{flat_map}
 use Rattle.std.specs.Fmt.{decimal}
 use Rattle.base.specs.Extent.{Extent}
@@ -10,14 +10,17 @@ use Rattle.record.specs.declared.cells.Spot.{Spot}
 use Rattle.record.specs.declared.cells.Cell.{Cell}
 use Rattle.record.specs.Cells.{all_spots, cell_at, cell_words, is_same}
 use Rattle.record.specs.View.{RecordingView}
+use Rattle.record.specs.declared.told.Told.{Told}
+use Rattle.record.specs.declared.version.Version.{Version}
+use Rattle.record.specs.Versions.{version_word, protocol_lines, seats_lines}
 
 -- a line of these words, with its end
 abbrev pub line : List (List ℕ) → List ℕ
 line words = joined words ++ 10 ∷ []
 
 -- the first line
-abbrev pub header_words : List (List ℕ)
-header_words = codes "msi-recording" ∷ codes "1" ∷ []
+abbrev pub header_words : Version → List (List ℕ)
+header_words version = codes "msi-recording" ∷ version_word version ∷ []
 
 -- the line of the shape
 abbrev pub shape_words : Extent → List (List ℕ)
@@ -35,9 +38,24 @@ cells_words count = codes "cells" ∷ decimal count ∷ []
 abbrev pub entries_words : ℕ → List (List ℕ)
 entries_words count = codes "entries" ∷ decimal count ∷ []
 
--- the line of an entry: the step, and behind an equals sign the outcome
+-- an entry: the step, and behind an equals sign the outcome
 abbrev pub entry_words : Entry → List (List ℕ)
 entry_words e = step_words e.step ++ codes "=" ∷ outcome_words e.outcome
+
+-- in front of an entry that has an owner stands whose it is
+abbrev pub by_words : Option ℕ → List (List ℕ)
+by_words None = []
+by_words (Some seat) = codes "by" ∷ decimal seat ∷ []
+
+-- the line of an entry that is told
+abbrev pub told_words : Told → List (List ℕ)
+told_words t = by_words t.owner ++ entry_words t.entry
+
+-- the entries as they are told: each with the owner at its place, if there is one
+abbrev pub told : List ℕ → List Entry → List Told
+told owners [] = []
+told [] (e ∷ entries) = record { owner = None; entry = e } ∷ told [] entries
+told (seat ∷ owners) (e ∷ entries) = record { owner = Some seat; entry = e } ∷ told owners entries
 
 -- the last line
 abbrev pub end_words : List (List ℕ)
@@ -55,13 +73,18 @@ changed tables spots = map (cell_at tables) (filter (is_changed tables) spots)
 abbrev pub changed_cells : Tables → List Cell
 changed_cells tables = changed tables all_spots
 
+-- the lines of a recording up to that of the opening values
+abbrev pub head_lines : Version → RecordingView → List (List (List ℕ))
+head_lines version r =
+    header_words version ∷ protocol_lines version r.protocol ++ (shape_words r.shape ∷ seats_lines version r.seats ++ opening_words r.opening ∷ [])
+
 -- the lines of a recording
-abbrev pub lines : RecordingView → List (List (List ℕ))
-lines r =
-    header_words ∷ shape_words r.shape ∷ opening_words r.opening ∷
-    cells_words (length (changed_cells r.tables)) ∷ map cell_words (changed_cells r.tables) ++
-    (entries_words (length r.entries) ∷ map entry_words r.entries ++ end_words ∷ [])
+abbrev pub lines : Version → RecordingView → List (List (List ℕ))
+lines version r =
+    head_lines version r ++
+    (cells_words (length (changed_cells r.tables)) ∷ map cell_words (changed_cells r.tables) ++
+    (entries_words (length r.entries) ∷ map told_words (told r.owners r.entries) ++ end_words ∷ []))
 
 -- the text of a recording
-abbrev pub text : RecordingView → List ℕ
-text r = flat_map line (lines r)
+abbrev pub text : Version → RecordingView → List ℕ
+text version r = flat_map line (lines version r)

@@ -1,32 +1,75 @@
 -- What a recording is, and when it is legal.
-use Rattle.std.specs.Prelude.{◌≡◌, ◌≤◌, ℕ, List, [], ◌∷◌, ◌++◌, length, map}
+use Rattle.std.specs.Prelude.{◌≡◌, ◌≢◌, ◌<◌, ◌≤◌, ℕ, List, [], ◌∷◌, ◌++◌, All, Option, Some, None, length, map}
 use Rattle.base.specs.Extent.{Extent, IsWithinLimits}
 use Rattle.base.specs.declared.step.Step.{Step}
 use Rattle.base.specs.declared.step.Outcome.{Outcome}
+use Rattle.base.specs.declared.controller.protocol.Protocol.{Protocol}
+use Rattle.base.specs.declared.controller.protocol.Protocol.TheVariants.{Msi}
 use Rattle.both_tables.specs.Tables.{Tables}
 use Rattle.machine.specs.Machine.{after, opened}
 use Rattle.record.specs.declared.recording.Entry.{Entry}
 
--- a world's shape, tables and opening values, and the entries of its steps
+-- a world's protocol, shape, tables and opening values, and the entries of its steps; and a number of seats, with the seat that owns each entry
 pub record RecordingView : Type 0 where
+  pub protocol : Protocol
+  pub seats : ℕ
   pub shape : Extent
   pub tables : Tables
   pub opening : List ℕ
   pub entries : List Entry
+  pub owners : List ℕ
+
+-- there are at most 64 seats; where there is none nobody owns an entry, and else each entry has one owner among the seats
+pub record AreOwners (seats : ℕ) (owners : List ℕ) (entries : List Entry) : Type 0 where
+  pub few : seats ≤ 64
+  pub none : seats ≡ 0 → owners ≡ []
+  pub each : seats ≢ 0 → length owners ≡ length entries
+  pub within : All (λ seat. seat < seats) owners
 
 -- a shape within the limits, one opening value for each block, and at most a million entries
 pub record IsKept (r : RecordingView) : Type 0 where
   pub within : IsWithinLimits r.shape
   pub each : length r.opening ≡ r.shape.blocks
   pub few : length r.entries ≤ 1000000
+  pub owners : AreOwners r.seats r.owners r.entries
 
--- a recording with no entries
+-- a recording of so many seats with no entries
+abbrev pub opened_of : ℕ → Extent → Tables → List ℕ → RecordingView
+opened_of seats shape tables opening =
+    record { protocol = Msi; seats = seats; shape = shape; tables = tables; opening = opening; entries = []; owners = [] }
+
+-- a recording without seats, with no entries
 abbrev pub opened_recording : Extent → Tables → List ℕ → RecordingView
-opened_recording shape tables opening = record { shape = shape; tables = tables; opening = opening; entries = [] }
+opened_recording shape tables opening = opened_of 0 shape tables opening
 
--- a recording with one more entry
+-- the list of the owner, if there is one
+abbrev pub owner_list : Option ℕ → List ℕ
+owner_list None = []
+owner_list (Some seat) = seat ∷ []
+
+-- a recording with one more entry, which has this owner
+abbrev pub with_owned : RecordingView → Entry → Option ℕ → RecordingView
+with_owned r entry owner = record {
+  protocol = r.protocol;
+  seats = r.seats;
+  shape = r.shape;
+  tables = r.tables;
+  opening = r.opening;
+  entries = r.entries ++ entry ∷ [];
+  owners = r.owners ++ owner_list owner;
+}
+
+-- a recording with one more entry, of nobody
 abbrev pub with_entry : RecordingView → Entry → RecordingView
-with_entry r entry = record { shape = r.shape; tables = r.tables; opening = r.opening; entries = r.entries ++ entry ∷ [] }
+with_entry r entry = record {
+  protocol = r.protocol;
+  seats = r.seats;
+  shape = r.shape;
+  tables = r.tables;
+  opening = r.opening;
+  entries = r.entries ++ entry ∷ [];
+  owners = r.owners;
+}
 
 -- the steps of a recording
 abbrev pub steps_of : RecordingView → List Step

@@ -20,12 +20,14 @@ pub enum ReadKind {
     CountDiffers,
     /// What follows an entry's step isn't an outcome.
     BadOutcome,
-    /// The line has over 90,000 bytes, or its shape or its count is past the limits.
+    /// The line is longer than its version allows, or its shape or its count is past the limits.
     OverLimit,
     /// A growth was refused.
     NoMemory,
     /// The source failed.
     Device,
+    /// The protocol is due, and what stands there is the name of none.
+    UnknownProtocol,
 }
 
 impl ReadKind {
@@ -39,6 +41,7 @@ impl ReadKind {
             ReadKind::OverLimit => "OverLimit",
             ReadKind::NoMemory => "NoMemory",
             ReadKind::Device => "Device",
+            ReadKind::UnknownProtocol => "UnknownProtocol",
         }
     }
 }

@@ -7,6 +7,7 @@ mod draft;
 mod due;
 mod fault;
 mod lines;
+mod moving;
 mod parsing;
 mod reader;
 mod reading;
@@ -14,12 +15,17 @@ mod recording;
 mod replaying;
 mod spelling;
 mod text_laws;
+mod told;
+mod version;
 mod writing;
 
 pub use fault::{ReadFault, ReadKind};
-pub use recording::{Entry, MOST_ENTRIES, PushFault, Recording};
+pub use moving::{MoveFault, move_text};
+pub use recording::{Entry, MOST_ENTRIES, MOST_SEATS, PushFault, Recording};
 pub use replaying::{ReplayFault, Replayed, first_violation, replay};
 pub use text_laws::{
-    a_text_is_of_one_recording, a_text_is_read, one_refusal_at_most, well_formed_bytes_are_a_text,
+    a_recording_has_a_text, a_text_is_of_one_recording, a_text_is_read, one_refusal_at_most,
+    well_formed_bytes_are_a_text,
 };
+pub use version::Version;
 pub use writing::WriteFault;

@@ -11,8 +11,8 @@ use memchr::memchr;
 use std::alloc::Global;
 use std::marker::Model;
 
-/// The most bytes of a line, without its end.
-const MOST_BYTES: usize = 90_000;
+/// The most bytes of a line in any version, without its end.
+const MOST_BYTES: usize = 1_400_000;
 
 /// The most bytes of a pull.
 pub(crate) const MOST_PULLED: usize = 4096;
@@ -78,18 +78,20 @@ impl Lines {
 
     /// Gathers the line as far as its bytes were pulled, and answers whether it is whole.
     ///
-    /// It is refused `OverLimit` where the line is too long.
-    pub(crate) fn gather(&mut self) -> Result<bool, ReadKind>
+    /// It is refused `OverLimit` where the line has more than so many bytes.
+    pub(crate) fn gather(&mut self, most: usize) -> Result<bool, ReadKind>
+        requires most { most ≤ 1400000 }
+        requires line { length self.old.line ≤ most }
         ensures ok { IfOk result (λ whole. IsWholeIf whole self.new.ahead) }
-        ensures err { IfErr result (λ kind. (kind ≡ ReadKind.OverLimit) × IsTooLong (pending self.new)) }
+        ensures err { IfErr result (λ kind. (kind ≡ ReadKind.OverLimit) × IsTooLong most (pending self.new)) }
         ensures kept { pending self.new ≡ pending self.old }
         ensures ahead { length self.new.ahead ≤ length self.old.ahead }
         ensures number { self.new.number ≡ self.old.number }
         ensures open { HasNoEnd self.new.line }
-        ensures short { length self.new.line ≤ 90000 }
+        ensures short { length self.new.line ≤ most }
     {
         let count = self.bytes_of_line();
-        if count > MOST_BYTES - self.line.len() {
+        if count > most - self.line.len() {
             return Err(ReadKind::OverLimit);
         }
         let from = self.at;

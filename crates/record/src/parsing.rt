@@ -4,23 +4,65 @@ ghost use Rattle.std.specs.Prelude.{◌≡◌, ◌≢◌, ◌≤◌, ◌<◌, �
 ghost use Rattle.std.specs.Prelude.{MatchOption, length};
 ghost use Rattle.std.specs.Fmt.{decimal};
 ghost use Rattle.std.specs.Vec.{vec_capacity};
-ghost use Rattle.base.specs.Extent.{Extent, IsWithinLimits};
+ghost use Rattle.base.specs.Extent.{Extent};
+ghost use Rattle.record.specs.Versions.{protocol_words, IsShapeIn};
 ghost use Rattle.base.specs.Spelling.{words, step_words, FitsStep};
-ghost use Rattle.record.specs.Text.{header_words, shape_words, opening_words, end_words, entry_words};
-ghost use Rattle.record.specs.Grammar.{FitsEntry};
+ghost use Rattle.record.specs.Text.{by_words, header_words, shape_words, opening_words, end_words, entry_words, told_words};
+ghost use Rattle.record.specs.Grammar.{FitsEntry, FitsTold, IsOwner};
 ghost use Rattle.record.specs.Refused.{IsNumber};
-ghost use Rattle.record.specs.inner.Reading.{IsBadCount, IsBadShape, IsBadOpening, IsBadEntry, HasNoStep};
+ghost use Rattle.record.specs.inner.Reading.{IsBadCount, IsBadProtocol, IsBadShape, IsBadOpening, IsBadEntry, IsBadTold, HasNoBy, HasNoSeat, HasNoStep};
 
 use crate::fault::ReadKind;
 use crate::recording::Entry;
+use crate::told::Told;
+use crate::version::Version;
+use base::controller::Protocol;
 use base::text::{cut, number_of, small_number_of};
-use base::{MOST_BLOCKS, MOST_CACHES, Outcome, Shape, Step};
+use base::{Outcome, Shape, Step};
 
-/// Whether this is the first line of a recording.
-pub(crate) fn is_header(line: &[u8]) -> bool
-    ensures { IsTrue result ↔ (words line.now ≡ header_words) }
+/// Whether this is the first line of a recording in version 1.
+fn is_first_header(line: &[u8]) -> bool
+    ensures { IsTrue result ↔ (words line.now ≡ header_words Version.One) }
 {
     line == b"msi-recording 1".as_slice()
+}
+
+/// Whether this is the first line of a recording in version 2.
+fn is_second_header(line: &[u8]) -> bool
+    ensures { IsTrue result ↔ (words line.now ≡ header_words Version.Two) }
+{
+    line == b"msi-recording 2".as_slice()
+}
+
+/// The version of the recording whose first line this is.
+pub(crate) fn version_of(line: &[u8]) -> Option<Version>
+    ensures { MatchOption result ((version : Version) → words line.now ≢ header_words version) (λ version. words line.now ≡ header_words version) }
+{
+    if is_first_header(line) {
+        return Some(Version::One);
+    }
+    if is_second_header(line) {
+        return Some(Version::Two);
+    }
+    None
+}
+
+/// The protocol of the line of the protocol.
+pub(crate) fn protocol_of(line: &[u8]) -> Result<Protocol, ReadKind>
+    ensures ok { IfOk result (λ protocol. words line.now ≡ protocol_words protocol) }
+    ensures err { IfErr result (IsBadProtocol (words line.now)) }
+{
+    let Some(word) = named_word(line, b"protocol".as_slice()) else {
+        return Err(ReadKind::BadLine);
+    };
+    if let Some(protocol) = Protocol::named(word) {
+        return Ok(protocol);
+    }
+    if word.is_empty() {
+        Err(ReadKind::BadLine)
+    } else {
+        Err(ReadKind::UnknownProtocol)
+    }
 }
 
 /// Whether this is the last line of a recording.
@@ -105,13 +147,13 @@ fn named_pair<'a>(line: &'a [u8], name: &[u8]) -> Option<(&'a [u8], &'a [u8])>
     }
 }
 
-/// The shape of so many caches and blocks, spelled so.
-fn shape_within(caches: &[u8], blocks: &[u8]) -> Option<Shape>
-    ensures some { IfSome result (λ shape. IsWithinLimits shape × (caches.now ≡ decimal shape.caches) × (blocks.now ≡ decimal shape.blocks)) }
-    ensures none { IfNone result ((shape : Extent) → IsWithinLimits shape → caches.now ≡ decimal shape.caches → blocks.now ≢ decimal shape.blocks) }
+/// The shape of so many caches and blocks, spelled so in this version.
+fn shape_within(version: Version, caches: &[u8], blocks: &[u8]) -> Option<Shape>
+    ensures some { IfSome result (λ shape. IsShapeIn version shape × (caches.now ≡ decimal shape.caches) × (blocks.now ≡ decimal shape.blocks)) }
+    ensures none { IfNone result ((shape : Extent) → IsShapeIn version shape → caches.now ≡ decimal shape.caches → blocks.now ≢ decimal shape.blocks) }
 {
-    let caches = number_up_to(caches, MOST_CACHES)?;
-    let blocks = number_up_to(blocks, MOST_BLOCKS)?;
+    let caches = number_up_to(caches, version.most_caches())?;
+    let blocks = number_up_to(blocks, version.most_blocks())?;
     match Shape::new(caches, blocks) {
         Ok(shape) => Some(shape),
         Err(_) => None,
@@ -119,14 +161,14 @@ fn shape_within(caches: &[u8], blocks: &[u8]) -> Option<Shape>
 }
 
 /// The shape of the line of the shape.
-pub(crate) fn shape_of(line: &[u8]) -> Result<Shape, ReadKind>
-    ensures ok { IfOk result (λ shape. IsWithinLimits shape × (words line.now ≡ shape_words shape)) }
-    ensures err { IfErr result (IsBadShape (words line.now)) }
+pub(crate) fn shape_of(version: Version, line: &[u8]) -> Result<Shape, ReadKind>
+    ensures ok { IfOk result (λ shape. IsShapeIn version shape × (words line.now ≡ shape_words shape)) }
+    ensures err { IfErr result (IsBadShape version (words line.now)) }
 {
     let Some((caches, blocks)) = named_pair(line, b"shape".as_slice()) else {
         return Err(ReadKind::BadLine);
     };
-    if let Some(shape) = shape_within(caches, blocks) {
+    if let Some(shape) = shape_within(version, caches, blocks) {
         return Ok(shape);
     }
     if is_number(caches) && is_number(blocks) {
@@ -180,6 +222,54 @@ pub(crate) fn entry_of(line: &[u8]) -> Result<Entry, ReadKind>
         Some(outcome) => Ok(Entry { step, outcome }),
         None => Err(ReadKind::BadOutcome),
     }
+}
+
+/// The entry that a line tells, where there are so many seats.
+pub(crate) fn told_of(line: &[u8], seats: u32) -> Result<Told, ReadKind>
+    requires few { seats ≤ 64 }
+    ensures fits { IfOk result (FitsTold seats) }
+    ensures ok { IfOk result (λ told. words line.now ≡ told_words told) }
+    ensures err { IfErr result (IsBadTold seats (words line.now)) }
+{
+    let Some((owner, rest)) = owner_in_front(line, seats) else {
+        return Err(ReadKind::BadLine);
+    };
+    match entry_of(rest) {
+        Ok(entry) => Ok(Told { owner, entry }),
+        Err(kind) => Err(kind),
+    }
+}
+
+/// Whose the entry of a line is, where there are so many seats, and the entry's own text.
+fn owner_in_front(line: &[u8], seats: u32) -> Option<(Option<u32>, &[u8])>
+    requires few { seats ≤ 64 }
+    ensures fits { IfSome result (λ found. IsOwner seats found.0) }
+    ensures by { MatchOption result (HasNoBy seats (words line.now)) (λ found. words line.now ≡ by_words found.0 ++ words found.1.now) }
+{
+    if seats == 0 {
+        return Some((None, line));
+    }
+    let (seat, rest) = seat_in_front(line, seats)?;
+    Some((Some(seat), rest))
+}
+
+/// The seat behind the word `by`, one of so many, and what follows it.
+fn seat_in_front(line: &[u8], seats: u32) -> Option<(u32, &[u8])>
+    requires some { 1 ≤ seats }
+    ensures fits { IfSome result (λ found. found.0 < seats) }
+    ensures by { MatchOption result (HasNoSeat seats (words line.now)) (λ found. words line.now ≡ codes "by" ∷ decimal found.0 ∷ words found.1.now) }
+{
+    let (by, Some(rest)) = cut(line) else {
+        return None;
+    };
+    let (word, Some(rest)) = cut(rest) else {
+        return None;
+    };
+    if by != b"by".as_slice() {
+        return None;
+    }
+    let seat = number_up_to(word, seats - 1)?;
+    Some((seat, rest))
 }
 
 /// The step in front of an equals sign, and what follows the sign's blank.

@@ -5,7 +5,8 @@ ghost use Rattle.record.specs.declared.due.Due.TheVariants as due;
 ghost use Rattle.record.specs.Recordable.{IsRecordable};
 ghost use Rattle.record.specs.Refused.{IsFaultOfLine, IsFaultOfRest, IsRefused, IsWellFormed};
 ghost use Rattle.record.specs.Text.{text};
-ghost use Rattle.record.specs.inner.Drafts.{kept, IsTaken, IsReadTo};
+ghost use Rattle.record.specs.inner.Drafts.{kept, recorded, IsTaken, IsReadTo};
+ghost use Rattle.record.specs.Versions.{HasTextIn};
 ghost use Rattle.record.specs.inner.Readers.{HasPulled, HasTaken, HasWholeLine, IsReady};
 ghost use Rattle.record.specs.inner.Reading.{pending, IsTakenOff};
 
@@ -58,12 +59,12 @@ impl Reader {
     pub(crate) fn read_all<S: Source>(&mut self, source: &mut S) -> Result<(), ReadKind>
         requires taken { HasTaken (S.left source.old) (S.left source.old) self.old }
         requires ready { IsReady self.old }
-        ensures text { OnOk result (Consumes (S.left source.old) (S.left source.new) (text (kept self.new.draft))) }
+        ensures text { OnOk result (Consumes (S.left source.old) (S.left source.new) (text self.new.draft.version (recorded (kept self.new.draft)))) }
         ensures whole { OnOk result (IsWellFormed (S.left source.old) (S.left source.new)) }
         ensures read { OnOk result (IsReadTo due.Nothing (kept self.new.draft)) }
         ensures fault { IfErr result (IsRefused (S.left source.old) (S.left source.new) 0 due.Header (self.new.lines.number + 1)) }
         ensures device { IfErr result (λ kind. kind ≡ ReadKind.Device → S.has_failed source.new ≡ true) }
-        ensures few { self.new.lines.number ≤ 1000168 }
+        ensures few { self.new.lines.number ≤ 1000170 }
     {
         while !self.is_done() {
             self.gather(source)?;
@@ -82,7 +83,7 @@ impl Reader {
         ensures ready { OnOk result (IsReady self.new) }
         ensures device { IfErr result (λ kind. kind ≡ ReadKind.Device → S.has_failed source.new ≡ true) }
     {
-        while !self.lines.gather()? {
+        while !self.lines.gather(self.due.limit())? {
             self.draft.reserve(MOST_PULLED)?;
             if !self.lines.pull(source)? {
                 return Err(ReadKind::Truncated);
@@ -127,8 +128,9 @@ impl Reader {
     /// The recording, of which all was read.
     pub(crate) fn recording(self) -> Recording
         requires read { IsReadTo due.Nothing (kept self.draft) }
-        ensures recording { result ≡ kept self.draft }
-        ensures recordable { IsRecordable (kept self.draft) }
+        ensures recording { result ≡ recorded (kept self.draft) }
+        ensures recordable { IsRecordable (recorded (kept self.draft)) }
+        ensures told { HasTextIn self.draft.version (recorded (kept self.draft)) }
     {
         self.draft.recording()
     }

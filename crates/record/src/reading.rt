@@ -1,5 +1,7 @@
 ghost use Rattle.std.specs.Prelude.{◌≡◌, ◌≢◌, IfOk, IfErr, OnOk, MatchOption, MatchResult, Some, true};
-ghost use Rattle.std.specs.Io.KnownBytes.{Consumes};
+ghost use Rattle.record.specs.Replaying.{IsTextRead};
+ghost use Rattle.record.specs.Versions.{HasTextIn};
+ghost use Rattle.record.specs.declared.version.Version.{Version};
 ghost use Rattle.base.specs.Spelling.{words};
 ghost use Rattle.record.specs.declared.cells.Cell as cells;
 ghost use Rattle.record.specs.declared.cells.Spot as cells_spot;
@@ -24,15 +26,15 @@ impl Recording {
     /// The recording whose text a source gives, in whatever pieces it comes.
     ///
     /// The first line with a fault is named. It holds one line of the text at a time, and makes room only before it pulls: so
-    /// want of memory names a line that isn't whole yet. The text of a recording is read back as that recording, if memory
+    /// want of memory names a line that isn't whole yet. The text of a recording, in either version, is read back as that recording, if memory
     /// and the source don't fail.
     pub fn read<S: Source>(alloc: Global, source: &mut S) -> Result<Recording, ReadFault>
-        ensures text { IfOk result (λ recording. Consumes (S.left source.old) (S.left source.new) (text recording)) }
+        ensures text { IfOk result (λ recording. IsTextRead (S.left source.old) (S.left source.new) recording) }
         ensures whole { OnOk result (IsWellFormed (S.left source.old) (S.left source.new)) }
         ensures fault { IfErr result (λ fault. IsRefused (S.left source.old) (S.left source.new) 0 Header fault.line fault.kind) }
         ensures device { IfErr result (λ fault. fault.kind ≡ ReadKind.Device → S.has_failed source.new ≡ true) }
         ensures recordable { IfOk result IsRecordable }
-        ensures back { (r : RecordingView) → IsRecordable r → S.left source.old ≡ Some (text r) →
+        ensures back { (version : Version) (r : RecordingView) → IsRecordable r → HasTextIn version r → S.left source.old ≡ Some (text version r) →
             MatchResult result (λ recording. recording ≡ r) (λ fault. IsOutside fault.kind) }
     {
         let Ok(mut reader) = Reader::open(alloc) else {

@@ -1,3 +1,5 @@
+use crate::told::Told;
+use base::controller::Protocol;
 use base::{NoMemory, Outcome, Shape, Step};
 use both_tables::Tables;
 use std::alloc::Global;
@@ -7,6 +9,9 @@ use world::OpenFault;
 
 /// The most entries that a recording has.
 pub const MOST_ENTRIES: usize = 1_000_000;
+
+/// The most seats that a recording tells of.
+pub const MOST_SEATS: u32 = 64;
 
 /// A step, and what came of it.
 #[derive(Clone, Copy, Debug, PartialEq, Eq)]
@@ -27,24 +32,30 @@ pub enum PushFault {
 }
 
 /// What a world of this shape and these tables, opened with these values, is said to have done: steps with their outcomes,
-/// at most 1,000,000.
+/// at most 1,000,000. Where it has seats, each entry has the one that owns it.
 ///
 /// That the outcomes are those that the steps have isn't known of it: a replay tells.
 pub struct Recording {
+    protocol: Protocol,
+    seats: u32,
     shape: Shape,
     tables: Tables,
     opening: Vec<u64>,
     entries: Vec<Entry>,
+    owners: Vec<u32>,
 }
 
 impl Drop for Recording {
     fn drop(self) {
         // Whoever drops one has a call to prove, and not the drops of all its parts.
         let Recording {
+            protocol: _,
+            seats: _,
             shape: _,
             tables: _,
             opening: _,
             entries: _,
+            owners: _,
         } = self;
     }
 }
@@ -54,15 +65,31 @@ impl Model for Recording {
 
     ghost Value = { RecordingView };
 
-    ghost view = { λ r. record { shape = r.shape; tables = r.tables; opening = r.opening.items; entries = r.entries.items } };
+    ghost view = { λ r. record {
+      protocol = r.protocol;
+      seats = r.seats;
+      shape = r.shape;
+      tables = r.tables;
+      opening = r.opening.items;
+      entries = r.entries.items;
+      owners = r.owners.items;
+    } };
 
-    ghost invariant = { λ r. IsKept (record { shape = r.shape; tables = r.tables; opening = r.opening.items; entries = r.entries.items }) };
+    ghost invariant = { λ r. IsKept (record {
+      protocol = r.protocol;
+      seats = r.seats;
+      shape = r.shape;
+      tables = r.tables;
+      opening = r.opening.items;
+      entries = r.entries.items;
+      owners = r.owners.items;
+    }) };
 }
 
 impl Recording {
-    ghost use Rattle.std.specs.Prelude.{◌≡◌, ◌≢◌, ◌≤◌, ◌↔◌, ◌∷◌, ◌++◌, [], IfOk, IsErrOf, OnErr, OnOk, length};
+    ghost use Rattle.std.specs.Prelude.{◌≡◌, ◌≢◌, ◌≤◌, ◌↔◌, ◌∷◌, ◌++◌, [], ◌<◌, Some, IfOk, IsErrOf, OnErr, OnOk, length, slice_get};
     ghost use Rattle.base.specs.Extent.{IsWithinLimits};
-    ghost use Rattle.record.specs.View.{opened_recording, with_entry};
+    ghost use Rattle.record.specs.View.{opened_of, opened_recording, with_entry, with_owned, AreOwners};
     ghost use Rattle.world.specs.declared.worlds.OpenFault.TheVariants as fault;
 
     /// A recording of a world to which nothing has happened, with one opening value for each block. It takes no memory.
@@ -82,30 +109,76 @@ impl Recording {
             return Err(OpenFault::OpeningLength);
         }
         Ok(Recording {
+            protocol: Protocol::Msi,
+            seats: 0,
             shape,
             tables,
             opening,
             entries: Vec::new(alloc),
+            owners: Vec::new(alloc),
         })
     }
 
-    /// The recording of these entries.
+    /// The same of so many seats, each of which may own entries.
+    pub fn open_seats(
+        alloc: Global,
+        shape: Shape,
+        tables: Tables,
+        opening: Vec<u64>,
+        seats: u32,
+    ) -> Result<Recording, OpenFault>
+        requires some { 1 ≤ seats }
+        requires few { seats ≤ 64 }
+        ensures opened { IfOk result (λ recording. recording ≡ opened_of seats shape tables opening.items) }
+        ensures opening_length { IsErrOf result fault.OpeningLength ↔ (length opening.items ≢ shape.blocks) }
+        ensures memory { ¬ IsErrOf result fault.NoMemory }
+    {
+        if opening.len() != shape.blocks() as usize {
+            return Err(OpenFault::OpeningLength);
+        }
+        Ok(Recording {
+            protocol: Protocol::Msi,
+            seats,
+            shape,
+            tables,
+            opening,
+            entries: Vec::new(alloc),
+            owners: Vec::new(alloc),
+        })
+    }
+
+    /// The recording of these entries, with these owners.
     pub(crate) fn of(
+        protocol: Protocol,
+        seats: u32,
         shape: Shape,
         tables: Tables,
         opening: Vec<u64>,
         entries: Vec<Entry>,
+        owners: Vec<u32>,
     ) -> Recording
         requires within { IsWithinLimits shape }
         requires each { length opening.items ≡ shape.blocks }
         requires few { length entries.items ≤ 1000000 }
-        ensures { result ≡ record { shape = shape; tables = tables; opening = opening.items; entries = entries.items } }
+        requires owned { AreOwners seats owners.items entries.items }
+        ensures { result ≡ record {
+          protocol = protocol;
+          seats = seats;
+          shape = shape;
+          tables = tables;
+          opening = opening.items;
+          entries = entries.items;
+          owners = owners.items;
+        } }
     {
         Recording {
+            protocol,
+            seats,
             shape,
             tables,
             opening,
             entries,
+            owners,
         }
     }
 
@@ -113,6 +186,7 @@ impl Recording {
     ///
     /// It is refused `Full` exactly where there are 1,000,000 entries, and `NoMemory` where a growth was refused.
     pub fn push(&mut self, entry: Entry) -> Result<(), PushFault>
+        requires seats { self.old.seats ≡ 0 }
         ensures ok { OnOk result (self.new ≡ with_entry self.old entry) }
         ensures err { OnErr result (self.new ≡ self.old) }
         ensures full { IsErrOf result PushFault.Full ↔ (length self.old.entries ≡ 1000000) }
@@ -123,6 +197,62 @@ impl Recording {
         match self.entries.push(entry) {
             Ok(()) => Ok(()),
             Err(_) => Err(PushFault::NoMemory),
+        }
+    }
+
+    /// Adds an entry of this seat behind the others. Where it is refused nothing has changed.
+    ///
+    /// It is refused `Full` exactly where there are 1,000,000 entries, and `NoMemory` where a growth was refused.
+    pub fn push_by(&mut self, entry: Entry, seat: u32) -> Result<(), PushFault>
+        requires seat { seat < self.old.seats }
+        ensures ok { OnOk result (self.new ≡ with_owned self.old entry (Some seat)) }
+        ensures err { OnErr result (self.new ≡ self.old) }
+        ensures full { IsErrOf result PushFault.Full ↔ (length self.old.entries ≡ 1000000) }
+    {
+        if self.entries.len() >= MOST_ENTRIES {
+            return Err(PushFault::Full);
+        }
+        if self.owners.reserve(1).is_err() {
+            return Err(PushFault::NoMemory);
+        }
+        if self.entries.push(entry).is_err() {
+            return Err(PushFault::NoMemory);
+        }
+        self.owners.push_reserved(seat);
+        Ok(())
+    }
+
+    /// The protocol of the world's controllers.
+    pub fn protocol(&self) -> Protocol
+        ensures { result ≡ self.now.protocol }
+    {
+        self.protocol
+    }
+
+    /// How many seats there are. Where there is none, nobody owns an entry.
+    pub fn seats(&self) -> u32
+        ensures value { result ≡ self.now.seats }
+        ensures few { self.now.seats ≤ 64 }
+    {
+        self.seats
+    }
+
+    /// The seat that owns the entry of this number, counted from 0, if there are seats and there is such an entry.
+    pub fn owner(&self, number: usize) -> Option<u32>
+        ensures { result ≡ slice_get self.now.owners number }
+    {
+        self.owners.get(number).copied()
+    }
+
+    /// The entry of this number, counted from 0, as it is told.
+    pub(crate) fn told(&self, number: usize) -> Told
+        requires within { number < length self.now.entries }
+        ensures owner { result.owner ≡ slice_get self.now.owners number }
+        ensures entry { slice_get self.now.entries number ≡ Some result.entry }
+    {
+        Told {
+            owner: self.owner(number),
+            entry: self.entries[number],
         }
     }
 
@@ -154,6 +284,7 @@ impl Recording {
     pub fn entries(&self) -> &[Entry]
         ensures value { result.now ≡ self.now.entries }
         ensures few { length self.now.entries ≤ 1000000 }
+        ensures owned { AreOwners self.now.seats self.now.owners self.now.entries }
     {
         self.entries.as_slice()
     }

@@ -3,25 +3,41 @@
 ghost use Rattle.std.specs.Prelude.{◌≡◌, ◌≤◌, length};
 ghost use Rattle.record.specs.Cells.{cell_words, FitsCell};
 ghost use Rattle.record.specs.Grammar.{FitsEntry};
-ghost use Rattle.record.specs.Text.{line, entry_words};
+ghost use Rattle.record.specs.inner.Pieces.{by_text};
+ghost use Rattle.record.specs.Text.{line, told_words};
 
 use crate::cells::Cell;
-use crate::recording::Entry;
+use crate::told::Told;
 use base::controller::{Change, Side};
 use base::text::Text;
 
 /// The line of an entry, with its end.
-#[tactic(auto, using(crate::proofs::Words::step_then))]
-pub(crate) fn entry_line(entry: Entry) -> Text
-    ensures text { result ≡ line (entry_words entry) }
+#[tactic(auto, using(crate::proofs::Words::told_then))]
+pub(crate) fn told_line(told: Told) -> Text
+    ensures text { result ≡ line (told_words told) }
     ensures short { length result ≤ 192 }
-    ensures fits { FitsEntry entry }
+    ensures fits { FitsEntry told.entry }
 {
-    let mut text = Text::new();
+    let entry = told.entry;
+    let mut text = by_front(told.owner);
     text.push_step(entry.step);
     text.push(b" = ");
     text.push_outcome(entry.outcome);
     text.push(b"\n");
+    text
+}
+
+/// What stands in front of an entry that has an owner, with a blank behind it.
+fn by_front(owner: Option<u32>) -> Text
+    ensures text { result ≡ by_text owner }
+    ensures short { length result ≤ 24 }
+{
+    let mut text = Text::new();
+    if let Some(seat) = owner {
+        text.push(b"by");
+        text.push_number(u64::from(seat));
+        text.push(b" ");
+    }
     text
 }
 

@@ -4,6 +4,7 @@ ghost use Rattle.base.specs.Ends.{MarksFault};
 ghost use Rattle.both_tables.specs.Tables.{baseline};
 ghost use Rattle.record.specs.Cells.{cell_at, FitsCell};
 ghost use Rattle.record.specs.View.{IsKept};
+ghost use Rattle.record.specs.declared.version.Version.TheVariants as Version;
 ghost use Rattle.record.specs.Recordable.{AreWhole, IsRecordable};
 ghost use Rattle.record.specs.Text.{text, changed_cells, is_changed};
 ghost use Rattle.record.specs.inner.Pieces.{pieces, head_piece, value_piece, cells_piece, cell_piece, entries_piece, end_piece};
@@ -11,7 +12,8 @@ ghost use Rattle.record.specs.inner.Pieces.{IsInWhole, IsOut, IsCutOff, PieceFit
 
 use crate::cells::{Cell, SPOTS, Spot, spot_at};
 use crate::recording::Recording;
-use crate::spelling::{cell_line, entry_line};
+use crate::spelling::{cell_line, told_line};
+use base::controller::Protocol;
 use base::text::Text;
 use base::{Shape, Sink, put_all};
 use both_tables::Tables;
@@ -26,13 +28,13 @@ pub struct WriteFault {
 }
 
 impl Recording {
-    /// Puts the recording's text into a sink. It takes no memory.
+    /// Puts the recording's text in version 2 into a sink. It takes no memory.
     ///
     /// It is refused only where the sink failed, and then exactly the first `written` bytes of the text went out.
     pub fn write<S: Sink>(&self, sink: &mut S) -> Result<(), WriteFault>
-        ensures ok { OnOk result (Appends (S.taken sink.old) (S.taken sink.new) (text self.now)) }
-        ensures err { IfErr result (λ fault. Appends (S.taken sink.old) (S.taken sink.new) (take fault.written (text self.now))) }
-        ensures short { IfErr result (λ fault. fault.written < length (text self.now)) }
+        ensures ok { OnOk result (Appends (S.taken sink.old) (S.taken sink.new) (text Version.Two self.now)) }
+        ensures err { IfErr result (λ fault. Appends (S.taken sink.old) (S.taken sink.new) (take fault.written (text Version.Two self.now))) }
+        ensures short { IfErr result (λ fault. fault.written < length (text Version.Two self.now)) }
         ensures mark { MarksFault (S.has_failed sink.old) result (S.has_failed sink.new) }
         ensures recordable { OnOk result (IsRecordable self.now) }
     {
@@ -50,7 +52,7 @@ impl Recording {
     /// behind them.
     fn count_of_pieces(&self) -> usize
         ensures count { result ≡ length (pieces self.now) }
-        ensures few { result ≤ 1004260 }
+        ensures few { result ≤ 1065700 }
         ensures kept { IsKept self.now }
     {
         self.opening().len() + SPOTS + self.entries().len() + 4
@@ -69,7 +71,7 @@ impl Recording {
         let cells = opening.len() + 1;
         let count = cells + SPOTS + 1;
         if number == 0 {
-            head(self.shape())
+            head(self.protocol(), self.shape(), self.seats())
         } else if number < cells {
             value(opening[number - 1])
         } else if number == cells {
@@ -79,22 +81,26 @@ impl Recording {
         } else if number == count {
             entries_head(entries.len() as u64)
         } else if number < count + 1 + entries.len() {
-            entry_line(entries[number - count - 1])
+            told_line(self.told(number - count - 1))
         } else {
             end()
         }
     }
 }
 
-/// The first two lines, and the first word of the third.
-fn head(shape: Shape) -> Text
-    ensures piece { result ≡ head_piece shape }
+/// The lines of the header, the protocol, the shape and the seats, and the first word of the next.
+fn head(protocol: Protocol, shape: Shape, seats: u32) -> Text
+    ensures piece { result ≡ head_piece protocol shape seats }
     ensures short { length result ≤ 192 }
 {
     let mut text = Text::new();
-    text.push(b"msi-recording 1\nshape");
+    text.push(b"msi-recording 2\nprotocol ");
+    text.push(protocol.name().as_bytes());
+    text.push(b"\nshape");
     text.push_number(u64::from(shape.caches()));
     text.push_number(u64::from(shape.blocks()));
+    text.push(b"\nseats");
+    text.push_number(u64::from(seats));
     text.push(b"\nopening");
     text
 }

@@ -1,4 +1,4 @@
-ghost use Rattle.std.specs.Prelude.{◌≡◌, ◌*◌, ◌<◌, ◌≤◌, ◌^◌, IfOk, length, replicate, slice_index, slice_set, take};
+ghost use Rattle.std.specs.Prelude.{◌≡◌, ◌*◌, ◌<◌, ◌≤◌, ◌^◌, IfOk, length, replicate, slice_index, slice_set, take, true};
 ghost use Rattle.std.specs.List.{sum};
 ghost use Rattle.rows.specs.Counts.{Finds};
 
@@ -153,10 +153,27 @@ impl Sums {
         }
     }
 
-    /// Makes all numbers 0.
+    /// Makes all numbers 0. Where few aren't, it takes no longer than making these 0 one by one.
     pub fn clear(&mut self)
         ensures { self.new ≡ replicate (length self.old) 0 }
     {
-        self.tree.fill(0);
+        if !self.clear_few() {
+            self.tree.fill(0);
+        }
+    }
+
+    /// Makes the first numbers 0 that aren't, one in 64 of all at most, and answers whether it then knows that none is left.
+    fn clear_few(&mut self) -> bool
+        ensures count { length self.new ≡ length self.old }
+        ensures none { result ≡ true → self.new ≡ replicate (length self.old) 0 }
+    {
+        for _ in 0..self.count / 64 {
+            if self.total() == 0 {
+                return true;
+            }
+            let first = self.find(0);
+            self.set(first.place, 0);
+        }
+        false
     }
 }

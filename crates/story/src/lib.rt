@@ -20,6 +20,6 @@ pub use list::List;
 pub use part::{Cut, Part, Shown};
 pub use sheet::Sheet;
 pub use tabling::show;
-pub use telling::{Happening, Sight, Story, look};
+pub use telling::{Happening, Sight, Story, look, seat_at};
 pub use trips::Trip;
-pub use words::{AcksText, AskText, RequestText, RequestorText, forward_name};
+pub use words::{AcksText, AskText, RequestText, RequestorText, SeatText, forward_name};

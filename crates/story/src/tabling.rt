@@ -1,11 +1,11 @@
 use crate::fault::ShowFault;
 use crate::output::Output;
-use crate::part::{Cut, Part, Shown};
+use crate::part::{Part, Shown};
 use crate::sheet::Sheet;
 use crate::starting::put_start;
-use crate::telling::{Happening, Sight, Story};
+use crate::telling::{Happening, Sight, Story, seat_at};
 use crate::trips::Trip;
-use crate::words::{put_holdings, put_home, put_line, put_message};
+use crate::words::{SeatText, put_holdings, put_home, put_line, put_message};
 use base::NoMemory;
 use record::{Entry, Recording};
 use std::alloc::Global;
@@ -63,15 +63,22 @@ impl Table {
         part: Part,
     ) -> Result<(), NoMemory> {
         let mut story = Story::open(alloc, recording)?;
-        self.measure_all(&mut story, part, part.cut(recording.entries()))
+        self.measure_all(&mut story, recording, part)
     }
 
-    fn measure_all(&mut self, story: &mut Story, part: Part, cut: Cut<'_>) -> Result<(), NoMemory> {
+    fn measure_all(
+        &mut self,
+        story: &mut Story,
+        recording: &Recording,
+        part: Part,
+    ) -> Result<(), NoMemory> {
+        let cut = part.cut(recording.entries());
         story.skip(cut.before)?;
         self.fill_headings();
         self.widen();
         for entry in cut.chosen {
-            let happening = story.advance(*entry)?;
+            let seat = seat_at(recording, story.number());
+            let happening = story.advance(*entry, seat)?;
             if part.is_of(happening.step.block()) {
                 self.fill(story, &happening);
                 self.widen();
@@ -100,27 +107,22 @@ impl Table {
         output: &mut Output<'_, W>,
     ) -> Result<Shown, NoMemory> {
         let mut story = Story::open(alloc, recording)?;
-        self.print_all(
-            alloc,
-            &mut story,
-            part,
-            part.cut(recording.entries()),
-            output,
-        )
+        self.print_all(alloc, &mut story, recording, part, output)
     }
 
     fn print_all<W: Write>(
         &mut self,
         alloc: Global,
         story: &mut Story,
+        recording: &Recording,
         part: Part,
-        cut: Cut<'_>,
         output: &mut Output<'_, W>,
     ) -> Result<Shown, NoMemory> {
+        let cut = part.cut(recording.entries());
         story.skip(cut.before)?;
         self.fill_start(alloc, story, part, cut.chosen)?;
         output.put(self.sheet.text()?.as_bytes());
-        self.print_lines(story, part, cut.chosen, output)
+        self.print_lines(story, recording, part, cut.chosen, output)
     }
 
     /// Puts the state at the start of a part in place of what is kept.
@@ -141,6 +143,7 @@ impl Table {
     fn print_lines<W: Write>(
         &mut self,
         story: &mut Story,
+        recording: &Recording,
         part: Part,
         chosen: &[Entry],
         output: &mut Output<'_, W>,
@@ -152,7 +155,8 @@ impl Table {
             if output.fault().is_some() {
                 break;
             }
-            let happening = story.advance(*entry)?;
+            let seat = seat_at(recording, story.number());
+            let happening = story.advance(*entry, seat)?;
             if part.is_of(happening.step.block()) {
                 shown.note(&happening);
                 self.fill(story, &happening);
@@ -214,6 +218,7 @@ impl Table {
         self.clear();
         self.sheet.put(&happening.number);
         self.end_column();
+        self.sheet.put(&SeatText(happening.seat));
         self.sheet.put(&happening.step);
         self.end_column();
         self.sheet.put(&happening.outcome);

@@ -43,6 +43,8 @@ pub enum Sight {
 #[derive(Clone, Copy)]
 pub struct Happening {
     pub number: u64,
+    /// The seat that owns the step, where the recording has seats.
+    pub seat: Option<u32>,
     pub step: Step,
     /// The outcome in the recording.
     pub told: Outcome,
@@ -79,8 +81,8 @@ impl Story {
         })
     }
 
-    /// Makes the next step.
-    pub fn advance(&mut self, entry: Entry) -> Result<Happening, NoMemory> {
+    /// Makes the next step, which this seat owns, if one does.
+    pub fn advance(&mut self, entry: Entry, seat: Option<u32>) -> Result<Happening, NoMemory> {
         let (step, number) = (entry.step, self.number);
         let place = self.world.at(step);
         let before = look(&self.world, step.block(), place);
@@ -90,6 +92,7 @@ impl Story {
         self.sent.clear();
         let mut happening = Happening {
             number,
+            seat,
             step,
             told: entry.outcome,
             outcome,
@@ -109,7 +112,7 @@ impl Story {
     /// Makes the next steps, of which nothing is to be seen.
     pub fn skip(&mut self, entries: &[Entry]) -> Result<(), NoMemory> {
         for entry in entries {
-            let _ = self.advance(*entry)?;
+            let _ = self.advance(*entry, None)?;
         }
         Ok(())
     }
@@ -138,6 +141,11 @@ impl Story {
     pub fn flights(&self) -> &Flights {
         &self.flights
     }
+}
+
+/// The seat that owns the entry of this number, where the recording has seats.
+pub fn seat_at(recording: &Recording, number: u64) -> Option<u32> {
+    recording.owner(number as usize)
 }
 
 fn open_world(alloc: Global, recording: &Recording) -> Result<World, NoMemory> {

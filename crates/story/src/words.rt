@@ -20,6 +20,19 @@ impl fmt::Display for PlaceText {
     }
 }
 
+/// The seat of a step, if it has one, before the step: `by 3 `, as a recording has it.
+#[derive(Clone, Copy)]
+pub struct SeatText(pub Option<u32>);
+
+impl fmt::Display for SeatText {
+    fn fmt<W: fmt::Write>(&self, f: &mut fmt::Formatter<W>) -> fmt::Result {
+        match self.0 {
+            None => Ok(()),
+            Some(seat) => write!(f, "by {seat} "),
+        }
+    }
+}
+
 /// An ask: `load`, `store 7`, `replace`.
 #[derive(Clone, Copy)]
 pub struct AskText(pub Ask);

@@ -7,13 +7,15 @@ pub const RACING_PAIR: &str =
 pub const ONE_LOAD: &str = r#"{"op":"load","core":0,"block":0}"#;
 
 const ONE_LOAD_TEXT: &str =
-    "msi-recording 1\nshape 1 1\nopening 0\ncells 0\nentries 3\nask 0 0 load = sent\nrequest 0 0 = moved\nresponse 0 0 = load 0 0\nend\n";
+    "msi-recording 2\nprotocol msi\nshape 1 1\nseats 0\nopening 0\ncells 0\nentries 3\n\
+    ask 0 0 load = sent\nrequest 0 0 = moved\nresponse 0 0 = load 0 0\nend\n";
 
 #[test]
 fn a_racing_pair(rt: HostRuntime) {
     let alloc = rt.alloc();
     let six = "msi trial --caches 2 --seed 42 --number 54 --limit 6";
-    let recording = "msi-recording 1\nshape 2 1\nopening 0\ncells 0\nentries 6\n\
+    let recording =
+        "msi-recording 2\nprotocol msi\nshape 2 1\nseats 0\nopening 0\ncells 0\nentries 6\n\
          ask 1 0 store 9 = sent\nrequest 0 0 = moved\nask 0 0 load = sent\n\
          response 0 0 = store 1 9\nrequest 0 0 = moved\nforward 0 1 = moved\nend\n";
     let served = run(&rt, alloc, six, RACING_PAIR).expect(&rt, "served");

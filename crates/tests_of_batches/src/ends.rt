@@ -15,6 +15,8 @@ const PLAY: &str = "msi play --caches 2";
 
 const TRIAL: &str = "msi trial --caches 2 --seed 1 --number 0 --limit 9";
 
+const RACE: &str = "msi floor --caches 2 --seats 2 --turns 9 --seed 1 --recording";
+
 const BATCH: &str = "msi batch --caches 2 --seed 1 --trials 2 --limit 9";
 
 /// An input that fails.
@@ -69,7 +71,7 @@ fn run_torn<R: Threads + Wait + Abort + Sync>(
 #[test]
 fn an_input_that_fails(rt: HostRuntime) {
     let alloc = rt.alloc();
-    for line in [PLAY, TRIAL, BATCH, "msi replay"] {
+    for line in [PLAY, TRIAL, BATCH, "msi replay", "msi move"] {
         let served = run_torn(&rt, alloc, line, "{}");
         served_as(&rt, &served, 3, "", "msi: device\n");
     }
@@ -83,7 +85,9 @@ fn an_output_that_fails(rt: HostRuntime) {
         (PLAY, "ask 0 0 load\n"),
         (TRIAL, ONE_LOAD),
         (BATCH, ONE_LOAD),
+        (RACE, "ask 0 0 load\n"),
         ("msi replay", recording.as_str()),
+        ("msi move", recording.as_str()),
         ("msi tables", ""),
     ] {
         let output = Short { left: 3 };

@@ -14,6 +14,8 @@ mod jams;
 #[cfg(test)]
 mod lines;
 #[cfg(test)]
+mod moving;
+#[cfg(test)]
 mod pictures;
 #[cfg(test)]
 mod plain_lines;

@@ -78,6 +78,28 @@ block 0 home: I, owner none, sharers none, memory 0
 8  response 0 0     load 0 0   Data 0 to cache 0 from home         cache 0: IS^D > S, value 0                                                                              violation stale load got 0 due 5 block 0
 "#;
 
+/// A load that three seats made.
+const SEATS: &str = r#"msi-recording 2
+protocol msi
+shape 2 1
+seats 3
+opening 0
+cells 0
+entries 3
+by 1 ask 1 0 load = sent
+by 2 request 0 0 = moved
+by 0 response 0 0 = load 1 0
+end
+"#;
+
+const SEATS_TABLE: &str = r#"before step 0
+block 0 home: I, owner none, sharers none, memory 0
+   step               outcome   serves                       changes                                       sends                        finds
+0  by 1 ask 1 0 load  sent                                   cache 1: I > IS^D, pending load               GetS to home from cache 1
+1  by 2 request 0 0   moved     GetS to home from cache 1    home: I > S, owner none, sharers 1, memory 0  Data 0 to cache 1 from home
+2  by 0 response 0 0  load 1 0  Data 0 to cache 1 from home  cache 1: IS^D > S, value 0
+"#;
+
 #[test]
 fn recordings_are_shown(rt: HostRuntime) {
     let alloc = rt.alloc();
@@ -90,10 +112,20 @@ fn recordings_are_shown(rt: HostRuntime) {
             LOAD_TABLE,
         ),
         ("msi show", STALE, 1, STALE_TABLE),
+        ("msi show", SEATS, 0, SEATS_TABLE),
         ("msi chart", FROM_OWNER, 0, FROM_OWNER_CHART),
     ] {
         let served = run(&rt, alloc, line, recording).expect(&rt, "served");
         served_as(&rt, &served, status, output, "");
+    }
+}
+
+#[test]
+fn a_picture_names_the_seats(rt: HostRuntime) {
+    let served = run(&rt, rt.alloc(), "msi chart", SEATS).expect(&rt, "served");
+    let text = str::from_utf8(served.output.as_slice()).expect(&rt, "a text");
+    for step in ["by 1 ask 1 0 load", "by 2 request 0 0", "by 0 response 0 0"] {
+        assert!(rt; text.split_once(step).is_some(), "at {step}");
     }
 }
 

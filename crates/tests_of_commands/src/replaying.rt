@@ -96,10 +96,24 @@ fn compare<R: Threads + Wait + Abort + Sync>(
     assert_eq!(rt; served.status, 1);
 }
 
+/// The same in version 2.
+fn compare_moved<R: Threads + Wait + Abort + Sync>(
+    rt: &R,
+    alloc: Global,
+    broken: &Broken,
+    recording: &str,
+) {
+    let moved = run(rt, alloc, "msi move", recording).expect(rt, "served");
+    let text = str::from_utf8(moved.output.as_slice()).expect(rt, "a text");
+    assert!(rt; text.starts_with("msi-recording 2\n"));
+    compare(rt, alloc, broken, text);
+}
+
 #[test]
 fn broken_tables_are_replayed(rt: HostRuntime) {
     for broken in BROKEN {
         let recording = recording_of(&rt, rt.alloc(), &broken);
         compare(&rt, rt.alloc(), &broken, recording.as_str());
+        compare_moved(&rt, rt.alloc(), &broken, recording.as_str());
     }
 }

@@ -25,14 +25,14 @@ fn empty_lines_are_skipped(rt: HostRuntime) {
 #[test]
 fn blocks_of_a_world(rt: HostRuntime) {
     let steps =
-        "ask 0 4095 store 3\nask 0 4096 load\nrequest 4095 0\nresponse 4095 0\nask 0 4095 load\n";
-    let line = "msi play --caches 1 --blocks 4096";
+        "ask 4095 65535 store 3\nask 4096 65535 load\nask 0 65536 load\nrequest 65535 0\nresponse 65535 0\nask 4095 65535 load\n";
+    let line = "msi play --caches 4096 --blocks 65536";
     let served = run(&rt, rt.alloc(), line, steps).expect(&rt, "served");
     served_as(
         &rt,
         &served,
         0,
-        "sent\nabsent\nmoved\nstore 0 3\nload 0 3\n",
+        "sent\nabsent\nabsent\nmoved\nstore 4095 3\nload 4095 3\n",
         "",
     );
 }
@@ -168,10 +168,10 @@ fn bad_words_and_help(rt: HostRuntime) {
         "msi dance",
         "msi play",
         "msi play --caches 0",
-        "msi play --caches 1025",
+        "msi play --caches 4097",
         "msi play --caches two",
         "msi play --caches 2 --blocks 0",
-        "msi play --caches 2 --blocks 4097",
+        "msi play --caches 2 --blocks 65537",
         "msi play --caches 2 --colour",
     ] {
         let served = run(&rt, alloc, line, "").expect(&rt, "served");
@@ -232,10 +232,22 @@ fn refused_recordings(rt: HostRuntime) {
             "msi-recording 1\nshape 1 1\nopening 0\ncells 0\nentries 1\nrequest 0 0 = lost\n",
             "msi: recording line 6 refused 5 BadOutcome\n",
         ),
+        (
+            "msi-recording 2\nprotocol mesi\n",
+            "msi: recording line 2 refused 9 UnknownProtocol\n",
+        ),
+        (
+            "msi-recording 2\nprotocol msi\nshape 1 1\nseats 65\n",
+            "msi: recording line 4 refused 6 OverLimit\n",
+        ),
     ] {
-        let served = run(&rt, alloc, "msi replay", text).expect(&rt, "served");
-        served_as(&rt, &served, 2, "", errors);
+        for line in ["msi replay", "msi move"] {
+            let served = run(&rt, alloc, line, text).expect(&rt, "served");
+            served_as(&rt, &served, 2, "", errors);
+        }
     }
-    let served = run(&rt, alloc, "msi replay --caches 2", "").expect(&rt, "served");
-    assert_eq!(rt; served.status, 2);
+    for line in ["msi replay --caches 2", "msi move --caches 2"] {
+        let served = run(&rt, alloc, line, "").expect(&rt, "served");
+        assert_eq!(rt; served.status, 2);
+    }
 }

@@ -4,9 +4,9 @@ ghost use Rattle.floor.specs.FloorId.{floor_id};
 use crate::asserting::same;
 use crate::entries::entry_of;
 use crate::setups::setup;
-use base::{Ask, BlockId, CacheId, Step};
+use base::{Ask, BlockId, Buffer, CacheId, Step};
 use floor::{CloseFault, Closed, Floor, FloorFault, Ground, Naming, Seat, TurnFault};
-use record::{Entry, replay};
+use record::{Entry, Recording, replay};
 use std::alloc::Global;
 use std::marker::Brand;
 use std::process::Abort;
@@ -53,6 +53,8 @@ pub fn compare<F: Naming, R: Abort>(rt: &R, closed: &Closed<F>, lines: &[&str]) 
         same(rt, &Some(*entry), &entry_of(line));
         same(rt, owner, &0);
     }
+    same(rt, &closed.recording.seats(), &1);
+    same(rt, &closed.recording.owner(0), &Some(0));
     same(rt, &closed.violation, &None);
 }
 
@@ -74,14 +76,25 @@ fn closes<F: Naming, R: Wait + Abort>(
     floor: Floor<F>,
     seat: Seat<F>,
     lines: &[&str],
-) {
+) -> Closed<F> {
     let mut seats = Vec::new(alloc);
     let refused = floor.close(Vec::new(alloc)).err();
     let (fault, floor, _) = refused.expect(rt, "a seat is missing");
     same(rt, &fault, &CloseFault::SeatMissing);
     seats.push(seat).expect(rt, "memory");
     let closed = floor.close(seats).ok().expect(rt, "closed");
-    compare_replayed(rt, alloc, &closed, lines)
+    compare_replayed(rt, alloc, &closed, lines);
+    closed
+}
+
+/// Compares the text of what is closed with that of a store and a load by the only seat.
+fn writes(rt: &impl Abort, alloc: Global, recording: &Recording) {
+    let text = "msi-recording 2\nprotocol msi\nshape 1 1\nseats 1\nopening 0\ncells 0\nentries 4\n\
+         by 0 ask 0 0 store 7 = sent\nby 0 request 0 0 = moved\n\
+         by 0 response 0 0 = store 0 7\nby 0 ask 0 0 load = load 0 7\nend\n";
+    let mut sink = Buffer::open(alloc);
+    recording.write(&mut sink).expect(rt, "memory");
+    same(rt, &sink.bytes(), &text.as_bytes());
 }
 
 /// Makes as many steps as a floor takes, and compares what it answers to more.
@@ -99,7 +112,7 @@ fn one_load<F: Naming, R: Wait + Abort>(rt: &R, alloc: Global, ground: Ground, s
     let (floor, mut seats) = Floor::<F>::open(ground, alloc, setup, 1, 2).expect(rt, "a floor");
     let mut seat = seats.pop().expect(rt, "a seat");
     fills(rt, &floor, &mut seat);
-    closes(rt, alloc, floor, seat, &ONE_LOAD)
+    let _closed = closes(rt, alloc, floor, seat, &ONE_LOAD);
 }
 
 #[test]
@@ -115,7 +128,8 @@ fn store_and_load<F: Naming, R: Wait + Abort>(rt: &R, alloc: Global, ground: Gro
     let (floor, mut seats) = Floor::<F>::open(ground, alloc, setup, 1, 9).expect(rt, "a floor");
     let mut seat = seats.pop().expect(rt, "a seat");
     make(rt, &floor, &mut seat, &STORE_AND_LOAD);
-    closes(rt, alloc, floor, seat, &STORE_AND_LOAD)
+    let closed = closes(rt, alloc, floor, seat, &STORE_AND_LOAD);
+    writes(rt, alloc, &closed.recording)
 }
 
 #[test]
@@ -142,7 +156,7 @@ fn draws<F: Naming, R: Wait + Abort>(rt: &R, alloc: Global, ground: Ground, setu
     let (floor, mut seats) = Floor::<F>::open(ground, alloc, setup, 1, 4).expect(rt, "a floor");
     let mut seat = seats.pop().expect(rt, "a seat");
     asks_and_draws(rt, &floor, &mut seat);
-    closes(rt, alloc, floor, seat, &ONE_LOAD)
+    let _closed = closes(rt, alloc, floor, seat, &ONE_LOAD);
 }
 
 #[test]
@@ -212,6 +226,9 @@ fn foreign_steps<F: Naming, R: Wait + Abort>(rt: &R, alloc: Global, ground: Grou
     }
     let closed = floor.close(seats).ok().expect(rt, "closed");
     same(rt, &closed.owners.as_slice(), &[0u32, 0, 1, 2].as_slice());
+    same(rt, &closed.recording.seats(), &3);
+    let ends = (closed.recording.owner(0), closed.recording.owner(3));
+    same(rt, &ends, &(Some(0), Some(2)));
 }
 
 #[test]

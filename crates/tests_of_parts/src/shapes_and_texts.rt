@@ -10,7 +10,7 @@ use std::process::Abort;
 
 #[test]
 fn shapes_within_the_limits(rt: HostRuntime) {
-    for (caches, blocks) in &[(1, 1), (1024, 4096)] {
+    for (caches, blocks) in &[(1, 1), (4096, 65_536)] {
         let shape = Shape::new(*caches, *blocks).expect(&rt, "a shape");
         same(&rt, &(shape.caches(), shape.blocks()), &(*caches, *blocks));
     }
@@ -21,8 +21,8 @@ fn the_first_fault_of_a_shape(rt: HostRuntime) {
     let refused = [
         (0, 0, ShapeFault::NoCaches),
         (5000, 0, ShapeFault::NoBlocks),
-        (1025, 5000, ShapeFault::TooManyCaches),
-        (1024, 4097, ShapeFault::TooManyBlocks),
+        (4097, 70_000, ShapeFault::TooManyCaches),
+        (4096, 65_537, ShapeFault::TooManyBlocks),
     ];
     for (caches, blocks, fault) in &refused {
         let found = Shape::new(*caches, *blocks).err();

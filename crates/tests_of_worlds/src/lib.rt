@@ -18,6 +18,8 @@ mod touching;
 #[cfg(test)]
 mod trying;
 #[cfg(test)]
+mod versions;
+#[cfg(test)]
 mod violations;
 #[cfg(test)]
 mod worlds;

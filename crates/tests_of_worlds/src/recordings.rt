@@ -1,5 +1,6 @@
 use crate::asserting::{same, same_at};
-use crate::entries::entry_of;
+use crate::entries::{entry_of, push};
+use base::controller::Protocol;
 use base::{BlockId, Buffer, CacheId, Faltering, Outcome, Shape, Step};
 use both_tables::Tables;
 use cache_table::{CacheEntry, CacheEvent, CacheState};
@@ -30,7 +31,7 @@ fn recorded(
 fn push_all(rt: &impl Abort, recording: &mut Recording, lines: &[&str]) {
     for line in lines {
         let entry = entry_of(line).expect(rt, "an entry");
-        recording.push(entry).expect(rt, "memory");
+        push(rt, recording, entry).expect(rt, "memory");
     }
 }
 
@@ -40,7 +41,12 @@ const ONE_LOAD: [&str; 3] = [
     "response 0 0 = load 0 0",
 ];
 
-const ONE_LOAD_TEXT: &str =
+pub const ONE_LOAD_TEXT: &str =
+    "msi-recording 2\nprotocol msi\nshape 1 1\nseats 0\nopening 0\ncells 0\nentries 3\n\
+    ask 0 0 load = sent\nrequest 0 0 = moved\nresponse 0 0 = load 0 0\nend\n";
+
+/// The same in version 1.
+pub const FIRST_TEXT: &str =
     "msi-recording 1\nshape 1 1\nopening 0\ncells 0\nentries 3\nask 0 0 load = sent\nrequest 0 0 = moved\nresponse 0 0 = load 0 0\nend\n";
 
 const LOAD_FROM_OWNER: [&str; 8] = [
@@ -65,7 +71,7 @@ fn writes(rt: &impl Abort, alloc: Global, recording: &Recording, text: &str) {
 fn the_text_of_one_load(rt: HostRuntime) {
     let recording = recorded(&rt, rt.alloc(), 1, Tables::baseline(), &ONE_LOAD);
     writes(&rt, rt.alloc(), &recording, ONE_LOAD_TEXT);
-    same(&rt, &ONE_LOAD_TEXT.len(), &122);
+    same(&rt, &ONE_LOAD_TEXT.len(), &143);
 }
 
 #[test]
@@ -76,8 +82,10 @@ fn the_text_of_changed_tables(rt: HostRuntime) {
         .with(CacheState::S, CacheEvent::Inv, CacheEntry::Stall)
         .with(CacheState::I, CacheEvent::Load, CacheEntry::Blank)
         .with(CacheState::I, CacheEvent::Inv, CacheEntry::Blank);
-    let changed = "msi-recording 1
+    let changed = "msi-recording 2
+protocol msi
 shape 2 1
+seats 0
 opening 0
 cells 2
 cell cache I Load blank
@@ -96,7 +104,7 @@ fn comes_through(rt: &impl Abort, alloc: Global, recording: &Recording, most: us
     let fault = recording.write(&mut sink).err();
     let out = sink.end().bytes();
     let written = out.len() as u64;
-    let expected = if written < 122 { Some(written) } else { None };
+    let expected = if written < 143 { Some(written) } else { None };
     let is_front = ONE_LOAD_TEXT.as_bytes().starts_with(out);
     same_at(rt, &is_front, &true, &at);
     same_at(rt, &fault.map(|f| f.written), &expected, &at);
@@ -106,7 +114,7 @@ fn comes_through(rt: &impl Abort, alloc: Global, recording: &Recording, most: us
 fn sinks_that_fail(rt: HostRuntime) {
     let recording = recorded(&rt, rt.alloc(), 1, Tables::baseline(), &ONE_LOAD);
     for most in &[1, 7, 200] {
-        for calls in 0..=122 {
+        for calls in 0..=143 {
             comes_through(&rt, rt.alloc(), &recording, *most, calls);
         }
     }
@@ -114,6 +122,8 @@ fn sinks_that_fail(rt: HostRuntime) {
 
 /// Compares what a recording of one load holds.
 fn holds(rt: &impl Abort, recording: &Recording) {
+    same(rt, &recording.protocol(), &Protocol::Msi);
+    same(rt, &(recording.seats(), recording.owner(0)), &(0, None));
     same(rt, &recording.shape().caches(), &1);
     same(rt, &recording.opening(), &[0u64].as_slice());
     same(rt, &recording.entries().len(), &3);
@@ -192,9 +202,9 @@ fn fill(rt: &impl Abort, recording: &mut Recording) {
         outcome: Outcome::Absent,
     };
     for _ in 0..MOST_ENTRIES {
-        recording.push(entry).expect(rt, "memory");
+        push(rt, recording, entry).expect(rt, "memory");
     }
-    same(rt, &recording.push(entry), &Err(PushFault::Full));
+    same(rt, &push(rt, recording, entry), &Err(PushFault::Full));
     same(rt, &recording.entries().len(), &MOST_ENTRIES);
 }
 
@@ -205,7 +215,7 @@ fn entries_up_to_the_most(rt: HostRuntime) {
 }
 
 /// What reading these bytes is refused with, if it is.
-fn fault_of(alloc: Global, bytes: &[u8]) -> Option<ReadFault> {
+pub fn fault_of(alloc: Global, bytes: &[u8]) -> Option<ReadFault> {
     let mut source = bytes;
     Recording::read(alloc, &mut source).err()
 }
@@ -219,15 +229,18 @@ fn is_written_back(rt: &impl Abort, alloc: Global, text: &str, most: usize) {
 
 #[test]
 fn texts_read_and_written_back(rt: HostRuntime) {
-    let changed = "msi-recording 1
+    let changed = "msi-recording 2
+protocol msi
 shape 2 1
+seats 64
 opening 7
 cells 3
 cell cache I Load blank
 cell cache S Inv stall
 cell directory S^D Data act M put-ack copy-data
-entries 1
-ask 9 9 store 18446744073709551615 = broken
+entries 2
+by 63 ask 9 9 store 18446744073709551615 = broken
+by 0 request 65536 0 = absent
 end
 ";
     for most in &[1, 7, 200] {
@@ -237,114 +250,54 @@ end
 }
 
 /// Compares what reading these bytes is refused with.
-fn is_refused(rt: &impl Abort, alloc: Global, bytes: &[u8], line: u64, kind: ReadKind) {
+pub fn is_refused(rt: &impl Abort, alloc: Global, bytes: &[u8], line: u64, kind: ReadKind) {
     let fault = fault_of(alloc, bytes);
     let wanted = Some(ReadFault { line, kind });
     same_at(rt, &fault, &wanted, &bytes.len());
 }
 
-#[test]
-fn beginnings_of_a_text(rt: HostRuntime) {
-    let text = ONE_LOAD_TEXT.as_bytes();
+/// Compares what each beginning of a text of so many lines is refused with.
+fn is_cut(rt: &impl Abort, alloc: Global, text: &[u8], lines: u64) {
     let mut line = 1;
     for cut in 0..text.len() {
-        is_refused(&rt, rt.alloc(), &text[..cut], line, ReadKind::Truncated);
+        is_refused(rt, alloc, &text[..cut], line, ReadKind::Truncated);
         if text[cut] == b'\n' {
             line = line.saturating_add(1);
         }
     }
-    same(&rt, &line, &10);
-}
-
-/// The text of one load, with another part in place of this one.
-fn one_load_with(rt: &impl Abort, alloc: Global, old: &str, new: &str) -> String {
-    let (front, rest) = ONE_LOAD_TEXT.split_once(old).expect(rt, "such a part");
-    format!(in alloc; "{front}{new}{rest}").expect(rt, "memory")
-}
-
-const REFUSED: [(&str, &str, ReadKind, u64); 15] = [
-    ("msi-recording 1", "msi-recording 9", ReadKind::BadHeader, 1),
-    ("shape 1 1", "shape 0 1", ReadKind::OverLimit, 2),
-    ("shape 1 1", "shape 4294967296 1", ReadKind::OverLimit, 2),
-    ("shape 1 1", "shape 01 1", ReadKind::BadLine, 2),
-    ("opening 0", "opening 0 0", ReadKind::BadLine, 3),
-    ("cells 0", "cells 161", ReadKind::OverLimit, 4),
-    ("entries 3", "entries 1000001", ReadKind::OverLimit, 5),
-    ("entries 3", "entries 4", ReadKind::CountDiffers, 9),
-    ("entries 3", "entries 2", ReadKind::CountDiffers, 8),
-    ("= load 0 0", "= lode 0 0", ReadKind::BadOutcome, 8),
-    ("= load 0 0", "=", ReadKind::BadLine, 8),
-    ("= load 0 0", "= ", ReadKind::BadOutcome, 8),
-    ("end\n", "end\nx", ReadKind::BadLine, 10),
-    (
-        "cells 0",
-        "cells 1\ncell cache I Load act IS^D gets",
-        ReadKind::BadLine,
-        5,
-    ),
-    (
-        "cells 0",
-        "cells 2\ncell cache S Inv stall\ncell cache I Load blank",
-        ReadKind::BadLine,
-        6,
-    ),
-];
-
-/// Compares what the text of one load is refused with, where another part stands in place of this one.
-fn is_refused_with(
-    rt: &impl Abort,
-    alloc: Global,
-    old: &str,
-    new: &str,
-    kind: ReadKind,
-    line: u64,
-) {
-    let text = one_load_with(rt, alloc, old, new);
-    let fault = fault_of(alloc, text.as_bytes());
-    same_at(rt, &fault, &Some(ReadFault { line, kind }), &new);
+    same(rt, &line, &lines.saturating_add(1));
 }
 
 #[test]
-fn texts_that_are_refused(rt: HostRuntime) {
-    for (old, new, kind, line) in &REFUSED {
-        is_refused_with(&rt, rt.alloc(), old, new, *kind, *line);
-    }
+fn beginnings_of_a_text(rt: HostRuntime) {
+    is_cut(&rt, rt.alloc(), FIRST_TEXT.as_bytes(), 9);
+    is_cut(&rt, rt.alloc(), ONE_LOAD_TEXT.as_bytes(), 11);
 }
 
-/// Two lines and the beginning of a third one.
-fn long_line(rt: &impl Abort, alloc: Global) -> Vec<u8> {
-    let begun = Vec::from_slice(alloc, b"msi-recording 1\nshape 1 1\n");
-    let mut long = begun.expect(rt, "memory");
-    for _ in 0..90_001 {
-        long.push(b'x').expect(rt, "memory");
-    }
-    long
-}
-
-#[test]
-fn a_line_that_is_too_long(rt: HostRuntime) {
-    let long = long_line(&rt, rt.alloc());
-    is_refused(&rt, rt.alloc(), long.as_slice(), 3, ReadKind::OverLimit);
-}
-
-/// Compares what reading is refused with where the source fails behind so many bytes.
-fn fails_behind(rt: &impl Abort, alloc: Global, calls: u64, line: u64) {
-    let mut source = Faltering::over(ONE_LOAD_TEXT.as_bytes(), 1, calls);
+/// Compares what is refused where the source fails behind so many bytes.
+fn fails_behind(rt: &impl Abort, alloc: Global, text: &[u8], calls: u64, line: u64) {
+    let mut source = Faltering::over(text, 1, calls);
     let fault = Recording::read(alloc, &mut source).err();
     let kind = ReadKind::Device;
     same_at(rt, &fault, &Some(ReadFault { line, kind }), &calls);
 }
 
+/// Compares it wherever the source of a text of so many lines fails.
+///
 /// The line that isn't whole yet is named, and the line behind the last one where all lines are whole.
-#[test]
-fn sources_that_fail(rt: HostRuntime) {
-    let text = ONE_LOAD_TEXT.as_bytes();
+fn fails(rt: &impl Abort, alloc: Global, text: &[u8], lines: u64) {
     let mut line = 1;
-    for calls in 0..=122 {
-        fails_behind(&rt, rt.alloc(), calls, line);
-        if text.get(calls as usize) == Some(&b'\n') {
+    for calls in 0..=text.len() {
+        fails_behind(rt, alloc, text, calls as u64, line);
+        if text.get(calls) == Some(&b'\n') {
             line = line.saturating_add(1);
         }
     }
-    same(&rt, &line, &10);
+    same(rt, &line, &lines.saturating_add(1));
+}
+
+#[test]
+fn sources_that_fail(rt: HostRuntime) {
+    fails(&rt, rt.alloc(), FIRST_TEXT.as_bytes(), 9);
+    fails(&rt, rt.alloc(), ONE_LOAD_TEXT.as_bytes(), 11);
 }

@@ -57,7 +57,7 @@ fn touch_and_copy(rt: &impl Abort, alloc: Global, world: &mut World) {
 }
 
 #[test]
-fn two_blocks_of_the_largest_shape(rt: HostRuntime) {
+fn two_blocks_of_a_large_shape(rt: HostRuntime) {
     let mut world = opened(&rt, rt.alloc(), 1024, 4096);
     touch_and_copy(&rt, rt.alloc(), &mut world);
 }
@@ -155,5 +155,5 @@ fn random_steps_over_a_small_shape(rt: HostRuntime) {
 
 #[test]
 fn random_steps_over_the_largest_shape(rt: HostRuntime) {
-    wander(&rt, rt.alloc(), 1024, 4096, 50_000);
+    wander(&rt, rt.alloc(), 4096, 65_536, 50_000);
 }

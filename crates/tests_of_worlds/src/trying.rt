@@ -169,10 +169,10 @@ fn writes(rt: &impl Abort, alloc: Global, load: &Scenario<Global>, setup: &Setup
 fn is_written(rt: &impl Abort, alloc: Global, made: &Trial) {
     let mut sink = Buffer::open(alloc);
     made.recording.write(&mut sink).expect(rt, "memory");
-    let text =
-        "msi-recording 1\nshape 1 1\nopening 0\ncells 0\nentries 3\nask 0 0 load = sent\nrequest 0 0 = moved\nresponse 0 0 = load 0 0\nend\n";
+    let text = "msi-recording 2\nprotocol msi\nshape 1 1\nseats 0\nopening 0\ncells 0\nentries 3\n\
+        ask 0 0 load = sent\nrequest 0 0 = moved\nresponse 0 0 = load 0 0\nend\n";
     same(rt, &sink.bytes(), &text.as_bytes());
-    same(rt, &text.len(), &122);
+    same(rt, &text.len(), &143);
 }
 
 #[test]

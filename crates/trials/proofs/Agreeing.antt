@@ -16,11 +16,12 @@ use Rattle.schedule.specs.Choices.{chosen_step, rest_after}
 use Rattle.schedule.specs.declared.choosing.Choice.{Choice}
 use Rattle.trials.specs.Terms.{Terms}
 use Rattle.trials.specs.Moments.{Moment, IsNext, choices_at, entry_of, moment_behind}
-use Rattle.trials.specs.Trial.{IsVerdict, AreClean}
+use Rattle.trials.specs.Trial.{IsVerdict, AreClean, IsUnowned}
 use Rattle.trials.specs.declared.verdict.Verdict.{Verdict}
 use Rattle.trials.specs.declared.verdict.Verdict.TheVariants.{Quiet, Cut, Stuck, Broke}
 use Rattle.trials.proofs.Places.{same-some, get-low}
 use Rattle.trials.proofs.Walks.{Walks}
+use Rattle.base.specs.declared.controller.protocol.Protocol.TheVariants.{Msi}
 
 -- ---- a word leads to one moment
 
@@ -191,10 +192,22 @@ same-verdict terms steps last Stuck Cut only h k = absurd (k.1 h.1)
 same-verdict terms steps last Cut Quiet only h k = absurd (h.1 k.1)
 same-verdict terms steps last Cut Stuck only h k = absurd (h.1 k.1)
 
-pub same-kept : (one other : RecordingView) → one.shape ≡ other.shape → one.tables ≡ other.tables → one.opening ≡ other.opening → one.entries ≡ other.entries →
-    one ≡ other
-same-kept one other e f g h =
-    ap (λ (x : Extent). let r : RecordingView = record { shape = x; tables = one.tables; opening = one.opening; entries = one.entries } in r) e
-    ∙ ap (λ (x : Tables). let r : RecordingView = record { shape = other.shape; tables = x; opening = one.opening; entries = one.entries } in r) f
-    ∙ ap (λ x. let r : RecordingView = record { shape = other.shape; tables = other.tables; opening = x; entries = one.entries } in r) g
-    ∙ ap (λ (x : List Entry). let r : RecordingView = record { shape = other.shape; tables = other.tables; opening = other.opening; entries = x } in r) h
+-- a recording of MSI without seats
+abbrev of : Extent → Tables → List ℕ → List Entry → RecordingView
+of shape tables opening entries =
+    record { protocol = Msi; seats = 0; shape = shape; tables = tables; opening = opening; entries = entries; owners = [] }
+
+unowned-is : (r : RecordingView) → IsUnowned r → r ≡ of r.shape r.tables r.opening r.entries
+unowned-is r u =
+    ap (λ p. let x : RecordingView =
+    record { protocol = p; seats = r.seats; shape = r.shape; tables = r.tables; opening = r.opening; entries = r.entries; owners = r.owners } in x) u.protocol
+    ∙ ap (λ n. let x : RecordingView =
+    record { protocol = Msi; seats = n; shape = r.shape; tables = r.tables; opening = r.opening; entries = r.entries; owners = r.owners } in x) u.seats
+    ∙ ap (λ os. let x : RecordingView =
+    record { protocol = Msi; seats = 0; shape = r.shape; tables = r.tables; opening = r.opening; entries = r.entries; owners = os } in x) u.owners
+
+pub same-kept : (one other : RecordingView) → IsUnowned one → IsUnowned other → one.shape ≡ other.shape → one.tables ≡ other.tables →
+    one.opening ≡ other.opening → one.entries ≡ other.entries → one ≡ other
+same-kept one other u v e f g h =
+    unowned-is one u ∙ ap (λ x. of x one.tables one.opening one.entries) e ∙ ap (λ x. of other.shape x one.opening one.entries) f
+    ∙ ap (λ x. of other.shape other.tables x one.entries) g ∙ ap (of other.shape other.tables other.opening) h ∙ sym (unowned-is other v)

@@ -1,5 +1,5 @@
 -- Trials on their way: how they start, go on and end.
-use Rattle.std.proofs.Common.{◌≡◌, ◌<◌, ◌≤◌, ◌+◌, ℕ, List, [], ◌∷◌, Some, None, length, slice_get, ap, sym, subst, ◌∙◌}
+use Rattle.std.proofs.Common.{◌≡◌, ◌<◌, ◌≤◌, ◌+◌, ℕ, List, [], ◌∷◌, Some, None, length, slice_get, ap, sym, subst, ◌∙◌, refl}
 use Rattle.rand_pcg.specs.Pcg.{multiplier_64}
 use Rattle.rand_pcg.specs.Lcg as lcg
 use Rattle.base.specs.declared.step.Step.{Step}
@@ -21,7 +21,7 @@ use Rattle.trials.specs.Terms.{Terms}
 use Rattle.trials.specs.Moments.{Moment, IsPath, choices_at, first_moment}
 use Rattle.trials.specs.declared.verdict.Verdict.{Verdict}
 use Rattle.trials.specs.declared.verdict.Verdict.TheVariants.{Quiet, Cut, Stuck, Broke}
-use Rattle.trials.specs.Trial.{IsAtRest, IsTrial, IsVerdict}
+use Rattle.trials.specs.Trial.{IsAtRest, IsTrial, IsVerdict, IsUnowned}
 use Rattle.trials.specs.inner.Going.{CanBeMade, Chooses, Course, IsGoing, IsVerdictAtRest, Starts, choices_on, moment_of}
 use Rattle.trials.proofs.Paths.{path-starts}
 use Rattle.trials.proofs.Tracking.{IsTracked}
@@ -52,6 +52,7 @@ starts none terms tree number c s =
       shape = (s.shape, ap (λ (r : RecordingView). r.shape) s.recording);
       tables = (s.tables, ap (λ (r : RecordingView). r.tables) s.recording);
       opening = ap (λ (r : RecordingView). r.opening) s.recording;
+      unowned = subst IsUnowned (sym s.recording) (record { protocol = refl; seats = refl; owners = refl });
       moments = first_moment terms tree ∷ [];
       last = first_moment terms tree;
       path = subst (λ (es : List Entry). IsPath terms tree number (first_moment terms tree ∷ []) es) (sym nothing) (path-starts terms tree number);
@@ -131,6 +132,7 @@ ends-at-rest offered same terms tree number c chosen verdict g few none rest =
       shape = g.shape.1;
       tables = g.tables.1;
       opening = g.opening;
+      unowned = g.unowned;
       moments = g.moments;
       last = g.last;
       path = g.path;

@@ -1,6 +1,7 @@
 -- How a trial ends, and what a trial and a batch of them are.
 use Rattle.std.specs.Prelude.{◌≡◌, ◌≢◌, ◌≤◌, ◌+◌, ℕ, true, List, [], Some, length, slice_get}
 use Rattle.base.specs.declared.step.Step.{Step}
+use Rattle.base.specs.declared.controller.protocol.Protocol.TheVariants.{Msi}
 use Rattle.cores.specs.Cores.{is_free}
 use Rattle.scenario.specs.Tree.{Tree}
 use Rattle.scenario.specs.Taking.{offers}
@@ -31,11 +32,18 @@ IsVerdict terms steps last Quiet = AreClean terms steps × (choices_at terms.tab
 IsVerdict terms steps last Stuck = AreClean terms steps × (choices_at terms.tables last ≡ []) × ¬ IsAtRest last
 IsVerdict terms steps last Cut = AreClean terms steps × (choices_at terms.tables last ≢ []) × (length steps ≡ terms.limit)
 
+-- a recording of MSI in which there are no seats, so that nobody owns an entry
+pub record IsUnowned (r : RecordingView) : Type 0 where
+  pub protocol : r.protocol ≡ Msi
+  pub seats : r.seats ≡ 0
+  pub owners : r.owners ≡ []
+
 -- this recording and this verdict are those of the trial of this number: a path of at most as many steps as the limit, and what ends it
 pub record IsTrial (terms : Terms) (tree : Tree) (number : ℕ) (recording : RecordingView) (verdict : Verdict) : Type 0 where
   pub shape : recording.shape ≡ terms.shape
   pub tables : recording.tables ≡ terms.tables
   pub opening : recording.opening ≡ terms.opening
+  pub unowned : IsUnowned recording
   pub moments : List Moment
   pub last : Moment
   pub path : IsPath terms tree number moments recording.entries

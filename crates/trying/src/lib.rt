@@ -8,6 +8,6 @@ mod reporting;
 mod sharing;
 mod trying;
 
-pub use racing::race;
+pub use racing::{RacePlan, race};
 pub use reporting::BatchPlan;
 pub use trying::{batch, one_trial};

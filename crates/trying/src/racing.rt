@@ -3,31 +3,50 @@ ghost use Rattle.floor.specs.FloorId.{floor_id};
 
 use crate::asks::read_asks;
 use crate::players::{Open, Player};
+use crate::trying::write_recording;
 use base::{CoreAsk, NoMemory};
 use floor::{Floor, Ground, Naming, Seat, TurnFault, crew};
 use monitor::Violation;
 use playing::{Fault, Finding, Printer};
 use record::{Recording, replay};
 use std::alloc::Global;
+use std::fmt;
 use std::io::{Read, Write};
 use std::marker::Brand;
 use std::sync::Wait;
 use std::thread::Threads;
 use trials::Setup;
 
-/// Has so many seats race at a floor, a thread each: they put the asks of the input, and draw deliveries, so many calls
-/// each. Then it replays the floor's recording, and prints whether there was a violation.
-pub fn race<R: Threads + Wait + Sync, I: Read + Drop, O: Write + Drop>(
+/// How a race is made, and what is printed of it.
+#[derive(Clone, Copy, Debug)]
+pub struct RacePlan {
+    /// How many seats there are, 1 to 64, a thread each.
+    pub seats: u32,
+    /// How many turns each of them tries to make. All of them are at most 1,000,000.
+    pub turns: u32,
+    /// Whether the recording is printed, and what was found is told on the errors.
+    pub recording: bool,
+}
+
+/// Has seats race at a floor, a thread each: they put the asks of the input, and draw deliveries, so many calls
+/// each. Then it replays the floor's recording, and prints whether there was a violation; or the recording, and tells that
+/// on the errors.
+pub fn race<R: Threads + Wait + Sync, I: Read + Drop, O: Write + Drop, E: Write>(
     rt: &R,
     alloc: Global,
     setup: &Setup,
-    seats: u32,
-    turns: u32,
+    plan: RacePlan,
     input: I,
     output: O,
+    errors: &mut E,
 ) -> Result<Finding, Fault> {
     let asks = read_asks(alloc, setup.shape(), input)?;
     let ground = Ground::new(alloc)?;
+    let RacePlan {
+        seats,
+        turns,
+        recording: _,
+    } = plan;
     let capacity = seats.saturating_mul(turns);
     match recorded::<Brand, R>(
         rt,
@@ -39,7 +58,7 @@ pub fn race<R: Threads + Wait + Sync, I: Read + Drop, O: Write + Drop>(
         capacity,
         asks.as_slice(),
     ) {
-        Ok(recording) => print_replayed(alloc, &recording, output),
+        Ok(recording) => report(alloc, plan, &recording, output, errors),
         Err(NoMemory) => Err(Fault::NoMemory),
     }
 }
@@ -111,32 +130,46 @@ fn cast<F: Naming>(
     Ok(members)
 }
 
-fn print_replayed<O: Write + Drop>(
+/// Replays a recording, and prints what was found, or the recording.
+fn report<O: Write + Drop, E: Write>(
     alloc: Global,
+    plan: RacePlan,
     recording: &Recording,
     output: O,
+    errors: &mut E,
 ) -> Result<Finding, Fault> {
-    match replay(alloc, recording) {
-        Ok(replayed) => print_violation(alloc, replayed.violation, output),
-        Err(_) => Err(Fault::NoMemory),
+    let Ok(replayed) = replay(alloc, recording) else {
+        return Err(Fault::NoMemory);
+    };
+    let found = Found(replayed.violation);
+    if plan.recording {
+        let finding = write_recording(alloc, recording, found.finding(), output)?;
+        writeln!(errors, "{found}")?;
+        return Ok(finding);
+    }
+    let mut printer = Printer::new(alloc, output)?;
+    printer.line(found);
+    printer.finish(Ok(found.finding()))
+}
+
+/// The violation that there was, if there was one.
+#[derive(Clone, Copy)]
+struct Found(Option<(u64, Violation)>);
+
+impl Found {
+    fn finding(self) -> Finding {
+        match self.0 {
+            None => Finding::Nothing,
+            Some(_) => Finding::Violation,
+        }
     }
 }
 
-fn print_violation<O: Write + Drop>(
-    alloc: Global,
-    violation: Option<(u64, Violation)>,
-    output: O,
-) -> Result<Finding, Fault> {
-    let mut printer = Printer::new(alloc, output)?;
-    let finding = match violation {
-        None => {
-            printer.line("safe");
-            Finding::Nothing
+impl fmt::Display for Found {
+    fn fmt<W: fmt::Write>(&self, f: &mut fmt::Formatter<W>) -> fmt::Result {
+        match self.0 {
+            None => f.write_str("safe"),
+            Some((entry, violation)) => write!(f, "violation {entry} {violation}"),
         }
-        Some((entry, violation)) => {
-            printer.line(format_args!("violation {entry} {violation}"));
-            Finding::Violation
-        }
-    };
-    printer.finish(Ok(finding))
+    }
 }

@@ -4,6 +4,7 @@ use base::{NoMemory, Shape, ToWrite};
 use bumpalo::Bump;
 use desk::Job;
 use playing::{Fault, Finding, Printer};
+use record::Recording;
 use scenario::Scenario;
 use std::alloc::Global;
 use std::io::{Read, Write};
@@ -34,19 +35,21 @@ fn write_trial<O: Write + Drop, E: Write>(
     output: O,
     errors: &mut E,
 ) -> Result<Finding, Fault> {
-    let finding = write_recording(alloc, made, output)?;
+    let finding = write_recording(alloc, &made.recording, finding(made.result), output)?;
     writeln!(errors, "verdict {}", made.result)?;
     Ok(finding)
 }
 
-fn write_recording<O: Write + Drop>(
+/// Writes a recording, of which this was found.
+pub(crate) fn write_recording<O: Write + Drop>(
     alloc: Global,
-    made: &Trial,
+    recording: &Recording,
+    finding: Finding,
     output: O,
 ) -> Result<Finding, Fault> {
     let mut printer = Printer::new(alloc, output)?;
-    match made.recording.write(&mut ToWrite::new(printer.output())) {
-        Ok(()) => printer.finish(Ok(finding(made.result))),
+    match recording.write(&mut ToWrite::new(printer.output())) {
+        Ok(()) => printer.finish(Ok(finding)),
         Err(fault) => Err(Fault::from(fault)),
     }
 }

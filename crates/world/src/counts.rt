@@ -45,7 +45,7 @@ impl Model for Counts {
 impl Counts {
     /// Counts of so many blocks, of which none has anything to deliver.
     pub fn open(alloc: Global, blocks: u32) -> Result<Counts, NoMemory>
-        requires { blocks ≤ 4096 }
+        requires { blocks ≤ 65536 }
         ensures requests { IfOk result (λ counts. counts.requests ≡ replicate blocks 0) }
         ensures heads { IfOk result (λ counts. counts.heads ≡ replicate blocks 0) }
         ensures responses { IfOk result (λ counts. counts.responses ≡ replicate blocks 0) }
@@ -101,7 +101,7 @@ impl Counts {
     /// How many there are of all kinds in all blocks.
     pub fn total(&self) -> u64
         ensures total { result ≡ all_in self.now }
-        ensures few { result < 2 ^ 46 }
+        ensures few { result < 2 ^ 50 }
     {
         self.requests.total() + self.heads.total() + self.responses.total()
     }

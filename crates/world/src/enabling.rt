@@ -32,7 +32,7 @@ impl World {
     /// How many deliveries [`enabled`](World::enabled) lists: fewer than 2^46.
     pub fn enabled_count(&self) -> u64
         ensures count { result ≡ length (enabled_steps self.now.tables self.now.state) }
-        ensures few { result < 2 ^ 46 }
+        ensures few { result < 2 ^ 50 }
     {
         if self.met_blank {
             return 0;

@@ -1,8 +1,12 @@
 -- What goes out where a recording's text is put into a sink piece by piece. Only private clauses cite this file.
-use Rattle.std.specs.Prelude.{◌≡◌, ℕ, ◌<◌, ◌+◌, List, [], ◌∷◌, ◌++◌, Option, if◌then◌else◌, codes, slice_index_or, length, map, take, ◌^◌}
+use Rattle.std.specs.Prelude.{◌≡◌, ℕ, ◌<◌, ◌+◌, List, [], ◌∷◌, ◌++◌, Option, Some, None, if◌then◌else◌, codes, slice_index_or, length, map, take, ◌^◌}
 use Rattle.std.specs.Fmt.{decimal}
 use Rattle.std.specs.Io.KnownBytes.{Appends}
 use Rattle.base.specs.Extent.{Extent}
+use Rattle.base.specs.declared.controller.protocol.Protocol.{Protocol}
+use Rattle.record.specs.declared.told.Told.{Told}
+use Rattle.record.specs.declared.version.Version.TheVariants.{Two}
+use Rattle.record.specs.Versions.{protocol_words, seats_words}
 use Rattle.cache_table.specs.Table as cache_table
 use Rattle.directory_table.specs.Table as directory_table
 use Rattle.both_tables.specs.Tables.{Tables}
@@ -12,7 +16,7 @@ use Rattle.record.specs.declared.recording.Entry.{Entry}
 use Rattle.record.specs.Cells.{all_spots, cell_at, cell_words}
 use Rattle.record.specs.Grammar.{FitsEntry}
 use Rattle.record.specs.View.{RecordingView}
-use Rattle.record.specs.Text.{line, header_words, shape_words, cells_words, changed_cells, is_changed, entries_words, entry_words, end_words}
+use Rattle.record.specs.Text.{line, header_words, shape_words, cells_words, changed_cells, is_changed, entries_words, told, told_words, end_words}
 
 -- a sink failed before it had all of a text: exactly a front of it went out, and so many bytes in all
 pub record IsCutOff (before after : Option (List ℕ)) (text : List ℕ) (already in_all : ℕ) : Type 0 where
@@ -26,9 +30,10 @@ pub record IsOut (before after : Option (List ℕ)) (text : List ℕ) (already i
   pub sum : in_all ≡ already + length text
   pub all : Appends before after text
 
--- the header, the line of the shape and the first word of the next line
-abbrev pub head_piece : Extent → List ℕ
-head_piece shape = line header_words ++ line (shape_words shape) ++ codes "opening"
+-- the lines of the header, the protocol, the shape and the seats, and the first word of the next line
+abbrev pub head_piece : Protocol → Extent → ℕ → List ℕ
+head_piece protocol shape seats =
+    line (header_words Two) ++ line (protocol_words protocol) ++ line (shape_words shape) ++ line (seats_words seats) ++ codes "opening"
 
 -- an opening value, with a blank before it
 abbrev pub value_piece : ℕ → List ℕ
@@ -46,9 +51,14 @@ cell_piece tables spot = if is_changed tables spot then line (cell_words (cell_a
 abbrev pub entries_piece : ℕ → List ℕ
 entries_piece count = line (entries_words count)
 
+-- what stands in front of an entry that has an owner, with a blank behind it
+abbrev pub by_text : Option ℕ → List ℕ
+by_text None = []
+by_text (Some seat) = codes "by" ++ (32 ∷ decimal seat) ++ codes " "
+
 -- the line of an entry
-abbrev pub entry_piece : Entry → List ℕ
-entry_piece e = line (entry_words e)
+abbrev pub told_piece : Told → List ℕ
+told_piece t = line (told_words t)
 
 -- the last line
 abbrev pub end_piece : List ℕ
@@ -57,9 +67,9 @@ end_piece = line end_words
 -- the pieces of a recording's text, in order
 abbrev pub pieces : RecordingView → List (List ℕ)
 pieces r =
-    head_piece r.shape ∷ map value_piece r.opening ++
+    head_piece r.protocol r.shape r.seats ∷ map value_piece r.opening ++
     (cells_piece (length (changed_cells r.tables)) ∷ map (cell_piece r.tables) all_spots ++
-    (entries_piece (length r.entries) ∷ map entry_piece r.entries ++ end_piece ∷ []))
+    (entries_piece (length r.entries) ∷ map told_piece (told r.owners r.entries) ++ end_piece ∷ []))
 
 -- how many pieces stand before those of the entries
 abbrev pub places_before : RecordingView → ℕ

@@ -6,7 +6,7 @@ use Rattle.base.specs.Spelling.{words}
 use Rattle.record.specs.declared.due.Due.TheVariants.{Header, Nothing}
 use Rattle.record.specs.declared.reader.Reader.{Reader}
 use Rattle.record.specs.Grammar.{Follow}
-use Rattle.record.specs.Refused.{ended, HasNoEnd}
+use Rattle.record.specs.Refused.{ended, limit, HasNoEnd}
 use Rattle.record.specs.inner.Drafts.{kept, lines_before, lines_left, HasRoom, IsReadTo}
 use Rattle.record.specs.inner.Reading.{BeginsWithEnd, stream}
 
@@ -29,11 +29,12 @@ pub record HasPulled (left more : Option (List ℕ)) (old new : Reader) : Type 0
 pub record IsReady (reader : Reader) : Type 0 where
   pub read : IsReadTo reader.due (kept reader.draft)
   pub room : HasRoom reader.draft (length reader.lines.ahead)
-  pub few : reader.lines.number + lines_left reader.due ≤ 1000168
+  pub few : reader.lines.number + lines_left reader.due ≤ 1000170
   pub line : reader.due ≡ Nothing → reader.lines.line ≡ []
+  pub short : length reader.lines.line ≤ limit reader.due
 
 -- the line that is due is whole
 pub record HasWholeLine (reader : Reader) : Type 0 where
   pub whole : BeginsWithEnd reader.lines.ahead
   pub no_end : HasNoEnd reader.lines.line
-  pub short : length reader.lines.line ≤ 90000
+  pub short : length reader.lines.line ≤ limit reader.due

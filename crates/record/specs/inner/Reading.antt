@@ -2,15 +2,19 @@
 use Rattle.std.specs.Prelude.{Bool, true, false, ◌≡◌, ◌≢◌, ℕ, ◌+◌, ◌<◌, ◌≤◌, ◌^◌, List, [], ◌∷◌, ◌++◌, Option, All, codes, length}
 use Rattle.std.specs.Io.KnownBytes.{prepend_known}
 use Rattle.std.specs.Fmt.{decimal}
-use Rattle.base.specs.Extent.{Extent, IsWithinLimits}
+use Rattle.base.specs.Extent.{Extent}
+use Rattle.base.specs.declared.controller.protocol.Protocol.{Protocol}
+use Rattle.record.specs.declared.version.Version.{Version}
+use Rattle.record.specs.Versions.{protocol_words, IsShapeIn}
+use Rattle.record.specs.Grammar.{IsOwner}
 use Rattle.base.specs.Spelling.{step_words, FitsStep}
 use Rattle.base.specs.declared.step.Step.{Step}
 use Rattle.record.specs.declared.cells.Cell.{Cell}
 use Rattle.record.specs.Cells.{cell_words, FitsCell}
-use Rattle.record.specs.Text.{shape_words, opening_words}
+use Rattle.record.specs.Text.{by_words, end_words, shape_words, opening_words}
 use Rattle.record.specs.declared.fault.ReadKind.{ReadKind}
-use Rattle.record.specs.declared.fault.ReadKind.TheVariants.{OverLimit, BadLine, BadOutcome}
-use Rattle.record.specs.Refused.{HasNoEnd, IsHigherCount, IsOtherShape, HasNoOutcome}
+use Rattle.record.specs.declared.fault.ReadKind.TheVariants.{OverLimit, BadLine, BadOutcome, CountDiffers, UnknownProtocol}
+use Rattle.record.specs.Refused.{HasNoEnd, IsHigherCount, IsOtherShape, HasNoOutcome, HasOtherName}
 
 -- what was pulled of a source and isn't taken yet: the line as far as it is gathered, and the bytes ahead; and how many lines were taken
 pub record Gathered : Type 0 where
@@ -51,8 +55,8 @@ pub record AreGathered (at end : ℕ) (line : List ℕ) (capacity : ℕ) : Type 
   pub in_order : at ≤ end
   pub within : end ≤ 4096
   pub no_end : HasNoEnd line
-  pub short : length line ≤ 90000
-  pub room : 90000 ≤ capacity
+  pub short : length line ≤ 1400000
+  pub room : 1400000 ≤ capacity
 
 -- why a line of words isn't a count of this name up to this number
 abbrev pub IsBadCount : List ℕ → ℕ → List (List ℕ) → ReadKind → Type 0
@@ -60,11 +64,17 @@ IsBadCount name most line OverLimit = IsHigherCount name most line
 IsBadCount name most line BadLine = ((n : ℕ) → n ≤ most → line ≢ name ∷ decimal n ∷ []) × ¬ IsHigherCount name most line
 IsBadCount name most line other = ⊥
 
--- why a line of words isn't that of a shape
-abbrev pub IsBadShape : List (List ℕ) → ReadKind → Type 0
-IsBadShape line OverLimit = IsOtherShape line
-IsBadShape line BadLine = ((shape : Extent) → IsWithinLimits shape → line ≢ shape_words shape) × ¬ IsOtherShape line
-IsBadShape line other = ⊥
+-- why a line of words isn't that of a protocol
+abbrev pub IsBadProtocol : List (List ℕ) → ReadKind → Type 0
+IsBadProtocol line UnknownProtocol = HasOtherName line
+IsBadProtocol line BadLine = ((protocol : Protocol) → line ≢ protocol_words protocol) × ¬ HasOtherName line
+IsBadProtocol line other = ⊥
+
+-- why a line of words isn't that of a shape in this version
+abbrev pub IsBadShape : Version → List (List ℕ) → ReadKind → Type 0
+IsBadShape version line OverLimit = IsOtherShape version line
+IsBadShape version line BadLine = ((shape : Extent) → IsShapeIn version shape → line ≢ shape_words shape) × ¬ IsOtherShape version line
+IsBadShape version line other = ⊥
 
 -- why a line of words isn't that of the opening values of a shape
 abbrev pub IsBadOpening : ℕ → List (List ℕ) → ReadKind → Type 0
@@ -79,8 +89,35 @@ IsNoCell line = (cell : Cell) → FitsCell cell → line ≢ cell_words cell
 abbrev pub HasNoStep : List (List ℕ) → Type 0
 HasNoStep line = (s : Step) (first : List ℕ) (others : List (List ℕ)) → FitsStep s → line ≢ step_words s ++ codes "=" ∷ first ∷ others
 
--- why a line of words isn't that of an entry
+-- a step, an equals sign and an outcome: or where they aren't, why
 abbrev pub IsBadEntry : List (List ℕ) → ReadKind → Type 0
-IsBadEntry line BadOutcome = HasNoOutcome line
+IsBadEntry line BadOutcome = HasNoOutcome 0 line
 IsBadEntry line BadLine = HasNoStep line
 IsBadEntry line other = ⊥
+
+-- in front of no entry of these seats stands whose it is
+abbrev pub HasNoOwned : ℕ → List (List ℕ) → Type 0
+HasNoOwned seats line =
+    (owner : Option ℕ) (s : Step) (first : List ℕ) (others : List (List ℕ)) → IsOwner seats owner → FitsStep s →
+    line ≢ by_words owner ++ (step_words s ++ codes "=" ∷ first ∷ others)
+
+-- why a line of words isn't that of an entry that is told where there are so many seats
+abbrev pub IsBadTold : ℕ → List (List ℕ) → ReadKind → Type 0
+IsBadTold seats line BadOutcome = HasNoOutcome seats line
+IsBadTold seats line BadLine = HasNoOwned seats line
+IsBadTold seats line other = ⊥
+
+-- where an entry is due of so many seats, why a line isn't one
+abbrev pub IsFaultOfTold : ℕ → List (List ℕ) → ReadKind → Type 0
+IsFaultOfTold seats line CountDiffers = line ≡ end_words
+IsFaultOfTold seats line BadOutcome = HasNoOutcome seats line
+IsFaultOfTold seats line BadLine = HasNoOwned seats line × (line ≢ end_words)
+IsFaultOfTold seats line other = ⊥
+
+-- no seat of so many stands in front of a line, with something behind it
+abbrev pub HasNoSeat : ℕ → List (List ℕ) → Type 0
+HasNoSeat seats line = (seat : ℕ) (first : List ℕ) (others : List (List ℕ)) → seat < seats → line ≢ codes "by" ∷ decimal seat ∷ first ∷ others
+
+-- nobody's words stand in front of a line, with something behind them
+abbrev pub HasNoBy : ℕ → List (List ℕ) → Type 0
+HasNoBy seats line = (owner : Option ℕ) (first : List ℕ) (others : List (List ℕ)) → IsOwner seats owner → line ≢ by_words owner ++ first ∷ others

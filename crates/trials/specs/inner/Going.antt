@@ -25,7 +25,7 @@ use Rattle.trials.specs.declared.verdict.Verdict.TheVariants.{Quiet, Stuck, Brok
 use Rattle.trials.specs.declared.course.Course as course
 use Rattle.trials.specs.Terms.{Terms, AreLawful}
 use Rattle.trials.specs.Moments.{Moment, IsPath, choices_at, put_by, with_issued, cores_after}
-use Rattle.trials.specs.Trial.{AreClean, IsAtRest, IsTrial}
+use Rattle.trials.specs.Trial.{AreClean, IsAtRest, IsTrial, IsUnowned}
 
 -- the parts of a trial: its world and what watches it, the cores, what is left of the scenario, the dice, and the recording
 pub record Course : Type 0 where
@@ -69,6 +69,7 @@ pub record IsGoing (terms : Terms) (tree : Tree) (number : ℕ) (c : Course) : T
   pub shape : (c.world.shape ≡ terms.shape) × (c.recording.shape ≡ terms.shape)
   pub tables : (c.world.tables ≡ terms.tables) × (c.recording.tables ≡ terms.tables)
   pub opening : c.recording.opening ≡ terms.opening
+  pub unowned : IsUnowned c.recording
   pub moments : List Moment
   pub last : Moment
   pub path : IsPath terms tree number moments c.recording.entries

@@ -24,7 +24,7 @@ pub record Rows : Type 0 where
 pub record AreLevel (rows : Rows) : Type 0 where
   pub heads : length rows.heads ≡ length rows.requests
   pub responses : length rows.responses ≡ length rows.requests
-  pub few : length rows.requests ≤ 4096
+  pub few : length rows.requests ≤ 65536
 
 -- how many there are in all
 abbrev pub all_in : Rows → ℕ

@@ -10,4 +10,4 @@ pub returns-clause-short : goal.returns-clause-short
 returns-clause-short c = lines-short
 
 pub returns-clause-refused : goal.returns-clause-refused
-returns-clause-refused c r end line kind h = whole-refused (text r) _ end line kind (text-whole r h)
+returns-clause-refused c v r end line kind h t = whole-refused (text v r) _ end line kind (text-whole v r h t)

@@ -9,4 +9,4 @@ returns g c =
     let ended =
     c.in_ok-verdict.ensures.ends c.args.setup.now (plain c.args.scenario.now) c.args.number (sym c.limit.ensures.value) c.in_ok-course.ensures in
     subst (λ (r : RecordingView). IsTrial c.args.setup.now (plain c.args.scenario.now) c.args.number r c.in_ok-verdict.verdict)
-    (sym (c.into_notes.ensures ∙ ended.1)) ended.2
+    (sym (c.into_notes.ensures ∙ ended.1.0)) ended.2

@@ -1,4 +1,5 @@
-use Rattle.std.proofs.Common.{rules, ap, length, arith}
+use Rattle.std.proofs.Common.{rules, ◌<◌, ap, length, subst, sym, arith}
+use Rattle.record.specs.View.{RecordingView}
 use Rattle.std.proofs.lemmas.Grind.{common_steps}
 use Rattle.floor.specs.inner.Keeping.{IsKeptUp}
 use Rattle.floor.proofs.Entering.{kept_more, fits_more}
@@ -33,7 +34,7 @@ invariant_of-self-2 g c =
         capacity_is = h.capacity_is;
         seats_is = h.seats_is;
         some = h.some;
-        within = fits_more c.self.inside.recording c.advance.new.recording c.args.self.now.entries c.in-Ok.entry g.F.Naming.floor.capacity
+        within = fits_more c.self.inside.recording c.advance.new.recording c.args.self.now.entries c.in-Ok.entry c.seat.inside.number g.F.Naming.floor.capacity
             c.in-Ok.ensures.ok.recorded (ap (λ s. s.entries) c.self.view_is) c.requires.room;
         table_is = h.table_is;
         one = h.one;
@@ -102,3 +103,7 @@ returns-clause-moment g c =
     c.seat.inside.receipts.items c.self.invariant.1.keeps c.seat.invariant.sits c.add_entry.ensures.history)
     c.self.view_is
     c.seat.view_is
+
+pub advance-requires : goal.advance-requires
+advance-requires g c =
+    subst (λ n. c.seat.inside.number < n) (sym (ap (λ (r : RecordingView). r.seats) c.self.invariant.0.recorded_is)) c.seat.invariant.within

@@ -1,4 +1,4 @@
-use Rattle.std.proofs.Common.{refl, ap, ◌∙◌, ◌+◌, ◌-◌}
+use Rattle.std.proofs.Common.{ap, ◌∙◌, ◌+◌, ◌-◌}
 use Rattle.record.specs.Cells.{spot_number}
 use Rattle.record.specs.Grammar.{cells_due}
 use Rattle.record.specs.inner.Drafts.{kept}
@@ -7,6 +7,6 @@ use Rattle.record.proofs.draft.Draft.accept_cell.Goals as goal
 
 pub returns-clause-ok : goal.returns-clause-ok
 returns-clause-ok c =
-    cell-taken (kept c.args.self.now) _ c.args.left c.args.from c.in-Some.cell _ _ c.requires.read c.in-Some.ensures.0 c.in-Some.ensures.1 refl refl refl
+    cell-taken c.args.form (kept c.args.self.now) _ c.args.left c.args.from c.in-Some.cell _ _ c.requires.read c.in-Some.ensures.0 c.in-Some.ensures.1
     (c.with_cell-self.ensures.whole c.requires.read.tables c.in-Some.ensures.0.fits) c.with_cell-self.ensures.here c.with_cell-self.ensures.others
-    (c.cells.ensures ∙ ap (λ n. cells_due (c.args.left - 1) (n + 1)) (c.spot_number.ensures.number ∙ ap spot_number c.spot.ensures))
+    (c.cells.ensures ∙ ap (λ n. cells_due c.args.form (c.args.left - 1) (n + 1)) (c.spot_number.ensures.number ∙ ap spot_number c.spot.ensures))

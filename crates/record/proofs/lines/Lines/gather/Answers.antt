@@ -15,16 +15,16 @@ front : (old : Gathered) (held line : List ℕ) (number count : ℕ) → record 
 front old held line number count is within lasting end =
     subst (λ (l : List ℕ). Front l count) (sym (ap (λ (g : Gathered). g.ahead) is)) (record { within = within; lasting = lasting; end = end })
 
-pub returns-then-count-len-clause-err : goal.returns-then-count-len-clause-err
-returns-then-count-len-clause-err c =
+pub returns-then-count-most-clause-err : goal.returns-then-count-most-clause-err
+returns-then-count-most-clause-err c =
     let inside = c.self.inside in
     let held = take (inside.end - inside.at) (drop inside.at inside.buffer) in
     let found = c.bytes_of_line-count.ensures in
     let stands = front c.args.self.now held inside.line.items inside.number c.bytes_of_line-count.result c.self.view_is found.within found.open found.end in
-    let long : 90000 < length inside.line.items + c.bytes_of_line-count.result = search rules in (
+    let long : c.args.most < length inside.line.items + c.bytes_of_line-count.result = search rules in (
       refl,
-      subst IsTooLong (ap pending c.self.view_is)
-          (too-long inside.line.items held c.bytes_of_line-count.result c.self.invariant.no_end stands.lasting stands.within long),
+      subst (IsTooLong c.args.most) (ap pending c.self.view_is)
+          (too-long c.args.most inside.line.items held c.bytes_of_line-count.result c.self.invariant.no_end stands.lasting stands.within long),
     )
 
 pub invariant_of-self : goal.invariant_of-self
@@ -35,12 +35,12 @@ invariant_of-self c =
     let stands = front c.args.self.now _ inside.line.items inside.number count c.self.view_is found.within found.open found.end in
     let fits : inside.end ≤ length inside.buffer = search rules in
     let few : count ≤ inside.end - inside.at = omega (arith, stands.within, held-length inside.buffer inside.at inside.end fits) in
-    let room : count ≤ 90000 - length inside.line.items = search rules in
+    let room : count ≤ 1400000 - length inside.line.items = search rules in
     record {
       in_order = omega (arith, few, c.self.invariant.in_order);
       within = c.self.invariant.within;
       no_end = still-open inside.buffer inside.line.items c.append.new.line.items inside.at inside.end count few c.append.ensures.line c.self.invariant.no_end stands.lasting;
-      short = still-short inside.buffer inside.line.items c.append.new.line.items inside.at count c.append.ensures.line c.self.invariant.short room;
+      short = still-short 1400000 inside.buffer inside.line.items c.append.new.line.items inside.at count c.append.ensures.line c.self.invariant.short room;
       room = omega (arith, c.self.invariant.room, c.append.ensures.room);
     }
 

@@ -1,7 +1,9 @@
-use Rattle.std.proofs.Common.{◌≢◌, sym, ◌∙◌, refl, rules, arith}
+use Rattle.std.proofs.Common.{◌≢◌, ◌+◌, ◌-◌, ◌<◌, ap, subst, length, sym, ◌∙◌, refl, rules, arith}
 use Rattle.std.proofs.lemmas.Grind.{common_steps}
 use Rattle.record.specs.declared.due.Due.TheVariants.{Nothing}
 use Rattle.record.specs.declared.fault.ReadKind.TheVariants.{Device, NoMemory}
+use Rattle.record.specs.Refused.{limit, IsUnfinished}
+use Rattle.record.specs.inner.Reading.{pending}
 use Rattle.record.proofs.Drafting.{less-room, ready-gathered}
 use Rattle.record.proofs.Exits.{handed-on}
 use Rattle.record.proofs.Steps.{none-if, not-whole, some-if, pulled-gathered, pulled-more, then-longer, unfinished}
@@ -10,13 +12,17 @@ use Rattle.record.proofs.reader.Reader.gather.Goals as goal
 pub returns-in_err-reserve-clause-err : goal.returns-in_err-reserve-clause-err
 returns-in_err-reserve-clause-err g c =
     let none = not-whole c.in_ok-gather.field-0 _ (search rules) c.in_ok-gather.ensures.ok in
+    let most = c.limit.ensures.limit ∙ ap limit c.loop-self.invariant.pulled.due in
+    let line = unfinished _ c.gather.new.self _ none refl c.gather.ensures.open c.gather.ensures.short in
     handed-on c.from_residual-in_err-reserve.result NoMemory _ _ c.from_residual-in_err-reserve.ensures.1
-    (c.requires.more, unfinished c.gather.new.self _ none refl c.gather.ensures.open c.gather.ensures.short)
+    (c.requires.more, subst (λ n. IsUnfinished n (pending c.gather.new.self)) most line)
 
 pub returns-in_err-pull-clause-err : goal.returns-in_err-pull-clause-err
 returns-in_err-pull-clause-err g c =
-    let line = unfinished c.pull.new.self _ c.in_err-pull.ensures.err c.pull.ensures.line c.gather.ensures.open c.gather.ensures.short in
-    handed-on c.from_residual-in_err-pull.result Device _ _ c.from_residual-in_err-pull.ensures.1 (line, λ done. absurd (c.requires.more done))
+    let line = unfinished _ c.pull.new.self _ c.in_err-pull.ensures.err c.pull.ensures.line c.gather.ensures.open c.gather.ensures.short in
+    let most = c.limit.ensures.limit ∙ ap limit c.loop-self.invariant.pulled.due in
+    handed-on c.from_residual-in_err-pull.result Device _ _ c.from_residual-in_err-pull.ensures.1
+    (subst (λ n. IsUnfinished n (pending c.pull.new.self)) most line, λ done. absurd (c.requires.more done))
 
 pub returns-in_err-pull-clause-pulled : goal.returns-in_err-pull-clause-pulled
 returns-in_err-pull-clause-pulled g c =
@@ -40,8 +46,9 @@ returns-clause-pulled g c =
 pub returns-then-not-branch-2-clause-err : goal.returns-then-not-branch-2-clause-err
 returns-then-not-branch-2-clause-err g c =
     let none = none-if c.in_ok-pull.field-0 _ (search rules) c.in_ok-pull.ensures.some in
-    let line = unfinished c.pull.new.self _ none c.pull.ensures.line c.gather.ensures.open c.gather.ensures.short in
-    (c.requires.more, line, c.in_ok-pull.ensures.end none)
+    let line = unfinished _ c.pull.new.self _ none c.pull.ensures.line c.gather.ensures.open c.gather.ensures.short in
+    let most = c.limit.ensures.limit ∙ ap limit c.loop-self.invariant.pulled.due in
+    (c.requires.more, subst (λ n. IsUnfinished n (pending c.pull.new.self)) most line, c.in_ok-pull.ensures.end none)
 
 pub returns-then-not-branch-2-clause-pulled : goal.returns-then-not-branch-2-clause-pulled
 returns-then-not-branch-2-clause-pulled g c =
@@ -53,7 +60,8 @@ pub loop-self-smaller : goal.loop-self-smaller
 loop-self-smaller g c =
     let none = not-whole c.in_ok-gather.field-0 _ (search rules) c.in_ok-gather.ensures.ok in
     let some = some-if c.in_ok-pull.field-0 _ (search rules) c.in_ok-pull.ensures.some in
-    then-longer c.loop-self.self.lines c.gather.new.self c.pull.new.self c.gather.ensures.kept none c.pull.ensures.line c.gather.ensures.short some
+    subst (λ n. (n + 1) - length (pending c.pull.new.self) < (n + 1) - length (pending c.loop-self.self.lines)) c.limit.ensures.limit
+    (then-longer _ c.loop-self.self.lines c.gather.new.self c.pull.new.self c.gather.ensures.kept none c.pull.ensures.line c.gather.ensures.short some)
 
 pub loop-self-preserved : goal.loop-self-preserved
 loop-self-preserved g c =
@@ -64,7 +72,8 @@ loop-self-preserved g c =
     record {
       ready =
           ready-gathered c.loop-self.self _ c.loop-self.invariant.ready more refl c.reserve.ensures.kept number
-          (less-room c.reserve.new.self 4096 _ c.pull.ensures.few room);
+          (less-room c.reserve.new.self 4096 _ c.pull.ensures.few room)
+          (omega (arith, ap length c.pull.ensures.line, c.gather.ensures.short, c.limit.ensures.limit));
       pulled =
           pulled-more _ (g.S.Source.left c.loop-self.source) _ c.args.self.now c.loop-self.self _ c.gather.new.self c.loop-self.invariant.pulled
           c.gather.ensures.kept none c.pull.ensures.line c.pull.ensures.bytes number refl c.reserve.ensures.kept;

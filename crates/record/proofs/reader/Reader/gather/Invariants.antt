@@ -1,4 +1,5 @@
-use Rattle.std.proofs.Common.{◌-◌, length}
+use Rattle.std.proofs.Common.{◌+◌, ◌-◌, length}
+use Rattle.record.specs.Refused.{limit}
 use Rattle.record.specs.inner.Readers.{HasPulled, IsReady}
 use Rattle.record.specs.inner.Reading.{pending}
 use Rattle.record.proofs.reader.Reader.gather.Given as goal
@@ -10,4 +11,4 @@ invariant-loop-self g l = record {
 }
 
 abbrev pub decreases-loop-self : goal.decreases-loop-self
-decreases-loop-self g l = 90001 - length (pending l.self.lines)
+decreases-loop-self g l = (limit l.self.due + 1) - length (pending l.self.lines)

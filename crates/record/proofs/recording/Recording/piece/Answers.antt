@@ -1,10 +1,9 @@
 use Rattle.std.proofs.Common.{◌-◌, ◌+◌, ℕ, List, get_or, length, ap, sym, ◌∙◌, arith}
 use Rattle.std.proofs.lemmas.Grind.{common_steps}
-use Rattle.record.specs.inner.Pieces.{value_piece, cells_piece, cell_piece, entries_piece, entry_piece}
-use Rattle.record.proofs.PieceAt.{value-at, cells-at, cell-at, entries-at, entry-at, end-at, fits-at}
+use Rattle.record.specs.inner.Pieces.{value_piece, cells_piece, cell_piece, entries_piece}
+use Rattle.record.proofs.PieceAt.{value-at, cells-at, cell-at, entries-at, entry-at, end-at, fits-here}
 use Rattle.record.proofs.Whole.{pieces-count}
 use Rattle.both_tables.specs.Tables.{Tables}
-use Rattle.record.specs.declared.recording.Entry.{Entry}
 use Rattle.record.proofs.recording.Recording.piece.Goals as goal
 
 pub returns-then-number-cells-clause-piece : goal.returns-then-number-cells-clause-piece
@@ -43,11 +42,11 @@ pub returns-then-number-count-3-clause-piece : goal.returns-then-number-count-3-
 returns-then-number-count-3-clause-piece c =
     let values = ap length c.opening-opening.ensures.value in
     let i = c.args.number - (length c.opening-opening.result.now + 1 + 160 + 1) - 1 in
-    c.entry_line.ensures.text
-    ∙ ap (λ (l : List Entry). entry_piece (get_or l i _)) c.entries-entries.ensures.value
-    ∙ sym (entry-at c.args.self.now c.args.number i _
+    c.told_line.ensures.text
+    ∙ sym (entry-at c.args.self.now c.args.number i c.told.result
     (omega (arith, values, c.if-number-count.false, c.if-number-count-2.false))
-    (omega (arith, c.if-number-count.false, c.if-number-count-2.false, c.if-number-count-3.true, ap length c.entries-entries.ensures.value)))
+    (omega (arith, c.if-number-count.false, c.if-number-count-2.false, c.if-number-count-3.true, ap length c.entries-entries.ensures.value))
+    c.told.ensures.owner c.told.ensures.entry)
 
 pub returns-else-number-count-3-clause-piece : goal.returns-else-number-count-3-clause-piece
 returns-else-number-count-3-clause-piece c =
@@ -65,8 +64,7 @@ returns-then-number-count-3-clause-fits c =
     record {
       value = λ k d is low. absurd (omega (arith, is, low, values, c.if-number-cells.false));
       entry =
-          λ k d is low. fits-at r.entries c.entries-entries.result.now i k d c.entries-entries.ensures.value
-          (omega (arith, is, values)) low c.entry_line.ensures.fits;
+          λ k d is low. fits-here r.entries i k d c.told.result.entry (omega (arith, is, values)) low c.told.ensures.entry c.told_line.ensures.fits;
     }
 
 pub overflow_add-cells : goal.overflow_add-cells
@@ -98,12 +96,6 @@ overflow_add-count-else-number-count-2-2 c = grind (arith, common_steps)
 
 pub overflow_sub-number-then-number-count-3-2 : goal.overflow_sub-number-then-number-count-3-2
 overflow_sub-number-then-number-count-3-2 c = grind (arith, common_steps)
-
-pub offset_bounds-entries-number : goal.offset_bounds-entries-number
-offset_bounds-entries-number c = grind (arith, common_steps)
-
-pub bounds-entries-number : goal.bounds-entries-number
-bounds-entries-number c = grind (arith, common_steps)
 
 pub returns-then-number-eq0-clause-piece : goal.returns-then-number-eq0-clause-piece
 returns-then-number-eq0-clause-piece c = grind (arith, common_steps)

@@ -6,6 +6,7 @@ use Rattle.record.specs.View.{RecordingView}
 use Rattle.record.specs.Recordable.{IsRecordable}
 use Rattle.record.specs.Refused.{IsRefused}
 use Rattle.record.specs.Text.{text}
+use Rattle.record.specs.Versions.{HasTextIn}
 use Rattle.record.proofs.Inverses.{read-back, refused-outside}
 use Rattle.record.proofs.Steps.{no-room}
 use Rattle.record.proofs.recording.Recording.read.Goals as goal
@@ -19,17 +20,22 @@ returns-in-Err-clause-fault g c =
     c.in-Err.ensures.fault
 
 pub returns-in-Ok-read_all-clause-text : goal.returns-in-Ok-read_all-clause-text
-returns-in-Ok-read_all-clause-text g c =
-    subst (λ (r : RecordingView). Consumes (g.S.Source.left c.args.source.now) (g.S.Source.left c.read_all.new.source) (text r)) (sym c.recording.ensures.recording)
-    c.in-Ok-read_all.ensures.text
+returns-in-Ok-read_all-clause-text g c = record {
+  version = c.read_all.new.self.draft.version;
+  told = subst (HasTextIn c.read_all.new.self.draft.version) (sym c.recording.ensures.recording) c.recording.ensures.told;
+  read =
+      subst (λ (r : RecordingView). Consumes (g.S.Source.left c.args.source.now) (g.S.Source.left c.read_all.new.source) (text c.read_all.new.self.draft.version r))
+      (sym c.recording.ensures.recording) c.in-Ok-read_all.ensures.text;
+}
 
 pub returns-in-Ok-read_all-clause-back : goal.returns-in-Ok-read_all-clause-back
-returns-in-Ok-read_all-clause-back g c r h is =
-    read-back _ _ r c.recording.result h (subst IsRecordable (sym c.recording.ensures.recording) c.recording.ensures.recordable) is
-    (returns-in-Ok-read_all-clause-text g c)
+returns-in-Ok-read_all-clause-back g c v r h t is =
+    let found = returns-in-Ok-read_all-clause-text g c in
+    read-back _ _ v found.version r c.recording.result h t (subst IsRecordable (sym c.recording.ensures.recording) c.recording.ensures.recordable) found.told is
+    found.read
 
 pub returns-in-Err-clause-back : goal.returns-in-Err-clause-back
-returns-in-Err-clause-back g c r h is = refused-outside _ _ _ c.in-Err.kind r h is c.in-Err.ensures.fault
+returns-in-Err-clause-back g c v r h t is = refused-outside _ _ _ c.in-Err.kind v r h t is c.in-Err.ensures.fault
 
 pub returns-in_default-clause-text : goal.returns-in_default-clause-text
 returns-in_default-clause-text g c = grind (arith, common_steps)

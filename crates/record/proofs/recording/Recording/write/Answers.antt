@@ -52,6 +52,7 @@ returns-clause-recordable g c =
         small = λ k d low. (c.loop-number.invariant.3 (k + 1) (omega (arith, low, count, pieces, end))).value k d refl low;
       };
       few = kept.few;
+      owners = kept.owners;
       fits = λ k d low. (c.loop-number.invariant.3 (places_before r + k) (omega (arith, low, count, pieces, end))).entry k d refl low;
     }
 

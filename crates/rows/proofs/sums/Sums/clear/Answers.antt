@@ -8,5 +8,5 @@ fill-requires c = grind (arith, common_steps)
 pub invariant_of-self : goal.invariant_of-self
 invariant_of-self c = grind (arith, common_steps)
 
-pub returns : goal.returns
-returns c = grind (arith, elements)
+pub returns-then-not-clear_few : goal.returns-then-not-clear_few
+returns-then-not-clear_few c = grind (arith, elements)

@@ -1,6 +1,6 @@
 use Rattle.std.proofs.Common.{arith}
 use Rattle.std.proofs.lemmas.Grind.{common_steps}
-use Rattle.record.proofs.spelling.entry_line.Goals as goal
+use Rattle.record.proofs.spelling.told_line.Goals as goal
 
 pub returns-clause-text : goal.returns-clause-text
 returns-clause-text c = grind (arith, common_steps)

@@ -1,0 +1,14 @@
+-- How a protocol is spelled.
+use Rattle.std.specs.Prelude.{◌≡◌, ℕ, List, codes, true}
+use Rattle.base.specs.Spelling.{is_name}
+use Rattle.base.specs.declared.controller.protocol.Protocol.{Protocol}
+use Rattle.base.specs.declared.controller.protocol.Protocol.TheVariants.{Msi}
+
+-- the name of a protocol
+abbrev pub protocol_name : Protocol → List ℕ
+protocol_name Msi = codes "msi"
+
+-- each protocol's name is one word, and no other's
+pub record IsOfOne : Type 0 where
+  pub plain : (p : Protocol) → is_name (protocol_name p) ≡ true
+  pub one : (p q : Protocol) → protocol_name p ≡ protocol_name q → p ≡ q
