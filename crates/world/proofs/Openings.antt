@@ -1,21 +1,23 @@
 -- Blocks that are made as they open, one after another.
 use Rattle.std.proofs.Common.{◌≡◌, ◌<◌, ◌≤◌, ◌+◌, ℕ, List, [], ◌∷◌, Option, Some, None, IsSome, length, map, replicate, slice_get}
-use Rattle.std.proofs.Common.{refl, ap, sym, subst, ◌∙◌, zero, suc, arith, inl, inr, false}
+use Rattle.std.proofs.Common.{refl, ap, sym, subst, ◌∙◌, zero, suc, arith, inl, inr, false, Bool}
 use Rattle.std.specs.Option.{is_some}
 use Rattle.std.proofs.lemmas.Bool.{cases_eq}
 use Rattle.std.proofs.lemmas.List.{length-replicate, length-set}
 use Rattle.base.specs.Extent.{Extent, IsWithinLimits}
+use Rattle.network.specs.Traffic.{quiet}
 use Rattle.control.specs.LineEffect.{opened_line}
 use Rattle.both_tables.specs.Tables.{Tables}
 use Rattle.machine.specs.Block.{BlockState, opened_block}
+use Rattle.blocks.specs.Marking.{free_heads, free_requests, free_responses}
 use Rattle.blocks.specs.View.{BlockView}
 use Rattle.world.specs.Keeping.{has_line}
 use Rattle.world.specs.View.{AllLined, IsShaped, space_of, state_or, states}
 use Rattle.world.specs.inner.Counts.{AreCounted, Rows}
 use Rattle.world.specs.inner.Holding.{kept_at, AreLined, IsOpened, IsWorld, OthersStay}
 use Rattle.world.specs.inner.Tests.{IsMarked}
-use Rattle.world.proofs.Keeping.{kept-other, shaped-opened}
-use Rattle.world.proofs.QuietMarks.{counted-opened, marks-quiet}
+use Rattle.world.proofs.Keeping.{kept-other, shaped-opened, states-length}
+use Rattle.world.proofs.QuietMarks.{counted-opened, heads-quiet, marks-quiet, requests-quiet, responses-quiet}
 
 -- the blocks at the first keys are as they open, and no other is kept than before
 pub record AreReset (opening keys : List ℕ) (n : ℕ) (old new : List (Option BlockView)) : Type 0 where
@@ -168,3 +170,55 @@ lined caches (v ∷ values) (o ∷ ks) e h zero k is = ap (λ (x : Option BlockV
 lined caches (v ∷ values) (o ∷ ks) e h (suc i) k is = lined caches values ks (omega (arith, e)) h.1 i k is
 lined caches [] (o ∷ ks) e h i k is = absurd (omega (arith, e))
 lined caches (v ∷ values) [] e h i k is = absurd (omega (arith, e))
+
+-- what is kept has its lines with any opening values
+lines-valued : (caches : ℕ) (values other : List ℕ) (ks : List (Option BlockView)) → length other ≡ length values →
+    AllLined caches (states caches values ks) → AllLined caches (states caches other ks)
+lines-valued caches [] [] ks e h = tt
+lines-valued caches (v ∷ values) (w ∷ other) [] e h =
+    (length-replicate caches opened_line, lines-valued caches values other [] (omega (arith, e)) h.1)
+lines-valued caches (v ∷ values) (w ∷ other) (None ∷ ks) e h =
+    (length-replicate caches opened_line, lines-valued caches values other ks (omega (arith, e)) h.1)
+lines-valued caches (v ∷ values) (w ∷ other) (Some k ∷ ks) e h = (h.0, lines-valued caches values other ks (omega (arith, e)) h.1)
+lines-valued caches [] (w ∷ other) ks e h = absurd (omega (arith, e))
+lines-valued caches (v ∷ values) [] ks e h = absurd (omega (arith, e))
+
+-- and as much is counted, since nothing is where a block opens
+counts-valued : (count : BlockState → ℕ) (caches : ℕ) (values other : List ℕ) (ks : List (Option BlockView)) →
+    ((b : BlockState) → b.traffic ≡ quiet caches → count b ≡ 0) → length other ≡ length values →
+    map count (states caches values ks) ≡ map count (states caches other ks)
+counts-valued count caches [] [] ks none e = refl
+counts-valued count caches (v ∷ values) (w ∷ other) [] none e =
+    ap (λ n. n ∷ map count (states caches values [])) (none (opened_block caches v) refl ∙ sym (none (opened_block caches w) refl))
+    ∙ ap (λ (ns : List ℕ). count (opened_block caches w) ∷ ns) (counts-valued count caches values other [] none (omega (arith, e)))
+counts-valued count caches (v ∷ values) (w ∷ other) (None ∷ ks) none e =
+    ap (λ n. n ∷ map count (states caches values ks)) (none (opened_block caches v) refl ∙ sym (none (opened_block caches w) refl))
+    ∙ ap (λ (ns : List ℕ). count (opened_block caches w) ∷ ns) (counts-valued count caches values other ks none (omega (arith, e)))
+counts-valued count caches (v ∷ values) (w ∷ other) (Some k ∷ ks) none e =
+    ap (λ (ns : List ℕ). count k.state ∷ ns) (counts-valued count caches values other ks none (omega (arith, e)))
+counts-valued count caches [] (w ∷ other) ks none e = absurd (omega (arith, e))
+counts-valued count caches (v ∷ values) [] ks none e = absurd (omega (arith, e))
+
+-- a world holds together with any opening values, if there are as many
+pub world-valued : (shape : Extent) (tables : Tables) (values other : List ℕ) (ks : List (Option BlockView)) (rows : Rows) (broken : Bool) →
+    IsWorld shape tables values ks rows (record { blocks = states shape.caches values ks; broken = broken }) → length other ≡ length values →
+    IsWorld shape tables other ks rows (record { blocks = states shape.caches other ks; broken = broken })
+world-valued shape tables values other ks rows broken h e = record {
+  shaped = record {
+    within = h.shaped.within;
+    blocks = states-length shape.caches other ks ∙ e ∙ h.opening;
+    lines = lines-valued shape.caches values other ks e h.shaped.lines;
+  };
+  opening = e ∙ h.opening;
+  places = h.places;
+  marked = h.marked;
+  counted = record {
+    of_requests = h.counted.of_requests ∙ same (free_requests tables) (λ b q. requests-quiet tables b shape.caches q);
+    of_heads = h.counted.of_heads ∙ same (free_heads tables) (λ b q. heads-quiet tables b shape.caches q);
+    of_responses = h.counted.of_responses ∙ same (free_responses tables) (λ b q. responses-quiet tables b shape.caches q);
+  };
+}
+  where
+    same : (count : BlockState → ℕ) → ((b : BlockState) → b.traffic ≡ quiet shape.caches → count b ≡ 0) →
+        map count (states shape.caches values ks) ≡ map count (states shape.caches other ks)
+    same count none = counts-valued count shape.caches values other ks none e

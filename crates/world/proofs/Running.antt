@@ -36,10 +36,11 @@ raised-more a b more le = omega (arith, le)
 -- one more step of a run
 pub run-more : (old mid new : View) (steps : List Step) (i : ℕ) (step d : Step) (before so_far after : List Outcome) (what : Outcome) →
     i < length steps → step ≡ get_or steps i d → IsRun old (take i steps) before mid so_far →
-    next mid.tables mid.state step ≡ stepped new.state what → new.shape ≡ mid.shape → new.tables ≡ mid.tables → after ≡ so_far ++ what ∷ [] →
+    next mid.tables mid.state step ≡ stepped new.state what → new.shape ≡ mid.shape → new.tables ≡ mid.tables → new.opening ≡ mid.opening →
+    after ≡ so_far ++ what ∷ [] →
     raised mid.tested (length (sent_by mid.tables mid.state step)) ≤ new.tested → new.tested ≤ raised mid.tested (messages_at new.state (block_of step)) →
     IsRun old (take (i + 1) steps) before new after
-run-more old mid new steps i step d before so_far after what lt at h made shape tables appended least most =
+run-more old mid new steps i step d before so_far after what lt at h made shape tables opening appended least most =
     let front : take (i + 1) steps ≡ take i steps ++ step ∷ [] = take_more steps i d lt ∙ ap (λ x. take i steps ++ x ∷ []) (sym at) in
     let so : State = state_after old.tables old.state (take i steps) in
     let sent = rw (h.tables, h.state) at least in
@@ -57,6 +58,7 @@ run-more old mid new steps i step d before so_far after what lt at h made shape 
           (outcomes_of-append old.tables old.state (take i steps) (step ∷ [])));
       shape = shape ∙ h.shape;
       tables = tables ∙ h.tables;
+      opening = opening ∙ h.opening;
       tests_what_they_send =
           let more = raised-more _ _ (length (sent_by old.tables so step)) h.tests_what_they_send in
           rw (least-append old.tables old.state (take i steps) step old.tested) (omega (arith, more, sent));

@@ -11,7 +11,7 @@ use Rattle.machine.specs.Machine.{State, next, state_after}
 use Rattle.machine.specs.Transition.{decision_of}
 use Rattle.blocks.specs.View.{BlockView, Space, acts, acts_at_line}
 use Rattle.world.specs.Keeping.{KeepsAsIs, KeepsOthers, NoneActsAt, NoneActsThere, acts_at, acts_there, has_line, is_acted_in, is_acted_on}
-use Rattle.world.specs.Keeping.{is_line_acted_in, is_line_acted_on, keeps_line, space_at}
+use Rattle.world.specs.Keeping.{is_line_acted_in, is_line_acted_on, keeps_line}
 use Rattle.world.specs.View.{View, space_of, spaces_of, state_or, states}
 use Rattle.world.specs.inner.Holding.{kept_at, OthersStay}
 use Rattle.world.proofs.Keeping.{kept-other, space-at, state-there}
@@ -31,6 +31,7 @@ pub kept-as-is : (shape : Extent) (tables : Tables) (values : List ℕ) (old ks 
     KeepsAsIs (record {
       shape = shape;
       tables = tables;
+      opening = values;
       state = record { blocks = states shape.caches values old; broken = false };
       spaces = spaces_of old;
       tested = tested;

@@ -33,7 +33,7 @@ state_of shape values ks broken = record { blocks = states shape.caches values k
 
 abbrev pub view_of : Extent → Tables → List ℕ → List (Option BlockView) → Bool → ℕ → View
 view_of shape tables values ks broken tested =
-    record { shape = shape; tables = tables; state = state_of shape values ks broken; spaces = spaces_of ks; tested = tested }
+    record { shape = shape; tables = tables; opening = values; state = state_of shape values ks broken; spaces = spaces_of ks; tested = tested }
 
 -- each block has a place
 pub below-places : (shape : Extent) (tables : Tables) (values : List ℕ) (ks : List (Option BlockView)) (rows : Rows) (s : State) (i v : ℕ) →

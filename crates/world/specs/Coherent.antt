@@ -1,5 +1,5 @@
 -- What holds of each world that runs under the protocol's own tables or restrained ones, whatever it has done.
-use Rattle.std.specs.Prelude.{◌≡◌, ℕ, List}
+use Rattle.std.specs.Prelude.{ℕ, List}
 use Rattle.base.specs.declared.step.Step.{Step}
 use Rattle.machine.specs.Machine.{IsHistory}
 use Rattle.machine.specs.Coherence.{Safe}

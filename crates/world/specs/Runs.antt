@@ -25,5 +25,6 @@ pub record IsRun (old : View) (steps : List Step) (before : List Outcome) (new :
   pub outcomes : after ≡ before ++ outcomes_of old.tables old.state steps
   pub shape : new.shape ≡ old.shape
   pub tables : new.tables ≡ old.tables
+  pub opening : new.opening ≡ old.opening
   pub tests_what_they_send : tested_at_least old.tables old.state steps old.tested ≤ new.tested
   pub tests_their_blocks : new.tested ≤ tested_at_most old.tables old.state steps old.tested

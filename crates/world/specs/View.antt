@@ -14,11 +14,12 @@ use Rattle.machine.specs.Transition.{decision_of}
 use Rattle.machine.specs.Machine.{State, Next, IsHistory}
 use Rattle.blocks.specs.View.{BlockView, Space, HasSpaceFor, acts, wakes_line}
 
--- a world as contracts see it: its shape, its tables, the state that its steps have led to, the room of each block that is kept,
--- and how many messages its steps have tested for being held
+-- a world as contracts see it: its shape, its tables, the value that each block opened with, the state that its steps have led to,
+-- the room of each block that is kept, and how many messages its steps have tested for being held
 pub record View : Type 0 where
   pub shape : Extent
   pub tables : Tables
+  pub opening : List ℕ
   pub state : State
   pub spaces : List (Option Space)
   pub tested : ℕ

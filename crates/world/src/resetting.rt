@@ -20,6 +20,7 @@ impl World {
         requires { length opening.now ≡ self.old.shape.blocks }
         ensures shape { self.new.shape ≡ self.old.shape }
         ensures tables { self.new.tables ≡ self.old.tables }
+        ensures opening { self.new.opening ≡ opening.now }
         ensures state { self.new.state ≡ opened self.old.shape opening.now }
         ensures history { IsHistory self.new.shape self.new.tables opening.now [] self.new.state }
         ensures safe { HasBeenSafe self.new }
@@ -29,7 +30,24 @@ impl World {
         ensures lines { KeepsNoLine self.new }
     {
         self.opening.copy_from_slice(opening);
-        reset_all(&mut self.blocks, opening);
+        self.restart();
+    }
+
+    /// Does as [`reset`](World::reset) does, with the opening values that the world has. What it costs is a matter of the blocks
+    /// that are kept, and not of how many there are.
+    pub fn restart(&mut self)
+        ensures shape { self.new.shape ≡ self.old.shape }
+        ensures tables { self.new.tables ≡ self.old.tables }
+        ensures opening { self.new.opening ≡ self.old.opening }
+        ensures state { self.new.state ≡ opened self.old.shape self.old.opening }
+        ensures history { IsHistory self.new.shape self.new.tables self.new.opening [] self.new.state }
+        ensures safe { HasBeenSafe self.new }
+        ensures unstuck { IsUnstuck self.new }
+        ensures tested { self.new.tested ≡ 0 }
+        ensures kept { KeepsNoOther self.old self.new }
+        ensures lines { KeepsNoLine self.new }
+    {
+        reset_all(&mut self.blocks, self.opening.as_slice());
         self.counts.clear();
         self.met_blank = false;
         self.tested = 0;

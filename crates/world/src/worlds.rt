@@ -51,8 +51,8 @@ pub struct Went {
 /// A world of caches and blocks, with the tables of its controllers.
 ///
 /// Only blocks at which a cell has acted or would have acted are kept: where memory was refused, where
-/// [`ready`](World::ready) made room, and where a [`reset`](World::reset) came behind, a block that is as it opens may be kept
-/// too. The others take no memory.
+/// [`ready`](World::ready) made room, and where a [`restart`](World::restart) or a [`reset`](World::reset) came behind, a block
+/// that is as it opens may be kept too. The others take no memory.
 pub struct World {
     alloc: Global,
     pub(crate) shape: Shape,
@@ -94,6 +94,7 @@ impl Model for World {
     ghost view = { λ w. record {
       shape = w.shape;
       tables = w.tables;
+      opening = w.opening.items;
       state = record { blocks = states w.shape.caches w.opening.items w.blocks.items; broken = w.met_blank };
       spaces = spaces_of w.blocks.items;
       tested = w.tested;
@@ -132,6 +133,7 @@ impl World {
     ) -> Result<World, OpenFault>
         ensures shape { IfOk result (λ world. world.shape ≡ shape) }
         ensures tables { IfOk result (λ world. world.tables ≡ tables) }
+        ensures opening { IfOk result (λ world. world.opening ≡ opening.items) }
         ensures state { IfOk result (λ world. world.state ≡ opened shape opening.items) }
         ensures history { IfOk result (λ world. IsHistory world.shape world.tables opening.items [] world.state) }
         ensures safe { IfOk result HasBeenSafe }
@@ -175,6 +177,7 @@ impl World {
         ensures unstuck { IsUnstuck self.new }
         ensures shape { self.new.shape ≡ self.old.shape }
         ensures tables { self.new.tables ≡ self.old.tables }
+        ensures opening { self.new.opening ≡ self.old.opening }
         ensures err { OnErr result (self.new.state ≡ self.old.state) }
         ensures tests_what_it_sends { OnOk result (raised self.old.tested (length (sent_by self.old.tables self.old.state step)) ≤ self.new.tested) }
         ensures tests_its_block { OnOk result (self.new.tested ≤ raised self.old.tested (messages_at self.new.state (block_of step))) }
@@ -201,6 +204,7 @@ impl World {
         ensures unstuck { IsUnstuck self.new }
         ensures shape { self.new.shape ≡ self.old.shape }
         ensures tables { self.new.tables ≡ self.old.tables }
+        ensures opening { self.new.opening ≡ self.old.opening }
         ensures err { OnErr result (self.new.state ≡ self.old.state) }
         ensures tests_what_it_sends { OnOk result (raised self.old.tested (length (sent_by self.old.tables self.old.state step)) ≤ self.new.tested) }
         ensures tests_its_block { OnOk result (self.new.tested ≤ raised self.old.tested (messages_at self.new.state (block_of step))) }
@@ -230,6 +234,7 @@ impl World {
         ensures room { OnOk result (HasRoomToStep self.new step) }
         ensures shape { self.new.shape ≡ self.old.shape }
         ensures tables { self.new.tables ≡ self.old.tables }
+        ensures opening { self.new.opening ≡ self.old.opening }
         ensures state { self.new.state ≡ self.old.state }
         ensures tested { self.new.tested ≡ self.old.tested }
         ensures keeps { KeepsAsIs self.old step self.new }
@@ -254,11 +259,12 @@ impl World {
         )
     }
 
-    /// The same world again: its shape, its tables, its state, and how many messages were tested. It keeps no block but those that
-    /// this one keeps, and the same lines.
+    /// The same world again: its shape, its tables, its opening values, its state, and how many messages were tested. It keeps no
+    /// block but those that this one keeps, and the same lines.
     pub fn try_clone(&self, alloc: Global) -> Result<World, NoMemory>
         ensures shape { IfOk result (λ world. world.shape ≡ self.now.shape) }
         ensures tables { IfOk result (λ world. world.tables ≡ self.now.tables) }
+        ensures opening { IfOk result (λ world. world.opening ≡ self.now.opening) }
         ensures state { IfOk result (λ world. world.state ≡ self.now.state) }
         ensures tested { IfOk result (λ world. world.tested ≡ self.now.tested) }
         ensures kept { IfOk result (KeepsNoOther self.now) }
@@ -285,6 +291,7 @@ impl World {
         ensures ok { IfOk result (λ what. next self.old.tables self.old.state step ≡ stepped self.new.state what) }
         ensures shape { self.new.shape ≡ self.old.shape }
         ensures tables { self.new.tables ≡ self.old.tables }
+        ensures opening { self.new.opening ≡ self.old.opening }
         ensures err { OnErr result (self.new.state ≡ self.old.state) }
         ensures tests_what_it_sends { OnOk result (raised self.old.tested (length (sent_by self.old.tables self.old.state step)) ≤ self.new.tested) }
         ensures tests_its_block { OnOk result (self.new.tested ≤ raised self.old.tested (messages_at self.new.state (block_of step))) }
@@ -311,6 +318,7 @@ impl World {
         ensures uncrowded { IfOk result (λ visit. visit.crowded ≡ false → IsUncrowded self.new.state (block_of step)) }
         ensures shape { self.new.shape ≡ self.old.shape }
         ensures tables { self.new.tables ≡ self.old.tables }
+        ensures opening { self.new.opening ≡ self.old.opening }
         ensures err { OnErr result (self.new.state ≡ self.old.state) }
         ensures tests_what_it_sends { OnOk result (raised self.old.tested (length (sent_by self.old.tables self.old.state step)) ≤ self.new.tested) }
         ensures tests_its_block { OnOk result (self.new.tested ≤ raised self.old.tested (messages_at self.new.state (block_of step))) }

@@ -1,6 +1,4 @@
-use Rattle.std.proofs.Common.{◌∙◌, ap, arith}
-use Rattle.control.proofs.HomeSends.{no-flag}
-use Rattle.rows.specs.Flags.{is_set}
+use Rattle.std.proofs.Common.{arith}
 use Rattle.std.proofs.lemmas.Grind.{common_steps}
 use Rattle.world.proofs.resetting.reset_one.Goals as goal
 

@@ -8,6 +8,7 @@ pub loop-i-preserved : goal.loop-i-preserved
 loop-i-preserved c = (
   run-more c.args.self.now c.loop-i.self c.advance.new.self c.args.steps.now c.loop-i.i _ _ c.args.outcomes.now.items c.loop-i.outcomes.items
       c.push_reserved.new.self.items c.in-Ok.outcome (omega arith) refl c.loop-i.invariant.0 c.in-Ok.ensures.ok c.in-Ok.ensures.shape c.in-Ok.ensures.tables
+      c.in-Ok.ensures.opening
       (c.push_reserved.ensures.items ∙ ap (λ xs. xs ++ c.in-Ok.outcome ∷ []) c.reserve.ensures.items)
       c.in-Ok.ensures.tests_what_it_sends c.in-Ok.ensures.tests_its_block,
   keeps-more c.args.self.now c.loop-i.self c.advance.new.self c.args.steps.now c.loop-i.i _ _ (omega arith) refl

@@ -34,6 +34,9 @@ returns-in_err-visit-clause-shape c = grind (arith, common_steps)
 pub returns-in_err-visit-clause-tables : goal.returns-in_err-visit-clause-tables
 returns-in_err-visit-clause-tables c = grind (arith, common_steps)
 
+pub returns-in_err-visit-clause-opening : goal.returns-in_err-visit-clause-opening
+returns-in_err-visit-clause-opening c = grind (arith, common_steps)
+
 pub returns-in_err-visit-clause-err : goal.returns-in_err-visit-clause-err
 returns-in_err-visit-clause-err c = grind (arith, common_steps)
 
@@ -54,6 +57,9 @@ returns-clause-shape c = grind (arith, common_steps)
 
 pub returns-clause-tables : goal.returns-clause-tables
 returns-clause-tables c = grind (arith, common_steps)
+
+pub returns-clause-opening : goal.returns-clause-opening
+returns-clause-opening c = grind (arith, common_steps)
 
 pub returns-clause-err : goal.returns-clause-err
 returns-clause-err c = grind (arith, common_steps)

@@ -114,6 +114,9 @@ returns-then-self-clause-shape c = grind (arith, common_steps)
 pub returns-then-self-clause-tables : goal.returns-then-self-clause-tables
 returns-then-self-clause-tables c = grind (arith, common_steps)
 
+pub returns-then-self-clause-opening : goal.returns-then-self-clause-opening
+returns-then-self-clause-opening c = grind (arith, common_steps)
+
 pub returns-then-self-clause-err : goal.returns-then-self-clause-err
 returns-then-self-clause-err c = grind (arith, common_steps)
 
@@ -137,6 +140,9 @@ returns-in_default-clause-shape c = grind (arith, common_steps)
 
 pub returns-in_default-clause-tables : goal.returns-in_default-clause-tables
 returns-in_default-clause-tables c = grind (arith, common_steps)
+
+pub returns-in_default-clause-opening : goal.returns-in_default-clause-opening
+returns-in_default-clause-opening c = grind (arith, common_steps)
 
 pub returns-in_default-clause-err : goal.returns-in_default-clause-err
 returns-in_default-clause-err c = grind (arith, common_steps)
@@ -165,6 +171,9 @@ returns-in_err-visit-clause-shape c = grind (arith, common_steps)
 pub returns-in_err-visit-clause-tables : goal.returns-in_err-visit-clause-tables
 returns-in_err-visit-clause-tables c = grind (arith, common_steps)
 
+pub returns-in_err-visit-clause-opening : goal.returns-in_err-visit-clause-opening
+returns-in_err-visit-clause-opening c = grind (arith, common_steps)
+
 pub returns-in_err-visit-clause-tests_its_block : goal.returns-in_err-visit-clause-tests_its_block
 returns-in_err-visit-clause-tests_its_block c = grind (arith, common_steps)
 
@@ -179,6 +188,9 @@ returns-clause-shape c = grind (arith, common_steps)
 
 pub returns-clause-tables : goal.returns-clause-tables
 returns-clause-tables c = grind (arith, common_steps)
+
+pub returns-clause-opening : goal.returns-clause-opening
+returns-clause-opening c = grind (arith, common_steps)
 
 pub returns-clause-err : goal.returns-clause-err
 returns-clause-err c = grind (arith, common_steps)

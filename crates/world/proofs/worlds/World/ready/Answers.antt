@@ -81,6 +81,9 @@ returns-then-self-clause-shape c = grind (arith, common_steps)
 pub returns-then-self-clause-tables : goal.returns-then-self-clause-tables
 returns-then-self-clause-tables c = grind (arith, common_steps)
 
+pub returns-then-self-clause-opening : goal.returns-then-self-clause-opening
+returns-then-self-clause-opening c = grind (arith, common_steps)
+
 pub returns-then-self-clause-state : goal.returns-then-self-clause-state
 returns-then-self-clause-state c = grind (arith, common_steps)
 
@@ -99,6 +102,9 @@ returns-in_default-clause-shape c = grind (arith, common_steps)
 pub returns-in_default-clause-tables : goal.returns-in_default-clause-tables
 returns-in_default-clause-tables c = grind (arith, common_steps)
 
+pub returns-in_default-clause-opening : goal.returns-in_default-clause-opening
+returns-in_default-clause-opening c = grind (arith, common_steps)
+
 pub returns-in_default-clause-state : goal.returns-in_default-clause-state
 returns-in_default-clause-state c = grind (arith, common_steps)
 
@@ -116,6 +122,9 @@ returns-clause-shape c = grind (arith, common_steps)
 
 pub returns-clause-tables : goal.returns-clause-tables
 returns-clause-tables c = grind (arith, common_steps)
+
+pub returns-clause-opening : goal.returns-clause-opening
+returns-clause-opening c = grind (arith, common_steps)
 
 pub returns-clause-tested : goal.returns-clause-tested
 returns-clause-tested c = grind (arith, common_steps)

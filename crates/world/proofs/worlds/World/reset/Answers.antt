@@ -1,69 +1,26 @@
-use Rattle.std.proofs.Common.{◌≡◌, ◌∙◌, ℕ, List, None, Some, ap, get_or, false, length, refl, replicate, slice_get, sym}
-use Rattle.std.proofs.lemmas.List.{length-map}
-use Rattle.machine.specs.Block.{BlockState}
-use Rattle.machine.specs.Machine.{State, opened}
-use Rattle.world.specs.View.{View, states}
-use Rattle.world.specs.inner.Holding.{AreLined, IsOpened, kept_at}
-use Rattle.world.proofs.Coherence.{been-safe, not-stuck}
-use Rattle.world.specs.Keeping.{has_line}
-use Rattle.world.proofs.Keeping.{space-at}
-use Rattle.world.proofs.Openings.{lined, lines-reset, states-reset, world-reset}
-use Rattle.world.proofs.Spaces.{keeps-no-other}
+use Rattle.std.proofs.Common.{◌∙◌, None, [], ap, get_or, length, subst, sym}
+use Rattle.machine.specs.Machine.{IsHistory, opened}
+use Rattle.world.specs.View.{View}
+use Rattle.world.proofs.Openings.{world-valued}
 use Rattle.world.proofs.worlds.World.reset.Goals as goal
-use Rattle.world.proofs.worlds.World.reset.Goals.{After-self-2-1}
-
-one_each : (c : After-self-2-1) → length c.args.opening.now ≡ c.self.inside.shape.blocks
-one_each c = c.requires ∙ ap (λ (w : View). w.shape.blocks) (sym c.self.view_is)
-
-each-lined : (c : After-self-2-1) → AreLined c.self.inside.shape.caches c.self.inside.blocks.items
-each-lined c =
-    lined c.self.inside.shape.caches c.self.inside.opening.items c.self.inside.blocks.items (c.self.invariant.0.places ∙ sym c.self.invariant.0.opening)
-    c.self.invariant.0.shaped.lines
-
-again : (c : After-self-2-1) → (i v : ℕ) → slice_get c.args.opening.now i ≡ Some v →
-    IsOpened c.self.inside.shape.caches v (kept_at c.reset_all.new.blocks.items i)
-again c i v e = c.reset_all.ensures.opened c.self.inside.shape.caches (each-lined c) i v e
-
-opened-state : (c : After-self-2-1)
-    → ◌≡◌ {A = State} (record { blocks = states c.self.inside.shape.caches c.copy_from_slice.new.self.items c.reset_all.new.blocks.items; broken = false })
-    (opened c.self.inside.shape c.args.opening.now)
-opened-state c =
-    ap (λ (bs : List BlockState). record { blocks = bs; broken = false })
-    (ap (λ vs. states c.self.inside.shape.caches vs c.reset_all.new.blocks.items) c.copy_from_slice.ensures.items
-    ∙ states-reset c.self.inside.shape.caches c.args.opening.now c.reset_all.new.blocks.items (again c))
-
-counted : (c : After-self-2-1) → length c.self.inside.counts.requests ≡ c.self.inside.shape.blocks
-counted c = ap length c.self.invariant.0.counted.of_requests ∙ length-map _ _ ∙ c.self.invariant.0.shaped.blocks
 
 pub invariant_of-self : goal.invariant_of-self
-invariant_of-self c =
-    rw c.copy_from_slice.ensures.items (
-      world-reset c.self.inside.shape c.self.inside.tables c.args.opening.now c.reset_all.new.blocks.items c.clear.new.self
-          c.self.invariant.0.shaped.within (one_each c) (c.reset_all.ensures.count ∙ c.self.invariant.0.places) (again c)
-          (c.clear.ensures.requests ∙ ap (λ n. replicate n 0) (counted c)) (c.clear.ensures.heads ∙ ap (λ n. replicate n 0) (counted c))
-          (c.clear.ensures.responses ∙ ap (λ n. replicate n 0) (counted c)),
-      c.self.invariant.1,
-    )
+invariant_of-self c = (
+  world-valued c.self.inside.shape c.self.inside.tables c.self.inside.opening.items c.copy_from_slice.new.self.items c.self.inside.blocks.items
+      c.self.inside.counts c.self.inside.met_blank c.self.invariant.0
+      (ap length c.copy_from_slice.ensures.items ∙ c.requires ∙ ap (λ (w : View). w.shape.blocks) (sym c.self.view_is) ∙ sym c.self.invariant.0.opening),
+  c.self.invariant.1,
+)
 
 pub returns-clause-state : goal.returns-clause-state
-returns-clause-state c = rw (← c.self.view_is) (opened-state c)
-
-pub returns-clause-kept : goal.returns-clause-kept
-returns-clause-kept c = λ block before.
-    keeps-no-other c.self.inside.blocks.items c.reset_all.new.blocks.items block c.reset_all.ensures.none
-    (ap (λ (w : View). get_or w.spaces block None) c.self.view_is ∙ before)
-
-pub returns-clause-lines : goal.returns-clause-lines
-returns-clause-lines c = λ block cache.
-    ap (λ o. has_line o cache) (space-at c.reset_all.new.blocks.items block)
-    ∙ lines-reset c.args.opening.now c.self.inside.shape.caches c.reset_all.new.blocks.items
-    (c.reset_all.ensures.count ∙ c.self.invariant.0.places ∙ sym (one_each c)) (again c) block cache
+returns-clause-state c =
+    c.restart.ensures.state ∙ ap (opened c.self.inside.shape) c.copy_from_slice.ensures.items
+    ∙ ap (λ (w : View). opened w.shape c.args.opening.now) c.self.view_is
 
 pub returns-clause-history : goal.returns-clause-history
-returns-clause-history c = rw (opened-state c) (record { opens = one_each c; leads = refl })
+returns-clause-history c =
+    let new : View = c.restart.new.self in
+    subst (λ vs. IsHistory new.shape new.tables vs [] new.state) (c.restart.ensures.opening ∙ c.copy_from_slice.ensures.items) c.restart.ensures.history
 
-pub returns-clause-safe : goal.returns-clause-safe
-returns-clause-safe c = been-safe _ _ _ c.self.invariant.0.shaped.within
-
-pub returns-clause-unstuck : goal.returns-clause-unstuck
-returns-clause-unstuck c = not-stuck _ _ _ c.self.invariant.0.shaped.within
+pub returns-clause-kept : goal.returns-clause-kept
+returns-clause-kept c = λ block before. c.restart.ensures.kept block (ap (λ (w : View). get_or w.spaces block None) c.self.view_is ∙ before)

@@ -55,6 +55,9 @@ returns-in_err-opening-clause-shape c = grind (arith, common_steps)
 pub returns-in_err-opening-clause-tables : goal.returns-in_err-opening-clause-tables
 returns-in_err-opening-clause-tables c = grind (arith, common_steps)
 
+pub returns-in_err-opening-clause-opening : goal.returns-in_err-opening-clause-opening
+returns-in_err-opening-clause-opening c = grind (arith, common_steps)
+
 pub returns-in_err-opening-clause-state : goal.returns-in_err-opening-clause-state
 returns-in_err-opening-clause-state c = grind (arith, common_steps)
 
@@ -66,6 +69,9 @@ returns-in_err-blocks-clause-shape c = grind (arith, common_steps)
 
 pub returns-in_err-blocks-clause-tables : goal.returns-in_err-blocks-clause-tables
 returns-in_err-blocks-clause-tables c = grind (arith, common_steps)
+
+pub returns-in_err-blocks-clause-opening : goal.returns-in_err-blocks-clause-opening
+returns-in_err-blocks-clause-opening c = grind (arith, common_steps)
 
 pub returns-in_err-blocks-clause-state : goal.returns-in_err-blocks-clause-state
 returns-in_err-blocks-clause-state c = grind (arith, common_steps)
@@ -79,6 +85,9 @@ returns-in_err-counts-clause-shape c = grind (arith, common_steps)
 pub returns-in_err-counts-clause-tables : goal.returns-in_err-counts-clause-tables
 returns-in_err-counts-clause-tables c = grind (arith, common_steps)
 
+pub returns-in_err-counts-clause-opening : goal.returns-in_err-counts-clause-opening
+returns-in_err-counts-clause-opening c = grind (arith, common_steps)
+
 pub returns-in_err-counts-clause-state : goal.returns-in_err-counts-clause-state
 returns-in_err-counts-clause-state c = grind (arith, common_steps)
 
@@ -90,6 +99,9 @@ returns-clause-shape c = grind (arith, common_steps)
 
 pub returns-clause-tables : goal.returns-clause-tables
 returns-clause-tables c = grind (arith, common_steps)
+
+pub returns-clause-opening : goal.returns-clause-opening
+returns-clause-opening c = opening c ∙ ap (λ (w : View). w.opening) c.self.view_is
 
 pub returns-clause-tested : goal.returns-clause-tested
 returns-clause-tested c = grind (arith, common_steps)
