@@ -29,7 +29,7 @@ noted_all-due opening (step ∷ steps) (what ∷ outcomes) block =
     noted_all-due (noted opening (block_of step) what) steps outcomes block ∙ due-noted opening step what (completions steps outcomes) block
 
 -- the completions of steps stand one behind the other
-completions-append : (tables : Tables) (s : State) (before : List Step) (step : Step) →
+pub completions-append : (tables : Tables) (s : State) (before : List Step) (step : Step) →
     completions (before ++ step ∷ []) (outcomes_of tables s (before ++ step ∷ [])) ≡ completions before
     (outcomes_of tables s before) ++ completed_by step (next tables (state_after tables s before) step).outcome
 completions-append tables s [] step = append-nil _
@@ -63,7 +63,7 @@ due-append opening values done more block here =
     ap (option_map (λ o. last_of o (stored_to block more))) here ∙ due-two (slice_get opening block) done more block
 
 -- one more step is noted
-due-more : (opening values : List ℕ) (done : List Completion) (step : Step) (what : Outcome) → AreDue opening done values →
+pub due-more : (opening values : List ℕ) (done : List Completion) (step : Step) (what : Outcome) → AreDue opening done values →
     AreDue opening (done ++ completed_by step what) (noted values (block_of step) what)
 due-more opening values done step what before block =
     due-opening (noted values (block_of step) what) block

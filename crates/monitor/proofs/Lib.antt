@@ -1,5 +1,6 @@
 pub mod Findings
 pub mod Histories
+pub mod Last
 pub mod Looking
 pub mod Blanks
 pub mod Uncrowded

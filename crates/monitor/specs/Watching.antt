@@ -53,3 +53,9 @@ abbrev pub SeesNext : View → List ℕ → Step → Outcome → List ℕ → Ty
 SeesNext world old step outcome new =
     (opening : List ℕ) (before : List Step) → HasSeen world opening before old → LeadTo opening before step outcome world →
     HasSeen world opening (before ++ step ∷ []) new
+
+-- whatever steps led to a world, if this was the last of them, with this outcome, then the answer is exactly its violation in that history
+abbrev pub AnswersLast : View → Step → Outcome → Option Violation → Type 0
+AnswersLast world step outcome answer =
+    (opening : List ℕ) (before : List Step) → LeadTo opening before step outcome world →
+    Answers (scene_after world.shape world.tables opening before step) answer

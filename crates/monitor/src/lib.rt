@@ -1,12 +1,14 @@
 //! Watches a world from outside: the value that each block ought to have, and the first thing that is wrong after a step.
 #![tactic(auto)]
 
+mod after;
 mod finding;
 mod laws;
 mod safety;
 mod violation;
 mod watch;
 
+pub use after::violation_after;
 pub use laws::{
     blank_has_a_place, due_is_the_last_store, nothing_wrong_where_nothing_was_done,
     one_violation_at_most, watch_knows_what_is_due,

@@ -39,19 +39,6 @@ impl Watch {
         })
     }
 
-    /// Whatever it has seen, it is a watch to whose blocks nothing has happened from now on, and which have these opening
-    /// values. It takes memory only where there are more of them than there were.
-    ///
-    /// Where memory is refused it is of no use until it is reset again.
-    pub fn reset(&mut self, opening: &[u64]) -> Result<(), NoMemory>
-        ensures values { OnOk result (self.new ≡ opening.now) }
-        ensures seen { OnOk result ((world : View) → HasSeen world opening.now [] self.new) }
-    {
-        self.values.clear();
-        self.values.extend_from_slice(opening)?;
-        Ok(())
-    }
-
     /// Notes a step, and answers what is wrong after it.
     ///
     /// The world is that after the step, and the outcome is the one that the step had. The watch has to see each step:

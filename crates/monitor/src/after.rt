@@ -1,0 +1,58 @@
+//! What is wrong after a step, by what the world itself knows.
+
+ghost use Rattle.std.specs.Prelude.{◌≡◌, ◌≢◌, false};
+ghost use Rattle.base.specs.Steps.{block_of};
+ghost use Rattle.world.specs.Crowds.{IsUncrowded};
+ghost use Rattle.world.specs.Looks.{latest_at};
+ghost use Rattle.monitor.specs.Scenes.{Answers, scene_in};
+ghost use Rattle.monitor.specs.Watching.{AnswersLast};
+
+use crate::finding::{find, find_stale, meets_blank};
+use crate::violation::Violation;
+use base::{Outcome, Step};
+use world::{Went, World};
+
+/// What is wrong after a step. The world is that after the step, and `went` is what [`World::go`] answered of it.
+///
+/// It is what a [`Watch`](crate::Watch) answers that has seen each step, and nothing has to be noted for it: what a load ought
+/// to have returned is the latest value of its block, which the world has, and which a load leaves as it was. It looks at the
+/// world only where the block is crowded, a cell was blank or a load completed.
+#[inline(always)]
+pub fn violation_after(world: &World, step: Step, went: &Went) -> Option<Violation>
+    requires { went.now.crowded ≡ false → IsUncrowded world.now.state (block_of step) }
+    ensures violation { Answers (scene_in world.now.state step went.now.outcome (latest_at world.now.state (block_of step))) result }
+    ensures history { AnswersLast world.now step went.now.outcome result }
+{
+    find_after(world, step, went)
+}
+
+#[inline(always)]
+fn find_after(world: &World, step: Step, went: &Went) -> Option<Violation>
+    requires { went.now.crowded ≡ false → IsUncrowded world.now.state (block_of step) }
+    ensures { Answers (scene_in world.now.state step went.now.outcome (latest_at world.now.state (block_of step))) result }
+{
+    if went.crowded || meets_blank(went.outcome) {
+        return find_any(world, step, went.outcome);
+    }
+    find_loaded(world, step, went.outcome)
+}
+
+/// What is wrong after a step of any outcome.
+fn find_any(world: &World, step: Step, outcome: Outcome) -> Option<Violation>
+    ensures { Answers (scene_in world.now.state step outcome (latest_at world.now.state (block_of step))) result }
+{
+    find(world, step, outcome, world.latest(step.block()))
+}
+
+/// What is wrong after a step that met no blank cell, where its block isn't crowded: only a load may be.
+#[inline(always)]
+fn find_loaded(world: &World, step: Step, outcome: Outcome) -> Option<Violation>
+    requires met { outcome ≢ Outcome.Blank }
+    requires uncrowded { IsUncrowded world.now.state (block_of step) }
+    ensures { Answers (scene_in world.now.state step outcome (latest_at world.now.state (block_of step))) result }
+{
+    match outcome {
+        Outcome::Load { .. } => find_stale(step, outcome, world.latest(step.block())),
+        _ => None,
+    }
+}
