@@ -10,8 +10,7 @@ use Rattle.both_tables.specs.Tables.{Tables}
 use Rattle.machine.specs.Machine.{State, Next, next, opened, state_after}
 use Rattle.monitor.specs.declared.violation.Violation.{Violation}
 use Rattle.monitor.specs.Scenes.{HasNone, IsViolation, Answers}
-use Rattle.machine.specs.Completions.{completions_of}
-use Rattle.monitor.specs.Watching.{HasSeen, LeadTo, AreDue, made_after, scene_after}
+use Rattle.monitor.specs.Watching.{LeadTo, made_after, scene_after}
 use Rattle.world.specs.View.{stepped}
 use Rattle.cores.specs.Cores.{Core}
 use Rattle.scenario.specs.Tree.{Tree}
@@ -88,13 +87,6 @@ steps-made : (c made : Course) (choice : Choice) (violation : Option Violation) 
     steps_of made.recording ≡ steps_of c.recording ++ chosen_step choice ∷ []
 steps-made c made choice violation m = ap steps_of m.recorded ∙ map_push (λ (e : Entry). e.step) c.recording.entries (entry_made c made choice violation m)
 
-has-seen : (terms : Terms) (tree : Tree) (number : ℕ) (c made : Course) (choice : Choice) (violation : Option Violation) →
-    IsGoing terms tree number c → Makes (rolled c) choice made violation →
-    HasSeen made.world terms.opening (steps_of c.recording) c.watch
-has-seen terms tree number c made choice violation g m =
-    subst (λ (x : Extent). AreDue terms.opening (completions_of x made.world.tables terms.opening (steps_of c.recording)) c.watch) (sym m.shape)
-    (subst (λ (t : Tables). AreDue terms.opening (completions_of c.world.shape t terms.opening (steps_of c.recording)) c.watch) (sym m.tables) g.seen)
-
 leads-to : (terms : Terms) (tree : Tree) (number : ℕ) (c made : Course) (choice : Choice) (violation : Option Violation) →
     IsGoing terms tree number c → (m : Makes (rolled c) choice made violation) →
     LeadTo terms.opening (steps_of c.recording) (chosen_step choice) m.outcome made.world
@@ -111,8 +103,7 @@ scene-made terms tree number c made choice violation g m =
     subst (λ (x : Extent). Answers (scene_after x terms.tables terms.opening (steps_of c.recording) (chosen_step choice)) violation) (m.shape ∙ g.shape.0)
     (subst (λ (t : Tables). Answers (scene_after made.world.shape t terms.opening (steps_of c.recording) (chosen_step choice)) violation)
     (m.tables ∙ g.tables.0)
-    (m.answer terms.opening (steps_of c.recording) (has-seen terms tree number c made choice violation g m)
-    (leads-to terms tree number c made choice violation g m)))
+    (m.answer terms.opening (steps_of c.recording) (leads-to terms tree number c made choice violation g m)))
 
 -- the path goes on to the moment behind the step
 path-made : SameChoices →
@@ -163,9 +154,6 @@ goes-on-clean more left same terms tree number c made choice violation g taken m
       led = ap (λ (n : Next). n.state) (sym here) ∙ ap (λ (s : State). (next terms.tables s step).state) (sym g.state ∙ g.led)
           ∙ sym (state-push terms.tables (opened terms.shape terms.opening) (steps_of c.recording) step)
           ∙ ap (state_after terms.tables (opened terms.shape terms.opening)) (sym steps);
-      seen = subst (λ (ss : List Step). HasSeen made.world terms.opening ss made.watch) (sym steps)
-          (m.seen terms.opening (steps_of c.recording) (has-seen terms tree number c made choice violation g m)
-          (leads-to terms tree number c made choice violation g m));
       clean = subst (HasNoViolation terms.shape terms.tables terms.opening) (sym steps) clean;
     }
 

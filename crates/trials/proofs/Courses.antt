@@ -2,10 +2,8 @@
 use Rattle.std.proofs.Common.{◌≡◌, ◌<◌, ◌≤◌, ◌+◌, ℕ, List, [], ◌∷◌, Some, None, length, slice_get, ap, sym, subst, ◌∙◌, refl}
 use Rattle.rand_pcg.specs.Pcg.{multiplier_64}
 use Rattle.rand_pcg.specs.Lcg as lcg
-use Rattle.base.specs.declared.step.Step.{Step}
 use Rattle.both_tables.specs.Tables.{Tables}
 use Rattle.machine.specs.Machine.{State, opened, state_after}
-use Rattle.monitor.specs.Watching.{HasSeen}
 use Rattle.world.specs.Looks.{all_quiet}
 use Rattle.cores.specs.Cores.{Core, is_free}
 use Rattle.scenario.specs.Tree.{Tree}
@@ -62,7 +60,6 @@ starts none terms tree number c s =
       alike = s.rest;
       drawn = s.dice ∙ sym (none terms.seed number) ∙ ap (λ (es : List Entry). dice_after terms.seed number (length es)) (sym nothing);
       led = s.state ∙ ap (state_after terms.tables (opened terms.shape terms.opening)) (sym steps);
-      seen = subst (λ (ss : List Step). HasSeen c.world terms.opening ss c.watch) (sym steps) (s.watch c.world);
       clean = subst (HasNoViolation terms.shape terms.tables terms.opening) (sym steps) (λ k step e. absurd (cc e));
     }
 

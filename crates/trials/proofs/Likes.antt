@@ -4,10 +4,10 @@ use Rattle.world.specs.View.{View}
 use Rattle.trials.specs.inner.Going.{IsLike}
 
 pub like-itself : (w : View) → IsLike w w
-like-itself w = record { shape = refl; tables = refl }
+like-itself w = record { shape = refl; tables = refl; opening = refl }
 
 pub like-both : (a b c : View) → IsLike a b → IsLike b c → IsLike a c
-like-both a b c h k = record { shape = k.shape ∙ h.shape; tables = k.tables ∙ h.tables }
+like-both a b c h k = record { shape = k.shape ∙ h.shape; tables = k.tables ∙ h.tables; opening = k.opening ∙ h.opening }
 
 pub like-same : (a b c : View) → c ≡ b → IsLike a b → IsLike a c
 like-same a b c is h = subst (IsLike a) (sym is) h

@@ -14,7 +14,7 @@ use crate::verdict::Verdict;
 use base::{NoMemory, Outcome, Step};
 use bumpalo::Bump;
 use cores::Cores;
-use monitor::{Violation, Watch};
+use monitor::{Violation, violation_after};
 use record::Entry;
 use scenario::Scenario;
 use schedule::{Dice, Lanes, Pick};
@@ -25,7 +25,6 @@ use world::World;
 /// what it has done.
 pub(crate) struct Course<'s, 'b, A: Allocator, N: Notes> {
     world: World,
-    watch: Watch,
     cores: Cores,
     lanes: Lanes<'s, A, &'b Bump>,
     dice: Dice,
@@ -37,7 +36,6 @@ impl<'s, 'b, A: Allocator, N: Notes> Drop for Course<'s, 'b, A, N> {
         // Whoever drops one has a call to prove, and not the drops of all its parts.
         let Course {
             world: _,
-            watch: _,
             cores: _,
             lanes: _,
             dice: _,
@@ -66,10 +64,9 @@ impl<'s, 'b, A: Allocator, N: Notes> Course<'s, 'b, A, N> {
         requires { N.tells notes (blank setup.now) }
         ensures { IfOk result (λ course. Begins N.tells setup.now (plain scenario.entry.now) number course) }
     {
-        let (world, watch, cores, lanes) = open_parts(alloc, scenario, setup)?;
+        let (world, cores, lanes) = open_parts(alloc, scenario, setup)?;
         Ok(Course {
             world,
-            watch,
             cores,
             lanes,
             dice: Dice::new(setup.seed(), u64::from(number)),
@@ -78,7 +75,7 @@ impl<'s, 'b, A: Allocator, N: Notes> Course<'s, 'b, A, N> {
     }
 
     /// The start of the trial of this number, with notes of no entry, whatever trial under this setup it was before. Its
-    /// memory is used again.
+    /// memory is used again, so that the start costs what trials have touched, however many blocks there are.
     pub(crate) fn restart(
         &mut self,
         alloc: Global,
@@ -93,10 +90,9 @@ impl<'s, 'b, A: Allocator, N: Notes> Course<'s, 'b, A, N> {
         ensures ok { OnOk result (Begins N.tells setup.now (plain scenario.entry.now) number self.new) }
     {
         let caches = setup.shape().caches();
-        self.world.reset(setup.opening());
+        self.world.restart();
         self.notes = notes;
         self.dice = Dice::new(setup.seed(), u64::from(number));
-        self.watch.reset(setup.opening())?;
         self.cores.reset(caches)?;
         self.lanes
             .restart(alloc, scenario, caches, &self.world, &self.cores)
@@ -161,7 +157,7 @@ impl<'s, 'b, A: Allocator, N: Notes> Course<'s, 'b, A, N> {
         self.lanes
             .follow_pick(arena, pick, went.at, went.changed, world, cores)?;
         self.notes.add(Entry { step, outcome })?;
-        Ok(self.watch.see_went(&self.world, step, &went))
+        Ok(violation_after(&self.world, step, &went))
     }
 
     /// The verdict where there is no choice.
@@ -189,7 +185,6 @@ impl<'s, 'b, A: Allocator, N: Notes> Course<'s, 'b, A, N> {
     {
         let Course {
             world: _,
-            watch: _,
             cores: _,
             lanes: _,
             dice: _,
@@ -204,23 +199,22 @@ fn open_parts<'s, 'b, A: Allocator>(
     alloc: Global,
     scenario: &'s Scenario<A>,
     setup: &Setup,
-) -> Result<(World, Watch, Cores, Lanes<'s, A, &'b Bump>), NoMemory>
-    ensures opened { IfOk result (λ made. AreOpened setup.now made.0 made.1 made.2) }
-    ensures rest { IfOk result (λ made. Alike (whole (laned made.3)) (plain scenario.entry.now)) }
-    ensures kept { IfOk result (λ made. IsKept (laned made.3)) }
-    ensures ready { IfOk result (λ made. AreReady made.0.tables made.0.state made.2 (laned made.3)) }
+) -> Result<(World, Cores, Lanes<'s, A, &'b Bump>), NoMemory>
+    ensures opened { IfOk result (λ made. AreOpened setup.now made.0 made.1) }
+    ensures rest { IfOk result (λ made. Alike (whole (laned made.2)) (plain scenario.entry.now)) }
+    ensures kept { IfOk result (λ made. IsKept (laned made.2)) }
+    ensures ready { IfOk result (λ made. AreReady made.0.tables made.0.state made.1 (laned made.2)) }
 {
-    let (world, watch, cores) = open_world(alloc, setup)?;
+    let (world, cores) = open_world(alloc, setup)?;
     let lanes = Lanes::open(alloc, scenario, setup.shape().caches(), &world, &cores)?;
-    Ok((world, watch, cores, lanes))
+    Ok((world, cores, lanes))
 }
 
-/// A world that has made no step, what watches it, and its cores.
-fn open_world(alloc: Global, setup: &Setup) -> Result<(World, Watch, Cores), NoMemory>
-    ensures { IfOk result (λ made. AreOpened setup.now made.0 made.1 made.2) }
+/// A world that has made no step, and its cores.
+fn open_world(alloc: Global, setup: &Setup) -> Result<(World, Cores), NoMemory>
+    ensures { IfOk result (λ made. AreOpened setup.now made.0 made.1) }
 {
     let world = setup.open_world(alloc)?;
-    let watch = Watch::open(alloc, setup.opening())?;
     let cores = Cores::open(alloc, setup.shape().caches())?;
-    Ok((world, watch, cores))
+    Ok((world, cores))
 }

@@ -116,6 +116,7 @@ impl Setup {
     pub fn open_world(&self, alloc: Global) -> Result<World, NoMemory>
         ensures shape { IfOk result (λ world. world.shape ≡ self.now.shape) }
         ensures tables { IfOk result (λ world. world.tables ≡ self.now.tables) }
+        ensures opening { IfOk result (λ world. world.opening ≡ self.now.opening) }
         ensures state { IfOk result (λ world. world.state ≡ opened self.now.shape self.now.opening) }
     {
         let opening = Vec::from_slice(alloc, self.opening())?;

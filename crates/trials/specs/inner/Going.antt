@@ -10,7 +10,7 @@ use Rattle.machine.specs.Machine as machine
 use Rattle.machine.specs.Machine.{after, opened}
 use Rattle.machine.specs.Completions.{Completion, completed_by}
 use Rattle.monitor.specs.declared.violation.Violation.{Violation}
-use Rattle.monitor.specs.Watching.{HasSeen, AnswersHistory, SeesNext}
+use Rattle.monitor.specs.Watching.{AnswersLast}
 use Rattle.world.specs.View.{View, stepped}
 use Rattle.cores.specs.Cores.{Core, idle, is_free}
 use Rattle.scenario.specs.Tree.{Tree}
@@ -27,10 +27,9 @@ use Rattle.trials.specs.Terms.{Terms, AreLawful}
 use Rattle.trials.specs.Moments.{Moment, IsPath, choices_at, put_by, with_issued, cores_after}
 use Rattle.trials.specs.Trial.{AreClean, IsAtRest, IsTrial, IsUnowned}
 
--- the parts of a trial: its world and what watches it, the cores, what is left of the scenario, the dice, and the recording
+-- the parts of a trial: its world, the cores, what is left of the scenario, the dice, and the recording
 pub record Course : Type 0 where
   pub world : View
-  pub watch : List ℕ
   pub cores : List Core
   pub rest : Tree
   pub dice : Lcg
@@ -40,7 +39,6 @@ pub record Course : Type 0 where
 abbrev pub parts_of : {A N : Type 0} → RecordingView → course.Course A N → Course
 parts_of r c = record {
   world = c.world;
-  watch = c.watch;
   cores = c.cores;
   rest = whole (laned c.lanes);
   dice = c.dice;
@@ -79,7 +77,6 @@ pub record IsGoing (terms : Terms) (tree : Tree) (number : ℕ) (c : Course) : T
   pub alike : Alike c.rest last.rest
   pub drawn : c.dice ≡ dice_after terms.seed number (length c.recording.entries)
   pub led : c.world.state ≡ (after terms.tables (opened terms.shape terms.opening) (steps_of c.recording)).state
-  pub seen : HasSeen c.world terms.opening (steps_of c.recording) c.watch
   pub clean : AreClean terms (steps_of c.recording)
 
 -- the recording of a trial that starts
@@ -90,19 +87,19 @@ blank terms = opened_recording terms.shape terms.tables terms.opening
 pub record Starts (terms : Terms) (tree : Tree) (number : ℕ) (c : Course) : Type 0 where
   pub shape : c.world.shape ≡ terms.shape
   pub tables : c.world.tables ≡ terms.tables
+  pub opening : c.world.opening ≡ terms.opening
   pub state : c.world.state ≡ opened terms.shape terms.opening
-  pub watch : (world : View) → HasSeen world terms.opening [] c.watch
   pub cores : c.cores ≡ replicate terms.shape.caches idle
   pub rest : Alike c.rest tree
   pub dice : c.dice ≡ dice terms.seed number
   pub recording : c.recording ≡ blank terms
 
--- a world under these terms that has made no step, what watches it, and its cores
-pub record AreOpened (terms : Terms) (world : View) (watch : List ℕ) (cores : List Core) : Type 0 where
+-- a world under these terms that has made no step, and its cores
+pub record AreOpened (terms : Terms) (world : View) (cores : List Core) : Type 0 where
   pub shape : world.shape ≡ terms.shape
   pub tables : world.tables ≡ terms.tables
+  pub opening : world.opening ≡ terms.opening
   pub state : world.state ≡ opened terms.shape terms.opening
-  pub seen : (seen : View) → HasSeen seen terms.opening [] watch
   pub cores_are : cores ≡ replicate terms.shape.caches idle
 
 -- its notes tell of no entry, and its parts are those of a trial that starts
@@ -115,11 +112,13 @@ pub record Begins {A N : Type 0} (tells : N → RecordingView → Type 0) (terms
 pub record IsUnder (terms : Terms) (world : View) : Type 0 where
   pub shape : world.shape ≡ terms.shape
   pub tables : world.tables ≡ terms.tables
+  pub opening : world.opening ≡ terms.opening
 
 -- under whatever terms one is, the other is too
 pub record IsLike (old new : View) : Type 0 where
   pub shape : new.shape ≡ old.shape
   pub tables : new.tables ≡ old.tables
+  pub opening : new.opening ≡ old.opening
 
 -- some trial starts so, of at most so many steps
 abbrev pub IsStart : {A N : Type 0} → (N → RecordingView → Type 0) → ℕ → course.Course A N → Type 0
@@ -148,8 +147,7 @@ pub record Makes (old : Course) (choice : Choice) (new : Course) (violation : Op
   pub rest : Alike new.rest (rest_after choice old.rest)
   pub dice : new.dice ≡ old.dice
   pub recorded : new.recording ≡ with_entry old.recording (record { step = chosen_step choice; outcome = outcome })
-  pub answer : AnswersHistory new.world old.watch (chosen_step choice) outcome violation
-  pub seen : SeesNext new.world old.watch (chosen_step choice) outcome new.watch
+  pub answer : AnswersLast new.world (chosen_step choice) outcome violation
 
 -- so it is of each recording of which the old notes told, and the new ones tell of what it has become
 abbrev pub MakesNoted : {A N : Type 0} → (N → RecordingView → Type 0) → course.Course A N → Choice → course.Course A N → Option Violation → Type 0

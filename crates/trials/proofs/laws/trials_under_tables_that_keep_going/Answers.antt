@@ -1,7 +1,6 @@
 use Rattle.std.proofs.Common.{◌≡◌, false, refl, sym, subst}
 use Rattle.machine.specs.Coherence.{Safe}
 use Rattle.machine.specs.Machine.{State, opened, state_after}
-use Rattle.both_tables.specs.Tables.{Tables}
 use Rattle.machine.specs.Unstuck.{Unstuck}
 use Rattle.record.specs.View.{steps_of}
 use Rattle.trials.specs.Trial.{IsResult, IsVerdict}

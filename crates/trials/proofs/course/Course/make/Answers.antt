@@ -3,7 +3,7 @@ use Rattle.both_tables.specs.Tables.{Tables}
 use Rattle.base.specs.Steps.{block_of}
 use Rattle.base.specs.declared.step.Step.{Step}
 use Rattle.machine.specs.Machine.{next}
-use Rattle.monitor.specs.Watching.{AnswersHistory, SeesNext}
+use Rattle.monitor.specs.Watching.{AnswersLast}
 use Rattle.record.specs.View.{with_entry}
 use Rattle.schedule.specs.Lanes.{AgreeBut, AreReady, laned}
 use Rattle.trials.specs.Moments.{cores_after}
@@ -24,9 +24,7 @@ returns-clause-makes g c r told =
         rest = c.in_ok-follow_pick.ensures.rest;
         dice = refl;
         recorded = ap (λ (s : Step). with_entry r (record { step = s; outcome = c.in_ok-went.went.outcome })) is;
-        answer =
-            subst (λ (s : Step). AnswersHistory c.go.new.self c.args.self.now.watch s c.in_ok-went.went.outcome c.see_went.result) is c.see_went.ensures.history;
-        seen = subst (λ (s : Step). SeesNext c.go.new.self c.args.self.now.watch s c.in_ok-went.went.outcome c.see_went.new.self) is c.see_went.ensures.seen;
+        answer = subst (λ (s : Step). AnswersLast c.go.new.self s c.in_ok-went.went.outcome c.violation_after.result) is c.violation_after.ensures.history;
       },
     )
 
