@@ -90,7 +90,7 @@ reset-past opening keys n number old new h key past = record {
   ];
 }
 
-get-below : (keys : List ℕ) (j at : ℕ) → slice_get keys j ≡ Some at → j < length keys
+pub get-below : (keys : List ℕ) (j at : ℕ) → slice_get keys j ≡ Some at → j < length keys
 get-below [] j at e = absurd (cc e)
 get-below (k ∷ keys) zero at e = omega arith
 get-below (k ∷ keys) (suc j) at e = omega (arith, get-below keys j at e)

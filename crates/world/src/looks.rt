@@ -1,4 +1,4 @@
-ghost use Rattle.std.specs.Prelude.{◌≡◌, ℕ};
+ghost use Rattle.std.specs.Prelude.{◌≡◌, ℕ, Some, slice_get};
 ghost use Rattle.base.specs.declared.step.Ask.{Ask};
 ghost use Rattle.base.specs.declared.step.Step.TheVariants as step;
 ghost use Rattle.machine.specs.Block.{opened_block};
@@ -176,8 +176,9 @@ impl World {
     pub fn empty(&self) -> bool
         ensures { result ≡ all_quiet self.now.state.blocks }
     {
-        for number in 0..self.shape.blocks() {
-            if !is_quiet_at(&self.blocks, number) {
+        // Nothing is on the wires of a block that isn't kept.
+        for index in 0..self.blocks.held() {
+            if !is_quiet_nth(&self.blocks, index) {
                 return false;
             }
         }
@@ -275,12 +276,12 @@ impl World {
     }
 }
 
-/// Whether nothing is on the wires of a block: on those of a block that isn't kept there is nothing.
-fn is_quiet_at(blocks: &Sparse<Block>, number: u32) -> bool
-    ensures { result ≡ is_quiet_kept (kept_at blocks.now.items number) }
+/// Whether nothing is on the wires of a block that is kept: of the one that was kept after so many others.
+fn is_quiet_nth(blocks: &Sparse<Block>, index: usize) -> bool
+    ensures { (at : ℕ) → slice_get blocks.now.keys index ≡ Some at → result ≡ is_quiet_kept (kept_at blocks.now.items at) }
 {
-    match blocks.get(number) {
-        Some(block) => block.is_quiet(),
+    match blocks.nth(index) {
+        Some((_, block)) => block.is_quiet(),
         None => true,
     }
 }
