@@ -14,6 +14,8 @@ mod recordings;
 #[cfg(test)]
 mod refusing;
 #[cfg(test)]
+mod restarting;
+#[cfg(test)]
 mod touching;
 #[cfg(test)]
 mod trying;

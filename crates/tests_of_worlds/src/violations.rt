@@ -2,7 +2,7 @@ use crate::asserting::{same, same_at};
 use base::{BlockId, CacheId, Outcome, Place, Shape, Step};
 use both_tables::Tables;
 use cache_table::{CacheAction, CacheActions, CacheEntry, CacheEvent, CacheState, CacheTable};
-use monitor::{Violation, Watch};
+use monitor::{Violation, Watch, violation_after};
 use std::alloc::Global;
 use std::process::Abort;
 use world::World;
@@ -26,8 +26,8 @@ struct Watched {
     watch: Watch,
 }
 
-/// Makes a step that has this outcome, and answers what is wrong then. A world that tells more of a step, and a watch that is handed
-/// that, have to say the same.
+/// Makes a step that has this outcome, and answers what is wrong then. A world that tells more of a step, a watch that is handed
+/// that, and a look without a watch have to say the same.
 fn see(
     rt: &impl Abort,
     plain: &mut Watched,
@@ -43,6 +43,8 @@ fn see(
     same_at(rt, &went.outcome, &outcome, &made);
     let seen = told.watch.see_went(&told.world, step, &went);
     same_at(rt, &seen, &found, &made);
+    let alone = violation_after(&told.world, step, &went);
+    same_at(rt, &alone, &found, &made);
     found
 }
 

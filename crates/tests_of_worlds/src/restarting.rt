@@ -1,0 +1,188 @@
+use crate::asserting::{same, same_at};
+use base::{BlockId, CacheId, Shape, Step};
+use both_tables::Tables;
+use cache_table::{CacheAction, CacheActions, CacheEntry, CacheEvent, CacheState};
+use scenario::Scenario;
+use std::alloc::Global;
+use std::process::Abort;
+use trials::{Setup, TrialResult, Verdict, batch, trial};
+use world::World;
+
+/// A value for each block: 100 and its number.
+fn values(rt: &impl Abort, alloc: Global, blocks: u32) -> Vec<u64> {
+    let mut values = Vec::with_capacity(alloc, blocks as usize).expect(rt, "memory");
+    for block in 0..blocks {
+        values.push(100 + block as u64).expect(rt, "memory");
+    }
+    values
+}
+
+/// The protocol's own tables, where a load in I meets a blank cell if that is wanted.
+fn tables(blank: bool) -> Tables {
+    let mut tables = Tables::baseline();
+    if blank {
+        tables.cache = tables
+            .cache
+            .with(CacheState::I, CacheEvent::Load, CacheEntry::Blank);
+    }
+    tables
+}
+
+fn opened(rt: &impl Abort, alloc: Global, shape: Shape, blank: bool) -> World {
+    let opening = values(rt, alloc, shape.blocks());
+    World::open(alloc, shape, tables(blank), opening).expect(rt, "a world")
+}
+
+/// The same, where each block opens at 7.
+fn opened_at_7(rt: &impl Abort, alloc: Global, shape: Shape, blank: bool) -> World {
+    let opening = vec![in alloc; 7u64; shape.blocks() as usize].expect(rt, "memory");
+    World::open(alloc, shape, tables(blank), opening).expect(rt, "a world")
+}
+
+/// Has a world begin again with 7 in each block.
+fn reset_to_7(rt: &impl Abort, alloc: Global, world: &mut World) {
+    let blocks = world.shape().blocks();
+    let opening = vec![in alloc; 7u64; blocks as usize].expect(rt, "memory");
+    world.reset(opening.as_slice());
+}
+
+fn make_all(rt: &impl Abort, world: &mut World, steps: &str) {
+    for line in steps.split(',') {
+        let step = Step::read(line.as_bytes()).expect(rt, "a step");
+        world.step(step).expect(rt, "memory");
+    }
+}
+
+/// Compares what can be seen of a block.
+fn same_block(rt: &impl Abort, world: &World, fresh: &World, block: BlockId) {
+    let last = CacheId(world.shape().caches() - 1);
+    same_at(rt, &world.home(block), &fresh.home(block), &block);
+    same_at(rt, &world.latest(block), &fresh.latest(block), &block);
+    let readers = (world.readers(block), world.writer(block));
+    let wanted = (fresh.readers(block), fresh.writer(block));
+    same_at(rt, &readers, &wanted, &block);
+    let lines = (world.line(CacheId(0), block), world.line(last, block));
+    let wanted = (fresh.line(CacheId(0), block), fresh.line(last, block));
+    same_at(rt, &lines, &wanted, &block);
+}
+
+/// Compares what can be seen of two worlds.
+fn same_world(rt: &impl Abort, alloc: Global, world: &World, fresh: &World) {
+    for block in [0, 1, world.shape().blocks() - 1] {
+        same_block(rt, world, fresh, BlockId(block));
+    }
+    let found = world.enabled(alloc).expect(rt, "memory");
+    let wanted = fresh.enabled(alloc).expect(rt, "memory");
+    same(rt, &found.as_slice(), &wanted.as_slice());
+    same(rt, &world.tested(), &fresh.tested());
+    let ends = (world.empty(), world.broken());
+    same(rt, &ends, &(fresh.empty(), fresh.broken()));
+}
+
+/// Compares a world that begins again with one that opens, before these steps and after them.
+fn begins_as(rt: &impl Abort, alloc: Global, world: &mut World, fresh: &mut World, steps: &str) {
+    same_world(rt, alloc, world, fresh);
+    make_all(rt, world, steps);
+    make_all(rt, fresh, steps);
+    same_world(rt, alloc, world, fresh);
+}
+
+/// Has a world begin again behind these steps, with the values that it has and with others.
+fn begins_again(rt: &impl Abort, alloc: Global, world: &mut World, blank: bool, steps: &str) {
+    let shape = world.shape();
+    make_all(rt, world, steps);
+    world.restart();
+    let mut fresh = opened(rt, alloc, shape, blank);
+    begins_as(rt, alloc, world, &mut fresh, steps);
+    reset_to_7(rt, alloc, world);
+    let mut fresh = opened_at_7(rt, alloc, shape, blank);
+    begins_as(rt, alloc, world, &mut fresh, steps);
+}
+
+const ROUNDS: [(u32, u32, bool, &str); 5] = [
+    (
+        2,
+        3,
+        false,
+        "ask 0 0 store 7,request 0 0,response 0 0,ask 1 2 store 8,request 2 0,response 2 0",
+    ),
+    (2, 3, false, "ask 0 1 load,request 1 0,ask 1 1 store 5"),
+    (2, 3, true, "ask 0 2 load,ask 0 0 store 3"),
+    (1, 2, false, "ask 0 1 replace"),
+    (
+        4096,
+        65_536,
+        false,
+        "ask 4095 65535 store 7,request 65535 0,response 65535 0,ask 0 0 load,ask 0 65535 load",
+    ),
+];
+
+#[test]
+fn worlds_begin_again(rt: HostRuntime) {
+    for (caches, blocks, blank, steps) in &ROUNDS {
+        let shape = Shape::new(*caches, *blocks).expect(&rt, "a shape");
+        let mut world = opened(&rt, rt.alloc(), shape, *blank);
+        begins_again(&rt, rt.alloc(), &mut world, *blank, steps);
+    }
+}
+
+/// The setup of the largest shape, over tables under which a cache that waits for its data answers an Inv at once.
+fn largest(rt: &impl Abort, alloc: Global, shape: Shape) -> Setup {
+    let mut tables = Tables::baseline();
+    let acks = CacheEntry::Act {
+        next: CacheState::IsD,
+        actions: CacheActions::of(&[CacheAction::InvAck]).expect(rt, "one action"),
+    };
+    tables.cache = tables.cache.with(CacheState::IsD, CacheEvent::Inv, acks);
+    let opening = values(rt, alloc, shape.blocks());
+    Setup::new(shape, tables, opening, 42, 100).expect(rt, "a setup")
+}
+
+/// Compares a few results with those of the trials alone, each of which opens a world.
+fn are_alone(
+    rt: &impl Abort,
+    alloc: Global,
+    tree: &Scenario<Global>,
+    setup: &Setup,
+    results: &[TrialResult],
+) {
+    for result in results.iter().skip(52) {
+        let alone = trial(alloc, tree, setup, result.number).expect(rt, "memory");
+        same(rt, result, &alone.result);
+    }
+}
+
+/// Whether one of these trials broke.
+fn one_broke(results: &[TrialResult]) -> bool {
+    for result in results {
+        if let Verdict::Broke(_) = result.verdict {
+            return true;
+        }
+    }
+    false
+}
+
+/// Two cores that race for the last block.
+const RACE: &str = r#"{"both":[{"op":"load","core":4095,"block":65535},
+    {"op":"store","core":0,"block":65535,"value":9}]}"#;
+
+fn race(rt: &impl Abort, alloc: Global, setup: &Setup) {
+    let tree = Scenario::read(alloc, alloc, RACE.as_bytes(), setup.shape()).expect(
+        rt,
+        "a scenario",
+    );
+    let results = batch(alloc, &tree, setup, 56).expect(rt, "a batch");
+    are_alone(rt, alloc, &tree, setup, results.as_slice());
+    same(
+        rt,
+        &(results.len(), one_broke(results.as_slice())),
+        &(56, true),
+    );
+}
+
+#[test]
+fn a_batch_in_the_largest_shape(rt: HostRuntime) {
+    let shape = Shape::new(4096, 65_536).expect(&rt, "a shape");
+    let setup = largest(&rt, rt.alloc(), shape);
+    race(&rt, rt.alloc(), &setup);
+}
