@@ -29,7 +29,7 @@ impl World {
         Ok(steps)
     }
 
-    /// How many deliveries [`enabled`](World::enabled) lists: fewer than 2^46.
+    /// How many deliveries [`enabled`](World::enabled) lists: fewer than 2^50.
     pub fn enabled_count(&self) -> u64
         ensures count { result ≡ length (enabled_steps self.now.tables self.now.state) }
         ensures few { result < 2 ^ 50 }
