@@ -125,7 +125,7 @@ fn a_picture_names_the_seats(rt: HostRuntime) {
     let served = run(&rt, rt.alloc(), "msi chart", SEATS).expect(&rt, "served");
     let text = str::from_utf8(served.output.as_slice()).expect(&rt, "a text");
     for step in ["by 1 ask 1 0 load", "by 2 request 0 0", "by 0 response 0 0"] {
-        assert!(rt; text.split_once(step).is_some(), "at {step}");
+        assert_eq!(rt; text.split_once(step).is_some(), true, "at {step}");
     }
 }
 
