@@ -21,7 +21,7 @@ VIOLATION = (
 RESULT = rb"((quiet|cut|stuck) \d+|broke \d+ " + VIOLATION + rb")"
 CELL = rb"cell (cache|directory) \S+ \S+ (blank|stall|act( \S+){1,9})"
 RECORDING = (
-    rb"msi-recording 2|protocol msi|shape \d+ \d+|seats \d+|opening( \d+)+|cells \d+|"
+    rb"msi-recording 2|protocol msi(\+e)?|shape \d+ \d+|seats \d+|opening( \d+)+|cells \d+|"
     + CELL
     + rb"|entries \d+|(by \d+ )?(ask|request|forward|response) [^=]+ = "
     + OUTCOME
@@ -113,14 +113,14 @@ def is_race(ended):
     return are_own and replay.startswith("same ") and ended.errors == lines(found or ["safe"])
 
 
-def tables_of(overrides):
+def tables_of(overrides, protocol):
     """The tables, or how they are refused."""
     if overrides is None:
-        return baseline(), None
-    fault = fault_of_overrides(overrides)
+        return baseline(protocol), None
+    fault = fault_of_overrides(overrides, protocol)
     if fault:
         return None, refused(f"tables refused {OVERRIDES.index(fault) + 1} {fault}")
-    return overridden(value_of(overrides)), None
+    return overridden(value_of(overrides), protocol), None
 
 
 def of_tables(tables):

@@ -5,7 +5,7 @@ import re
 
 from model.certificates import PROVED, certificate
 from model.making import random_overrides, random_scenario
-from model.tables import CACHE, DIRECTORY, STALL, baseline, overridden
+from model.tables import PROTOCOLS, STALL, baseline, overridden, sides_of
 from model.walks import gets_stuck
 
 SHAPE, TRIALS = (3, 1), 50
@@ -16,11 +16,12 @@ def written(entry):
     return entry if entry == STALL else {"next": entry.next, "do": list(entry.actions)}
 
 
-def admitted_overrides(dice):
+def admitted_overrides(dice, protocol):
     """Changes of which each is admitted: stalls, cells that are never met, proved ones."""
-    overrides, own = {"cache": {}, "directory": {}}, baseline()
+    overrides, own = {"cache": {}, "directory": {}}, baseline(protocol)
+    lines, homes = sides_of(protocol)
     for _ in range(dice.choice([1, 2, 3, 6, 12])):
-        name, side = dice.choice([("cache", CACHE)] * 2 + [("directory", DIRECTORY)])
+        name, side = dice.choice([lines] * 2 + [homes])
         place = dice.choice(side.states), dice.choice(side.events)
         if dice.random() < 0.4:
             name, event, state, entry = dice.choice(PROVED)
@@ -39,21 +40,24 @@ def admitted_overrides(dice):
 def fault_of_certified(runner, dice):
     """What is wrong with what is said of random tables: with trials under those that are said to be safe, or never to get
     stuck, or with a walk under others, if it finds nothing stuck."""
-    overrides = admitted_overrides(dice) if dice.random() < 0.9 else random_overrides(dice)
+    protocol = dice.choice(PROTOCOLS)
+    overrides = admitted_overrides(dice, protocol) if dice.random() < 0.9 else random_overrides(dice, protocol)
     runner.put(TABLES, json.dumps(overrides).encode())
-    certified = runner.run([b"certify", b"--tables", TABLES.encode()], b"")
-    status, wanted = certificate(overridden(overrides))
+    certified = runner.run([b"certify", b"--protocol", protocol.encode(), b"--tables", TABLES.encode()], b"")
+    tables = overridden(overrides, protocol)
+    status, wanted = certificate(tables)
     said = certified.out.decode().splitlines()
     if (certified.status, said) != (status, wanted):
-        return f"{json.dumps(overrides)} is answered by {said}, and has to be by {wanted}"
+        return f"{protocol}: {json.dumps(overrides)} is answered by {said}, and has to be by {wanted}"
     if status:
         return None
-    return fault_of_trials(runner, dice, overrides, said[1]) or fault_of_walk(overrides, said)
+    return fault_of_trials(runner, dice, protocol, overrides, said[1]) or fault_of_walk(tables, overrides, said)
 
 
-def fault_of_trials(runner, dice, overrides, said):
+def fault_of_trials(runner, dice, protocol, overrides, said):
     scenario = {"both": [random_scenario(dice, SHAPE, 4) for _ in range(3)]}
-    setup = f"batch --caches {SHAPE[0]} --blocks {SHAPE[1]} --tables {TABLES} --limit 200 --trials {TRIALS} --seed {dice.randrange(2**64)}"
+    setup = f"batch --caches {SHAPE[0]} --blocks {SHAPE[1]} --protocol {protocol} --tables {TABLES} --limit 200 --trials {TRIALS}"
+    setup += f" --seed {dice.randrange(2**64)}"
     ended = runner.run([word.encode() for word in setup.split()], json.dumps(scenario).encode())
     if ended.status:
         return f"{json.dumps(overrides)} is said to be safe; {json.dumps(scenario)} broke: {ended.out!r}"
@@ -62,8 +66,8 @@ def fault_of_trials(runner, dice, overrides, said):
     return None
 
 
-def fault_of_walk(overrides, said):
+def fault_of_walk(tables, overrides, said):
     """Where only stalls stand over acting cells, runs get stuck wherever it isn't proved that they don't."""
     if said[1] == "never stuck" or any(line.startswith("proved: ") for line in said):
         return None
-    return None if gets_stuck(overridden(overrides), SHAPE[0]) else f"{json.dumps(overrides)}: {said[1]}; a walk finds none stuck"
+    return None if gets_stuck(tables, SHAPE[0]) else f"{json.dumps(overrides)}: {said[1]}; a walk finds none stuck"

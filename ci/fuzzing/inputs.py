@@ -9,12 +9,12 @@ from fuzzing.certified import admitted_overrides
 from fuzzing.damage import damaged
 from model.making import random_ask, random_overrides, random_scenario, random_steps
 from model.recordings import first_text_of, text_of
-from model.tables import baseline, overridden
+from model.tables import PROTOCOLS, baseline, overridden
 from model.trials import tree_of, trial
 
 TABLES = b"overrides.json"
 WORDS = (
-    b"play trial batch replay move floor tables certify show chart --block --from --steps --caches --blocks --tables --seed --number --limit --trials --workers --seats --turns "
+    b"play trial batch replay move floor tables certify show chart --protocol msi msi+e mesi --block --from --steps --caches --blocks --tables --seed --number --limit --trials --workers --seats --turns "
     b"--progress --recording --help --version -h -V help -- - --caches=2 --blocks=1 --colour 0 1 2 3 64 65 4096 4097 65536 65537 1000000 1000001 "
     b"4294967295 4294967296 18446744073709551615 18446744073709551616 -1 +1 01 1.0 two overrides.json absent.json \xff \xe2\x80\x8b"
 ).split(b" ") + [b"", b" "]
@@ -35,11 +35,11 @@ def perhaps(dice, chance, text):
     return damaged(dice, text) if dice.random() < chance else text
 
 
-def overrides_for(dice, tables_wanted, chance):
+def overrides_for(dice, protocol, tables_wanted, chance):
     """Overrides and the tables that they make; valid ones but for damage."""
     if dice.random() > tables_wanted:
         return None
-    text = json.dumps(random_overrides(dice), indent=dice.choice([None, None, 1])).encode()
+    text = json.dumps(random_overrides(dice, protocol), indent=dice.choice([None, None, 1])).encode()
     return perhaps(dice, chance, text)
 
 
@@ -47,41 +47,48 @@ def shape_of(dice):
     return dice.randrange(1, 4), dice.choice([1, 1, 1, 2])
 
 
-def world_words(shape, overrides):
-    words = [b"--caches", b"%d" % shape[0], b"--blocks", b"%d" % shape[1]]
+def protocol_words(protocol):
+    return [] if protocol == "msi" else [b"--protocol", protocol.encode()]
+
+
+def world_words(shape, protocol, overrides):
+    words = [b"--caches", b"%d" % shape[0], b"--blocks", b"%d" % shape[1], *protocol_words(protocol)]
     return words + ([b"--tables", TABLES] if overrides is not None else [])
 
 
-def with_tables(overrides, answer):
+def with_tables(overrides, protocol, answer):
     """Answers by these tables, or as they are refused."""
 
     def answered():
-        tables, refused = answers.tables_of(overrides)
+        tables, refused = answers.tables_of(overrides, protocol)
         return refused or answer(tables)
 
     return answered
 
 
 def play(dice):
-    shape, overrides = shape_of(dice), overrides_for(dice, 0.3, 0.1)
-    steps = random_steps(dice, shape, baseline())
+    shape, protocol = shape_of(dice), dice.choice(PROTOCOLS)
+    overrides = overrides_for(dice, protocol, 0.3, 0.1)
+    steps = random_steps(dice, shape, baseline(protocol))
     text = perhaps(dice, 0.6, "".join(f"{step}\n" for step in steps).encode())
-    answer = with_tables(overrides, lambda tables: answers.of_play(shape, tables, text))
-    return Input("play", [b"play", *world_words(shape, overrides)], text, overrides, answer)
+    answer = with_tables(overrides, protocol, lambda tables: answers.of_play(shape, tables, text))
+    return Input("play", [b"play", *world_words(shape, protocol, overrides)], text, overrides, answer)
 
 
 def tables(dice):
-    overrides = overrides_for(dice, 1.0, 0.8)
-    answer = with_tables(overrides, answers.of_tables)
-    return Input("tables", [b"tables", b"--tables", TABLES], b"", overrides, answer)
+    protocol = dice.choice(PROTOCOLS)
+    overrides = overrides_for(dice, protocol, 1.0, 0.8)
+    answer = with_tables(overrides, protocol, answers.of_tables)
+    return Input("tables", [b"tables", *protocol_words(protocol), b"--tables", TABLES], b"", overrides, answer)
 
 
 def certify(dice):
-    overrides = overrides_for(dice, 1.0, 0.2)
+    protocol = dice.choice(PROTOCOLS)
+    overrides = overrides_for(dice, protocol, 1.0, 0.2)
     if dice.random() < 0.5:
-        overrides = perhaps(dice, 0.1, json.dumps(admitted_overrides(dice)).encode())
-    answer = with_tables(overrides, answers.of_certify)
-    return Input("certify", [b"certify", b"--tables", TABLES], b"", overrides, answer)
+        overrides = perhaps(dice, 0.1, json.dumps(admitted_overrides(dice, protocol)).encode())
+    answer = with_tables(overrides, protocol, answers.of_certify)
+    return Input("certify", [b"certify", *protocol_words(protocol), b"--tables", TABLES], b"", overrides, answer)
 
 
 def setup_of(dice, least):
@@ -94,11 +101,12 @@ def scenario_of(dice, shape, chance):
 
 
 def recording(dice):
-    shape, changed = shape_of(dice), overridden(random_overrides(dice) if dice.random() < 0.5 else {})
+    shape, protocol = shape_of(dice), dice.choice(PROTOCOLS)
+    changed = overridden(random_overrides(dice, protocol) if dice.random() < 0.5 else {}, protocol)
     tree = tree_of({"both": [random_scenario(dice, shape, 3) for _ in range(2)]})
     entries, _ = trial(shape, changed, tree, dice.randrange(2**64), 0, dice.choice([0, 3, 12]))
     recorded = shape, changed, [0] * shape[1], entries
-    if dice.random() < 0.4:
+    if protocol == "msi" and dice.random() < 0.4:
         return first_text_of(*recorded).encode()
     seats = dice.choice([0, 0, 1, 3, 64])
     return text_of(*recorded, seats, [dice.randrange(seats) for _ in entries if seats]).encode()
@@ -121,11 +129,12 @@ def shown(dice):
 
 
 def of_trials(dice, command, own, least, answer_of):
-    shape, overrides = shape_of(dice), overrides_for(dice, 0.3, 0.1)
+    shape, protocol = shape_of(dice), dice.choice(PROTOCOLS)
+    overrides = overrides_for(dice, protocol, 0.3, 0.1)
     text, setup = scenario_of(dice, shape, 0.6), setup_of(dice, least)
     words = [b"--seed", b"%d" % setup[0], own, b"%d" % setup[1], b"--limit", b"%d" % setup[2]]
-    answer = with_tables(overrides, lambda tables: answer_of(shape, tables, text, setup))
-    return Input(command, [command.encode(), *world_words(shape, overrides), *words], text, overrides, answer)
+    answer = with_tables(overrides, protocol, lambda tables: answer_of(shape, tables, text, setup))
+    return Input(command, [command.encode(), *world_words(shape, protocol, overrides), *words], text, overrides, answer)
 
 
 def one_trial(dice):
@@ -139,15 +148,16 @@ def batch(dice):
 
 
 def floor(dice):
-    shape, overrides = shape_of(dice), overrides_for(dice, 0.2, 0.1)
+    shape, protocol = shape_of(dice), dice.choice(PROTOCOLS)
+    overrides = overrides_for(dice, protocol, 0.2, 0.1)
     asks = "".join(f"{random_ask(dice, *shape)}\n" for _ in range(dice.randrange(9)))
     text = perhaps(dice, 0.5, asks.encode())
     own = [b"--seats", b"%d" % dice.randrange(1, 4), b"--turns", b"%d" % dice.randrange(12), b"--seed", b"%d" % dice.randrange(2**64)]
     if dice.random() < 0.5:
-        answer = with_tables(overrides, lambda tables: answers.of_floor(shape, text, overrides))
-        return Input("floor", [b"floor", *world_words(shape, overrides), *own], text, overrides, answer)
-    answer = with_tables(overrides, lambda tables: answers.of_recorded_floor(shape, text, overrides))
-    return Input(answers.RECORDED, [b"floor", b"--recording", *world_words(shape, overrides), *own], text, overrides, answer)
+        answer = with_tables(overrides, protocol, lambda tables: answers.of_floor(shape, text, overrides))
+        return Input("floor", [b"floor", *world_words(shape, protocol, overrides), *own], text, overrides, answer)
+    answer = with_tables(overrides, protocol, lambda tables: answers.of_recorded_floor(shape, text, overrides))
+    return Input(answers.RECORDED, [b"floor", b"--recording", *world_words(shape, protocol, overrides), *own], text, overrides, answer)
 
 
 def other_words(dice):

@@ -4,7 +4,7 @@ from pathlib import Path
 
 from model.machine import World
 from model.recordings import cell_lines
-from model.tables import CACHE, DIRECTORY, STALL, Act, baseline
+from model.tables import STALL, Act, baseline, sides_of
 from model.texts import step_of
 from model.trials import deliveries
 
@@ -15,13 +15,17 @@ PROVED += [
     ("directory", "PutS-Last", "S", Act(("remove-req", "put-ack"), "S")),
 ]
 ASKS = "Load Store Replacement".split()
-SETTLED = "I S M".split()
+SETTLED = "I S M E".split()
 HOME_WAITS = {"S^D": "PutS-NotLast PutS-Last PutM-NonOwner", "I": "PutS-Last", "M": "PutS-Last"}
 OPEN = "not proved"
 CACHES = 3
-# Cells, in order, each with the steps after which messages are on their way and all are held.
-SCHEDULES = [line.split(": ") for line in (Path(__file__).parent / "schedules.txt").read_text().splitlines()]
+# Files of cells of each protocol, in order, each with the steps after which messages are on their way and all are held.
+SCHEDULES = {"msi": "schedules.txt", "msi+e": "schedules-with-e.txt"}
 ADVICE = "That doesn't say unsafe: make trials, with msi batch."
+
+
+def schedules_of(protocol):
+    return [line.split(": ") for line in (Path(__file__).parent / SCHEDULES[protocol]).read_text().splitlines()]
 
 
 def reason_of(name, event, state, own, entry):
@@ -37,8 +41,8 @@ def reason_of(name, event, state, own, entry):
 
 def reasons(tables):
     """The reason and the line of each cell that isn't the protocol's own, in order."""
-    own, spelled = baseline(), cell_lines(tables)
-    for name, side in (("cache", CACHE), ("directory", DIRECTORY)):
+    own, spelled = baseline(tables.protocol), cell_lines(tables)
+    for name, side in sides_of(tables.protocol):
         for state in side.states:
             for event in side.events:
                 place = state, event
@@ -62,8 +66,8 @@ def may_wait(tables, name, state, event):
 
 def stalls(tables):
     """Each cell that holds a stall where the protocol's own one acts, in order, and its line."""
-    own, spelled = baseline(), cell_lines(tables)
-    for name, side in (("cache", CACHE), ("directory", DIRECTORY)):
+    own, spelled = baseline(tables.protocol), cell_lines(tables)
+    for name, side in sides_of(tables.protocol):
         for state in side.states:
             for event in side.events:
                 entry, line = getattr(own, name).get((state, event)), next(spelled)
@@ -84,8 +88,9 @@ def is_jammed(world):
 
 def jam_from(tables, place):
     """The first schedule, from that of a place on, that gets stuck under these tables, if one does."""
-    places = [place for place, _ in SCHEDULES]
-    for _, steps in SCHEDULES[places.index(place) :]:
+    schedules = schedules_of(tables.protocol)
+    places = [place for place, _ in schedules]
+    for _, steps in schedules[places.index(place) :]:
         if jams(tables, steps.split(", ")):
             return steps.split(", ")
     return None

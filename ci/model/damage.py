@@ -1,9 +1,9 @@
 """Random damage to texts."""
 
 WORDS = (
-    b"0 1 2 00 01 -1 +1 7 63 64 65 160 161 1024 1025 4096 4097 65536 65537 1000000 1000001 4294967295 4294967296 18446744073709551615 "
+    b"0 1 2 00 01 -1 +1 7 63 64 65 160 161 184 185 1024 1025 4096 4097 65536 65537 1000000 1000001 4294967295 4294967296 18446744073709551615 "
     b"18446744073709551616 = end ask request forward response load store replace sent moved held cell cache "
-    b"directory I S M IS^D Load Inv GetS blank stall act gets inv-ack entries cells opening shape x \xff "
+    b"directory I S M E IS^D Load Inv Data-Dir-Excl GetS blank stall act gets inv-ack data-excl entries cells opening shape x \xff "
     b"by seats protocol msi mesi msi+e msi-recording "
 ).split(b" ")
 

@@ -5,8 +5,9 @@ from typing import Optional
 
 from model.tables import STALL
 
-READERS = {"S", "SM^AD", "SM^A", "M"}
-WRITER = "M"
+READERS = {"S", "SM^AD", "SM^A", "M", "E"}
+WRITERS = {"M", "E"}
+MODIFIED = "M"
 HOME = "home"
 LEAST, MOST = -(2**63), 2**63 - 1
 
@@ -82,7 +83,7 @@ class Block:
     def send(self, message):
         if message.receiver is HOME and message.kind != "Data":
             self.requests.append(message)
-        elif message.kind in ("Data", "Inv-Ack"):
+        elif message.kind in ("Data", "Data-Excl", "Inv-Ack"):
             self.responses.append(message)
         else:
             self.links[message.receiver].append(message)
@@ -166,6 +167,8 @@ def event_at_line(line, message):
         return "Data-Dir-Zero" if within(line.acks + message.acks) == 0 else "Data-Dir-More"
     if message.kind == "Data":
         return "Data-Owner"
+    if message.kind == "Data-Excl":
+        return "Data-Dir-Excl"
     if message.kind == "Inv-Ack":
         return "Last-Inv-Ack" if line.acks == 1 else "Inv-Ack"
     return message.kind
@@ -185,6 +188,8 @@ def act_at_cache(block, decision):
         line.value = message.value
         if message.sender is HOME:
             line.acks = within(line.acks + message.acks)
+    if message and message.kind == "Data-Excl":
+        line.value = message.value
     if message and message.kind == "Inv-Ack":
         line.acks = within(line.acks - 1)
     for action in decision.cell.actions:
@@ -213,7 +218,7 @@ def act_at_home(block, decision):
     home, message = block.home, decision.message
     requestor = message.sender if message.kind != "Data" else None
     for action in decision.cell.actions:
-        if action in ("data-req", "data-acks", "inv-sharers", "fwd-gets", "fwd-getm", "put-ack"):
+        if action in ("data-req", "data-acks", "data-excl", "inv-sharers", "fwd-gets", "fwd-getm", "put-ack"):
             for message_sent in sent_by_home(action, home, requestor):
                 block.send(message_sent)
         else:
@@ -232,6 +237,8 @@ def sent_by_home(action, home, requestor):
     if action in ("fwd-gets", "fwd-getm"):
         kind = "Fwd-GetS" if action == "fwd-gets" else "Fwd-GetM"
         return [] if home.owner is None else [Message(kind, home.owner, HOME, requestor)]
+    if action == "data-excl":
+        return [Message("Data-Excl", requestor, HOME, value=home.memory)]
     acks = len(others) if action == "data-acks" else 0
     return [Message("Data", requestor, HOME, value=home.memory, acks=acks)]
 
@@ -262,7 +269,7 @@ def complete(block, cache, ask):
     done = None
     if wanted and wanted.kind == "load" and line.state in READERS:
         done = f"load {cache} {line.value}"
-    if wanted and wanted.kind == "store" and line.state == WRITER:
+    if wanted and wanted.kind == "store" and line.state == MODIFIED:
         line.value = block.latest = wanted.value
         done = f"store {cache} {wanted.value}"
     if done and not ask:
@@ -280,7 +287,7 @@ def violation(world, step, outcome, place, due):
         at = "directory" if place is None else f"cache {place}"
         return f"blank {at} block {step.block}"
     states = [line.state for line in world.blocks[step.block].lines]
-    writers = [cache for cache, state in enumerate(states) if state == WRITER]
+    writers = [cache for cache, state in enumerate(states) if state in WRITERS]
     if len(writers) > 1:
         return f"second writer {writers[0]} {writers[1]} block {step.block}"
     readers = [cache for cache, state in enumerate(states) if state in READERS and cache not in writers]

@@ -1,7 +1,7 @@
 """Random overrides, scenarios and steps."""
 
 from model.machine import Ask, Delivery, Watched
-from model.tables import CACHE, DIRECTORY, STALL, baseline
+from model.tables import STALL, baseline, sides_of
 from model.trials import deliveries
 
 
@@ -38,11 +38,12 @@ def random_entry(dice, side, own):
     return {"next": own.next if dice.random() < 0.5 else dice.choice(side.states), "do": actions}
 
 
-def random_overrides(dice):
-    tables, overrides, places = baseline(), {"cache": [], "directory": []}, set()
+def random_overrides(dice, protocol):
+    tables, overrides, places = baseline(protocol), {"cache": [], "directory": []}, set()
+    (_, lines), (_, homes) = sides_of(protocol)
     for _ in range(dice.choice([0, 1, 1, 1, 2, 3, 6, 12])):
         name, side, own = dice.choice(
-            [("cache", CACHE, tables.cache)] * 2 + [("directory", DIRECTORY, tables.directory)]
+            [("cache", lines, tables.cache)] * 2 + [("directory", homes, tables.directory)]
         )
         place = dice.choice(list(own))
         if dice.random() < 0.4:

@@ -4,14 +4,14 @@ import re
 import sys
 from dataclasses import dataclass
 
-from model.tables import CACHE, DIRECTORY, MOST_ACTIONS, STALL, Act, baseline
+from model.tables import MOST_ACTIONS, PROTOCOLS, SIDES, STALL, Act, baseline, sides_of
 
 # Numbers are of any size.
 sys.set_int_max_str_digits(0)
 
 KINDS = "BadHeader BadLine Truncated CountDiffers BadOutcome OverLimit NoMemory Device UnknownProtocol".split()
-HEADER_BYTES, MOST_CELLS, MOST_ENTRIES, MOST_SEATS = 90_000, 160, 1_000_000, 64
-PROTOCOLS = ["msi"]
+HEADER_BYTES, MOST_ENTRIES, MOST_SEATS = 90_000, 1_000_000, 64
+MOST_CELLS = {"msi": 160, "msi+e": 184}
 CACHE_NUMBER, WORD_NUMBER = 2**32, 2**64
 NUMBER = re.compile("0|[1-9][0-9]*", re.ASCII)
 BARE_OUTCOMES = "sent moved held absent idle blank broken".split()
@@ -92,6 +92,7 @@ def read_protocol(line):
         raise Refusal("BadLine")
     if names[0] not in PROTOCOLS:
         raise Refusal("UnknownProtocol")
+    return names[0]
 
 
 def read_shape(line, version):
@@ -108,17 +109,18 @@ def read_count(line, name, most):
     return count
 
 
-def read_cell(line, last):
+def read_cell(line, last, protocol):
     """The place of a cell's line, which has to be behind the last one's."""
     first, *words = line.split(" ")
-    name, side = ("cache", CACHE) if words[:1] == ["cache"] else ("directory", DIRECTORY)
+    name = "cache" if words[:1] == ["cache"] else "directory"
+    side = SIDES[protocol][name]
     if first != "cell" or len(words) < 4 or words[0] != name:
         raise Refusal("BadLine")
     state, event, *entry = words[1:]
     if state not in side.states or event not in side.events or not is_entry(entry, side):
         raise Refusal("BadLine")
     place = (name, side.states.index(state), side.events.index(event))
-    own = getattr(baseline(), name).get((state, event))
+    own = getattr(baseline(protocol), name).get((state, event))
     if place <= last or entry == spelled(own):
         raise Refusal("BadLine")
     return place
@@ -140,7 +142,7 @@ def spelled(cell):
 
 def cell_lines(tables):
     """The lines of all cells, in order."""
-    for name, side in (("cache", CACHE), ("directory", DIRECTORY)):
+    for name, side in sides_of(tables.protocol):
         for state in side.states:
             for event in side.events:
                 entry = spelled(getattr(tables, name).get((state, event)))
@@ -150,18 +152,18 @@ def cell_lines(tables):
 def text_of(shape, tables, opening, entries, seats=0, owners=()):
     """The text of a recording in version 2."""
     told = [f"by {owner} {entry}" for owner, entry in zip(owners, entries)] if seats else entries
-    head = [SECOND.header, "protocol msi", "shape {} {}".format(*shape), f"seats {seats}"]
+    head = [SECOND.header, f"protocol {tables.protocol}", "shape {} {}".format(*shape), f"seats {seats}"]
     return text_behind(head, tables, opening, told)
 
 
 def first_text_of(shape, tables, opening, entries):
-    """The text of a recording without seats in version 1."""
+    """The text of a recording of MSI without seats in version 1."""
     return text_behind([FIRST.header, "shape {} {}".format(*shape)], tables, opening, entries)
 
 
 def text_behind(head, tables, opening, told):
     """The lines of the head, and those that both versions have behind it."""
-    cells = [line for line, own in zip(cell_lines(tables), cell_lines(baseline())) if line != own]
+    cells = [line for line, own in zip(cell_lines(tables), cell_lines(baseline(tables.protocol))) if line != own]
     values = "".join(f" {value}" for value in opening)
     lines = [*head, f"opening{values}", f"cells {len(cells)}", *cells, f"entries {len(told)}", *told, "end"]
     return "".join(f"{line}\n" for line in lines)
@@ -207,24 +209,24 @@ def read_end(line, seats):
 
 
 def read_head(lines):
-    """How many blocks and seats the lines in front of the opening values tell of."""
+    """The protocol, and how many blocks and seats, that the lines in front of the opening values tell of."""
     version = VERSIONS.get(lines.next())
     if version is None:
         raise Refusal("BadHeader")
     lines.most_bytes = version.most_bytes
     if version is FIRST:
-        return read_shape(lines.next(), version), 0
-    read_protocol(lines.next())
-    return read_shape(lines.next(), version), read_count(lines.next(), "seats", MOST_SEATS)
+        return "msi", read_shape(lines.next(), version), 0
+    protocol = read_protocol(lines.next())
+    return protocol, read_shape(lines.next(), version), read_count(lines.next(), "seats", MOST_SEATS)
 
 
 def read_all(lines):
-    blocks, seats = read_head(lines)
+    protocol, blocks, seats = read_head(lines)
     if any(value >= WORD_NUMBER for value in numbers(lines.next(), "opening", blocks)):
         raise Refusal("BadLine")
     last = ("", 0, 0)
-    for _ in range(read_count(lines.next(), "cells", MOST_CELLS)):
-        last = read_cell(lines.next(), last)
+    for _ in range(read_count(lines.next(), "cells", MOST_CELLS[protocol])):
+        last = read_cell(lines.next(), last, protocol)
     for _ in range(read_count(lines.next(), "entries", MOST_ENTRIES)):
         read_entry(lines.next(), seats)
     read_end(lines.next(), seats)

@@ -1,6 +1,6 @@
 """Which fault in overrides or in a scenario is the first, as docs/FORMATS.md describes it."""
 
-from model.tables import CACHE, DIRECTORY, MOST_ACTIONS, STALL
+from model.tables import MOST_ACTIONS, STALL, sides_of
 from model.texts import CACHE_NUMBER, WORD_NUMBER, NotJson, is_whole, value_of
 
 OVERRIDES = "NotJson BadShape UnknownState UnknownEvent UnknownAction SameCellTwice".split()
@@ -9,8 +9,8 @@ MOST_LEVELS, MOST_ASKS = 48, 1_000_000
 ASKS = {"load": {"op", "core", "block"}, "replace": {"op", "core", "block"}, "store": {"op", "core", "block", "value"}}
 
 
-def fault_of_overrides(text):
-    """The name of the first fault in overrides, or `None`."""
+def fault_of_overrides(text, protocol):
+    """The name of the first fault in overrides for a protocol's tables, or `None`."""
     try:
         value = value_of(text)
     except NotJson:
@@ -19,7 +19,7 @@ def fault_of_overrides(text):
         return "BadShape"
     if not all(isinstance(cells, list) for cells in value.values()):
         return "BadShape"
-    for name, side in (("cache", CACHE), ("directory", DIRECTORY)):
+    for name, side in sides_of(protocol):
         places = set()
         for cell in value.get(name, []):
             fault = fault_of_cell(cell, side, places)

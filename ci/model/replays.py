@@ -8,9 +8,9 @@ from model.tables import STALL, Act, Tables, baseline
 from model.texts import step_of
 
 
-def tables_of(lines):
-    """The protocol's own tables with these cells in their places."""
-    tables = baseline()
+def tables_of(lines, protocol):
+    """A protocol's own tables with these cells in their places."""
+    tables = baseline(protocol)
     for line in lines:
         _, name, state, event, kind, *rest = line.split(" ")
         cells = getattr(tables, name)
@@ -38,8 +38,8 @@ def recording_of(text):
     lines = moved(text).decode().split("\n")
     numbers = [list(map(int, line.split(" ")[1:])) for line in lines[2:6]]
     shape, (seats,), opening, (cells,) = numbers
-    first = 6 + cells
-    return Recording(tuple(shape), seats, opening, tables_of(lines[6:first]), lines[first + 1 : -2])
+    first, protocol = 6 + cells, lines[1].split(" ")[1]
+    return Recording(tuple(shape), seats, opening, tables_of(lines[6:first], protocol), lines[first + 1 : -2])
 
 
 def replayed(text):

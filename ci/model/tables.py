@@ -37,6 +37,16 @@ DIRECTORY = Side(
     "remove-req clear-sharers clear-owner set-owner copy-data".split(),
 )
 
+# The names of each protocol. What MSI+E adds stands last.
+SIDES = {
+    "msi": {"cache": CACHE, "directory": DIRECTORY},
+    "msi+e": {
+        "cache": Side([*CACHE.states, "E"], [*CACHE.events, "Data-Dir-Excl"], CACHE.actions),
+        "directory": Side(DIRECTORY.states, DIRECTORY.events, [*DIRECTORY.actions, "data-excl"]),
+    },
+}
+PROTOCOLS = list(SIDES)
+
 # Per line: states | events | actions / next, or stall. `=` is the state itself.
 CACHE_ROWS = """
 I | Load | gets / IS^D
@@ -83,6 +93,21 @@ S^D | PutS-NotLast PutS-Last PutM-NonOwner | remove-req put-ack / S^D
 S^D | Data | copy-data / S
 """
 
+# The cells of MSI+E that aren't those of MSI.
+CACHE_ROWS_WITH_E = """
+IS^D | Fwd-GetS Fwd-GetM | stall
+IS^D | Data-Dir-Excl | / E
+E | Load | / E
+E | Store | / M
+E | Replacement | putm / MI^A
+E | Fwd-GetS | data-req data-dir / S
+E | Fwd-GetM | data-req / I
+"""
+
+DIRECTORY_ROWS_WITH_E = """
+I | GetS | data-excl set-owner / M
+"""
+
 
 def table(rows):
     """The cells of these rows, by state and event."""
@@ -108,17 +133,27 @@ def cell(entry, state):
 class Tables:
     cache: dict
     directory: dict
+    protocol: str
 
 
-def baseline():
+def baseline(protocol):
     cache, directory = table(CACHE_ROWS), table(DIRECTORY_ROWS)
     assert (len(cache), len(directory)) == (64, 22)
-    return Tables(cache, directory)
+    if protocol == "msi+e":
+        cache.update(table(CACHE_ROWS_WITH_E))
+        directory.update(table(DIRECTORY_ROWS_WITH_E))
+        assert (len(cache), len(directory)) == (72, 22)
+    return Tables(cache, directory, protocol)
 
 
-def overridden(overrides):
-    """The baseline with the cells of overrides in JSON laid over it."""
-    tables = baseline()
+def sides_of(protocol):
+    """The name of each side of a protocol, with its names."""
+    return SIDES[protocol].items()
+
+
+def overridden(overrides, protocol):
+    """A protocol's baseline with the cells of overrides in JSON laid over it."""
+    tables = baseline(protocol)
     for name, cells in (("cache", tables.cache), ("directory", tables.directory)):
         for change in overrides.get(name, []):
             place, entry = (change["state"], change["event"]), change["entry"]

@@ -1,4 +1,5 @@
-use Rattle.std.specs.Prelude.{◌≡◌, ◌≢◌, ℕ, ◌<◌, ◌^◌, ⊤, Bool, ◌&&◌, leb, ltb, List, [], ◌∷◌, ◌++◌, Option, codes, ◌==◌, length}
+use Rattle.std.specs.Prelude.{◌≡◌, ◌≢◌, ℕ, ◌<◌, ◌^◌, ⊤, Bool, ◌&&◌, leb, ltb, List, [], ◌∷◌, ◌++◌, Option, Some, None, codes, ◌==◌, length}
+use Rattle.std.specs.Prelude.{if◌then◌else◌, option_and_then}
 use Rattle.std.specs.List.{find, flat_map, list_all, slice_split}
 use Rattle.std.specs.Str.{bytes_eq}
 use Rattle.std.specs.Fmt.{decimal}
@@ -27,6 +28,14 @@ joined (word ∷ words) = word ++ spaced words
 -- the first of these things that is spelled so, if there is one
 abbrev pub named_in : {X : Type 0} → (X → List ℕ) → List X → List ℕ → Option X
 named_in spelling all text = find (λ x. bytes_eq (spelling x) text) all
+
+-- this thing, if it is one of those that are meant
+abbrev pub only_if : {X : Type 0} → (X → Bool) → X → Option X
+only_if meant x = if meant x then Some x else None
+
+-- the first of these things that is spelled so, if it is one of those that are meant
+abbrev pub named_of : {X : Type 0} → (X → Bool) → (X → List ℕ) → List X → List ℕ → Option X
+named_of meant spelling all text = option_and_then (only_if meant) (named_in spelling all text)
 
 -- whether a text may be a name: at most 13 bytes, each of which stands behind the blank
 abbrev pub is_name : List ℕ → Bool

@@ -8,6 +8,6 @@ mod spelling;
 
 pub use actions::{Actions, MOST_ACTIONS};
 pub use entry::{Change, Entry, Side, last_change_holds};
-pub use listed::{Listed, named};
+pub use listed::{Listed, named, named_of};
 pub use protocol::{Protocol, a_name_is_of_one_protocol};
 pub use spelling::spells_one_change;

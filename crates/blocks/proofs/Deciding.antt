@@ -11,7 +11,7 @@ use Rattle.network.specs.declared.message.Forward.{Forward}
 use Rattle.network.specs.declared.message.ForwardKind.{ForwardKind}
 use Rattle.network.specs.declared.message.ForwardKind.TheVariants as forward
 use Rattle.network.specs.declared.message.Response.{Response}
-use Rattle.network.specs.declared.message.Response.TheVariants.{Data, InvAck}
+use Rattle.network.specs.declared.message.Response.TheVariants.{Data, InvAck, DataExcl}
 use Rattle.network.specs.Traffic.{link}
 use Rattle.cache_table.specs.Table.{CacheEntry}
 use Rattle.cache_table.specs.declared.state.CacheState.{CacheState}
@@ -121,6 +121,10 @@ response-names lines tables index (Some (Data from (Cache to) value acks)) b e n
 response-names lines tables index (Some (InvAck from to)) b e n =
     let kept : IsKept lines to.0 = Each-get (NamesReceiver lines) b.traffic.responses index (InvAck from to) n.responses e in
     line-names lines tables.cache to (line_input.Response (InvAck from to)) (origin.Response index) (slice_get b.lines to.0) tt
+    (λ line s next actions w. kept)
+response-names lines tables index (Some (DataExcl to value)) b e n =
+    let kept : IsKept lines to.0 = Each-get (NamesReceiver lines) b.traffic.responses index (DataExcl to value) n.responses e in
+    line-names lines tables.cache to (line_input.Response (DataExcl to value)) (origin.Response index) (slice_get b.lines to.0) tt
     (λ line s next actions w. kept)
 
 -- a step answers whom its block names

@@ -11,7 +11,7 @@ use Rattle.base.specs.declared.ids.Place.TheVariants.{Dir, Cache}
 use Rattle.network.specs.declared.message.Request.{Request}
 use Rattle.network.specs.declared.message.Forward.{Forward}
 use Rattle.network.specs.declared.message.Response.{Response}
-use Rattle.network.specs.declared.message.Response.TheVariants.{Data, InvAck}
+use Rattle.network.specs.declared.message.Response.TheVariants.{Data, InvAck, DataExcl}
 use Rattle.network.specs.Marks.{Marks, link_marks, mark_at, request_mark_added, response_mark_added, request_marked, response_marked}
 use Rattle.network.specs.Marks.{forward_mark_added, forward_marked, request_mark_taken, head_mark_taken, response_mark_taken}
 use Rattle.network.specs.Traffic.{link, request_sent, forward_sent, response_sent, request_taken, head_taken, response_taken}
@@ -89,6 +89,7 @@ links-other cells lines cache line other fs apart =
 abbrev pub receiver : Response → Place
 receiver (Data from to value acks) = to
 receiver (InvAck from to) = Cache to
+receiver (DataExcl to value) = Cache to
 
 -- a response is marked as before where the home, if it's for that, or its receiver's line is as it was
 pub response-kept : (tables : Tables) (old new : BlockState) (r : Response) → (receiver r ≡ Dir → new.home ≡ old.home) →
@@ -100,6 +101,8 @@ response-kept tables old new (Data from (Cache to) value acks) home lines =
     ap (λ o. line_stalls tables.cache o (line_input.Response (Data from (Cache to) value acks))) (lines to refl)
 response-kept tables old new (InvAck from to) home lines =
     ap (λ o. line_stalls tables.cache o (line_input.Response (InvAck from to))) (lines to refl)
+response-kept tables old new (DataExcl to value) home lines =
+    ap (λ o. line_stalls tables.cache o (line_input.Response (DataExcl to value))) (lines to refl)
 
 -- ---- messages are taken
 

@@ -9,7 +9,7 @@ use Rattle.base.specs.declared.ids.Place.TheVariants.{Dir, Cache}
 use Rattle.network.specs.declared.message.ForwardKind.{ForwardKind}
 use Rattle.network.specs.declared.message.ForwardKind.TheVariants as forward
 use Rattle.network.specs.declared.message.Response.{Response}
-use Rattle.network.specs.declared.message.Response.TheVariants.{Data, InvAck}
+use Rattle.network.specs.declared.message.Response.TheVariants.{Data, InvAck, DataExcl}
 use Rattle.network.specs.declared.message.Message.{Message}
 use Rattle.network.specs.declared.message.Message.TheVariants as message
 use Rattle.network.specs.Traffic.{Traffic, link, sent, all_sent}
@@ -68,6 +68,7 @@ receiver-more : (old new : List Bool) (r : Response) → KeepsMore old new → N
 receiver-more old new (Data from Dir value acks) more h = tt
 receiver-more old new (Data from (Cache to) value acks) more h = more to.0 h
 receiver-more old new (InvAck from to) more h = more to.0 h
+receiver-more old new (DataExcl to value) more h = more to.0 h
 
 pub home-more : (old new : List Bool) (home : Home) → KeepsMore old new → HomeNames old home → HomeNames new home
 home-more old new home more h = record {
@@ -188,6 +189,7 @@ home_message-names : (lines : List Bool) (from : Option CacheId) (a : DirectoryA
     Each (Names lines) (home_message from a home)
 home_message-names lines None a home g h = tt
 home_message-names lines (Some to) action.DataReq home g h = (g, tt)
+home_message-names lines (Some to) action.DataExcl home g h = (g, tt)
 home_message-names lines (Some to) action.DataAcks home g h = (g, tt)
 home_message-names lines (Some to) action.InvSharers home g h =
     invalidations-names lines to 0 home.sharers g (λ k e. subst (IsKept lines) (omega arith) (h.sharers k e))
@@ -243,7 +245,9 @@ changed-names lines (Some c) (Some v) action.CopyData home g h = record { owner 
 changed-names lines None None action.CopyData home g h = h
 changed-names lines (Some c) None action.CopyData home g h = h
 changed-names lines None value action.DataReq home g h = h
+changed-names lines None value action.DataExcl home g h = h
 changed-names lines (Some c) value action.DataReq home g h = h
+changed-names lines (Some c) value action.DataExcl home g h = h
 changed-names lines None value action.DataAcks home g h = h
 changed-names lines (Some c) value action.DataAcks home g h = h
 changed-names lines None value action.InvSharers home g h = h

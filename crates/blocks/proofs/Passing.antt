@@ -9,7 +9,7 @@ use Rattle.base.specs.declared.controller.entry.Entry.TheVariants as table_entry
 use Rattle.network.specs.Marks.{unset}
 use Rattle.network.specs.Traffic.{link}
 use Rattle.network.specs.declared.message.Request.{Request}
-use Rattle.network.specs.declared.message.Response.TheVariants.{Data, InvAck}
+use Rattle.network.specs.declared.message.Response.TheVariants.{Data, InvAck, DataExcl}
 use Rattle.cache_table.specs.Table as cache_table
 use Rattle.directory_table.specs.Table as directory_table
 use Rattle.control.specs.Events.{event_at_home, event_at_line}
@@ -113,6 +113,8 @@ answer-place tables index b (Some (Data from (Cache to) value acks)) acting =
     line-place tables.cache to (line_input.Response (Data from (Cache to) value acks)) (origin.Response index) (slice_get b.lines to.0) acting
 answer-place tables index b (Some (InvAck from to)) acting =
     line-place tables.cache to (line_input.Response (InvAck from to)) (origin.Response index) (slice_get b.lines to.0) acting
+answer-place tables index b (Some (DataExcl to value)) acting =
+    line-place tables.cache to (line_input.Response (DataExcl to value)) (origin.Response index) (slice_get b.lines to.0) acting
 
 pub acts-at : (tables : Tables) (s : Step) (b : BlockState) → acts (decision_of tables s b) ≡ true → decided_place (decision_of tables s b) ≡ place_in s b
 acts-at tables (step.Ask cache block a) b acting = ask-place tables.cache cache a (slice_get b.lines cache.0) acting

@@ -13,7 +13,7 @@ use Rattle.base.specs.declared.controller.entry.Entry.TheVariants as table_entry
 use Rattle.network.specs.declared.message.Request.{Request}
 use Rattle.network.specs.declared.message.Forward.{Forward}
 use Rattle.network.specs.declared.message.Response.{Response}
-use Rattle.network.specs.declared.message.Response.TheVariants.{Data, InvAck}
+use Rattle.network.specs.declared.message.Response.TheVariants.{Data, InvAck, DataExcl}
 use Rattle.network.specs.Traffic.{link}
 use Rattle.cache_table.specs.Table as cache_table
 use Rattle.cache_table.specs.Table.{CacheEntry}
@@ -83,6 +83,8 @@ response-acts tables i b (Some (Data from (Cache to) value acks)) =
     found-acts tables.cache to (line_input.Response (Data from (Cache to) value acks)) (origin.Response i) (slice_get b.lines to.0) b.lines refl
 response-acts tables i b (Some (InvAck from to)) =
     found-acts tables.cache to (line_input.Response (InvAck from to)) (origin.Response i) (slice_get b.lines to.0) b.lines refl
+response-acts tables i b (Some (DataExcl to value)) =
+    found-acts tables.cache to (line_input.Response (DataExcl to value)) (origin.Response i) (slice_get b.lines to.0) b.lines refl
 
 acts-there : (tables : Tables) (s : Step) (b : BlockState) → ActsThere (decision_of tables s b) b.lines
 acts-there tables (step.Ask cache block a) b = ask-acts tables.cache cache a (slice_get b.lines cache.0) b.lines refl

@@ -12,7 +12,7 @@ use Rattle.base.specs.declared.step.Outcome.TheVariants.{Held}
 use Rattle.network.specs.declared.message.Request.{Request}
 use Rattle.network.specs.declared.message.Forward.{Forward}
 use Rattle.network.specs.declared.message.Response.{Response}
-use Rattle.network.specs.declared.message.Response.TheVariants.{Data, InvAck}
+use Rattle.network.specs.declared.message.Response.TheVariants.{Data, InvAck, DataExcl}
 use Rattle.network.specs.declared.message.Message.{Message}
 use Rattle.network.specs.declared.message.Message.TheVariants as message
 use Rattle.network.specs.Traffic.{Traffic, link}
@@ -48,6 +48,7 @@ response_place lines None = None
 response_place lines (Some (Data from Dir value acks)) = Some Dir
 response_place lines (Some (Data from (Cache to) value acks)) = cache_place to (slice_get lines to.0)
 response_place lines (Some (InvAck from to)) = cache_place to (slice_get lines to.0)
+response_place lines (Some (DataExcl to value)) = cache_place to (slice_get lines to.0)
 
 -- the controller that a step goes to in its block, if cache and message are there
 abbrev pub place_in : Step → BlockState → Option Place

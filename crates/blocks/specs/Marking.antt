@@ -6,7 +6,7 @@ use Rattle.base.specs.declared.controller.entry.Entry.TheVariants as table_entry
 use Rattle.base.specs.declared.ids.Place.TheVariants.{Dir, Cache}
 use Rattle.network.specs.declared.message.Forward.{Forward}
 use Rattle.network.specs.declared.message.Response.{Response}
-use Rattle.network.specs.declared.message.Response.TheVariants.{Data, InvAck}
+use Rattle.network.specs.declared.message.Response.TheVariants.{Data, InvAck, DataExcl}
 use Rattle.network.specs.Marks.{Marks}
 use Rattle.cache_table.specs.Table as cache_table
 use Rattle.directory_table.specs.Table as directory_table
@@ -47,6 +47,7 @@ response_stalls tables b (Data from Dir value acks) = home_stalls tables.directo
 response_stalls tables b (Data from (Cache to) value acks) =
     line_stalls tables.cache (slice_get b.lines to.0) (line_input.Response (Data from (Cache to) value acks))
 response_stalls tables b (InvAck from to) = line_stalls tables.cache (slice_get b.lines to.0) (line_input.Response (InvAck from to))
+response_stalls tables b (DataExcl to value) = line_stalls tables.cache (slice_get b.lines to.0) (line_input.Response (DataExcl to value))
 
 -- the marks of what is on the link to a cache, which is all for that cache's line
 abbrev pub link_stalls : cache_table.Cells → List Line → ℕ → List Forward → List Bool

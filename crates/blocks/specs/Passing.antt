@@ -22,6 +22,7 @@ pub record RowPasses (tables : Tables) (state : CacheState) : Type 0 where
   pub data_owner : is_stall (cache_table.cell tables.cache state event.DataOwner) ≡ false
   pub inv_ack : is_stall (cache_table.cell tables.cache state event.InvAck) ≡ false
   pub last_inv_ack : is_stall (cache_table.cell tables.cache state event.LastInvAck) ≡ false
+  pub data_dir_excl : is_stall (cache_table.cell tables.cache state event.DataDirExcl) ≡ false
 
 -- whatever the lines and the home of a block are, no response is held there
 abbrev pub ResponsesPass : Tables → Type 0

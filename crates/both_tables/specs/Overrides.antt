@@ -6,6 +6,7 @@ use Rattle.serde_json.specs.Data.{Data, Items, no_items, item}
 use Rattle.serde_json.specs.Find.{as_str}
 use Rattle.serde_json.specs.Read.{read}
 use Rattle.base.specs.Cells.{is_of}
+use Rattle.base.specs.declared.controller.protocol.Protocol.{Protocol}
 use Rattle.base.specs.declared.controller.entry.Change.{Change}
 use Rattle.base.specs.declared.controller.entry.Entry.{Entry}
 use Rattle.base.specs.declared.controller.entry.Entry.TheVariants.{Blank, Stall, Act}
@@ -83,31 +84,35 @@ changes_of state_named event_named action_named row column ds =
     changes_after (change_of state_named event_named action_named) (is_same_cell row column) [] ds
 
 -- the changes of the cache's cells
-abbrev pub cache_changes : Items → Result (List CacheChange) TablesFault
-cache_changes ds = changes_of cache.state_named cache.event_named cache.action_named cache_table.state_number cache_table.event_number ds
+abbrev pub cache_changes : Protocol → Items → Result (List CacheChange) TablesFault
+cache_changes protocol ds =
+    changes_of (cache.state_named_of protocol) (cache.event_named_of protocol) (cache.action_named_of protocol)
+    cache_table.state_number cache_table.event_number ds
 
 -- the changes of the directory's cells
-abbrev pub directory_changes : Items → Result (List DirectoryChange) TablesFault
-directory_changes ds =
-    changes_of directory.state_named directory.event_named directory.action_named directory_table.state_number directory_table.event_number ds
+abbrev pub directory_changes : Protocol → Items → Result (List DirectoryChange) TablesFault
+directory_changes protocol ds =
+    changes_of (directory.state_named_of protocol) (directory.event_named_of protocol) (directory.action_named_of protocol)
+    directory_table.state_number directory_table.event_number ds
 
--- the baseline with overrides laid over it: the cache's cells are read before the directory's
-abbrev pub overridden : Data → Result Tables TablesFault
-overridden d =
+-- a protocol's own tables with overrides laid over them: the cache's cells are read before the directory's
+abbrev pub overridden : Protocol → Data → Result Tables TablesFault
+overridden protocol d =
     needed BadShape (written_sides d) (λ sides.
-    unless_fault (cache_changes sides.cache) (λ of_cache.
-    unless_fault (directory_changes sides.directory) (λ of_directory.
+    unless_fault (cache_changes protocol sides.cache) (λ of_cache.
+    unless_fault (directory_changes protocol sides.directory) (λ of_directory.
     Ok (record {
-      cache = cache_table.laid_over of_cache cache_baseline.baseline_cells;
-      directory = directory_table.laid_over of_directory directory_baseline.baseline_cells;
+      protocol = protocol;
+      cache = (cache_table.laid_over of_cache (record { protocol = protocol; cells = cache_baseline.baseline_cells protocol })).cells;
+      directory = (directory_table.laid_over of_directory (record { protocol = protocol; cells = directory_baseline.baseline_cells protocol })).cells;
     }))))
 
 -- these bytes are JSON, and this is what they say
 abbrev pub IsJson : List ℕ → Data → Type 0
 IsJson bytes d = IsUtf8 bytes × (read bytes ≡ Some d)
 
--- the answer to bytes is the overridden tables, or the first fault, where memory doesn't run out
-abbrev pub AnswersOverrides : List ℕ → Result Tables TablesFault → Type 0
-AnswersOverrides bytes (Err NoMemory) = Unit {0}
-AnswersOverrides bytes (Err NotJson) = (d : Data) → ¬ IsJson bytes d
-AnswersOverrides bytes answer = (d : Data) × IsJson bytes d × (overridden d ≡ answer)
+-- the answer to bytes is the overridden tables of a protocol, or the first fault, where memory doesn't run out
+abbrev pub AnswersOverrides : Protocol → List ℕ → Result Tables TablesFault → Type 0
+AnswersOverrides protocol bytes (Err NoMemory) = Unit {0}
+AnswersOverrides protocol bytes (Err NotJson) = (d : Data) → ¬ IsJson bytes d
+AnswersOverrides protocol bytes answer = (d : Data) × IsJson bytes d × (overridden protocol d ≡ answer)

@@ -1,9 +1,13 @@
 ghost use Rattle.std.specs.Prelude.{◌≡◌, IsErrOf};
 ghost use Rattle.serde_json.specs.View.{view};
+ghost use Rattle.base.specs.declared.controller.protocol.Protocol.TheVariants as Protocol;
 ghost use Rattle.both_tables.specs.Overrides.{AnswersOverrides, overridden};
 ghost use Rattle.both_tables.specs.inner.Seen.{Gives};
 
 use crate::tables::Tables;
+use base::controller::Protocol;
+use cache_table::CacheTable;
+use directory_table::DirectoryTable;
 use serde_json::Value;
 use std::alloc::{AllocFailed, Global};
 use std::{error, fmt};
@@ -70,12 +74,23 @@ impl<T: Drop> From<AllocFailed<T>> for TablesFault {
 }
 
 impl Tables {
-    /// The baseline with the cells of these overrides in place of its own.
+    /// The own tables of MSI with the cells of these overrides in place of their own.
     pub fn from_json(alloc: Global, bytes: &[u8]) -> Result<Tables, TablesFault>
-        ensures { AnswersOverrides bytes.now result }
+        ensures { AnswersOverrides Protocol.Msi bytes.now result }
+    {
+        Tables::from_json_of(alloc, Protocol::Msi, bytes)
+    }
+
+    /// A protocol's own tables with the cells of these overrides in place of their own.
+    pub fn from_json_of(
+        alloc: Global,
+        protocol: Protocol,
+        bytes: &[u8],
+    ) -> Result<Tables, TablesFault>
+        ensures { AnswersOverrides protocol bytes.now result }
     {
         match Value::from_slice(alloc, bytes) {
-            Ok(value) => overridden(alloc, &value),
+            Ok(value) => overridden(alloc, protocol, &value),
             Err(error) => {
                 if error.is_memory() {
                     Err(TablesFault::NoMemory)
@@ -87,18 +102,17 @@ impl Tables {
     }
 }
 
-fn overridden(alloc: Global, value: &Value) -> Result<Tables, TablesFault>
-    ensures gives { Gives (λ t. t) result (overridden (view value.now)) }
+fn overridden(alloc: Global, protocol: Protocol, value: &Value) -> Result<Tables, TablesFault>
+    ensures gives { Gives (λ t. t) result (overridden protocol (view value.now)) }
     ensures json { IsErrOf result TablesFault.NotJson → ⊥ }
 {
     let Some(sides) = written_sides(value) else {
         return Err(TablesFault::BadShape);
     };
-    let of_cache = changes(alloc, sides.cache)?;
-    let of_directory = changes(alloc, sides.directory)?;
-    let baseline = Tables::baseline();
+    let of_cache = changes(alloc, protocol, sides.cache)?;
+    let of_directory = changes(alloc, protocol, sides.directory)?;
     Ok(Tables {
-        cache: baseline.cache.with_changes(of_cache.as_slice()),
-        directory: baseline.directory.with_changes(of_directory.as_slice()),
+        cache: CacheTable::baseline_of(protocol).with_changes(of_cache.as_slice()),
+        directory: DirectoryTable::baseline_of(protocol).with_changes(of_directory.as_slice()),
     })
 }

@@ -1,1 +1,3 @@
 pub mod BaselineCells
+pub mod Keeping
+mod LaidOver

@@ -1,5 +1,7 @@
 use Rattle.std.specs.Prelude.{ℕ, List, [], ◌∷◌, Option, codes}
-use Rattle.base.specs.Spelling.{named_in}
+use Rattle.base.specs.Spelling.{named_in, named_of}
+use Rattle.base.specs.declared.controller.protocol.Protocol.{Protocol}
+use Rattle.cache_table.specs.Table.{has_state, has_event, has_action}
 use Rattle.cache_table.specs.Baseline.{all_states, all_events}
 use Rattle.cache_table.specs.declared.state.CacheState.{CacheState}
 use Rattle.cache_table.specs.declared.state.CacheState.TheVariants as state
@@ -21,6 +23,7 @@ state_name state.M = codes "M"
 state_name state.MiA = codes "MI^A"
 state_name state.SiA = codes "SI^A"
 state_name state.IiA = codes "II^A"
+state_name state.E = codes "E"
 
 -- the state that stands first
 abbrev pub first_state : CacheState
@@ -29,6 +32,10 @@ first_state = state.I
 -- the state that is spelled so, if there is one
 abbrev pub state_named : List ℕ → Option CacheState
 state_named text = named_in state_name all_states text
+
+-- the same, if a protocol has it
+abbrev pub state_named_of : Protocol → List ℕ → Option CacheState
+state_named_of protocol text = named_of (has_state protocol) state_name all_states text
 
 -- how an event is spelled
 abbrev pub event_name : CacheEvent → List ℕ
@@ -44,6 +51,7 @@ event_name event.DataDirMore = codes "Data-Dir-More"
 event_name event.DataOwner = codes "Data-Owner"
 event_name event.InvAck = codes "Inv-Ack"
 event_name event.LastInvAck = codes "Last-Inv-Ack"
+event_name event.DataDirExcl = codes "Data-Dir-Excl"
 
 -- the event that stands first
 abbrev pub first_event : CacheEvent
@@ -52,6 +60,10 @@ first_event = event.Load
 -- the event that is spelled so, if there is one
 abbrev pub event_named : List ℕ → Option CacheEvent
 event_named text = named_in event_name all_events text
+
+-- the same, if a protocol has it
+abbrev pub event_named_of : Protocol → List ℕ → Option CacheEvent
+event_named_of protocol text = named_of (has_event protocol) event_name all_events text
 
 -- how an action is spelled
 abbrev pub action_name : CacheAction → List ℕ
@@ -86,3 +98,7 @@ first_action = action.GetS
 -- the action that is spelled so, if there is one
 abbrev pub action_named : List ℕ → Option CacheAction
 action_named text = named_in action_name all_actions text
+
+-- the same, if a protocol has it
+abbrev pub action_named_of : Protocol → List ℕ → Option CacheAction
+action_named_of protocol text = named_of (has_action protocol) action_name all_actions text

@@ -1,4 +1,4 @@
-use base::controller::Listed;
+use base::controller::{Listed, Protocol};
 
 /// One thing that a cache's controller does in a cell (Primer, section 8.2).
 ///
@@ -37,6 +37,7 @@ impl CacheAction {
 
 impl Listed for CacheAction {
     ghost use Rattle.cache_table.specs.Names.{action_name, action_number, all_actions, first_action};
+    ghost use Rattle.cache_table.specs.Table.{has_action};
     ghost use Rattle.cache_table.specs.inner.Standing.{action_found, action_plain, action_stands};
 
     ghost spelling = { action_name };
@@ -46,6 +47,8 @@ impl Listed for CacheAction {
     ghost kind = { all_actions };
 
     ghost head = { first_action };
+
+    ghost has = { has_action };
 
     fn name(self) -> &'static str {
         match self {
@@ -69,6 +72,10 @@ impl Listed for CacheAction {
 
     fn first() -> CacheAction {
         CacheAction::GetS
+    }
+
+    fn is_in(self, _protocol: Protocol) -> bool {
+        true
     }
 
     ghost stands = { action_stands };

@@ -1,18 +1,20 @@
 ghost use Rattle.std.specs.Prelude.{◌≡◌};
+ghost use Rattle.base.specs.declared.controller.protocol.Protocol.TheVariants.{Msi};
 ghost use Rattle.cache_table.specs.Baseline.{baseline_cells, baseline_row};
 
 use crate::actions::CacheAction::{DataDir, DataReq, GetM, GetS, InvAck, PutM, PutS};
-use crate::state::CacheState::{self, I, IiA, ImA, ImAd, IsD, M, MiA, S, SiA, SmA, SmAd};
+use crate::state::CacheState::{self, E, I, IiA, ImA, ImAd, IsD, M, MiA, S, SiA, SmA, SmAd};
 use crate::table::CacheEntry;
 use base::controller::Entry::{Blank, Stall};
+use base::controller::Protocol;
 
-/// The rows of the baseline (after Primer, section 8.2), each with its cells in the order of the events.
-pub(crate) fn baseline_rows() -> [[CacheEntry; 12]; 11]
-    ensures { result ≡ baseline_cells }
+/// The rows of a protocol's baseline (after Primer, section 8.2), each with its cells in the order of the events.
+pub(crate) fn baseline_rows(protocol: Protocol) -> [[CacheEntry; 13]; 12]
+    ensures { result ≡ baseline_cells protocol }
 {
     [
         i_row(),
-        is_d_row(),
+        is_d_row(protocol),
         im_ad_row(),
         im_a_row(),
         s_row(),
@@ -22,11 +24,12 @@ pub(crate) fn baseline_rows() -> [[CacheEntry; 12]; 11]
         mi_a_row(),
         si_a_row(),
         ii_a_row(),
+        e_row(protocol),
     ]
 }
 
-fn i_row() -> [CacheEntry; 12]
-    ensures { result ≡ baseline_row CacheState.I }
+fn i_row() -> [CacheEntry; 13]
+    ensures { result ≡ baseline_row Msi CacheState.I }
 {
     [
         CacheEntry::one(GetS, IsD), // I, Load
@@ -41,30 +44,49 @@ fn i_row() -> [CacheEntry; 12]
         Blank, // I, Data-Owner
         Blank, // I, Inv-Ack
         Blank, // I, Last-Inv-Ack
+        Blank, // I, Data-Dir-Excl
     ]
 }
 
-fn is_d_row() -> [CacheEntry; 12]
-    ensures { result ≡ baseline_row CacheState.IsD }
+fn is_d_row(protocol: Protocol) -> [CacheEntry; 13]
+    ensures { result ≡ baseline_row protocol CacheState.IsD }
 {
-    [
-        Stall, // IS^D, Load
-        Stall, // IS^D, Store
-        Stall, // IS^D, Replacement
-        Blank, // IS^D, Fwd-GetS
-        Blank, // IS^D, Fwd-GetM
-        Stall, // IS^D, Inv
-        Blank, // IS^D, Put-Ack
-        CacheEntry::quiet(S), // IS^D, Data-Dir-Zero
-        Blank, // IS^D, Data-Dir-More
-        CacheEntry::quiet(S), // IS^D, Data-Owner
-        Blank, // IS^D, Inv-Ack
-        Blank, // IS^D, Last-Inv-Ack
-    ]
+    match protocol {
+        Protocol::Msi => [
+            Stall, // IS^D, Load
+            Stall, // IS^D, Store
+            Stall, // IS^D, Replacement
+            Blank, // IS^D, Fwd-GetS
+            Blank, // IS^D, Fwd-GetM
+            Stall, // IS^D, Inv
+            Blank, // IS^D, Put-Ack
+            CacheEntry::quiet(S), // IS^D, Data-Dir-Zero
+            Blank, // IS^D, Data-Dir-More
+            CacheEntry::quiet(S), // IS^D, Data-Owner
+            Blank, // IS^D, Inv-Ack
+            Blank, // IS^D, Last-Inv-Ack
+            Blank, // IS^D, Data-Dir-Excl
+        ],
+        Protocol::MsiE => [
+            Stall, // IS^D with E, Load
+            Stall, // IS^D with E, Store
+            Stall, // IS^D with E, Replacement
+            Stall, // IS^D with E, Fwd-GetS
+            Stall, // IS^D with E, Fwd-GetM
+            Stall, // IS^D with E, Inv
+            Blank, // IS^D with E, Put-Ack
+            CacheEntry::quiet(S), // IS^D with E, Data-Dir-Zero
+            Blank, // IS^D with E, Data-Dir-More
+            CacheEntry::quiet(S), // IS^D with E, Data-Owner
+            Blank, // IS^D with E, Inv-Ack
+            Blank, // IS^D with E, Last-Inv-Ack
+            CacheEntry::quiet(E), // IS^D with E, Data-Dir-Excl
+        ],
+    }
 }
 
-fn im_ad_row() -> [CacheEntry; 12]
-    ensures { result ≡ baseline_row CacheState.ImAd }
+fn im_ad_row() -> [CacheEntry; 13]
+    ensures { result ≡ baseline_row Msi CacheState.ImAd }
 {
     [
         Stall, // IM^AD, Load
@@ -79,11 +101,12 @@ fn im_ad_row() -> [CacheEntry; 12]
         CacheEntry::quiet(M), // IM^AD, Data-Owner
         CacheEntry::quiet(ImAd), // IM^AD, Inv-Ack
         Blank, // IM^AD, Last-Inv-Ack
+        Blank, // IM^AD, Data-Dir-Excl
     ]
 }
 
-fn im_a_row() -> [CacheEntry; 12]
-    ensures { result ≡ baseline_row CacheState.ImA }
+fn im_a_row() -> [CacheEntry; 13]
+    ensures { result ≡ baseline_row Msi CacheState.ImA }
 {
     [
         Stall, // IM^A, Load
@@ -98,11 +121,12 @@ fn im_a_row() -> [CacheEntry; 12]
         Blank, // IM^A, Data-Owner
         CacheEntry::quiet(ImA), // IM^A, Inv-Ack
         CacheEntry::quiet(M), // IM^A, Last-Inv-Ack
+        Blank, // IM^A, Data-Dir-Excl
     ]
 }
 
-fn s_row() -> [CacheEntry; 12]
-    ensures { result ≡ baseline_row CacheState.S }
+fn s_row() -> [CacheEntry; 13]
+    ensures { result ≡ baseline_row Msi CacheState.S }
 {
     [
         CacheEntry::quiet(S), // S, Load
@@ -117,11 +141,12 @@ fn s_row() -> [CacheEntry; 12]
         Blank, // S, Data-Owner
         Blank, // S, Inv-Ack
         Blank, // S, Last-Inv-Ack
+        Blank, // S, Data-Dir-Excl
     ]
 }
 
-fn sm_ad_row() -> [CacheEntry; 12]
-    ensures { result ≡ baseline_row CacheState.SmAd }
+fn sm_ad_row() -> [CacheEntry; 13]
+    ensures { result ≡ baseline_row Msi CacheState.SmAd }
 {
     [
         CacheEntry::quiet(SmAd), // SM^AD, Load
@@ -136,11 +161,12 @@ fn sm_ad_row() -> [CacheEntry; 12]
         Blank, // SM^AD, Data-Owner
         CacheEntry::quiet(SmAd), // SM^AD, Inv-Ack
         Blank, // SM^AD, Last-Inv-Ack
+        Blank, // SM^AD, Data-Dir-Excl
     ]
 }
 
-fn sm_a_row() -> [CacheEntry; 12]
-    ensures { result ≡ baseline_row CacheState.SmA }
+fn sm_a_row() -> [CacheEntry; 13]
+    ensures { result ≡ baseline_row Msi CacheState.SmA }
 {
     [
         CacheEntry::quiet(SmA), // SM^A, Load
@@ -155,11 +181,12 @@ fn sm_a_row() -> [CacheEntry; 12]
         Blank, // SM^A, Data-Owner
         CacheEntry::quiet(SmA), // SM^A, Inv-Ack
         CacheEntry::quiet(M), // SM^A, Last-Inv-Ack
+        Blank, // SM^A, Data-Dir-Excl
     ]
 }
 
-fn m_row() -> [CacheEntry; 12]
-    ensures { result ≡ baseline_row CacheState.M }
+fn m_row() -> [CacheEntry; 13]
+    ensures { result ≡ baseline_row Msi CacheState.M }
 {
     [
         CacheEntry::quiet(M), // M, Load
@@ -174,11 +201,12 @@ fn m_row() -> [CacheEntry; 12]
         Blank, // M, Data-Owner
         Blank, // M, Inv-Ack
         Blank, // M, Last-Inv-Ack
+        Blank, // M, Data-Dir-Excl
     ]
 }
 
-fn mi_a_row() -> [CacheEntry; 12]
-    ensures { result ≡ baseline_row CacheState.MiA }
+fn mi_a_row() -> [CacheEntry; 13]
+    ensures { result ≡ baseline_row Msi CacheState.MiA }
 {
     [
         Stall, // MI^A, Load
@@ -193,11 +221,12 @@ fn mi_a_row() -> [CacheEntry; 12]
         Blank, // MI^A, Data-Owner
         Blank, // MI^A, Inv-Ack
         Blank, // MI^A, Last-Inv-Ack
+        Blank, // MI^A, Data-Dir-Excl
     ]
 }
 
-fn si_a_row() -> [CacheEntry; 12]
-    ensures { result ≡ baseline_row CacheState.SiA }
+fn si_a_row() -> [CacheEntry; 13]
+    ensures { result ≡ baseline_row Msi CacheState.SiA }
 {
     [
         Stall, // SI^A, Load
@@ -212,11 +241,12 @@ fn si_a_row() -> [CacheEntry; 12]
         Blank, // SI^A, Data-Owner
         Blank, // SI^A, Inv-Ack
         Blank, // SI^A, Last-Inv-Ack
+        Blank, // SI^A, Data-Dir-Excl
     ]
 }
 
-fn ii_a_row() -> [CacheEntry; 12]
-    ensures { result ≡ baseline_row CacheState.IiA }
+fn ii_a_row() -> [CacheEntry; 13]
+    ensures { result ≡ baseline_row Msi CacheState.IiA }
 {
     [
         Stall, // II^A, Load
@@ -231,5 +261,29 @@ fn ii_a_row() -> [CacheEntry; 12]
         Blank, // II^A, Data-Owner
         Blank, // II^A, Inv-Ack
         Blank, // II^A, Last-Inv-Ack
+        Blank, // II^A, Data-Dir-Excl
     ]
+}
+
+fn e_row(protocol: Protocol) -> [CacheEntry; 13]
+    ensures { result ≡ baseline_row protocol CacheState.E }
+{
+    match protocol {
+        Protocol::Msi => [Blank; 13],
+        Protocol::MsiE => [
+            CacheEntry::quiet(E), // E, Load
+            CacheEntry::quiet(M), // E, Store
+            CacheEntry::one(PutM, MiA), // E, Replacement
+            CacheEntry::two(DataReq, DataDir, S), // E, Fwd-GetS
+            CacheEntry::one(DataReq, I), // E, Fwd-GetM
+            Blank, // E, Inv
+            Blank, // E, Put-Ack
+            Blank, // E, Data-Dir-Zero
+            Blank, // E, Data-Dir-More
+            Blank, // E, Data-Owner
+            Blank, // E, Inv-Ack
+            Blank, // E, Last-Inv-Ack
+            Blank, // E, Data-Dir-Excl
+        ],
+    }
 }

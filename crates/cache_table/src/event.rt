@@ -1,4 +1,4 @@
-use base::controller::Listed;
+use base::controller::{Listed, Protocol};
 
 /// What happens to a block's line in a cache (Primer, section 8.2).
 ///
@@ -30,11 +30,13 @@ pub enum CacheEvent {
     InvAck,
     /// `Last-Inv-Ack`: a sharer has invalidated its copy, and this is the last Inv-Ack that is awaited.
     LastInvAck,
+    /// `Data-Dir-Excl`: Data from the directory, by which this cache is the owner.
+    DataDirExcl,
 }
 
 impl CacheEvent {
     /// All events, in the order of a table's columns.
-    pub const ALL: [CacheEvent; 12] = [
+    pub const ALL: [CacheEvent; 13] = [
         CacheEvent::Load,
         CacheEvent::Store,
         CacheEvent::Replacement,
@@ -47,12 +49,13 @@ impl CacheEvent {
         CacheEvent::DataOwner,
         CacheEvent::InvAck,
         CacheEvent::LastInvAck,
+        CacheEvent::DataDirExcl,
     ];
 }
 
 impl Listed for CacheEvent {
     ghost use Rattle.cache_table.specs.Names.{event_name, first_event};
-    ghost use Rattle.cache_table.specs.Table.{event_number};
+    ghost use Rattle.cache_table.specs.Table.{event_number, has_event};
     ghost use Rattle.cache_table.specs.Baseline.{all_events};
     ghost use Rattle.cache_table.specs.inner.Standing.{event_found, event_plain, event_stands};
 
@@ -63,6 +66,8 @@ impl Listed for CacheEvent {
     ghost kind = { all_events };
 
     ghost head = { first_event };
+
+    ghost has = { has_event };
 
     fn name(self) -> &'static str {
         match self {
@@ -78,6 +83,7 @@ impl Listed for CacheEvent {
             CacheEvent::DataOwner => "Data-Owner",
             CacheEvent::InvAck => "Inv-Ack",
             CacheEvent::LastInvAck => "Last-Inv-Ack",
+            CacheEvent::DataDirExcl => "Data-Dir-Excl",
         }
     }
 
@@ -91,6 +97,13 @@ impl Listed for CacheEvent {
 
     fn first() -> CacheEvent {
         CacheEvent::Load
+    }
+
+    fn is_in(self, protocol: Protocol) -> bool {
+        match (protocol, self) {
+            (Protocol::Msi, CacheEvent::DataDirExcl) => false,
+            _ => true,
+        }
     }
 
     ghost stands = { event_stands };

@@ -1,4 +1,4 @@
-use base::controller::Listed;
+use base::controller::{Listed, Protocol};
 
 /// The state of a block's line in a cache (Primer, section 8.2).
 ///
@@ -28,11 +28,13 @@ pub enum CacheState {
     SiA,
     /// `II^A`: the copy went while the cache was giving it up, and only the Put-Ack is still to come.
     IiA,
+    /// `E`: this cache has the only copy, as memory has it. It is the owner, and may come to write without asking.
+    E,
 }
 
 impl CacheState {
     /// All states, in the order of a table's rows.
-    pub const ALL: [CacheState; 11] = [
+    pub const ALL: [CacheState; 12] = [
         CacheState::I,
         CacheState::IsD,
         CacheState::ImAd,
@@ -44,12 +46,13 @@ impl CacheState {
         CacheState::MiA,
         CacheState::SiA,
         CacheState::IiA,
+        CacheState::E,
     ];
 }
 
 impl Listed for CacheState {
     ghost use Rattle.cache_table.specs.Names.{state_name, first_state};
-    ghost use Rattle.cache_table.specs.Table.{state_number};
+    ghost use Rattle.cache_table.specs.Table.{state_number, has_state};
     ghost use Rattle.cache_table.specs.Baseline.{all_states};
     ghost use Rattle.cache_table.specs.inner.Standing.{state_found, state_plain, state_stands};
 
@@ -60,6 +63,8 @@ impl Listed for CacheState {
     ghost kind = { all_states };
 
     ghost head = { first_state };
+
+    ghost has = { has_state };
 
     fn name(self) -> &'static str {
         match self {
@@ -74,6 +79,7 @@ impl Listed for CacheState {
             CacheState::MiA => "MI^A",
             CacheState::SiA => "SI^A",
             CacheState::IiA => "II^A",
+            CacheState::E => "E",
         }
     }
 
@@ -87,6 +93,13 @@ impl Listed for CacheState {
 
     fn first() -> CacheState {
         CacheState::I
+    }
+
+    fn is_in(self, protocol: Protocol) -> bool {
+        match (protocol, self) {
+            (Protocol::Msi, CacheState::E) => false,
+            _ => true,
+        }
     }
 
     ghost stands = { state_stands };

@@ -22,31 +22,31 @@ use Rattle.certify.specs.declared.cells.Cell.TheVariants.{Cache, Directory}
 
 -- the cell that has this number, worked out
 abbrev cache_cell : ℕ → Cell
-cache_cell n = Cache (get_or cache_baseline.all_states (n / 12) cache_state.I) (get_or cache_baseline.all_events (n % 12) cache_event.Load)
+cache_cell n = Cache (get_or cache_baseline.all_states (n / 13) cache_state.I) (get_or cache_baseline.all_events (n % 13) cache_event.Load)
 
 abbrev directory_cell : ℕ → Cell
 directory_cell n =
     Directory (get_or directory_baseline.all_states (n / 7) directory_state.I) (get_or directory_baseline.all_events (n % 7) directory_event.GetS)
 
 abbrev cell_of_number : ℕ → Cell
-cell_of_number n = cond (ltb n 132) (cache_cell n) (directory_cell (n - 132))
+cell_of_number n = cond (ltb n 156) (cache_cell n) (directory_cell (n - 156))
 
-tabled : all_cells ≡ map cell_of_number (range_with_len 0 160)
+tabled : all_cells ≡ map cell_of_number (range_with_len 0 184)
 tabled = refl
 
-at-number : (n : ℕ) → n < 160 → slice_get all_cells n ≡ Some (cell_of_number n)
+at-number : (n : ℕ) → n < 184 → slice_get all_cells n ≡ Some (cell_of_number n)
 at-number n low =
     let d : Cell = cell_of_number n in
     slice_get-get_or all_cells n d low ∙ ap (λ (c : Cell). Some c)
-    (ap (λ l. get_or l n d) tabled ∙ get_or-map-range_with_len cell_of_number 0 160 n n d low (omega arith))
+    (ap (λ l. get_or l n d) tabled ∙ get_or-map-range_with_len cell_of_number 0 184 n n d low (omega arith))
 
-pub at-cache : (n : ℕ) → n < 132 → slice_get all_cells n ≡ Some (cache_cell n)
+pub at-cache : (n : ℕ) → n < 156 → slice_get all_cells n ≡ Some (cache_cell n)
 at-cache n low = at-number n (omega (arith, low)) ∙ grind (arith, nat_tests)
 
-pub at-directory : (n : ℕ) → 132 ≤ n → n < 160 → slice_get all_cells n ≡ Some (directory_cell (n - 132))
+pub at-directory : (n : ℕ) → 156 ≤ n → n < 184 → slice_get all_cells n ≡ Some (directory_cell (n - 156))
 at-directory n high low = at-number n low ∙ grind (arith, nat_tests)
 
-cache-state-at : (s : CacheState) → (get_or cache_baseline.all_states (cache_table.state_number s) cache_state.I ≡ s) × (cache_table.state_number s < 11)
+cache-state-at : (s : CacheState) → (get_or cache_baseline.all_states (cache_table.state_number s) cache_state.I ≡ s) × (cache_table.state_number s < 12)
 cache-state-at cache_state.I = (refl, omega arith)
 cache-state-at cache_state.IsD = (refl, omega arith)
 cache-state-at cache_state.ImAd = (refl, omega arith)
@@ -58,8 +58,9 @@ cache-state-at cache_state.M = (refl, omega arith)
 cache-state-at cache_state.MiA = (refl, omega arith)
 cache-state-at cache_state.SiA = (refl, omega arith)
 cache-state-at cache_state.IiA = (refl, omega arith)
+cache-state-at cache_state.E = (refl, omega arith)
 
-cache-event-at : (e : CacheEvent) → (get_or cache_baseline.all_events (cache_table.event_number e) cache_event.Load ≡ e) × (cache_table.event_number e < 12)
+cache-event-at : (e : CacheEvent) → (get_or cache_baseline.all_events (cache_table.event_number e) cache_event.Load ≡ e) × (cache_table.event_number e < 13)
 cache-event-at cache_event.Load = (refl, omega arith)
 cache-event-at cache_event.Store = (refl, omega arith)
 cache-event-at cache_event.Replacement = (refl, omega arith)
@@ -72,6 +73,7 @@ cache-event-at cache_event.DataDirMore = (refl, omega arith)
 cache-event-at cache_event.DataOwner = (refl, omega arith)
 cache-event-at cache_event.InvAck = (refl, omega arith)
 cache-event-at cache_event.LastInvAck = (refl, omega arith)
+cache-event-at cache_event.DataDirExcl = (refl, omega arith)
 
 directory-state-at : (s : DirectoryState) →
     (get_or directory_baseline.all_states (directory_table.state_number s) directory_state.I ≡ s) × (directory_table.state_number s < 4)
@@ -92,19 +94,19 @@ directory-event-at directory_event.Data = (refl, omega arith)
 
 -- the number of a cell
 abbrev pub number_of : Cell → ℕ
-number_of (Cache state event) = cache_table.state_number state * 12 + cache_table.event_number event
-number_of (Directory state event) = 132 + directory_table.state_number state * 7 + directory_table.event_number event
+number_of (Cache state event) = cache_table.state_number state * 13 + cache_table.event_number event
+number_of (Directory state event) = 156 + directory_table.state_number state * 7 + directory_table.event_number event
 
-pub at-own : (c : Cell) → (slice_get all_cells (number_of c) ≡ Some c) × (number_of c < 160)
+pub at-own : (c : Cell) → (slice_get all_cells (number_of c) ≡ Some c) × (number_of c < 184)
 at-own (Cache s e) =
     let state = cache-state-at s in
     let event = cache-event-at e in
-    let n : ℕ = cache_table.state_number s * 12 + cache_table.event_number e in
-    let low : n < 132 = omega (arith, state.1, event.1) in
-    let row : n / 12 ≡ cache_table.state_number s = omega (arith, event.1) in
-    let column : n % 12 ≡ cache_table.event_number e = omega (arith, event.1) in (
+    let n : ℕ = cache_table.state_number s * 13 + cache_table.event_number e in
+    let low : n < 156 = omega (arith, state.1, event.1) in
+    let row : n / 13 ≡ cache_table.state_number s = omega (arith, event.1) in
+    let column : n % 13 ≡ cache_table.event_number e = omega (arith, event.1) in (
       at-cache n low ∙ ap (λ (c : Cell). Some c)
-          (ap (λ k. Cache (get_or cache_baseline.all_states k cache_state.I) (get_or cache_baseline.all_events (n % 12) cache_event.Load)) row ∙
+          (ap (λ k. Cache (get_or cache_baseline.all_states k cache_state.I) (get_or cache_baseline.all_events (n % 13) cache_event.Load)) row ∙
           (ap
           (λ k. Cache (get_or cache_baseline.all_states (cache_table.state_number s) cache_state.I)
           (get_or cache_baseline.all_events k cache_event.Load)) column ∙
@@ -115,15 +117,15 @@ at-own (Cache s e) =
 at-own (Directory s e) =
     let state = directory-state-at s in
     let event = directory-event-at e in
-    let n : ℕ = 132 + directory_table.state_number s * 7 + directory_table.event_number e in
-    let high : 132 ≤ n = omega arith in
-    let low : n < 160 = omega (arith, state.1, event.1) in
-    let row : (n - 132) / 7 ≡ directory_table.state_number s = omega (arith, event.1) in
-    let column : (n - 132) % 7 ≡ directory_table.event_number e = omega (arith, event.1) in (
+    let n : ℕ = 156 + directory_table.state_number s * 7 + directory_table.event_number e in
+    let high : 156 ≤ n = omega arith in
+    let low : n < 184 = omega (arith, state.1, event.1) in
+    let row : (n - 156) / 7 ≡ directory_table.state_number s = omega (arith, event.1) in
+    let column : (n - 156) % 7 ≡ directory_table.event_number e = omega (arith, event.1) in (
       at-directory n high low ∙ ap (λ (c : Cell). Some c)
           (ap
           (λ k. Directory (get_or directory_baseline.all_states k directory_state.I)
-          (get_or directory_baseline.all_events ((n - 132) % 7) directory_event.GetS)) row ∙
+          (get_or directory_baseline.all_events ((n - 156) % 7) directory_event.GetS)) row ∙
           (ap
           (λ k. Directory (get_or directory_baseline.all_states (directory_table.state_number s) directory_state.I)
           (get_or directory_baseline.all_events k directory_event.GetS)) column ∙

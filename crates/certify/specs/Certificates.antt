@@ -3,7 +3,7 @@ use Rattle.std.specs.Prelude.{◌≡◌, ◌⊎◌, ◌<◌, ℕ, Some, slice_ge
 use Rattle.base.specs.declared.controller.entry.Entry.TheVariants.{Blank, Stall}
 use Rattle.cache_table.specs.Table as cache_table
 use Rattle.directory_table.specs.Table as directory_table
-use Rattle.both_tables.specs.Tables.{Tables, baseline}
+use Rattle.both_tables.specs.Tables.{Tables, baseline_of}
 use Rattle.machine.specs.Going.{AreNeverStuck, KeepsGoing, MayWait, MayWaitAtHome, IsSettled}
 use Rattle.machine.specs.Restraint.{AreRestrained}
 use Rattle.certify.specs.Cells.{all_cells}
@@ -16,13 +16,16 @@ use Rattle.certify.specs.declared.certifying.Certificate.TheVariants.{NotProved,
 -- a stall in this cell lets messages flow
 abbrev pub LetsFlow : Tables → Cell → Type 0
 LetsFlow tables (Cache state event) = cache_table.cell tables.cache state event ≡ Stall →
-    (cache_table.cell baseline.cache state event ≡ Stall) ⊎ (cache_table.cell baseline.cache state event ≡ Blank) ⊎ MayWait tables state event
+    (cache_table.cell (baseline_of tables.protocol).cache state event ≡ Stall) ⊎
+    (cache_table.cell (baseline_of tables.protocol).cache state event ≡ Blank) ⊎ MayWait tables state event
 LetsFlow tables (Directory state event) = directory_table.cell tables.directory state event ≡ Stall →
-    (directory_table.cell baseline.directory state event ≡ Stall) ⊎ (directory_table.cell baseline.directory state event ≡ Blank) ⊎ MayWaitAtHome state event
+    (directory_table.cell (baseline_of tables.protocol).directory state event ≡ Stall) ⊎
+    (directory_table.cell (baseline_of tables.protocol).directory state event ≡ Blank) ⊎ MayWaitAtHome state event
 
 -- at a line that waits for nothing this cell holds none that comes
 abbrev pub ServesAt : Tables → Cell → Type 0
-ServesAt tables (Cache state event) = IsSettled state → cache_table.cell tables.cache state event ≡ Stall → cache_table.cell baseline.cache state event ≡ Blank
+ServesAt tables (Cache state event) = IsSettled state → cache_table.cell tables.cache state event ≡ Stall →
+    cache_table.cell (baseline_of tables.protocol).cache state event ≡ Blank
 ServesAt tables (Directory state event) = Unit {0}
 
 -- the first cell, in the order of all, that isn't so

@@ -5,7 +5,7 @@ use Rattle.base.specs.declared.controller.entry.Entry.TheVariants as table_entry
 use Rattle.base.specs.declared.controller.entry.Change.{Change}
 use Rattle.cache_table.specs.Table as cache_table
 use Rattle.directory_table.specs.Table as directory_table
-use Rattle.both_tables.specs.Tables.{Tables, baseline}
+use Rattle.both_tables.specs.Tables.{Tables, baseline_of}
 use Rattle.machine.specs.Restraint.{Admits, proved_lines, proved_homes, line_cell, home_cell}
 use Rattle.certify.specs.declared.cells.Cell.{Cell}
 use Rattle.certify.specs.declared.cells.Cell.TheVariants.{Cache, Directory}
@@ -22,11 +22,14 @@ IsReason proved own c Open = ¬ Admits proved own c
 
 -- how a cell of these tables stands to the own one
 abbrev pub HasStanding : Tables → Cell → Standing → Type 0
-HasStanding tables (Cache state event) s = IsReason proved_lines (cache_table.cell baseline.cache state event) (line_cell tables state event) s
+HasStanding tables (Cache state event) s =
+    IsReason proved_lines (cache_table.cell (baseline_of tables.protocol).cache state event) (line_cell tables state event) s
 HasStanding tables (Directory state event) s =
-    IsReason proved_homes (directory_table.cell baseline.directory state event) (home_cell tables state event) s
+    IsReason proved_homes (directory_table.cell (baseline_of tables.protocol).directory state event) (home_cell tables state event) s
 
 -- a cell holds what it may hold
 abbrev pub IsAdmitted : Tables → Cell → Type 0
-IsAdmitted tables (Cache state event) = Admits proved_lines (cache_table.cell baseline.cache state event) (line_cell tables state event)
-IsAdmitted tables (Directory state event) = Admits proved_homes (directory_table.cell baseline.directory state event) (home_cell tables state event)
+IsAdmitted tables (Cache state event) =
+    Admits proved_lines (cache_table.cell (baseline_of tables.protocol).cache state event) (line_cell tables state event)
+IsAdmitted tables (Directory state event) =
+    Admits proved_homes (directory_table.cell (baseline_of tables.protocol).directory state event) (home_cell tables state event)

@@ -7,7 +7,7 @@ use cache_table::{CacheEvent, CacheState};
 use directory_table::{DirectoryEvent, DirectoryState};
 
 /// How many cells both tables have.
-pub const CELLS: usize = 160;
+pub const CELLS: usize = 184;
 
 /// The place of a cell.
 #[derive(Clone, Copy, Debug, PartialEq, Eq)]
@@ -23,7 +23,7 @@ impl Cell {
     ghost use Rattle.certify.specs.Cells.{all_cells};
 
     /// The cell with this number, counted from 0: the caches' cells come before the directory's, by state and then by
-    /// event. `None` comes exactly from 160 on.
+    /// event. `None` comes exactly from 184 on.
     pub fn at(number: usize) -> Option<Cell>
         ensures { result ≡ slice_get all_cells number }
     {
@@ -36,13 +36,13 @@ impl Cell {
 }
 
 pub(crate) fn cell_at(number: usize) -> Cell
-    requires { number < 160 }
+    requires { number < 184 }
     ensures { slice_get all_cells number ≡ Some result }
 {
-    if number < 132 {
-        Cell::Cache(CacheState::ALL[number / 12], CacheEvent::ALL[number % 12])
+    if number < 156 {
+        Cell::Cache(CacheState::ALL[number / 13], CacheEvent::ALL[number % 13])
     } else {
-        let number = number - 132;
+        let number = number - 156;
         Cell::Directory(
             DirectoryState::ALL[number / 7],
             DirectoryEvent::ALL[number % 7],

@@ -3,7 +3,7 @@
 ghost use Rattle.std.specs.Prelude.{◌≡◌, ◌↔◌, ℕ, List, length, IfNone, IfSome, MatchBool};
 ghost use Rattle.base.specs.Extent.{Extent, IsWithinLimits};
 ghost use Rattle.base.specs.declared.step.Step.{Step};
-ghost use Rattle.both_tables.specs.Tables.{baseline};
+ghost use Rattle.both_tables.specs.Tables.{baseline_of};
 ghost use Rattle.machine.specs.Coherence.{Met, Safe};
 ghost use Rattle.machine.specs.Going.{KeepsGoing};
 ghost use Rattle.machine.specs.Machine.{after, opened};
@@ -42,7 +42,8 @@ pub fn certify(tables: &Tables) -> Certificate
     ensures safe { SaysSafe result → (shape : Extent) (opening : List ℕ) (steps : List Step) →
         IsWithinLimits shape → length opening ≡ shape.blocks → Safe shape tables.now opening steps }
     ensures never_met { SaysSafe result → (shape : Extent) (opening : List ℕ) (steps : List Step) (step : Step) →
-        IsWithinLimits shape → length opening ≡ shape.blocks → ¬ Met baseline (after tables.now (opened shape opening) steps).state step }
+        IsWithinLimits shape → length opening ≡ shape.blocks →
+        ¬ Met (baseline_of tables.now.protocol) (after tables.now (opened shape opening) steps).state step }
     ensures flowing { SaysFlowing result → (shape : Extent) (opening : List ℕ) (steps : List Step) →
         IsWithinLimits shape → length opening ≡ shape.blocks → Flowing tables.now (after tables.now (opened shape opening) steps).state }
     ensures unstuck { result ≡ Certificate.NeverStuck → (shape : Extent) (opening : List ℕ) (steps : List Step) →

@@ -6,6 +6,7 @@ ghost use Rattle.certify.specs.declared.cells.Cell.TheVariants as place;
 ghost use Rattle.certify.specs.Certificates.{LetsFlow, ServesAt};
 
 use crate::cells::Cell;
+use crate::own::{own_home, own_line};
 use base::controller::Entry;
 use both_tables::Tables;
 use cache_table::{CacheEvent, CacheState};
@@ -36,7 +37,7 @@ fn is_line_jam(tables: &Tables, state: CacheState, event: CacheEvent) -> bool
 {
     match (
         tables.cache.entry(state, event),
-        Tables::baseline().cache.entry(state, event),
+        own_line(tables, state, event),
     ) {
         (Entry::Stall, Entry::Act { .. }) => !may_wait(tables, state, event),
         _ => false,
@@ -48,7 +49,7 @@ fn is_home_jam(tables: &Tables, state: DirectoryState, event: DirectoryEvent) ->
 {
     match (
         tables.directory.entry(state, event),
-        Tables::baseline().directory.entry(state, event),
+        own_home(tables, state, event),
     ) {
         (Entry::Stall, Entry::Act { .. }) => !may_wait_at_home(state, event),
         _ => false,
@@ -60,13 +61,16 @@ fn is_held_ask(tables: &Tables, state: CacheState, event: CacheEvent) -> bool
 {
     is_settled(state)
         && matches!(tables.cache.entry(state, event), Entry::Stall)
-        && !matches!(Tables::baseline().cache.entry(state, event), Entry::Blank)
+        && !matches!(own_line(tables, state, event), Entry::Blank)
 }
 
 fn is_settled(state: CacheState) -> bool
     ensures { MatchBool result (IsSettled state) (¬ IsSettled state) }
 {
-    matches!(state, CacheState::I | CacheState::S | CacheState::M)
+    matches!(
+        state,
+        CacheState::I | CacheState::S | CacheState::M | CacheState::E
+    )
 }
 
 fn may_wait(tables: &Tables, state: CacheState, event: CacheEvent) -> bool

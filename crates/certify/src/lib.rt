@@ -5,6 +5,7 @@
 mod cells;
 mod certifying;
 mod going;
+mod own;
 mod proved;
 mod standings;
 

@@ -4,6 +4,7 @@ ghost use Rattle.std.specs.Prelude.{◌≡◌, ◌↔◌, Contains, IsTrue};
 ghost use Rattle.certify.specs.Standings.{IsReason, HasStanding};
 
 use crate::cells::Cell;
+use crate::own::{own_home, own_line};
 use crate::proved::{proved_homes, proved_lines};
 use base::controller::{Change, Entry, Listed};
 use both_tables::Tables;
@@ -29,7 +30,6 @@ pub enum Standing {
 pub fn standing_of(tables: &Tables, cell: Cell) -> Standing
     ensures { HasStanding tables.now cell result }
 {
-    let own = Tables::baseline();
     match cell {
         Cell::Cache(state, event) => {
             let found = CacheChange {
@@ -37,7 +37,7 @@ pub fn standing_of(tables: &Tables, cell: Cell) -> Standing
                 event,
                 entry: tables.cache.entry(state, event),
             };
-            reason(&proved_lines(), &own.cache.entry(state, event), &found)
+            reason(&proved_lines(), &own_line(tables, state, event), &found)
         }
         Cell::Directory(state, event) => {
             let found = DirectoryChange {
@@ -45,7 +45,7 @@ pub fn standing_of(tables: &Tables, cell: Cell) -> Standing
                 event,
                 entry: tables.directory.entry(state, event),
             };
-            reason(&proved_homes(), &own.directory.entry(state, event), &found)
+            reason(&proved_homes(), &own_home(tables, state, event), &found)
         }
     }
 }

@@ -49,6 +49,9 @@ impl fmt::Display for LabelText {
                 write!(f, "Data {value}{}", AcksText(acks))
             }
             Message::Response(Response::InvAck { .. }) => f.write_str("Inv-Ack"),
+            Message::Response(Response::DataExcl { value, .. }) => {
+                write!(f, "Data {value}, exclusive")
+            }
         }
     }
 }

@@ -1,4 +1,5 @@
 use crate::files::Files;
+use base::controller::Protocol;
 use base::{BlockId, Shape};
 use both_tables::Tables;
 use clap::ArgMatches;
@@ -118,17 +119,25 @@ fn setup<F: Files>(
     Ok(Setup::new(shape, tables, opening, seed, limit)?)
 }
 
-/// The protocol's own tables, with the cells of the named file laid over them where one is named.
+/// The own tables of the protocol that is named, with the cells of the named file laid over them where one is named.
 fn tables<F: Files>(
     alloc: Global,
     options: &ArgMatches<'_>,
     files: &mut F,
 ) -> Result<Tables, Fault> {
     let Some(name) = options.get_str("tables") else {
-        return Ok(Tables::baseline());
+        return Ok(Tables::baseline_of(protocol(options)));
     };
     let bytes = files.load(name)?;
-    Ok(Tables::from_json(alloc, bytes.as_slice())?)
+    Ok(Tables::from_json_of(alloc, protocol(options), bytes.as_slice())?)
+}
+
+/// The protocol that is named, whose word `clap` has tested.
+fn protocol(options: &ArgMatches<'_>) -> Protocol {
+    match options.get_str("protocol") {
+        Some(name) => Protocol::named(name.as_bytes()).unwrap_or(Protocol::Msi),
+        None => Protocol::Msi,
+    }
 }
 
 /// The number that an option was given, which `clap` has tested.

@@ -1,4 +1,5 @@
 use base::{MOST_BLOCKS, MOST_CACHES};
+use clap::builder::ValueParser;
 use clap::{Arg, ArgAction, Command, value_parser};
 use std::alloc::{AllocError, Global};
 use trials::{MOST_STEPS, MOST_TRIALS};
@@ -17,6 +18,8 @@ enum Takes {
     Number(u32, u32),
     /// A number of 64 bits.
     Seed,
+    /// One of these words.
+    Word(&'static [&'static str]),
 }
 
 /// What stands for an option that is left out.
@@ -54,6 +57,14 @@ const BLOCKS: Choice = Choice {
     help: "How many blocks the world has, 1 to 65536",
     takes: Takes::Number(1, MOST_BLOCKS),
     left_out: LeftOut::Default("1"),
+};
+
+const PROTOCOL: Choice = Choice {
+    name: "protocol",
+    value: "P",
+    help: "The protocol of the controllers",
+    takes: Takes::Word(&["msi", "msi+e"]),
+    left_out: LeftOut::Default("msi"),
 };
 
 const TABLES: Choice = Choice {
@@ -171,18 +182,18 @@ const COMMANDS: [Usage; 10] = [
     Usage {
         name: "play",
         about: "Reads steps, one a line, and prints what each of them did",
-        choices: &[CACHES, BLOCKS, TABLES],
+        choices: &[CACHES, BLOCKS, PROTOCOL, TABLES],
     },
     Usage {
         name: "trial",
         about: "Reads a scenario, makes one trial of it and prints its recording",
-        choices: &[CACHES, BLOCKS, TABLES, SEED, NUMBER, LIMIT],
+        choices: &[CACHES, BLOCKS, PROTOCOL, TABLES, SEED, NUMBER, LIMIT],
     },
     Usage {
         name: "batch",
         about: "Reads a scenario, makes trials of it and prints their verdicts, one a line",
         choices: &[
-            CACHES, BLOCKS, TABLES, SEED, TRIALS, LIMIT, WORKERS, PROGRESS,
+            CACHES, BLOCKS, PROTOCOL, TABLES, SEED, TRIALS, LIMIT, WORKERS, PROGRESS,
         ],
     },
     Usage {
@@ -208,17 +219,19 @@ const COMMANDS: [Usage; 10] = [
     Usage {
         name: "floor",
         about: "Reads asks, one a line, and has threads put them in a race",
-        choices: &[CACHES, BLOCKS, TABLES, SEATS, TURNS, SEED, RECORDING],
+        choices: &[
+            CACHES, BLOCKS, PROTOCOL, TABLES, SEATS, TURNS, SEED, RECORDING,
+        ],
     },
     Usage {
         name: "tables",
         about: "Prints the cells of both controller tables, one a line",
-        choices: &[TABLES],
+        choices: &[PROTOCOL, TABLES],
     },
     Usage {
         name: "certify",
         about: "Says whether tables are proved safe, and never stuck, and names the first cell that stands against it",
-        choices: &[TABLES],
+        choices: &[PROTOCOL, TABLES],
     },
 ];
 
@@ -253,6 +266,7 @@ fn option<'a>(alloc: Global, choice: &Choice) -> Arg<'a> {
             i64::from(least)..=i64::from(most),
         )),
         Takes::Seed => arg.value_parser(value_parser!(u64)),
+        Takes::Word(words) => arg.value_parser(ValueParser::Names(words)),
     };
     let arg = arg.value_name(choice.value).action(ArgAction::Set);
     match choice.left_out {

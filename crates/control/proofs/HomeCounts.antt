@@ -108,6 +108,7 @@ message-at k from action.ClearSharers home = refl
 message-at k from action.ClearOwner home = refl
 message-at k from action.SetOwner home = refl
 message-at k from action.CopyData home = refl
+message-at k from action.DataExcl home = refl
 
 owner-left-with : (owner : Option CacheId) (home : Home) → (with_owner owner home).owner ≡ home.owner
 owner-left-with None home = refl
@@ -129,6 +130,7 @@ owner-left from value action.ClearSharers home = refl
 owner-left from value action.ClearOwner home = refl
 owner-left from value action.SetOwner home = refl
 owner-left from None action.CopyData home = refl
+owner-left from value action.DataExcl home = refl
 owner-left from (Some v) action.CopyData home = refl
 
 -- a flag is up only where there is one
@@ -178,6 +180,7 @@ sharer-left k from value action.ClearSharers home = no-flag (length home.sharers
 sharer-left k from value action.ClearOwner home = flag-kept home.sharers k
 sharer-left k from value action.SetOwner home = flag-kept home.sharers k
 sharer-left k from None action.CopyData home = flag-kept home.sharers k
+sharer-left k from value action.DataExcl home = flag-kept home.sharers k
 sharer-left k from (Some v) action.CopyData home = flag-kept home.sharers k
 
 -- what the actions of a home put on the link of a cache
@@ -216,6 +219,7 @@ unowned k from owner action.ClearSharers o ne = o
 unowned k from owner action.ClearOwner o ne = refl
 unowned k from owner action.SetOwner o ne = ne_eqb from.0 k (λ e. ne (sym e))
 unowned k from owner action.CopyData o ne = o
+unowned k from owner action.DataExcl o ne = o
 
 unshared : (k : ℕ) (from : CacheId) (owner : Option CacheId) (a : DirectoryAction) → owns owner (cache k) ≡ false → k ≢ from.0
     → sharer_left (cache k) from owner a false ≡ false
@@ -232,6 +236,7 @@ unshared k from owner action.ClearSharers o ne = refl
 unshared k from owner action.ClearOwner o ne = refl
 unshared k from owner action.SetOwner o ne = refl
 unshared k from owner action.CopyData o ne = refl
+unshared k from owner action.DataExcl o ne = refl
 
 unsent : (k : ℕ) (from : CacheId) (owner : Option CacheId) (a : DirectoryAction) → owns owner (cache k) ≡ false → k ≢ from.0
     → one_if (is_sent_to (cache k) from owner false a) ≡ 0
@@ -248,6 +253,7 @@ unsent k from owner action.ClearSharers o ne = refl
 unsent k from owner action.ClearOwner o ne = refl
 unsent k from owner action.SetOwner o ne = refl
 unsent k from owner action.CopyData o ne = refl
+unsent k from owner action.DataExcl o ne = refl
 
 unnamed-by : (flag : Bool) (k : ℕ) (from : CacheId) (owner : Option CacheId) (actions : List DirectoryAction) → owns owner (cache k) ≡ false →
     k ≢ from.0
@@ -318,6 +324,7 @@ message-requests from action.ClearSharers home = refl
 message-requests from action.ClearOwner home = refl
 message-requests from action.SetOwner home = refl
 message-requests from action.CopyData home = refl
+message-requests from action.DataExcl home = refl
 
 pub requests-by : (from : CacheId) (value : Option ℕ) (actions : List DirectoryAction) (home : Home)
     → requests_in (home_messages (Some from) value actions home) ≡ 0
@@ -366,6 +373,7 @@ message-responses from action.ClearSharers home = refl
 message-responses from action.ClearOwner home = refl
 message-responses from action.SetOwner home = refl
 message-responses from action.CopyData home = refl
+message-responses from action.DataExcl home = refl
 
 pub responses-by : (from : CacheId) (value : Option ℕ) (actions : List DirectoryAction) (home : Home)
     → responses_in (home_messages (Some from) value actions home) ≡ replies_by actions
@@ -431,6 +439,7 @@ unsent-on k from owner sharer action.ClearSharers i o ne = refl
 unsent-on k from owner sharer action.ClearOwner i o ne = refl
 unsent-on k from owner sharer action.SetOwner i o ne = refl
 unsent-on k from owner sharer action.CopyData i o ne = refl
+unsent-on k from owner sharer action.DataExcl i o ne = refl
 
 unsent-by : (flag : Bool) (k : ℕ) (from : CacheId) (owner : Option CacheId) (sharer : Bool) (actions : List DirectoryAction)
     → invalidates actions ≡ false → owns owner (cache k) ≡ false → k ≢ from.0 → forwards_by flag (cache k) from owner sharer actions ≡ 0

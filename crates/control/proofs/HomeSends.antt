@@ -100,6 +100,8 @@ keeps-changed None value action.FwdGetS home = keeps-same None home
 keeps-changed (Some c) value action.FwdGetS home = keeps-same (Some c) home
 keeps-changed None value action.FwdGetM home = keeps-same None home
 keeps-changed (Some c) value action.FwdGetM home = keeps-same (Some c) home
+keeps-changed None value action.DataExcl home = keeps-same None home
+keeps-changed (Some c) value action.DataExcl home = keeps-same (Some c) home
 keeps-changed None value action.PutAck home = keeps-same None home
 keeps-changed (Some c) value action.PutAck home = keeps-same (Some c) home
 

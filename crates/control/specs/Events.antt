@@ -9,7 +9,7 @@ use Rattle.network.specs.declared.message.RequestKind.TheVariants as request
 use Rattle.network.specs.declared.message.ForwardKind.{ForwardKind}
 use Rattle.network.specs.declared.message.ForwardKind.TheVariants as forward
 use Rattle.network.specs.declared.message.Response.{Response}
-use Rattle.network.specs.declared.message.Response.TheVariants.{Data, InvAck}
+use Rattle.network.specs.declared.message.Response.TheVariants.{Data, InvAck, DataExcl}
 use Rattle.cache_table.specs.declared.event.CacheEvent.{CacheEvent}
 use Rattle.cache_table.specs.declared.event.CacheEvent.TheVariants as event
 use Rattle.directory_table.specs.declared.event.DirectoryEvent.{DirectoryEvent}
@@ -47,6 +47,7 @@ abbrev pub response_event : ℤ → Response → CacheEvent
 response_event acks (Data (Cache from) to value more) = event.DataOwner
 response_event acks (Data Dir to value more) = if is_count (more_acks acks more) 0 then event.DataDirZero else event.DataDirMore
 response_event acks (InvAck from to) = if is_count acks 1 then event.LastInvAck else event.InvAck
+response_event acks (DataExcl to value) = event.DataDirExcl
 
 -- the event that an input is at such a line
 abbrev pub event_at_line : ℤ → LineInput → CacheEvent

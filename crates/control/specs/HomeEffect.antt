@@ -6,7 +6,7 @@ use Rattle.network.specs.declared.message.RequestKind.{RequestKind}
 use Rattle.network.specs.declared.message.RequestKind.TheVariants as request
 use Rattle.network.specs.declared.message.ForwardKind.{ForwardKind}
 use Rattle.network.specs.declared.message.ForwardKind.TheVariants as forward
-use Rattle.network.specs.declared.message.Response.TheVariants.{Data}
+use Rattle.network.specs.declared.message.Response.TheVariants.{Data, DataExcl}
 use Rattle.network.specs.declared.message.Message.{Message}
 use Rattle.network.specs.declared.message.Message.TheVariants as message
 use Rattle.directory_table.specs.declared.actions.DirectoryAction.{DirectoryAction}
@@ -43,6 +43,10 @@ brought_by (home_input.Data value) = Some value
 abbrev pub data_message : CacheId → ℕ → ℕ → Message
 data_message to value acks = message.Response (Data Dir (Cache to) value acks)
 
+-- the block for a cache that is to be its owner
+abbrev pub exclusive_message : CacheId → ℕ → Message
+exclusive_message to value = message.Response (DataExcl to value)
+
 -- a message on the link to a cache
 abbrev pub link_message : CacheId → ForwardKind → CacheId → Message
 link_message to kind requestor = message.Forward to (record { kind = kind; requestor = requestor })
@@ -66,6 +70,7 @@ abbrev pub home_message : Option CacheId → DirectoryAction → Home → List M
 home_message None a home = []
 home_message (Some to) action.DataReq home = data_message to home.memory 0 ∷ []
 home_message (Some to) action.DataAcks home = data_message to home.memory (others_from 0 to.0 home.sharers) ∷ []
+home_message (Some to) action.DataExcl home = exclusive_message to home.memory ∷ []
 home_message (Some to) action.InvSharers home = invalidations to 0 home.sharers
 home_message (Some to) action.FwdGetS home = owner_message home.owner forward.FwdGetS to
 home_message (Some to) action.FwdGetM home = owner_message home.owner forward.FwdGetM to

@@ -7,7 +7,7 @@ use Rattle.base.specs.declared.ids.Place.TheVariants.{Dir, Cache}
 use Rattle.network.specs.declared.message.RequestKind.TheVariants as request
 use Rattle.network.specs.declared.message.ForwardKind.{ForwardKind}
 use Rattle.network.specs.declared.message.ForwardKind.TheVariants as forward
-use Rattle.network.specs.declared.message.Response.TheVariants.{Data, InvAck}
+use Rattle.network.specs.declared.message.Response.TheVariants.{Data, InvAck, DataExcl}
 use Rattle.network.specs.declared.message.Message.{Message}
 use Rattle.network.specs.declared.message.Message.TheVariants as message
 use Rattle.cache_table.specs.declared.actions.CacheAction.{CacheAction}
@@ -34,6 +34,7 @@ abbrev pub taken_in : LineInput → Line → Line
 taken_in (line_input.Response (Data (Cache from) to value more)) line = record line { value = value }
 taken_in (line_input.Response (Data Dir to value more)) line = record line { value = value; acks = more_acks line.acks more }
 taken_in (line_input.Response (InvAck from to)) line = record line { acks = one_ack_less line.acks }
+taken_in (line_input.Response (DataExcl to value)) line = record line { value = value }
 taken_in (line_input.Ask a) line = line
 taken_in (line_input.Forward f) line = line
 
@@ -77,17 +78,24 @@ is_reader state.S = true
 is_reader state.SmAd = true
 is_reader state.SmA = true
 is_reader state.M = true
+is_reader state.E = true
 is_reader other = false
 
--- the state in which a cache may write its block
+-- the states in which a cache may write its block
 abbrev pub is_writer : CacheState → Bool
 is_writer state.M = true
+is_writer state.E = true
 is_writer other = false
+
+-- the state in which a store is done: a store in E leads to it
+abbrev pub is_modified : CacheState → Bool
+is_modified state.M = true
+is_modified other = false
 
 -- the completion of an ask at a line, where the line's state allows it
 abbrev pub completed : Ask → Line → Option LineCompletion
 completed ask.Load line = if is_reader line.state then Some (done.Load line.value) else None
-completed (ask.Store value) line = if is_writer line.state then Some (done.Store value) else None
+completed (ask.Store value) line = if is_modified line.state then Some (done.Store value) else None
 completed ask.Replace line = None
 
 -- the completion of the ask that waits, if one does

@@ -1,29 +1,33 @@
 ghost use Rattle.std.specs.Prelude.{◌≡◌, true, Some, None};
-ghost use Rattle.control.specs.LineEffect.{is_reader, is_writer, completed, settled, after_settling, taken_in, moved_on, line_completes};
+ghost use Rattle.control.specs.LineEffect.{is_reader, is_writer, is_modified, completed, settled, after_settling, taken_in, moved_on, line_completes};
 
 use crate::line::{Line, LineCompletion, LineInput};
 use base::{Ask, Place};
 use cache_table::CacheState;
 use network::Response;
 
-/// Whether a cache in this state may read its block: S, SM^AD, SM^A and M.
+/// Whether a cache in this state may read its block: S, SM^AD, SM^A, M and E.
 pub fn may_read(state: CacheState) -> bool
     ensures { result ≡ is_reader state }
 {
     match state {
-        CacheState::S | CacheState::SmAd | CacheState::SmA | CacheState::M => true,
+        CacheState::S | CacheState::SmAd | CacheState::SmA | CacheState::M | CacheState::E => true,
         _ => false,
     }
 }
 
-/// Whether a cache in this state may write its block: M alone.
+/// Whether a cache in this state may write its block: M and E.
 pub fn may_write(state: CacheState) -> bool
     ensures { result ≡ is_writer state }
 {
-    match state {
-        CacheState::M => true,
-        _ => false,
-    }
+    matches!(state, CacheState::M | CacheState::E)
+}
+
+/// Whether a store is done where it leads to this state: M alone. A store in E leads to M.
+fn is_stored_in(state: CacheState) -> bool
+    ensures { result ≡ is_modified state }
+{
+    matches!(state, CacheState::M)
 }
 
 fn complete(line: &Line, ask: Ask) -> Option<LineCompletion>
@@ -36,7 +40,7 @@ fn complete(line: &Line, ask: Ask) -> Option<LineCompletion>
             }
         }
         Ask::Store(value) => {
-            if may_write(line.state) {
+            if is_stored_in(line.state) {
                 return Some(LineCompletion::Store(value));
             }
         }
@@ -77,6 +81,7 @@ fn take_in(line: Line, input: LineInput) -> Line
             let acks = line.acks.saturating_sub(1);
             Line { acks, ..line }
         }
+        LineInput::Response(Response::DataExcl { to: _, value }) => Line { value, ..line },
         LineInput::Ask(_) => line,
         LineInput::Forward(_) => line,
     }

@@ -67,6 +67,7 @@ fn response_event_at(acks: i64, response: Response) -> CacheEvent
                 CacheEvent::InvAck
             }
         }
+        Response::DataExcl { to: _, value: _ } => CacheEvent::DataDirExcl,
     }
 }
 

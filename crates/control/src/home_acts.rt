@@ -1,7 +1,7 @@
 ghost use Rattle.std.specs.Prelude.{◌≡◌, ◌<◌, ℕ, IsOk, OnOk, OnErr, Some, true, length};
 ghost use Rattle.network.specs.Traffic.{all_sent};
 ghost use Rattle.network.specs.Room.{HasRoomFor, UsesRoomFor};
-ghost use Rattle.control.specs.HomeEffect.{sender_of, brought_by, data_message, link_message, invalidation, invalidations, owner_message};
+ghost use Rattle.control.specs.HomeEffect.{sender_of, brought_by, data_message, exclusive_message, link_message, invalidation, invalidations, owner_message};
 ghost use Rattle.control.specs.HomeEffect.{home_message, home_changed, home_messages, home_moved, home_after, home_sends, IsBelow, NamesBelow};
 ghost use Rattle.control.specs.Sharing.{shares};
 
@@ -42,6 +42,12 @@ fn data(to: CacheId, value: u64, acks: u32) -> Message
         value,
         acks,
     })
+}
+
+fn exclusive(to: CacheId, value: u64) -> Message
+    ensures { result ≡ exclusive_message to value }
+{
+    Message::Response(Response::DataExcl { to, value })
 }
 
 fn on_link(to: CacheId, kind: ForwardKind, requestor: CacheId) -> Message
@@ -106,6 +112,7 @@ fn send(home: &Home, action: DirectoryAction, to: CacheId, wires: &mut Wires)
         DirectoryAction::DataAcks => {
             wires.place(data(to, home.memory, home.sharers.others(to)));
         }
+        DirectoryAction::DataExcl => wires.place(exclusive(to, home.memory)),
         DirectoryAction::InvSharers => invalidate(&home.sharers, to, wires),
         DirectoryAction::FwdGetS => to_owner(home.owner, ForwardKind::FwdGetS, to, wires),
         DirectoryAction::FwdGetM => to_owner(home.owner, ForwardKind::FwdGetM, to, wires),

@@ -14,7 +14,9 @@ pub(crate) fn replies(actions: &[DirectoryAction]) -> usize
     let mut count: usize = 0;
     for action in actions {
         match action {
-            DirectoryAction::DataReq | DirectoryAction::DataAcks => count += 1,
+            DirectoryAction::DataReq | DirectoryAction::DataAcks | DirectoryAction::DataExcl => {
+                count += 1;
+            }
             _ => {}
         }
     }

@@ -1,5 +1,7 @@
 use Rattle.std.specs.Prelude.{ℕ, List, [], ◌∷◌, Option, codes}
-use Rattle.base.specs.Spelling.{named_in}
+use Rattle.base.specs.Spelling.{named_in, named_of}
+use Rattle.base.specs.declared.controller.protocol.Protocol.{Protocol}
+use Rattle.directory_table.specs.Table.{has_state, has_event, has_action}
 use Rattle.directory_table.specs.Baseline.{all_states, all_events}
 use Rattle.directory_table.specs.declared.state.DirectoryState.{DirectoryState}
 use Rattle.directory_table.specs.declared.state.DirectoryState.TheVariants as state
@@ -23,6 +25,10 @@ first_state = state.I
 abbrev pub state_named : List ℕ → Option DirectoryState
 state_named text = named_in state_name all_states text
 
+-- the same, if a protocol has it
+abbrev pub state_named_of : Protocol → List ℕ → Option DirectoryState
+state_named_of protocol text = named_of (has_state protocol) state_name all_states text
+
 -- how an event is spelled
 abbrev pub event_name : DirectoryEvent → List ℕ
 event_name event.GetS = codes "GetS"
@@ -41,6 +47,10 @@ first_event = event.GetS
 abbrev pub event_named : List ℕ → Option DirectoryEvent
 event_named text = named_in event_name all_events text
 
+-- the same, if a protocol has it
+abbrev pub event_named_of : Protocol → List ℕ → Option DirectoryEvent
+event_named_of protocol text = named_of (has_event protocol) event_name all_events text
+
 -- how an action is spelled
 abbrev pub action_name : DirectoryAction → List ℕ
 action_name action.DataReq = codes "data-req"
@@ -56,12 +66,14 @@ action_name action.ClearSharers = codes "clear-sharers"
 action_name action.ClearOwner = codes "clear-owner"
 action_name action.SetOwner = codes "set-owner"
 action_name action.CopyData = codes "copy-data"
+action_name action.DataExcl = codes "data-excl"
 
 -- all actions
 abbrev pub all_actions : List DirectoryAction
 all_actions =
     action.DataReq ∷ action.DataAcks ∷ action.InvSharers ∷ action.FwdGetS ∷ action.FwdGetM ∷ action.PutAck ∷ action.AddReq ∷
-    action.AddOwner ∷ action.RemoveReq ∷ action.ClearSharers ∷ action.ClearOwner ∷ action.SetOwner ∷ action.CopyData ∷ []
+    action.AddOwner ∷ action.RemoveReq ∷ action.ClearSharers ∷ action.ClearOwner ∷ action.SetOwner ∷ action.CopyData ∷
+    action.DataExcl ∷ []
 
 -- the number of an action among all actions, counted from 0
 abbrev pub action_number : DirectoryAction → ℕ
@@ -78,6 +90,7 @@ action_number action.ClearSharers = 9
 action_number action.ClearOwner = 10
 action_number action.SetOwner = 11
 action_number action.CopyData = 12
+action_number action.DataExcl = 13
 
 -- the action that stands first
 abbrev pub first_action : DirectoryAction
@@ -86,3 +99,7 @@ first_action = action.DataReq
 -- the action that is spelled so, if there is one
 abbrev pub action_named : List ℕ → Option DirectoryAction
 action_named text = named_in action_name all_actions text
+
+-- the same, if a protocol has it
+abbrev pub action_named_of : Protocol → List ℕ → Option DirectoryAction
+action_named_of protocol text = named_of (has_action protocol) action_name all_actions text

@@ -1,11 +1,15 @@
 -- The numbers of rows and columns, and the cells of the directory's table.
-use Rattle.std.specs.Prelude.{ℕ, List}
+use Rattle.std.specs.Prelude.{ℕ, List, [], ◌∷◌, Bool, true, false, ◌&&◌, if◌then◌else◌}
+use Rattle.base.specs.declared.controller.protocol.Protocol.{Protocol}
+use Rattle.base.specs.declared.controller.protocol.Protocol.TheVariants.{Msi}
 use Rattle.base.specs.declared.controller.entry.Entry.{Entry}
+use Rattle.base.specs.declared.controller.entry.Entry.TheVariants.{Act}
 use Rattle.base.specs.declared.controller.entry.Change.{Change}
 use Rattle.base.specs.Cells as cells
 use Rattle.directory_table.specs.declared.state.DirectoryState.{DirectoryState}
 use Rattle.directory_table.specs.declared.event.DirectoryEvent.{DirectoryEvent}
 use Rattle.directory_table.specs.declared.actions.DirectoryAction.{DirectoryAction}
+use Rattle.directory_table.specs.declared.actions.DirectoryAction.TheVariants.{DataExcl}
 use Rattle.directory_table.specs.declared.state.DirectoryState.TheVariants.{I, S, M, SD}
 use Rattle.directory_table.specs.declared.event.DirectoryEvent.TheVariants.{GetS, GetM, PutSNotLast, PutSLast, PutMOwner, PutMNonOwner, Data}
 
@@ -50,6 +54,39 @@ with_cell table state event entry = cells.replaced state_number event_number tab
 abbrev pub IsWhole : Cells → Type 0
 IsWhole table = cells.HasSize 4 7 table
 
--- these cells after these changes, made in order
-abbrev pub laid_over : List DirectoryChange → Cells → Cells
-laid_over changes table = cells.after_changes state_number event_number changes table
+-- whether a protocol has a state, as each has all of the directory
+abbrev pub has_state : Protocol → DirectoryState → Bool
+has_state protocol state = true
+
+-- whether it has an event, as each has all
+abbrev pub has_event : Protocol → DirectoryEvent → Bool
+has_event protocol event = true
+
+-- whether it has an action
+abbrev pub has_action : Protocol → DirectoryAction → Bool
+has_action Msi DataExcl = false
+has_action protocol other = true
+
+-- whether it has all of these
+abbrev pub has_actions : Protocol → List DirectoryAction → Bool
+has_actions protocol [] = true
+has_actions protocol (a ∷ actions) = has_action protocol a && has_actions protocol actions
+
+-- whether it has what an entry names
+abbrev pub has_entry : Protocol → DirectoryEntry → Bool
+has_entry protocol (Act next actions) = has_actions protocol actions
+has_entry protocol other = true
+
+-- a table as contracts see it: its protocol, and its cells
+pub record Table : Type 0 where
+  pub protocol : Protocol
+  pub cells : Cells
+
+-- this table with another entry in a cell; where its protocol hasn't got what is named, it stays as it is
+abbrev pub with_entry : Table → DirectoryState → DirectoryEvent → DirectoryEntry → Table
+with_entry table state event entry = if has_entry table.protocol entry then record table { cells = with_cell table.cells state event entry } else table
+
+-- this table after these changes, made in order
+abbrev pub laid_over : List DirectoryChange → Table → Table
+laid_over [] table = table
+laid_over (c ∷ changes) table = laid_over changes (with_entry table c.state c.event c.entry)

@@ -1,4 +1,4 @@
-use base::controller::Listed;
+use base::controller::{Listed, Protocol};
 
 /// One thing that a block's home does in a cell (Primer, section 8.2).
 ///
@@ -33,11 +33,13 @@ pub enum DirectoryAction {
     SetOwner,
     /// `copy-data`: memory takes the value that came with a PutM or a Data. On another event it does nothing.
     CopyData,
+    /// `data-excl`: sends Data with memory's value to the requestor, which may come to write without asking.
+    DataExcl,
 }
 
 impl DirectoryAction {
     /// All actions, in order.
-    pub const ALL: [DirectoryAction; 13] = [
+    pub const ALL: [DirectoryAction; 14] = [
         DirectoryAction::DataReq,
         DirectoryAction::DataAcks,
         DirectoryAction::InvSharers,
@@ -51,11 +53,13 @@ impl DirectoryAction {
         DirectoryAction::ClearOwner,
         DirectoryAction::SetOwner,
         DirectoryAction::CopyData,
+        DirectoryAction::DataExcl,
     ];
 }
 
 impl Listed for DirectoryAction {
     ghost use Rattle.directory_table.specs.Names.{action_name, action_number, all_actions, first_action};
+    ghost use Rattle.directory_table.specs.Table.{has_action};
     ghost use Rattle.directory_table.specs.inner.Standing.{action_found, action_plain, action_stands};
 
     ghost spelling = { action_name };
@@ -65,6 +69,8 @@ impl Listed for DirectoryAction {
     ghost kind = { all_actions };
 
     ghost head = { first_action };
+
+    ghost has = { has_action };
 
     fn name(self) -> &'static str {
         match self {
@@ -81,6 +87,7 @@ impl Listed for DirectoryAction {
             DirectoryAction::ClearOwner => "clear-owner",
             DirectoryAction::SetOwner => "set-owner",
             DirectoryAction::CopyData => "copy-data",
+            DirectoryAction::DataExcl => "data-excl",
         }
     }
 
@@ -94,6 +101,13 @@ impl Listed for DirectoryAction {
 
     fn first() -> DirectoryAction {
         DirectoryAction::DataReq
+    }
+
+    fn is_in(self, protocol: Protocol) -> bool {
+        match (protocol, self) {
+            (Protocol::Msi, DirectoryAction::DataExcl) => false,
+            _ => true,
+        }
     }
 
     ghost stands = { action_stands };

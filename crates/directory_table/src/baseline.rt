@@ -1,37 +1,50 @@
 ghost use Rattle.std.specs.Prelude.{◌≡◌};
+ghost use Rattle.base.specs.declared.controller.protocol.Protocol.TheVariants.{Msi};
 ghost use Rattle.directory_table.specs.Baseline.{baseline_cells, baseline_row};
 
 use crate::actions::DirectoryAction::{
-    AddOwner, AddReq, ClearOwner, ClearSharers, CopyData, DataAcks, DataReq, FwdGetM, FwdGetS,
-    InvSharers, PutAck, RemoveReq, SetOwner,
+    AddOwner, AddReq, ClearOwner, ClearSharers, CopyData, DataAcks, DataExcl, DataReq, FwdGetM,
+    FwdGetS, InvSharers, PutAck, RemoveReq, SetOwner,
 };
 use crate::state::DirectoryState::{self, I, M, S, SD};
 use crate::table::DirectoryEntry;
 use base::controller::Entry::{Blank, Stall};
+use base::controller::Protocol;
 
-/// The rows of the baseline (after Primer, section 8.2), each with its cells in the order of the events.
-pub(crate) fn baseline_rows() -> [[DirectoryEntry; 7]; 4]
-    ensures { result ≡ baseline_cells }
+/// The rows of a protocol's baseline (after Primer, section 8.2), each with its cells in the order of the events.
+pub(crate) fn baseline_rows(protocol: Protocol) -> [[DirectoryEntry; 7]; 4]
+    ensures { result ≡ baseline_cells protocol }
 {
-    [i_row(), s_row(), m_row(), s_d_row()]
+    [i_row(protocol), s_row(), m_row(), s_d_row()]
 }
 
-fn i_row() -> [DirectoryEntry; 7]
-    ensures { result ≡ baseline_row DirectoryState.I }
+fn i_row(protocol: Protocol) -> [DirectoryEntry; 7]
+    ensures { result ≡ baseline_row protocol DirectoryState.I }
 {
-    [
-        DirectoryEntry::two(DataReq, AddReq, S), // I, GetS
-        DirectoryEntry::two(DataReq, SetOwner, M), // I, GetM
-        DirectoryEntry::one(PutAck, I), // I, PutS-NotLast
-        DirectoryEntry::one(PutAck, I), // I, PutS-Last
-        Blank, // I, PutM-Owner
-        DirectoryEntry::one(PutAck, I), // I, PutM-NonOwner
-        Blank, // I, Data
-    ]
+    match protocol {
+        Protocol::Msi => [
+            DirectoryEntry::two(DataReq, AddReq, S), // I, GetS
+            DirectoryEntry::two(DataReq, SetOwner, M), // I, GetM
+            DirectoryEntry::one(PutAck, I), // I, PutS-NotLast
+            DirectoryEntry::one(PutAck, I), // I, PutS-Last
+            Blank, // I, PutM-Owner
+            DirectoryEntry::one(PutAck, I), // I, PutM-NonOwner
+            Blank, // I, Data
+        ],
+        Protocol::MsiE => [
+            DirectoryEntry::two(DataExcl, SetOwner, M), // I, GetS
+            DirectoryEntry::two(DataReq, SetOwner, M), // I, GetM
+            DirectoryEntry::one(PutAck, I), // I, PutS-NotLast
+            DirectoryEntry::one(PutAck, I), // I, PutS-Last
+            Blank, // I, PutM-Owner
+            DirectoryEntry::one(PutAck, I), // I, PutM-NonOwner
+            Blank, // I, Data
+        ],
+    }
 }
 
 fn s_row() -> [DirectoryEntry; 7]
-    ensures { result ≡ baseline_row DirectoryState.S }
+    ensures { result ≡ baseline_row Msi DirectoryState.S }
 {
     [
         DirectoryEntry::two(DataReq, AddReq, S), // S, GetS
@@ -45,7 +58,7 @@ fn s_row() -> [DirectoryEntry; 7]
 }
 
 fn m_row() -> [DirectoryEntry; 7]
-    ensures { result ≡ baseline_row DirectoryState.M }
+    ensures { result ≡ baseline_row Msi DirectoryState.M }
 {
     [
         DirectoryEntry::four(FwdGetS, AddReq, AddOwner, ClearOwner, SD), // M, GetS
@@ -59,7 +72,7 @@ fn m_row() -> [DirectoryEntry; 7]
 }
 
 fn s_d_row() -> [DirectoryEntry; 7]
-    ensures { result ≡ baseline_row DirectoryState.SD }
+    ensures { result ≡ baseline_row Msi DirectoryState.SD }
 {
     [
         Stall, // S^D, GetS

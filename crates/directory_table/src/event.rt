@@ -1,4 +1,4 @@
-use base::controller::Listed;
+use base::controller::{Listed, Protocol};
 
 /// What happens to a block at its home (Primer, section 8.2): a request of a cache, or Data.
 #[derive(Clone, Copy, PartialEq, Eq, Debug)]
@@ -34,7 +34,7 @@ impl DirectoryEvent {
 
 impl Listed for DirectoryEvent {
     ghost use Rattle.directory_table.specs.Names.{event_name, first_event};
-    ghost use Rattle.directory_table.specs.Table.{event_number};
+    ghost use Rattle.directory_table.specs.Table.{event_number, has_event};
     ghost use Rattle.directory_table.specs.Baseline.{all_events};
     ghost use Rattle.directory_table.specs.inner.Standing.{event_found, event_plain, event_stands};
 
@@ -45,6 +45,8 @@ impl Listed for DirectoryEvent {
     ghost kind = { all_events };
 
     ghost head = { first_event };
+
+    ghost has = { has_event };
 
     fn name(self) -> &'static str {
         match self {
@@ -68,6 +70,10 @@ impl Listed for DirectoryEvent {
 
     fn first() -> DirectoryEvent {
         DirectoryEvent::GetS
+    }
+
+    fn is_in(self, _protocol: Protocol) -> bool {
+        true
     }
 
     ghost stands = { event_stands };

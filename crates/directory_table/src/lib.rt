@@ -14,4 +14,4 @@ mod table;
 pub use actions::DirectoryAction;
 pub use event::DirectoryEvent;
 pub use state::DirectoryState;
-pub use table::{DirectoryActions, DirectoryChange, DirectoryEntry, DirectoryTable};
+pub use table::{DirectoryActions, DirectoryChange, DirectoryEntry, DirectoryTable, knows_entry};

@@ -1,4 +1,4 @@
-use base::controller::Listed;
+use base::controller::{Listed, Protocol};
 
 /// The state of a block at its home (Primer, section 8.2).
 #[derive(Clone, Copy, PartialEq, Eq, Debug)]
@@ -25,7 +25,7 @@ impl DirectoryState {
 
 impl Listed for DirectoryState {
     ghost use Rattle.directory_table.specs.Names.{state_name, first_state};
-    ghost use Rattle.directory_table.specs.Table.{state_number};
+    ghost use Rattle.directory_table.specs.Table.{state_number, has_state};
     ghost use Rattle.directory_table.specs.Baseline.{all_states};
     ghost use Rattle.directory_table.specs.inner.Standing.{state_found, state_plain, state_stands};
 
@@ -36,6 +36,8 @@ impl Listed for DirectoryState {
     ghost kind = { all_states };
 
     ghost head = { first_state };
+
+    ghost has = { has_state };
 
     fn name(self) -> &'static str {
         match self {
@@ -56,6 +58,10 @@ impl Listed for DirectoryState {
 
     fn first() -> DirectoryState {
         DirectoryState::I
+    }
+
+    fn is_in(self, _protocol: Protocol) -> bool {
+        true
     }
 
     ghost stands = { state_stands };

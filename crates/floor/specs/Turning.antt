@@ -9,7 +9,6 @@ use Rattle.record.specs.View.{RecordingView, steps_of}
 use Rattle.trials.specs.Terms.{Terms}
 use Rattle.floor.specs.Belonging.{belongs, ready_for}
 use Rattle.floor.specs.FloorId.{FloorId}
-use Rattle.base.specs.declared.controller.protocol.Protocol.TheVariants.{Msi}
 
 -- a hall: the entries, the owner of each, and the first violation with the number of its entry
 pub record HallView : Type 0 where
@@ -33,12 +32,11 @@ with_receipt seat receipt = record { number = seat.number; made = seat.made ++ r
 -- the recording of entries that were made under a setup, of which nobody is told to own any
 abbrev pub recorded : Terms → List Entry → RecordingView
 recorded setup entries =
-    record { protocol = Msi; seats = 0; shape = setup.shape; tables = setup.tables; opening = setup.opening; entries = entries; owners = [] }
+    record { seats = 0; shape = setup.shape; tables = setup.tables; opening = setup.opening; entries = entries; owners = [] }
 
 -- the recording of entries that were made at a floor, each with the seat that owns it
 abbrev pub recorded_at : FloorId → List Entry → List ℕ → RecordingView
 recorded_at floor entries owners = record {
-  protocol = Msi;
   seats = floor.seats;
   shape = floor.setup.shape;
   tables = floor.setup.tables;

@@ -7,8 +7,10 @@ use Rattle.base.specs.declared.ids.CacheId.{CacheId}
 use Rattle.base.specs.declared.ids.Place.TheVariants.{Dir, Cache}
 use Rattle.base.specs.declared.controller.entry.Entry.TheVariants.{Blank, Stall, Act}
 use Rattle.network.specs.declared.message.Response.{Response}
-use Rattle.network.specs.declared.message.Response.TheVariants.{Data, InvAck}
+use Rattle.network.specs.declared.message.Response.TheVariants.{Data, InvAck, DataExcl}
 use Rattle.cache_table.specs.declared.state.CacheState.{CacheState}
+use Rattle.base.specs.declared.controller.protocol.Protocol.{Protocol}
+use Rattle.base.specs.declared.controller.protocol.Protocol.TheVariants.{Msi, MsiE}
 use Rattle.cache_table.specs.declared.state.CacheState.TheVariants.{ImAd, ImA, SmAd, SmA}
 use Rattle.cache_table.specs.declared.event.CacheEvent.TheVariants as event
 use Rattle.cache_table.specs.Table.{cell}
@@ -16,7 +18,7 @@ use Rattle.cache_table.specs.Baseline.{baseline_entry}
 use Rattle.cache_table.proofs.BaselineCells.{cell-baseline}
 use Rattle.control.specs.declared.line.Line.{Line}
 use Rattle.control.specs.Events.{is_count, more_acks}
-use Rattle.both_tables.specs.Tables.{Tables, baseline}
+use Rattle.both_tables.specs.Tables.{Tables, baseline_of}
 use Rattle.machine.specs.Block.{BlockState}
 use Rattle.machine.specs.Going.{KeepsGoing, AwaitsData, DataWaits, AckMayWait, LastAckMayWait}
 use Rattle.machine.proofs.Acks.{sum-early, sum-late}
@@ -25,6 +27,7 @@ use Rattle.machine.proofs.Views.{View, Local}
 use Rattle.machine.proofs.Counts.{only, sum_by-remove}
 use Rattle.machine.proofs.Seen.{seen, view_of, dir_data, ack_number, inv_ack, early_of, late_of}
 use Rattle.machine.proofs.Sound.{Sound, Bounded, local-at, view-at}
+use Rattle.machine.proofs.Plain.{Plain}
 use Rattle.machine.proofs.AskTransitions.{bounded-at}
 use Rattle.machine.proofs.ResponseTransitions.{early-promised, zero-false}
 use Rattle.machine.proofs.Quiet.{IsQuiet}
@@ -35,10 +38,12 @@ use Rattle.machine.proofs.ResponseMoves.{find-response, only-same, same-line, mo
 use Rattle.machine.proofs.HeadMoves.{found-inv, without-responses}
 
 -- an ack is served where a line awaits its Data
-ack-acts : (s : CacheState) → AwaitsData s → baseline_entry s event.InvAck ≡ Act s []
-ack-acts ImAd a = refl
-ack-acts SmAd a = refl
-ack-acts s a = absurd a
+ack-acts : (p : Protocol) (s : CacheState) → AwaitsData s → baseline_entry p s event.InvAck ≡ Act s []
+ack-acts Msi ImAd a = refl
+ack-acts MsiE ImAd a = refl
+ack-acts Msi SmAd a = refl
+ack-acts MsiE SmAd a = refl
+ack-acts p s a = absurd a
 
 ack-free : (tables : Tables) (s : CacheState) → AwaitsData s → AckMayWait tables s → DataWaits tables s → ⊥
 ack-free tables ImAd a m w = m w
@@ -48,7 +53,8 @@ ack-free tables s a m w = absurd a
 -- where the Data waits, the acks don't
 acks-served : (tables : Tables) → KeepsGoing tables → (s : CacheState) → Waits tables s event.DataDirMore → cell tables.cache s event.InvAck ≢ Stall
 acks-served tables k s w = λ x.
-    let own : cell baseline.cache s event.InvAck ≡ Act s [] = cell-baseline s event.InvAck ∙ ack-acts s w.0 in
+    let own : cell (baseline_of tables.protocol).cache s event.InvAck ≡ Act s [] =
+    cell-baseline tables.protocol s event.InvAck ∙ ack-acts tables.protocol s w.0 in
     elim (k.cache s event.InvAck x) [
       | inl e ↦ let no : Act s [] ≡ Stall = sym own ∙ e in absurd (cc)
       | inr (inl e) ↦ let no : Act s [] ≡ Blank = sym own ∙ e in absurd (cc)
@@ -68,6 +74,7 @@ no-ack-waits tables false s a ne w = ne w.1
 ack-goes : (tables : Tables) (b : BlockState) (c : ℕ) (line : Line) → Some line ≡ slice_get b.lines c → AwaitsData line.state →
     cell tables.cache line.state event.InvAck ≢ Stall → (x : Response) → 0 < inv_ack c x → ResponseWaits tables b x → ⊥
 ack-goes tables b c line there a ne (Data by to value acks) p w = absurd (omega arith)
+ack-goes tables b c line there a ne (DataExcl to value) p w = absurd (omega arith)
 ack-goes tables b c line there a ne (InvAck by to) p w =
     no-ack-waits tables (is_count line.acks 1) line.state a ne
     (subst (λ (l : Line). Waits tables l.state (if is_count l.acks 1 then event.LastInvAck else event.InvAck))
@@ -75,15 +82,15 @@ ack-goes tables b c line there a ne (InvAck by to) p w =
 
 -- an ack that a line waits for is on its way and can be delivered, or is still to be sent
 acks-found : (n : ℕ) (tables : Tables) → KeepsGoing tables → (b : BlockState) (block : BlockId) (c : ℕ) (line : Line) → Some line ≡ slice_get b.lines c →
-    Sound n b →
+    Sound n b → Plain tables.protocol b →
     AwaitsData line.state → cell tables.cache line.state event.InvAck ≢ Stall → 0 < (view_of b c).invs → Found tables b block
-acks-found n tables k b block c line there h a ne some =
+acks-found n tables k b block c line there h pl a ne some =
     elim (cases_eq (sum_by (inv_ack c) b.traffic.responses) 0) as (λ _. Found tables b block) [
-      | inl z ↦ found-inv n tables k b block c h (omega (arith, z))
+      | inl z ↦ found-inv n tables k b block c h pl (omega (arith, z))
       | inr more ↦
           let r : (i : ℕ) × (x : Response) × (Some x ≡ slice_get b.traffic.responses i) × (0 < inv_ack c x) =
           find-response (inv_ack c) b.traffic.responses (omega (arith, more)) in
-          elim (response-goes n tables k b block r.0 r.1 r.2 h) as (λ _. Found tables b block) [
+          elim (response-goes n tables k b block r.0 r.1 r.2 h pl) as (λ _. Found tables b block) [
             | inl f ↦ f
             | inr w ↦ absurd (ack-goes tables b c line there a ne r.1 r.3 w)
           ]
@@ -160,23 +167,24 @@ ack-waits tables true s w = last-may tables s w.0
 ack-waits tables false s w = ack-may tables s w.0
 
 waiting-response : (n : ℕ) (tables : Tables) → KeepsGoing tables → (b : BlockState) (block : BlockId) (i : ℕ) (x : Response) →
-    Some x ≡ slice_get b.traffic.responses i → Sound n b → Gathering tables b → ResponseWaits tables b x → Found tables b block
-waiting-response n tables k b block i (Data Dir Dir value acks) at h g w = absurd w
-waiting-response n tables k b block i (Data (Cache by) Dir value acks) at h g w = absurd w
-waiting-response n tables k b block i (Data (Cache by) (Cache c) value acks) at h g w = absurd w.2.0
-waiting-response n tables k b block i (Data Dir (Cache c) value acks) at h g w =
+    Some x ≡ slice_get b.traffic.responses i → Sound n b → Plain tables.protocol b → Gathering tables b → ResponseWaits tables b x → Found tables b block
+waiting-response n tables k b block i (Data Dir Dir value acks) at h pl g w = absurd w
+waiting-response n tables k b block i (Data (Cache by) Dir value acks) at h pl g w = absurd w
+waiting-response n tables k b block i (Data (Cache by) (Cache c) value acks) at h pl g w = absurd w.2.0
+waiting-response n tables k b block i (Data Dir (Cache c) value acks) at h pl g w =
     let m : (is_count (more_acks w.0.acks acks) 0 ≡ false) × Waits tables w.0.state event.DataDirMore =
     more-waits tables (is_count (more_acks w.0.acks acks) 0) w.0.state w.2 in
-    acks-found n tables k b block c.0 w.0 w.1 h m.1.0 (acks-served tables k w.0.state m.1)
+    acks-found n tables k b block c.0 w.0 w.1 h pl m.1.0 (acks-served tables k w.0.state m.1)
     (acks-owed n b i c value acks w.0 w.1 h at m.1.0 m.0)
-waiting-response n tables k b block i (InvAck by c) at h g w =
+waiting-response n tables k b block i (DataExcl c value) at h pl g w = absurd w.2.0
+waiting-response n tables k b block i (InvAck by c) at h pl g w =
     elim (ack-waits tables (is_count w.0.acks 1) w.0.state w.2) as (λ _. Found tables b block) [
       | inl a ↦
           let v : View = seen w.0 b.home b.traffic c.0 in
           let one : inv_ack c.0 (InvAck by c) ≡ 1 = ap (λ t. only t 1) (eq-eqb c.0 c.0 refl) in
           let some : 0 < v.invs = omega (arith, sum_by-remove (inv_ack c.0) b.traffic.responses i (InvAck by c) at, one) in
           let sent : 0 < v.dir_data = awaits-data w.0.state v a.0 (local-at n b c.0 w.0 h w.1) some in
-          elim (data-found n tables k b block c.0 w.0 w.1 h (omega (arith, sent, ap (λ (u : View). u.dir_data) (view-at b c.0 w.0 w.1)))) as
+          elim (data-found n tables k b block c.0 w.0 w.1 h pl (omega (arith, sent, ap (λ (u : View). u.dir_data) (view-at b c.0 w.0 w.1)))) as
           (λ _. Found tables b block) [
             | inl f ↦ f
             | inr waits ↦ absurd (a.1 waits.1)
@@ -187,11 +195,11 @@ waiting-response n tables k b block i (InvAck by c) at h g w =
 
 -- a block with a message has one that can be delivered
 pub some-move : (n : ℕ) (tables : Tables) → KeepsGoing tables → (b : BlockState) (block : BlockId) (xs : List Response) → xs ≡ b.traffic.responses →
-    Ranked b → Sound n b → Gathering tables b → (IsQuiet b.traffic → ⊥) → Found tables b block
-some-move n tables k b block [] e rd h g not_quiet = without-responses n tables k b block b.traffic.requests refl rd h (sym e) not_quiet
-some-move n tables k b block (x ∷ xs) e rd h g not_quiet =
+    Ranked b → Sound n b → Plain tables.protocol b → Gathering tables b → (IsQuiet b.traffic → ⊥) → Found tables b block
+some-move n tables k b block [] e rd h pl g not_quiet = without-responses n tables k b block b.traffic.requests refl rd h pl (sym e) not_quiet
+some-move n tables k b block (x ∷ xs) e rd h pl g not_quiet =
     let at : Some x ≡ slice_get b.traffic.responses 0 = ap (λ l. slice_get l 0) e in
-    elim (response-goes n tables k b block 0 x at h) as (λ _. Found tables b block) [
+    elim (response-goes n tables k b block 0 x at h pl) as (λ _. Found tables b block) [
       | inl f ↦ f
-      | inr w ↦ waiting-response n tables k b block 0 x at h g w
+      | inr w ↦ waiting-response n tables k b block 0 x at h pl g w
     ]

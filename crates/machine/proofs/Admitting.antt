@@ -3,6 +3,8 @@ use Rattle.std.proofs.Common.{◌≡◌, ◌⊎◌, inl, inr, ℕ, ◌≤◌, []
 use Rattle.std.specs.Prelude.{Contains}
 use Rattle.std.proofs.lemmas.List.Elements.{All-contains, All-cons, All-nil}
 use Rattle.base.specs.declared.ids.CacheId.{CacheId}
+use Rattle.base.specs.declared.controller.protocol.Protocol.{Protocol}
+use Rattle.base.specs.declared.controller.protocol.Protocol.TheVariants.{Msi, MsiE}
 use Rattle.base.specs.declared.ids.Place.TheVariants.{Dir, Cache}
 use Rattle.base.specs.declared.step.Ask.{Ask}
 use Rattle.base.specs.declared.step.Step.{Step}
@@ -14,13 +16,12 @@ use Rattle.network.specs.declared.message.Forward.{Forward}
 use Rattle.network.specs.declared.message.ForwardKind.{ForwardKind}
 use Rattle.network.specs.declared.message.ForwardKind.TheVariants as forward
 use Rattle.network.specs.declared.message.Response.{Response}
-use Rattle.network.specs.declared.message.Response.TheVariants.{Data, InvAck}
+use Rattle.network.specs.declared.message.Response.TheVariants.{Data, InvAck, DataExcl}
 use Rattle.network.specs.Traffic.{link}
 use Rattle.cache_table.specs.declared.state.CacheState.{CacheState}
 use Rattle.cache_table.specs.declared.event.CacheEvent.{CacheEvent}
-use Rattle.cache_table.specs.declared.event.CacheEvent.TheVariants.{Load, Store, Replacement}
 use Rattle.cache_table.specs.declared.event.CacheEvent.TheVariants as event
-use Rattle.cache_table.specs.Table.{CacheChange}
+use Rattle.cache_table.specs.Table.{CacheEntry, CacheChange}
 use Rattle.base.specs.declared.controller.entry.Entry.TheVariants.{Act}
 use Rattle.directory_table.specs.declared.state.DirectoryState.{DirectoryState}
 use Rattle.directory_table.specs.declared.state.DirectoryState.TheVariants as home
@@ -38,7 +39,7 @@ use Rattle.control.specs.Sharing.{is_sole}
 use Rattle.machine.specs.declared.decision.Origin.{Origin}
 use Rattle.machine.specs.declared.decision.Origin.TheVariants as origin
 use Rattle.machine.specs.declared.decision.Decision.{Decision}
-use Rattle.both_tables.specs.Tables.{Tables, baseline}
+use Rattle.both_tables.specs.Tables.{Tables, baseline_of}
 use Rattle.machine.specs.Block.{BlockState}
 use Rattle.machine.specs.Transition.{Transition, transition, decision_of, carried_out, by_line_entry, by_home_entry, at_line, at_home}
 use Rattle.machine.specs.Transition.{at_ask, at_request, at_forward, at_response, is_idle}
@@ -54,29 +55,43 @@ use Rattle.machine.proofs.AskTransitions.{ask-fine}
 use Rattle.machine.proofs.GetTransitions.{req}
 use Rattle.machine.proofs.HomeTransitions.{puts-fine}
 use Rattle.machine.proofs.HomeValues.{puts-right}
-use Rattle.machine.proofs.StepTransitions.{transition-fine}
-use Rattle.machine.proofs.StepValues.{transition-right}
+use Rattle.machine.proofs.Plain.{Plain, is_plain_line, is_plain_home, line-plain, home-plain}
+use Rattle.machine.proofs.Own.{own-fine, own-right, own-ranked, own-plain}
 use Rattle.machine.proofs.SingleWriter.{sound-single}
 use Rattle.machine.proofs.Invariant.{Keeps, guards}
 use Rattle.machine.proofs.Runs.{Guards}
-use Rattle.machine.proofs.Ranks.{Ranked, line-ranked, same-links, put-ranked, transition-ranked}
+use Rattle.machine.proofs.Ranks.{Ranked, line-ranked, same-links, put-ranked}
 use Rattle.machine.proofs.Restraining.{Decides, line-decides, home-decides, as-decided}
 use Rattle.machine.proofs.ProvedCells.{IsAsk, Proved, proved}
 
 -- a transition keeps the invariant, meets no blank cell, and answers by the latest value
-pub record Passes (n : ℕ) (b : BlockState) (t : Transition) : Type 0 where
+pub record Passes (p : Protocol) (n : ℕ) (b : BlockState) (t : Transition) : Type 0 where
   pub fine : Fine n t
   pub right : Right b t
+  pub plain : Plain p t.block
   pub order : Ranked b → Ranked t.block
 
 -- a decision is as the own one, or passes
-abbrev pub Goes : ℕ → BlockState → Decision → Decision → Type 0
-Goes n b own d = Decides own d ⊎ Passes n b (carried_out d b)
+abbrev pub Goes : Protocol → ℕ → BlockState → Decision → Decision → Type 0
+Goes p n b own d = Decides own d ⊎ Passes p n b (carried_out d b)
+
+-- a cell that keeps a block plain
+line-keeps : (p : Protocol) (x : CacheEntry) (cache : CacheId) (line : Line) (input : LineInput) (from : Origin) (b : BlockState) → is_plain_line x ≡ true →
+    Plain p b → Plain p (carried_out (by_line_entry x cache line input from) b).block
+line-keeps MsiE x cache line input from b e k = tt
+line-keeps Msi x cache line input from b e k = line-plain x cache line input from b e k
+
+home-keeps : (p : Protocol) (x : DirectoryEntry) (input : HomeInput) (from : Origin) (b : BlockState) → is_plain_home x ≡ true →
+    Plain p b → Plain p (carried_out (by_home_entry x input from) b).block
+home-keeps MsiE x input from b e k = tt
+home-keeps Msi x input from b e k = home-plain x input from b e k
 
 -- a proved cell keeps the invariant
-kept : (n : ℕ) (b : BlockState) (cache : CacheId) (a : Ask) (line : Line) (c : CacheChange) → line.state ≡ c.state → ask_event a ≡ c.event → Proved c →
-    Some line ≡ slice_get b.lines cache.0 → Sound n b → Valued b → Passes n b (carried_out (by_line_entry c.entry cache line (line_input.Ask a) origin.Core) b)
-kept n b cache a line c same e p there h v =
+kept : (pr : Protocol) (n : ℕ) (b : BlockState) (cache : CacheId) (a : Ask) (line : Line) (c : CacheChange) → line.state ≡ c.state →
+    ask_event a ≡ c.event → Proved c →
+    Some line ≡ slice_get b.lines cache.0 → Sound n b → Valued b → Plain pr b →
+    Passes pr n b (carried_out (by_line_entry c.entry cache line (line_input.Ask a) origin.Core) b)
+kept pr n b cache a line c same e p there h v k =
     let view : View = seen line b.home b.traffic cache.0 in
     let local : Local c.state view = subst (λ (s : CacheState). Local s view) same (local-at n b cache.0 line h there) in
     let rule : AskRule line.state view c.entry = subst (λ (s : CacheState). AskRule s view c.entry) (sym same) (p.rule view local) in
@@ -88,7 +103,8 @@ kept n b cache a line c same e p there h v =
     record {
       fine = fine;
       right = ask-right n b cache a line c.entry v there rule put (p.settles a view line.value line.acks line.pending b.latest e value waits) fine.sound;
-      order = λ k. line-ranked b cache line (line_input.Ask a) origin.Core c.entry k (same-links b.traffic b.traffic refl);
+      plain = line-keeps pr c.entry cache line (line_input.Ask a) origin.Core b p.plain k;
+      order = λ o. line-ranked b cache line (line_input.Ask a) origin.Core c.entry o (same-links b.traffic b.traffic refl);
     }
 
 -- the cell of a home that stays in S
@@ -104,22 +120,23 @@ staying = record { state = home.S; event = home_event.PutSLast; entry = Act home
 home-stays : (c : DirectoryChange) → Contains proved_homes c → Stays c.state c.event c.entry
 home-stays c at = All-contains IsStay proved_homes c (All-cons IsStay staying [] (refl, refl, refl) (All-nil IsStay)) at
 
-left : (n : ℕ) (b : BlockState) (i : ℕ) (r : CacheId) (x : DirectoryEntry) → Stays b.home.state home_event.PutSLast x →
-    Some (req request.PutS r) ≡ slice_get b.traffic.requests i → Sound n b → Valued b →
-    Passes n b (carried_out (by_home_entry x (home_input.Request (req request.PutS r)) (origin.Request i)) b)
-left n b i r x e at h v =
-    subst (λ (x : DirectoryEntry). Passes n b (carried_out (by_home_entry x (home_input.Request (req request.PutS r)) (origin.Request i)) b)) (sym e.2)
+left : (p : Protocol) (n : ℕ) (b : BlockState) (i : ℕ) (r : CacheId) (x : DirectoryEntry) → Stays b.home.state home_event.PutSLast x →
+    Some (req request.PutS r) ≡ slice_get b.traffic.requests i → Sound n b → Valued b → Plain p b →
+    Passes p n b (carried_out (by_home_entry x (home_input.Request (req request.PutS r)) (origin.Request i)) b)
+left p n b i r x e at h v k =
+    subst (λ (x : DirectoryEntry). Passes p n b (carried_out (by_home_entry x (home_input.Request (req request.PutS r)) (origin.Request i)) b)) (sym e.2)
     (record {
       fine = puts-fine n b i r home.S e.0 h at;
       right = puts-right n b i r home.S e.0 h v at;
-      order = λ k. put-ranked n b i request.PutS r _ h k at refl;
+      plain = home-keeps p (Act home.S (RemoveReq ∷ PutAck ∷ [])) (home_input.Request (req request.PutS r)) (origin.Request i) b refl k;
+      order = λ o. put-ranked n b i request.PutS r _ h o at refl;
     })
 
 -- a line's input goes as under the own tables, or by a proved cell
 line-goes : (n : ℕ) (tables : Tables) (b : BlockState) (cache : CacheId) (input : LineInput) (from : Origin) (found : Option Line) → AreRestrained tables →
     ((line : Line) (c : CacheChange) → found ≡ Some line → line.state ≡ c.state → event_at_line line.acks input ≡ c.event → Proved c →
-    Passes n b (carried_out (by_line_entry c.entry cache line input from) b)) →
-    Goes n b (at_line baseline.cache cache input from found) (at_line tables.cache cache input from found)
+    Passes tables.protocol n b (carried_out (by_line_entry c.entry cache line input from) b)) →
+    Goes tables.protocol n b (at_line (baseline_of tables.protocol).cache cache input from found) (at_line tables.cache cache input from found)
 line-goes n tables b cache input from None r other = inl (inl refl)
 line-goes n tables b cache input from (Some line) r other =
     elim (line-decides _ (line_cell tables line.state (event_at_line line.acks input)) cache line input from
@@ -129,8 +146,9 @@ line-goes n tables b cache input from (Some line) r other =
     ]
 
 home-goes : (n : ℕ) (tables : Tables) (b : BlockState) (input : HomeInput) (from : Origin) → AreRestrained tables →
-    ((x : DirectoryEntry) → Stays b.home.state (event_at_home b.home.owner b.home.sharers input) x → Passes n b (carried_out (by_home_entry x input from) b)) →
-    Goes n b (at_home baseline.directory input from b.home) (at_home tables.directory input from b.home)
+    ((x : DirectoryEntry) → Stays b.home.state (event_at_home b.home.owner b.home.sharers input) x →
+    Passes tables.protocol n b (carried_out (by_home_entry x input from) b)) →
+    Goes tables.protocol n b (at_home (baseline_of tables.protocol).directory input from b.home) (at_home tables.directory input from b.home)
 home-goes n tables b input from r other =
     elim (home-decides _ (home_cell tables b.home.state (event_at_home b.home.owner b.home.sharers input)) input from
     (r.directory b.home.state (event_at_home b.home.owner b.home.sharers input))) [
@@ -138,16 +156,19 @@ home-goes n tables b input from r other =
       | inr at ↦ inr (other _ (home-stays _ at))
     ]
 
-if-goes : (n : ℕ) (b : BlockState) (test : Bool) (x own d : Decision) → Goes n b own d → Goes n b (if test then x else own) (if test then x else d)
-if-goes n b true x own d h = inl (inl refl)
-if-goes n b false x own d h = h
+if-goes : (p : Protocol) (n : ℕ) (b : BlockState) (test : Bool) (x own d : Decision) → Goes p n b own d →
+    Goes p n b (if test then x else own) (if test then x else d)
+if-goes p n b true x own d h = inl (inl refl)
+if-goes p n b false x own d h = h
 
 ask-goes : (n : ℕ) (tables : Tables) (b : BlockState) (cache : CacheId) (a : Ask) (found : Option Line) → found ≡ slice_get b.lines cache.0 →
     AreRestrained tables →
-    Sound n b → Valued b → Goes n b (at_ask baseline.cache cache a found) (at_ask tables.cache cache a found)
-ask-goes n tables b cache a None e r h v = inl (inl refl)
-ask-goes n tables b cache a (Some line) e r h v = if-goes n b (is_idle a line.state) _ _ _
-    (line-goes n tables b cache (line_input.Ask a) origin.Core (Some line) r (λ l c same s t p. kept n b cache a l c s t p (sym same ∙ e) h v))
+    Sound n b → Valued b → Plain tables.protocol b → Goes tables.protocol n b (at_ask (baseline_of tables.protocol).cache cache a found)
+    (at_ask tables.cache cache a found)
+ask-goes n tables b cache a None e r h v k = inl (inl refl)
+ask-goes n tables b cache a (Some line) e r h v k = if-goes tables.protocol n b (is_idle a line.state) _ _ _
+    (line-goes n tables b cache (line_input.Ask a) origin.Core (Some line) r
+    (λ l c same s t p. kept tables.protocol n b cache a l c s t p (sym same ∙ e) h v k))
 
 -- no message is an ask
 no-forward : (k : ForwardKind) → IsAsk (forward_event k) → ⊥
@@ -163,6 +184,7 @@ no-either false x y f g h = g h
 no-response : (acks : ℤ) (m : Response) → IsAsk (response_event acks m) → ⊥
 no-response acks (Data (Cache from) to value more) h = h
 no-response acks (Data Dir to value more) h = no-either _ event.DataDirZero event.DataDirMore (λ x. x) (λ x. x) h
+no-response acks (DataExcl to value) h = h
 no-response acks (InvAck from to) h = no-either _ event.LastInvAck event.InvAck (λ x. x) (λ x. x) h
 
 -- the event of a proved cell is an ask
@@ -178,28 +200,31 @@ no-putm : (test : Bool) → (if test then home_event.PutMOwner else home_event.P
 no-putm true e = absurd (cc)
 no-putm false e = absurd (cc)
 
-requested : (n : ℕ) (b : BlockState) (i : ℕ) (kind : RequestKind) (r : CacheId) (x : DirectoryEntry) → Some (req kind r) ≡ slice_get b.traffic.requests i →
-    Sound n b → Valued b → Stays b.home.state (event_at_home b.home.owner b.home.sharers (home_input.Request (req kind r))) x
-    → Passes n b (carried_out (by_home_entry x (home_input.Request (req kind r)) (origin.Request i)) b)
-requested n b i request.GetS r x at h v e = let no : home_event.GetS ≡ home_event.PutSLast = e.1 in absurd (cc)
-requested n b i request.GetM r x at h v e = let no : home_event.GetM ≡ home_event.PutSLast = e.1 in absurd (cc)
-requested n b i request.PutS r x at h v e = left n b i r x (last-sole (is_sole r.0 b.home.sharers) x b.home.state e) at h v
-requested n b i (request.PutM value) r x at h v e = absurd (no-putm (owns b.home.owner r) e.1)
+requested : (p : Protocol) (n : ℕ) (b : BlockState) (i : ℕ) (kind : RequestKind) (r : CacheId) (x : DirectoryEntry) →
+    Some (req kind r) ≡ slice_get b.traffic.requests i → Sound n b → Valued b → Plain p b →
+    Stays b.home.state (event_at_home b.home.owner b.home.sharers (home_input.Request (req kind r))) x
+    → Passes p n b (carried_out (by_home_entry x (home_input.Request (req kind r)) (origin.Request i)) b)
+requested p n b i request.GetS r x at h v k e = let no : home_event.GetS ≡ home_event.PutSLast = e.1 in absurd (cc)
+requested p n b i request.GetM r x at h v k e = let no : home_event.GetM ≡ home_event.PutSLast = e.1 in absurd (cc)
+requested p n b i request.PutS r x at h v k e = left p n b i r x (last-sole (is_sole r.0 b.home.sharers) x b.home.state e) at h v k
+requested p n b i (request.PutM value) r x at h v k e = absurd (no-putm (owns b.home.owner r) e.1)
 
-request-goes : (n : ℕ) (tables : Tables) (b : BlockState) (i : ℕ) (found : Option Request) → found ≡ slice_get b.traffic.requests i → AreRestrained tables →
-    Sound n b → Valued b → Goes n b (at_request baseline.directory i b.home found) (at_request tables.directory i b.home found)
-request-goes n tables b i None e r h v = inl (inl refl)
-request-goes n tables b i (Some m) e r h v = home-goes n tables b (home_input.Request m) (origin.Request i) r (λ x p. requested n b i m.kind m.from x e h v p)
+request-goes : (n : ℕ) (tables : Tables) (b : BlockState) (i : ℕ) (found : Option Request) → found ≡ slice_get b.traffic.requests i →
+    AreRestrained tables → Sound n b → Valued b → Plain tables.protocol b →
+    Goes tables.protocol n b (at_request (baseline_of tables.protocol).directory i b.home found) (at_request tables.directory i b.home found)
+request-goes n tables b i None e r h v k = inl (inl refl)
+request-goes n tables b i (Some m) e r h v k = home-goes n tables b (home_input.Request m) (origin.Request i) r
+    (λ x p. requested tables.protocol n b i m.kind m.from x e h v k p)
 
 forward-goes : (n : ℕ) (tables : Tables) (b : BlockState) (cache : CacheId) (found : Option Forward) → AreRestrained tables →
-    Goes n b (at_forward baseline.cache cache b.lines found) (at_forward tables.cache cache b.lines found)
+    Goes tables.protocol n b (at_forward (baseline_of tables.protocol).cache cache b.lines found) (at_forward tables.cache cache b.lines found)
 forward-goes n tables b cache None r = inl (inl refl)
 forward-goes n tables b cache (Some m) r =
     line-goes n tables b cache (line_input.Forward m) (origin.Head cache) (slice_get b.lines cache.0) r
     (λ l c same s t p. absurd (no-ask _ c (no-forward m.kind) t p))
 
 response-goes : (n : ℕ) (tables : Tables) (b : BlockState) (i : ℕ) (found : Option Response) → AreRestrained tables →
-    Goes n b (at_response baseline i b found) (at_response tables i b found)
+    Goes tables.protocol n b (at_response (baseline_of tables.protocol) i b found) (at_response tables i b found)
 response-goes n tables b i None r = inl (inl refl)
 response-goes n tables b i (Some (Data from Dir value acks)) r =
     home-goes n tables b (home_input.Data value) (origin.Response i) r (λ x p. let no : home_event.Data ≡ home_event.PutSLast = p.1 in absurd (cc))
@@ -209,39 +234,48 @@ response-goes n tables b i (Some (Data from (Cache to) value acks)) r =
 response-goes n tables b i (Some (InvAck from to)) r =
     line-goes n tables b to (line_input.Response (InvAck from to)) (origin.Response i) (slice_get b.lines to.0) r
     (λ l c same s t p. absurd (no-ask _ c (no-response l.acks (InvAck from to)) t p))
+response-goes n tables b i (Some (DataExcl to value)) r =
+    line-goes n tables b to (line_input.Response (DataExcl to value)) (origin.Response i) (slice_get b.lines to.0) r
+    (λ l c same s t p. absurd (no-ask _ c (no-response l.acks (DataExcl to value)) t p))
 
-step-goes : (n : ℕ) (tables : Tables) (s : Step) (b : BlockState) → AreRestrained tables → Sound n b → Valued b →
-    Goes n b (decision_of baseline s b) (decision_of tables s b)
-step-goes n tables (step.Ask cache block a) b r h v = ask-goes n tables b cache a (slice_get b.lines cache.0) refl r h v
-step-goes n tables (step.Request block i) b r h v = request-goes n tables b i (slice_get b.traffic.requests i) refl r h v
-step-goes n tables (step.Forward block cache) b r h v = forward-goes n tables b cache (slice_get (link b.traffic cache.0) 0) r
-step-goes n tables (step.Response block i) b r h v = response-goes n tables b i (slice_get b.traffic.responses i) r
+step-goes : (n : ℕ) (tables : Tables) (s : Step) (b : BlockState) → AreRestrained tables → Sound n b → Valued b → Plain tables.protocol b →
+    Goes tables.protocol n b (decision_of (baseline_of tables.protocol) s b) (decision_of tables s b)
+step-goes n tables (step.Ask cache block a) b r h v k = ask-goes n tables b cache a (slice_get b.lines cache.0) refl r h v k
+step-goes n tables (step.Request block i) b r h v k = request-goes n tables b i (slice_get b.traffic.requests i) refl r h v k
+step-goes n tables (step.Forward block cache) b r h v k = forward-goes n tables b cache (slice_get (link b.traffic cache.0) 0) r
+step-goes n tables (step.Response block i) b r h v k = response-goes n tables b i (slice_get b.traffic.responses i) r
 
-pub step-passes : (n : ℕ) (tables : Tables) (s : Step) (b : BlockState) → AreRestrained tables → Sound n b → Valued b → Passes n b (transition tables s b)
-step-passes n tables s b r h v = elim (step-goes n tables s b r h v) [
-  | inl e ↦ as-decided (Passes n b) b (decision_of baseline s b) (decision_of tables s b) e
-      (record { fine = transition-fine n s b h; right = transition-right n s b h v; order = transition-ranked n s b h })
-      (record { fine = record { sound = h; met = λ x. absurd (cc) }; right = record { valued = v; fits = refl }; order = λ k. k }) (transition-fine n s b h).met
-  | inr p ↦ p
-]
+pub step-passes : (n : ℕ) (tables : Tables) (s : Step) (b : BlockState) → AreRestrained tables → Sound n b → Valued b → Plain tables.protocol b →
+    Passes tables.protocol n b (transition tables s b)
+step-passes n tables s b r h v k =
+    let p : Protocol = tables.protocol in
+    elim (step-goes n tables s b r h v k) [
+      | inl e ↦ as-decided (Passes p n b) b (decision_of (baseline_of p) s b) (decision_of tables s b) e
+          (record { fine = own-fine p n s b h k; right = own-right p n s b h v k; plain = own-plain p s b k; order = λ o. own-ranked p n s b h o k })
+          (record { fine = record { sound = h; met = λ x. absurd (cc) }; right = record { valued = v; fits = refl }; plain = k; order = λ o. o })
+          (own-fine p n s b h k).met
+      | inr x ↦ x
+    ]
 
 -- the invariant that safety needs
-pub record Holding (n : ℕ) (b : BlockState) : Type 0 where
+pub record Holding (p : Protocol) (n : ℕ) (b : BlockState) : Type 0 where
   pub sound : Sound n b
   pub valued : Valued b
+  pub plain : Plain p b
 
-pub restrained-guards : (tables : Tables) (n : ℕ) → AreRestrained tables → n ≤ 4294967296 → Guards (Holding n) tables n
+pub restrained-guards : (tables : Tables) (n : ℕ) → AreRestrained tables → n ≤ 4294967296 → Guards (Holding tables.protocol n) tables n
 restrained-guards tables n r few =
-    let g : Guards (Keeps n) baseline n = guards n few in
+    let p : Protocol = tables.protocol in
+    let g : Guards (Keeps p n) (baseline_of p) n = guards p n few in
     record {
-      at_first = λ value. let k : Keeps n _ = g.at_first value in record { sound = k.sound; valued = k.valued };
-      kept = λ s b h.
-          let p : Passes n b (transition tables s b) = step-passes n tables s b r h.sound h.valued in
-          record { sound = p.fine.sound; valued = p.right.valued };
+      at_first = λ value. let k : Keeps p n _ = g.at_first value in record { sound = k.sound; valued = k.valued; plain = k.plain };
+      kept =
+          λ s b h. let x : Passes p n b (transition tables s b) = step-passes n tables s b r h.sound h.valued h.plain in
+          record { sound = x.fine.sound; valued = x.right.valued; plain = x.plain };
       single = λ b h. sound-single n b h.sound;
-      unmet = λ s b h. (step-passes n tables s b r h.sound h.valued).fine.met;
+      unmet = λ s b h. (step-passes n tables s b r h.sound h.valued h.plain).fine.met;
     }
 
-pub restrained-fits : (tables : Tables) (n : ℕ) → AreRestrained tables → (s : Step) (b : BlockState) → Holding n b →
+pub restrained-fits : (tables : Tables) (n : ℕ) → AreRestrained tables → (s : Step) (b : BlockState) → Holding tables.protocol n b →
     FitsLatest (transition tables s b).outcome b.latest (transition tables s b).block.latest
-restrained-fits tables n r s b h = (step-passes n tables s b r h.sound h.valued).right.fits
+restrained-fits tables n r s b h = (step-passes n tables s b r h.sound h.valued h.plain).right.fits

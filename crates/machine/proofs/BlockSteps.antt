@@ -7,7 +7,8 @@ use Rattle.machine.proofs.Views.{local, holds, Block, Counted, Good, HasFwdGetS,
 use Rattle.machine.proofs.LocalSteps.{invite, give, give_shared, name_s, name_m, pass_s, pass_m, ack_s, ack_m, get_s, get_m, invite_at, invite_holds}
 use Rattle.machine.proofs.LocalSteps.{give_at, owed, give_shared_at, give_shared_holds, name_s_at, name_s_holds, name_m_at, name_m_holds, pass_s_at}
 use Rattle.machine.proofs.LocalSteps.{pass_s_holds, pass_m_at, pass_m_holds, ack_s_at, ack_s_holds, ack_m_at, ack_m_holds, ack_m_owner, owner_holds}
-use Rattle.machine.proofs.LocalSteps.{get_s_at, get_s_holds, get_m_at, open_gets}
+use Rattle.machine.proofs.OpenHomes.{open_gets}
+use Rattle.machine.proofs.LocalSteps.{get_s_at, get_s_holds, get_m_at, give_exclusive, give_exclusive_at}
 
 -- what holds of two caches and of every other holds of all
 by_two : (P : ℕ → Type 0) (r o d : ℕ) → P r → P o → (d ≢ r → d ≢ o → P d) → P d
@@ -58,6 +59,24 @@ gets_at_s b b' r g hs p hh dh fg vr vo =
       home_holds = λ p d q. grind arith;
       sharers = λ d p. inl hh;
       owner = λ d p. grind (arith, open_gets);
+      blocked = λ p. grind arith;
+      unblocked = λ p. grind arith;
+      newest = λ d p q. grind arith;
+    }
+
+-- the home in I serves a GetS with exclusive Data
+pub gets_at_i : (b b' : Block) (r : ℕ) → Good b → b.home ≡ home.I → 0 < (b.view r).gets
+    → b'.home ≡ home.M → b'.data_home ≡ b.data_home → b'.all_fwd_gets ≡ b.all_fwd_gets
+    → b'.view r ≡ give_exclusive (b.view r)
+    → ((d : ℕ) → d ≢ r → b'.view d ≡ b.view d)
+    → Good b'
+gets_at_i b b' r g hs p hh dh fg vr vo =
+    record {
+      each = λ d. grind (arith, give_exclusive_at);
+      one = λ d e p q. grind arith;
+      home_holds = λ p d q. grind arith;
+      sharers = λ d p. grind arith;
+      owner = λ d p. hh;
       blocked = λ p. grind arith;
       unblocked = λ p. grind arith;
       newest = λ d p q. grind arith;

@@ -19,7 +19,7 @@ use Rattle.cache_table.specs.Table.{CacheEntry}
 use Rattle.base.specs.declared.controller.entry.Entry.TheVariants as entry
 use Rattle.cache_table.specs.declared.actions.CacheAction.{CacheAction}
 use Rattle.cache_table.specs.declared.actions.CacheAction.TheVariants as action
-use Rattle.cache_table.specs.Baseline.{baseline_entry}
+use Rattle.cache_table.specs.Baseline.{msi_e_entry}
 use Rattle.control.specs.declared.line.Line.{Line}
 use Rattle.control.specs.declared.line.LineInput.TheVariants as line_input
 use Rattle.control.specs.Events.{forward_event}
@@ -80,6 +80,7 @@ getm-acted n b cache r line next latest h there at unshared gives =
       invs = u.invs + 0;
       dir_data = u.dir_data + 0;
       owner_data = u.owner_data + only t 1;
+      excl_data = u.excl_data + 0;
       promised = u.promised + 0;
     }) other_test
     ∙ getm-other (seen line b.home w1 cache.0) v (FwdGetM ∷ rest)
@@ -92,7 +93,13 @@ getm-acted n b cache r line next latest h there at unshared gives =
     let u : View = seen z b.home w1 d in
     let no : (r.0 == d) ≡ false = ne_eqb r.0 d (λ e. nr (sym e)) in
     view-other b cache.0 d l w latest nc ∙ sent z d
-    ∙ ap (λ t. record u { invs = u.invs + 0; dir_data = u.dir_data + 0; owner_data = u.owner_data + only t 1; promised = u.promised + 0 }) no
+    ∙ ap (λ t. record u {
+      invs = u.invs + 0;
+      dir_data = u.dir_data + 0;
+      owner_data = u.owner_data + only t 1;
+      excl_data = u.excl_data + 0;
+      promised = u.promised + 0;
+    }) no
     ∙ getm-other u (view_of b d) u.link (ap (λ t. named t FwdGetM u) (sym no) ∙ other-headed b cache.0 d m z nc at) in
     let r_test : (r.0 == r.0) ≡ true = eq-eqb r.0 r.0 refl in
     let headed_r : named true FwdGetM (seen (line_of b.lines r.0) b.home w1 r.0) ≡ view_of b r.0 =
@@ -101,7 +108,13 @@ getm-acted n b cache r line next latest h there at unshared gives =
     let requestor : view_of b' r.0 ≡ get_m (view_of b r.0) =
     let u : View = seen (line_of b.lines r.0) b.home w1 r.0 in
     view-other b cache.0 r.0 l w latest (λ e. apart (sym e)) ∙ sent (line_of b.lines r.0) r.0
-    ∙ ap (λ t. record u { invs = u.invs + 0; dir_data = u.dir_data + 0; owner_data = u.owner_data + only t 1; promised = u.promised + 0 }) r_test
+    ∙ ap (λ t. record u {
+      invs = u.invs + 0;
+      dir_data = u.dir_data + 0;
+      owner_data = u.owner_data + only t 1;
+      excl_data = u.excl_data + 0;
+      promised = u.promised + 0;
+    }) r_test
     ∙ getm-named u (view_of b r.0) headed_r in
     let held : holds (view_of b cache.0) = subst (λ z. holds z) (sym is_v) gives.held in
     let taken : total (of_kind is_fwd_gets) w1.links + is_fwd_gets FwdGetM ≡ total (of_kind is_fwd_gets) b.traffic.links =
@@ -181,21 +194,21 @@ pub forward-fine : (n : ℕ) (b : BlockState) (cache : CacheId) (kind : ForwardK
     Some line ≡ slice_get b.lines cache.0 → Some (record { kind = kind; requestor = r }) ≡ slice_get (link b.traffic cache.0) 0
     → Fine n
     (carried_out
-    (by_line_entry (baseline_entry line.state (forward_event kind)) cache line (line_input.Forward (record { kind = kind; requestor = r }))
+    (by_line_entry (msi_e_entry line.state (forward_event kind)) cache line (line_input.Forward (record { kind = kind; requestor = r }))
     (origin.Head cache)) b)
 forward-fine n b cache Inv r line h there at =
-    inv-fine n b cache r line (baseline_entry line.state event.Inv) h there at
+    inv-fine n b cache r line (msi_e_entry line.state event.Inv) h there at
     (inv_rule line.state (seen line b.home b.traffic cache.0) (rest_of b cache.0) (own-begins b cache.0 (record { kind = Inv; requestor = r }) line at)
     (local-at n b cache.0 line h there))
 forward-fine n b cache PutAck r line h there at =
-    put-ack-fine n b cache r line (baseline_entry line.state event.PutAck) h there at
+    put-ack-fine n b cache r line (msi_e_entry line.state event.PutAck) h there at
     (put_ack_rule line.state (seen line b.home b.traffic cache.0) (rest_of b cache.0)
     (own-begins b cache.0 (record { kind = PutAck; requestor = r }) line at) (local-at n b cache.0 line h there))
 forward-fine n b cache FwdGetS r line h there at =
-    gets-fine n b cache r line (baseline_entry line.state event.FwdGetS) h there at
+    gets-fine n b cache r line (msi_e_entry line.state event.FwdGetS) h there at
     (fwd_gets_rule line.state (seen line b.home b.traffic cache.0) (rest_of b cache.0)
     (own-begins b cache.0 (record { kind = FwdGetS; requestor = r }) line at) (local-at n b cache.0 line h there))
 forward-fine n b cache FwdGetM r line h there at =
-    getm-fine n b cache r line (baseline_entry line.state event.FwdGetM) h there at
+    getm-fine n b cache r line (msi_e_entry line.state event.FwdGetM) h there at
     (fwd_getm_rule line.state (seen line b.home b.traffic cache.0) (rest_of b cache.0)
     (own-begins b cache.0 (record { kind = FwdGetM; requestor = r }) line at) (local-at n b cache.0 line h there))

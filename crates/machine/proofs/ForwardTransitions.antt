@@ -14,7 +14,7 @@ use Rattle.network.specs.declared.message.Response.{Response}
 use Rattle.network.specs.declared.message.Response.TheVariants as response
 use Rattle.network.specs.Traffic.{Traffic, link, head_taken, response_sent}
 use Rattle.cache_table.specs.declared.state.CacheState.{CacheState}
-use Rattle.cache_table.specs.declared.state.CacheState.TheVariants.{I, IsD, ImAd, ImA, S, SmAd, SmA, M, MiA, SiA, IiA}
+use Rattle.cache_table.specs.declared.state.CacheState.TheVariants.{I, IsD, ImAd, ImA, S, SmAd, SmA, M, MiA, SiA, IiA, E}
 use Rattle.control.specs.declared.line.Line.{Line}
 use Rattle.control.specs.declared.line.LineInput.TheVariants as line_input
 use Rattle.machine.proofs.Truths.{Never}
@@ -62,7 +62,14 @@ other-headed b c d m line ne at =
 
 -- an Inv-Ack stands for the Inv that it answers
 inv-passed : (t : Bool) (u v : View) (l : List ForwardKind) → named t Inv (record u { link = l }) ≡ v →
-    record u { link = l; invs = u.invs + only t 1; dir_data = u.dir_data + 0; owner_data = u.owner_data + 0; promised = u.promised + 0 } ≡ v
+    record u {
+      link = l;
+      invs = u.invs + only t 1;
+      dir_data = u.dir_data + 0;
+      owner_data = u.owner_data + 0;
+      excl_data = u.excl_data + 0;
+      promised = u.promised + 0;
+    } ≡ v
 inv-passed true u v l e = grind (arith)
 inv-passed false u v l e = grind (arith)
 
@@ -167,21 +174,42 @@ named-waits M v p h q = grind (arith)
 named-waits MiA v p h q = grind (arith)
 named-waits SiA v p h q = grind (arith)
 named-waits IiA v p h q = grind (arith)
+named-waits E v p h q = grind (arith)
 
 gets-other : (u v : View) (l : List ForwardKind) → named false FwdGetS (record u { link = l }) ≡ v
-    → record u { link = l; invs = u.invs + 0 + 0; dir_data = u.dir_data + 0 + 0; owner_data = u.owner_data + 0 + 0; promised = u.promised + 0 + 0 } ≡ v
+    → record u {
+      link = l;
+      invs = u.invs + 0 + 0;
+      dir_data = u.dir_data + 0 + 0;
+      owner_data = u.owner_data + 0 + 0;
+      excl_data = u.excl_data + 0 + 0;
+      promised = u.promised + 0 + 0;
+    } ≡ v
 gets-other u v l e = grind (arith)
 
 gets-named : (u v : View) → named true FwdGetS u ≡ v
-    → record u { invs = u.invs + 0 + 0; dir_data = u.dir_data + 0 + 0; owner_data = u.owner_data + 1 + 0; promised = u.promised + 0 + 0 } ≡ get_s v
+    → record u {
+      invs = u.invs + 0 + 0;
+      dir_data = u.dir_data + 0 + 0;
+      owner_data = u.owner_data + 1 + 0;
+      excl_data = u.excl_data + 0 + 0;
+      promised = u.promised + 0 + 0;
+    } ≡ get_s v
 gets-named u v e = grind (arith)
 
 pub getm-other : (u v : View) (l : List ForwardKind) → named false FwdGetM (record u { link = l }) ≡ v
-    → record u { link = l; invs = u.invs + 0; dir_data = u.dir_data + 0; owner_data = u.owner_data + 0; promised = u.promised + 0 } ≡ v
+    → record u {
+      link = l;
+      invs = u.invs + 0;
+      dir_data = u.dir_data + 0;
+      owner_data = u.owner_data + 0;
+      excl_data = u.excl_data + 0;
+      promised = u.promised + 0;
+    } ≡ v
 getm-other u v l e = grind (arith)
 
 pub getm-named : (u v : View) → named true FwdGetM u ≡ v
-    → record u { invs = u.invs + 0; dir_data = u.dir_data + 0; owner_data = u.owner_data + 1; promised = u.promised + 0 } ≡ get_m v
+    → record u { invs = u.invs + 0; dir_data = u.dir_data + 0; owner_data = u.owner_data + 1; excl_data = u.excl_data + 0; promised = u.promised + 0 } ≡ get_m v
 getm-named u v e = grind (arith)
 
 -- a FwdGetS at the line that holds the block
@@ -222,6 +250,7 @@ gets-acted n b cache r line next latest h there at gives =
       invs = u.invs + 0 + 0;
       dir_data = u.dir_data + 0 + 0;
       owner_data = u.owner_data + only t 1 + 0;
+      excl_data = u.excl_data + 0 + 0;
       promised = u.promised + 0 + 0;
     }) other_test
     ∙ gets-other (seen line b.home w1 cache.0) v (FwdGetS ∷ rest)
@@ -234,7 +263,13 @@ gets-acted n b cache r line next latest h there at gives =
     let u : View = seen z b.home w1 d in
     let no : (r.0 == d) ≡ false = ne_eqb r.0 d (λ e. nr (sym e)) in
     view-other b cache.0 d l w latest nc ∙ sent z d
-    ∙ ap (λ t. record u { invs = u.invs + 0 + 0; dir_data = u.dir_data + 0 + 0; owner_data = u.owner_data + only t 1 + 0; promised = u.promised + 0 + 0 }) no
+    ∙ ap (λ t. record u {
+      invs = u.invs + 0 + 0;
+      dir_data = u.dir_data + 0 + 0;
+      owner_data = u.owner_data + only t 1 + 0;
+      excl_data = u.excl_data + 0 + 0;
+      promised = u.promised + 0 + 0;
+    }) no
     ∙ gets-other u (view_of b d) u.link (ap (λ t. named t FwdGetS u) (sym no) ∙ other-headed b cache.0 d m z nc at) in
     let r_test : (r.0 == r.0) ≡ true = eq-eqb r.0 r.0 refl in
     let headed_r : named true FwdGetS (seen (line_of b.lines r.0) b.home w1 r.0) ≡ view_of b r.0 =
@@ -244,7 +279,13 @@ gets-acted n b cache r line next latest h there at gives =
     let u : View = seen (line_of b.lines r.0) b.home w1 r.0 in
     view-other b cache.0 r.0 l w latest (λ e. apart (sym e)) ∙ sent (line_of b.lines r.0) r.0
     ∙ ap
-    (λ t. record u { invs = u.invs + 0 + 0; dir_data = u.dir_data + 0 + 0; owner_data = u.owner_data + only t 1 + 0; promised = u.promised + 0 + 0 }) r_test
+    (λ t. record u {
+      invs = u.invs + 0 + 0;
+      dir_data = u.dir_data + 0 + 0;
+      owner_data = u.owner_data + only t 1 + 0;
+      excl_data = u.excl_data + 0 + 0;
+      promised = u.promised + 0 + 0;
+    }) r_test
     ∙ gets-named u (view_of b r.0) headed_r in
     let held : holds (view_of b cache.0) = subst (λ z. holds z) (sym is_v) gives.held in
     let taken : total (of_kind is_fwd_gets) w1.links + is_fwd_gets FwdGetS ≡ total (of_kind is_fwd_gets) b.traffic.links =

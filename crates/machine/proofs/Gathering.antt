@@ -5,6 +5,8 @@ use Rattle.std.proofs.lemmas.Bool.{cases_eq}
 use Rattle.std.proofs.lemmas.List.Elements.{All-contains, All-cons, All-nil}
 use Rattle.base.specs.declared.ids.CacheId.{CacheId}
 use Rattle.base.specs.declared.ids.Place.TheVariants.{Dir, Cache}
+use Rattle.base.specs.declared.controller.protocol.Protocol.{Protocol}
+use Rattle.base.specs.declared.controller.protocol.Protocol.TheVariants.{Msi, MsiE}
 use Rattle.base.specs.declared.step.Ask.{Ask}
 use Rattle.base.specs.declared.step.Step.{Step}
 use Rattle.base.specs.declared.step.Step.TheVariants as step
@@ -13,7 +15,7 @@ use Rattle.base.specs.declared.controller.entry.Entry.TheVariants as entry
 use Rattle.network.specs.declared.message.Request.{Request}
 use Rattle.network.specs.declared.message.Forward.{Forward}
 use Rattle.network.specs.declared.message.Response.{Response}
-use Rattle.network.specs.declared.message.Response.TheVariants.{Data, InvAck}
+use Rattle.network.specs.declared.message.Response.TheVariants.{Data, InvAck, DataExcl}
 use Rattle.network.specs.Traffic.{link}
 use Rattle.cache_table.specs.declared.state.CacheState.{CacheState}
 use Rattle.cache_table.specs.declared.state.CacheState.TheVariants.{ImAd, ImA, SmAd, SmA, SiA}
@@ -29,7 +31,7 @@ use Rattle.control.specs.declared.line.LineInput.TheVariants as line_input
 use Rattle.control.specs.declared.home.HomeInput.{HomeInput}
 use Rattle.control.specs.Events.{event_at_line}
 use Rattle.control.specs.LineEffect.{line_after, line_completes, moved_on}
-use Rattle.both_tables.specs.Tables.{Tables, baseline}
+use Rattle.both_tables.specs.Tables.{Tables, baseline_of}
 use Rattle.machine.specs.declared.decision.Origin.{Origin}
 use Rattle.machine.specs.declared.decision.Origin.TheVariants as origin
 use Rattle.machine.specs.declared.decision.Decision.{Decision}
@@ -41,7 +43,8 @@ use Rattle.machine.proofs.Places.{slice_get-set_same, slice_get-set_other, some-
 use Rattle.machine.proofs.Fitting.{below_read}
 use Rattle.machine.proofs.Settling.{stays-settled}
 use Rattle.machine.proofs.Sound.{Sound}
-use Rattle.machine.proofs.StepTransitions.{transition-fine}
+use Rattle.machine.proofs.Plain.{Plain}
+use Rattle.machine.proofs.Own.{own-fine}
 
 -- no line is in one of these states
 abbrev pub Avoids : (CacheState → Type 0) → BlockState → Type 0
@@ -55,7 +58,7 @@ Leads P (entry.Act next actions) = P next
 
 -- the own tables lead there from one state alone, by Data whose acks haven't come
 abbrev Entered : (CacheState → Type 0) → CacheState → Type 0
-Entered P awaiting = (e : CacheEvent) (s : CacheState) → Leads P (baseline_entry s e) → P s ⊎ ((s ≡ awaiting) × (e ≡ DataDirMore))
+Entered P awaiting = (p : Protocol) (e : CacheEvent) (s : CacheState) → Leads P (baseline_entry p s e) → P s ⊎ ((s ≡ awaiting) × (e ≡ DataDirMore))
 
 abbrev pub IsImA : CacheState → Type 0
 IsImA ImA = Unit {0}
@@ -65,15 +68,17 @@ abbrev pub IsSmA : CacheState → Type 0
 IsSmA SmA = Unit {0}
 IsSmA other = ⊥
 
-im_a-entered : (e : CacheEvent) (s : CacheState) → Leads IsImA (baseline_entry s e) → IsImA s ⊎ ((s ≡ ImAd) × (e ≡ DataDirMore))
-im_a-entered DataDirMore ImAd h = inr (refl, refl)
-im_a-entered e ImA h = inl tt
-im_a-entered e s h = absurd h
+im_a-entered : (p : Protocol) (e : CacheEvent) (s : CacheState) → Leads IsImA (baseline_entry p s e) → IsImA s ⊎ ((s ≡ ImAd) × (e ≡ DataDirMore))
+im_a-entered Msi DataDirMore ImAd h = inr (refl, refl)
+im_a-entered MsiE DataDirMore ImAd h = inr (refl, refl)
+im_a-entered p e ImA h = inl tt
+im_a-entered p e s h = absurd h
 
-sm_a-entered : (e : CacheEvent) (s : CacheState) → Leads IsSmA (baseline_entry s e) → IsSmA s ⊎ ((s ≡ SmAd) × (e ≡ DataDirMore))
-sm_a-entered DataDirMore SmAd h = inr (refl, refl)
-sm_a-entered e SmA h = inl tt
-sm_a-entered e s h = absurd h
+sm_a-entered : (p : Protocol) (e : CacheEvent) (s : CacheState) → Leads IsSmA (baseline_entry p s e) → IsSmA s ⊎ ((s ≡ SmAd) × (e ≡ DataDirMore))
+sm_a-entered Msi DataDirMore SmAd h = inr (refl, refl)
+sm_a-entered MsiE DataDirMore SmAd h = inr (refl, refl)
+sm_a-entered p e SmA h = inl tt
+sm_a-entered p e s h = absurd h
 
 -- a proved cell leads there only from there
 abbrev Remains : (CacheState → Type 0) → CacheChange → Type 0
@@ -113,9 +118,9 @@ sm_a-closed tables r w = record { restrains = r; entered = sm_a-entered; not_lea
 
 -- a cell that is met from elsewhere leads elsewhere
 elsewhere : (P : CacheState → Type 0) (awaiting : CacheState) (tables : Tables) → Closed P awaiting tables → (s : CacheState) (e : CacheEvent) →
-    (cell baseline.cache s e ≡ entry.Blank → ⊥) → (P s → ⊥) → Leads P (cell tables.cache s e) → ⊥
+    (cell (baseline_of tables.protocol).cache s e ≡ entry.Blank → ⊥) → (P s → ⊥) → Leads P (cell tables.cache s e) → ⊥
 elsewhere P awaiting tables k s e met out leads = elim (k.restrains.cache s e) [
-  | inl own ↦ elim (k.entered e s (subst (λ x. Leads P x) (own ∙ cell-baseline s e) leads)) [
+  | inl own ↦ elim (k.entered tables.protocol e s (subst (λ x. Leads P x) (own ∙ cell-baseline tables.protocol s e) leads)) [
     | inl p ↦ out p
     | inr at ↦ subst (λ x. Leads P x) (ap (λ x. cell tables.cache x e) at.0 ∙ ap (λ x. cell tables.cache awaiting x) at.1 ∙ k.waits) leads
   ]
@@ -151,7 +156,8 @@ IsMet own b = (carried_out own b).outcome ≡ outcome.Blank → ⊥
 
 line-avoids : (P : CacheState → Type 0) (awaiting : CacheState) (tables : Tables) → Closed P awaiting tables →
     (b : BlockState) (cache : CacheId) (input : LineInput)
-    (from : Origin) (found : Option Line) → found ≡ slice_get b.lines cache.0 → IsMet (at_line baseline.cache cache input from found) b → Avoids P b →
+    (from : Origin) (found : Option Line) → found ≡ slice_get b.lines cache.0 →
+    IsMet (at_line (baseline_of tables.protocol).cache cache input from found) b → Avoids P b →
     Avoids P (carried_out (at_line tables.cache cache input from found) b).block
 line-avoids P awaiting tables k b cache input from None e met h = h
 line-avoids P awaiting tables k b cache input from (Some line) e met h =
@@ -165,11 +171,11 @@ if-avoids P b true x own d same h f met = subst (λ (y : BlockState). Avoids P y
 if-avoids P b false x own d same h f met = f met
 
 ask-avoids : (P : CacheState → Type 0) (awaiting : CacheState) (tables : Tables) → Closed P awaiting tables → (b : BlockState) (cache : CacheId) (a : Ask)
-    (found : Option Line) → found ≡ slice_get b.lines cache.0 → IsMet (at_ask baseline.cache cache a found) b → Avoids P b →
+    (found : Option Line) → found ≡ slice_get b.lines cache.0 → IsMet (at_ask (baseline_of tables.protocol).cache cache a found) b → Avoids P b →
     Avoids P (carried_out (at_ask tables.cache cache a found) b).block
 ask-avoids P awaiting tables k b cache a None e met h = h
 ask-avoids P awaiting tables k b cache a (Some line) e met h =
-    if-avoids P b (is_idle a line.state) (Refused outcome.Idle) (at_line baseline.cache cache (line_input.Ask a) origin.Core (Some line))
+    if-avoids P b (is_idle a line.state) (Refused outcome.Idle) (at_line (baseline_of tables.protocol).cache cache (line_input.Ask a) origin.Core (Some line))
     (at_line tables.cache cache (line_input.Ask a) origin.Core (Some line)) refl h
     (λ m. line-avoids P awaiting tables k b cache (line_input.Ask a) origin.Core (Some line) e m h) met
 
@@ -179,23 +185,26 @@ request-avoids P tables b i None h = h
 request-avoids P tables b i (Some r) h = home-avoids P b _ (origin.Request i) _ h
 
 forward-avoids : (P : CacheState → Type 0) (awaiting : CacheState) (tables : Tables) → Closed P awaiting tables → (b : BlockState) (cache : CacheId)
-    (found : Option Forward) → IsMet (at_forward baseline.cache cache b.lines found) b → Avoids P b →
+    (found : Option Forward) → IsMet (at_forward (baseline_of tables.protocol).cache cache b.lines found) b → Avoids P b →
     Avoids P (carried_out (at_forward tables.cache cache b.lines found) b).block
 forward-avoids P awaiting tables k b cache None met h = h
 forward-avoids P awaiting tables k b cache (Some m) met h =
     line-avoids P awaiting tables k b cache (line_input.Forward m) (origin.Head cache) (slice_get b.lines cache.0) refl met h
 
 response-avoids : (P : CacheState → Type 0) (awaiting : CacheState) (tables : Tables) → Closed P awaiting tables → (b : BlockState) (i : ℕ)
-    (found : Option Response) → IsMet (at_response baseline i b found) b → Avoids P b → Avoids P (carried_out (at_response tables i b found) b).block
+    (found : Option Response) → IsMet (at_response (baseline_of tables.protocol) i b found) b → Avoids P b →
+    Avoids P (carried_out (at_response tables i b found) b).block
 response-avoids P awaiting tables k b i None met h = h
 response-avoids P awaiting tables k b i (Some (Data by Dir value acks)) met h = home-avoids P b _ (origin.Response i) _ h
 response-avoids P awaiting tables k b i (Some (Data by (Cache to) value acks)) met h =
     line-avoids P awaiting tables k b to (line_input.Response (Data by (Cache to) value acks)) (origin.Response i) (slice_get b.lines to.0) refl met h
 response-avoids P awaiting tables k b i (Some (InvAck by to)) met h =
     line-avoids P awaiting tables k b to (line_input.Response (InvAck by to)) (origin.Response i) (slice_get b.lines to.0) refl met h
+response-avoids P awaiting tables k b i (Some (DataExcl to value)) met h =
+    line-avoids P awaiting tables k b to (line_input.Response (DataExcl to value)) (origin.Response i) (slice_get b.lines to.0) refl met h
 
 step-avoids : (P : CacheState → Type 0) (awaiting : CacheState) (tables : Tables) → Closed P awaiting tables → (s : Step) (b : BlockState) →
-    ((transition baseline s b).outcome ≡ outcome.Blank → ⊥) → Avoids P b → Avoids P (transition tables s b).block
+    ((transition (baseline_of tables.protocol) s b).outcome ≡ outcome.Blank → ⊥) → Avoids P b → Avoids P (transition tables s b).block
 step-avoids P awaiting tables k (step.Ask cache block a) b met h = ask-avoids P awaiting tables k b cache a (slice_get b.lines cache.0) refl met h
 step-avoids P awaiting tables k (step.Request block i) b met h = request-avoids P tables b i (slice_get b.traffic.requests i) h
 step-avoids P awaiting tables k (step.Forward block cache) b met h = forward-avoids P awaiting tables k b cache (slice_get (link b.traffic cache.0) 0) met h
@@ -203,17 +212,18 @@ step-avoids P awaiting tables k (step.Response block i) b met h = response-avoid
 
 -- each transition leaves no line in these states
 transition-avoids : (P : CacheState → Type 0) (awaiting : CacheState) (tables : Tables) → Closed P awaiting tables → (n : ℕ) (s : Step) (b : BlockState) →
-    Sound n b → Avoids P b → Avoids P (transition tables s b).block
-transition-avoids P awaiting tables k n s b h a = step-avoids P awaiting tables k s b (transition-fine n s b h).met a
+    Sound n b → Plain tables.protocol b → Avoids P b → Avoids P (transition tables s b).block
+transition-avoids P awaiting tables k n s b h pl a = step-avoids P awaiting tables k s b (own-fine tables.protocol n s b h pl).met a
 
 -- where the Data of a store waits for its acks, no line gathers them after it
 pub record Gathering (tables : Tables) (b : BlockState) : Type 0 where
   pub invalid : cell tables.cache ImAd DataDirMore ≡ entry.Stall → Avoids IsImA b
   pub shared : cell tables.cache SmAd DataDirMore ≡ entry.Stall → Avoids IsSmA b
 
-pub transition-gathering : (n : ℕ) (tables : Tables) (s : Step) (b : BlockState) → AreRestrained tables → Sound n b → Gathering tables b →
+pub transition-gathering : (n : ℕ) (tables : Tables) (s : Step) (b : BlockState) → AreRestrained tables → Sound n b → Plain tables.protocol b →
+    Gathering tables b →
     Gathering tables (transition tables s b).block
-transition-gathering n tables s b r h g = record {
-  invalid = λ w. transition-avoids IsImA ImAd tables (im_a-closed tables r w) n s b h (g.invalid w);
-  shared = λ w. transition-avoids IsSmA SmAd tables (sm_a-closed tables r w) n s b h (g.shared w);
+transition-gathering n tables s b r h pl g = record {
+  invalid = λ w. transition-avoids IsImA ImAd tables (im_a-closed tables r w) n s b h pl (g.invalid w);
+  shared = λ w. transition-avoids IsSmA SmAd tables (sm_a-closed tables r w) n s b h pl (g.shared w);
 }

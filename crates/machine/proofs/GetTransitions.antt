@@ -14,15 +14,16 @@ use Rattle.network.specs.declared.message.Forward.{Forward}
 use Rattle.network.specs.declared.message.ForwardKind.{ForwardKind}
 use Rattle.network.specs.declared.message.ForwardKind.TheVariants.{FwdGetS, FwdGetM}
 use Rattle.network.specs.declared.message.Response.{Response}
-use Rattle.network.specs.declared.message.Response.TheVariants.{Data}
+use Rattle.network.specs.declared.message.Response.TheVariants.{Data, DataExcl}
 use Rattle.network.specs.Traffic.{Traffic, request_taken, response_sent, forward_sent}
 use Rattle.directory_table.specs.declared.state.DirectoryState.TheVariants as home
 use Rattle.control.specs.declared.home.Home.{Home}
 use Rattle.control.specs.Sharing.{shares}
 use Rattle.machine.specs.Block.{BlockState}
 use Rattle.machine.proofs.Views.{View, Block, Good, HasFwdGetS}
-use Rattle.machine.proofs.LocalSteps.{give, give_shared, name_s, name_m, pass_s, pass_m, open_gets, open_shares}
-use Rattle.machine.proofs.BlockSteps.{gets_at_s, getm_at_i, gets_at_m, getm_at_m}
+use Rattle.machine.proofs.LocalSteps.{give, give_shared, give_exclusive, name_s, name_m, pass_s, pass_m}
+use Rattle.machine.proofs.OpenHomes.{open_gets, open_shares}
+use Rattle.machine.proofs.BlockSteps.{gets_at_s, gets_at_i, getm_at_i, gets_at_m, getm_at_m}
 use Rattle.machine.proofs.Counts.{only, forward_sent-total}
 use Rattle.machine.proofs.Seen.{seen, view_of, block_view, line_of, is_owner, home_data, of_kind, is_fwd_gets}
 use Rattle.machine.proofs.Facts.{counted}
@@ -46,6 +47,7 @@ with_data mine acks sh ow u =
       invs = u.invs + 0;
       dir_data = u.dir_data + only mine 1;
       owner_data = u.owner_data + 0;
+      excl_data = u.excl_data + 0;
       promised = u.promised + only mine acks;
       shares = sh;
       owns = ow;
@@ -156,6 +158,63 @@ getm-invalid n b i r h hs at =
       owned = λ e. (r, refl);
       good =
           getm_at_i (block_view b) (block_view b') r.0 h.good (counted b) hs asks refl
+          (omega (arith, sum_by_push home_data w1.responses x)) refl requestor others;
+      bounds =
+          bounds-one n b b' r.0 h (omega (arith, ap (λ (v : View). v.promised) requestor, (h.bounds r.0).promised))
+          (λ d ne. ap (λ (v : View). v.promised) (others d ne)) (λ d. refl);
+    }
+
+-- what a view becomes when exclusive Data is sent by the home
+abbrev pub with_excl : Bool → Bool → View → View
+with_excl mine ow u =
+    record u {
+      invs = u.invs + 0;
+      dir_data = u.dir_data + 0;
+      owner_data = u.owner_data + 0;
+      excl_data = u.excl_data + only mine 1;
+      promised = u.promised + 0;
+      owns = ow;
+    }
+
+excl-own : (t ow : Bool) (u v : View) → t ≡ true → ow ≡ true → request_added true GetS u ≡ v → with_excl t ow u ≡ give_exclusive v
+excl-own true true u v p q e = grind (arith)
+excl-own true false u v p q e = absurd (cc)
+excl-own false ow u v p q e = absurd (cc)
+
+excl-other : (t ow : Bool) (u v : View) → t ≡ false → ow ≡ v.owns → u ≡ v → with_excl t ow u ≡ v
+excl-other true ow u v p o e = absurd (cc)
+excl-other false ow u v p o e = grind (arith)
+
+-- the home in I serves a GetS with exclusive Data
+pub gets-exclusive : (n : ℕ) (b : BlockState) (i : ℕ) (r : CacheId) → Sound n b → b.home.state ≡ home.I →
+    Some (req GetS r) ≡ slice_get b.traffic.requests i
+    → Sound n (home_block b (record b.home { state = home.M; owner = Some r })
+    (response_sent (DataExcl r b.home.memory) (request_taken i b.traffic)))
+gets-exclusive n b i r h hs at =
+    let w1 : Traffic = request_taken i b.traffic in
+    let x : Response = DataExcl r b.home.memory in
+    let home' : Home = record b.home { state = home.M; owner = Some r } in
+    let b' : BlockState = home_block b home' (response_sent x w1) in
+    let u : ℕ → View = λ d. seen (line_of b.lines d) b.home w1 d in
+    let own : request_added true GetS (u r.0) ≡ view_of b r.0 = request-own b i (req GetS r) at in
+    let asks : 0 < (view_of b r.0).gets = omega (arith, ap (λ (v : View). v.gets) own) in
+    let apart : (c : ℕ) → ((view_of b c).shares ≡ false) × ((view_of b c).owns ≡ false) = at-i (block_view b) h.good hs in
+    let sent : (d : ℕ) → view_of b' d ≡ with_excl (r.0 == d) (r.0 == d) (u d)
+    = λ d. ap (λ (v : View). record v { owns = r.0 == d }) (response_sent-seen (line_of b.lines d) b.home w1 x d) in
+    let requestor : view_of b' r.0 ≡ give_exclusive (view_of b r.0) =
+    sent r.0 ∙ excl-own (r.0 == r.0) (r.0 == r.0) (u r.0) (view_of b r.0) (eq-eqb r.0 r.0 refl) (eq-eqb r.0 r.0 refl) own in
+    let others : (d : ℕ) → d ≢ r.0 → view_of b' d ≡ view_of b d = λ d ne.
+    sent d
+    ∙ excl-other (r.0 == d) (r.0 == d) (u d) (view_of b d) (ne_eqb r.0 d (λ e. ne (sym e))) (ne_eqb r.0 d (λ e. ne (sym e)) ∙ sym (apart d).1)
+    (request-others b i (req GetS r) at d ne) in
+    record {
+      few = h.few;
+      lines = h.lines;
+      links = h.links;
+      sharers = h.sharers;
+      owned = λ e. (r, refl);
+      good =
+          gets_at_i (block_view b) (block_view b') r.0 h.good hs asks refl
           (omega (arith, sum_by_push home_data w1.responses x)) refl requestor others;
       bounds =
           bounds-one n b b' r.0 h (omega (arith, ap (λ (v : View). v.promised) requestor, (h.bounds r.0).promised))

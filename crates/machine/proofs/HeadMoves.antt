@@ -22,8 +22,9 @@ use Rattle.machine.specs.Block.{BlockState}
 use Rattle.machine.proofs.Quiet.{IsQuiet}
 use Rattle.machine.proofs.Views.{View, Local}
 use Rattle.machine.proofs.Counts.{only, total, link-total, link-there, total-below}
-use Rattle.machine.proofs.Seen.{seen, names, of_kind, is_fwd_gets, is_fwd_getm, is_inv, dir_data, owner_data, inv_ack, home_data}
+use Rattle.machine.proofs.Seen.{seen, names, of_kind, is_fwd_gets, is_fwd_getm, is_inv, dir_data, owner_data, excl_data, inv_ack, home_data}
 use Rattle.machine.proofs.Sound.{Sound, local-at}
+use Rattle.machine.proofs.Plain.{Plain}
 use Rattle.machine.proofs.ForwardTransitions.{rest_of, own-begins}
 use Rattle.machine.proofs.Ranks.{Ranked, owed_to}
 use Rattle.machine.proofs.StallRules.{Serves, Unanswered, HasInvIn}
@@ -84,12 +85,12 @@ kind-first : (l : List Forward) (k : ForwardKind) (rest : List ForwardKind) → 
 kind-first [] k rest e = absurd (cc)
 kind-first (m ∷ l) k rest e = (m, refl, head-same m.kind k (map (λ f. f.kind) l) rest e)
 
-inv-kind : (s : CacheState) (k : ForwardKind) → k ≡ Inv → Serves (cache_table.baseline_entry s line_event.Inv) →
-    Serves (cache_table.baseline_entry s (forward_event k))
-inv-kind s k e h = subst (λ (x : ForwardKind). Serves (cache_table.baseline_entry s (forward_event x))) (sym e) h
+inv-kind : (s : CacheState) (k : ForwardKind) → k ≡ Inv → Serves (cache_table.msi_e_entry s line_event.Inv) →
+    Serves (cache_table.msi_e_entry s (forward_event k))
+inv-kind s k e h = subst (λ (x : ForwardKind). Serves (cache_table.msi_e_entry s (forward_event x))) (sym e) h
 
 -- an Inv is held in IS^D alone
-inv-held : (s : CacheState) → Serves (cache_table.baseline_entry s line_event.Inv) ⊎ (s ≡ IsD)
+inv-held : (s : CacheState) → Serves (cache_table.msi_e_entry s line_event.Inv) ⊎ (s ≡ IsD)
 inv-held IsD = inr refl
 inv-held s = inl tt
 
@@ -97,9 +98,9 @@ not-awaiting : (s : CacheState) → s ≡ IsD → AwaitsData s → ⊥
 not-awaiting s e = subst (λ x. AwaitsData x → ⊥) (sym e) (λ h. h)
 
 -- so either it is served, or the Data that its line waits for
-pub found-inv : (n : ℕ) (tables : Tables) → KeepsGoing tables → (b : BlockState) (block : BlockId) (c : ℕ) → Sound n b →
+pub found-inv : (n : ℕ) (tables : Tables) → KeepsGoing tables → (b : BlockState) (block : BlockId) (c : ℕ) → Sound n b → Plain tables.protocol b →
     0 < total (names c is_inv) b.traffic.links → Found tables b block
-found-inv n tables k b block c h some =
+found-inv n tables k b block c h pl some =
     let e : (e : ℕ) × (0 < sum_by (names c is_inv) (link b.traffic e)) = find-link (names c is_inv) b.traffic some in
     let x : (x : Forward) × (Some x ≡ slice_get (link b.traffic e.0) 0) = head-of (names c is_inv) (link b.traffic e.0) e.1 in
     let low : e.0 < length b.lines = omega (arith, link-there e.0 x.0 b.traffic x.1, h.links, h.lines) in
@@ -108,13 +109,13 @@ found-inv n tables k b block c h some =
     let local : Local l.0.state v = local-at n b e.0 l.0 h l.1 in
     let first : (rest : List ForwardKind) × (v.link ≡ Inv ∷ rest) = inv_first l.0.state v (has-inv-in (link b.traffic e.0) c e.1) local in
     let m : (m : Forward) × (Some m ≡ slice_get (link b.traffic e.0) 0) × (m.kind ≡ Inv) = kind-first (link b.traffic e.0) Inv first.0 first.1 in
-    let serve : Serves (cache_table.baseline_entry l.0.state line_event.Inv) → Found tables b block =
-    λ s. found-head n tables k b block e.0 m.0 l.0 m.1 l.1 h (inv-kind l.0.state m.0.kind m.2 s) in
+    let serve : Serves (cache_table.msi_e_entry l.0.state line_event.Inv) → Found tables b block =
+    λ s. found-head n tables k b block e.0 m.0 l.0 m.1 l.1 h pl (inv-kind l.0.state m.0.kind m.2 s) in
     elim (inv-held l.0.state) as (λ _. Found tables b block) [
       | inl s ↦ serve s
-      | inr isd ↦ elim (cases_eq (v.dir_data + v.owner_data) 0) as (λ _. Found tables b block) [
-        | inl z ↦ serve (inv_serves l.0.state v first.0 first.1 (record { dir = omega arith; owner = omega arith }) local)
-        | inr ne ↦ elim (data-found n tables k b block e.0 l.0 l.1 h (omega (arith, ne))) as (λ _. Found tables b block) [
+      | inr isd ↦ elim (cases_eq (v.dir_data + v.owner_data + v.excl_data) 0) as (λ _. Found tables b block) [
+        | inl z ↦ serve (inv_serves l.0.state v first.0 first.1 (record { dir = omega arith; owner = omega arith; excl = omega arith }) local)
+        | inr ne ↦ elim (data-found n tables k b block e.0 l.0 l.1 h pl (omega (arith, ne))) as (λ _. Found tables b block) [
           | inl f ↦ f
           | inr w ↦ absurd (not-awaiting l.0.state isd w.0)
         ]
@@ -123,30 +124,34 @@ found-inv n tables k b block c h some =
 
 -- without responses, some head of a link can be delivered
 heads : (n : ℕ) (tables : Tables) → KeepsGoing tables → (b : BlockState) (block : BlockId) (rk : ℕ → ℕ) →
-    ((a d : ℕ) → 0 < owed_to b.traffic a d → rk a < rk d) → Sound n b →
+    ((a d : ℕ) → 0 < owed_to b.traffic a d → rk a < rk d) → Sound n b → Plain tables.protocol b →
     b.traffic.responses ≡ [] → (most : ℕ) (c : ℕ) → rk c < most → (m : Forward) → Some m ≡ slice_get (link b.traffic c) 0 → Found tables b block
-heads n tables k b block rk ranked h quiet zero c below m at = absurd (omega arith)
-heads n tables k b block rk ranked h quiet (suc most) c below m at =
+heads n tables k b block rk ranked h pl quiet zero c below m at = absurd (omega arith)
+heads n tables k b block rk ranked h pl quiet (suc most) c below m at =
     let l : (line : Line) × (Some line ≡ slice_get b.lines c) = line-there b.lines c (omega (arith, link-there c m b.traffic at, h.links, h.lines)) in
     let v : View = seen l.0 b.home b.traffic c in
     let local : Local l.0.state v = local-at n b c l.0 h l.1 in
-    let un : Unanswered v = record { dir = ap (λ xs. sum_by (dir_data c) xs) quiet; owner = ap (λ xs. sum_by (owner_data c) xs) quiet } in
+    let un : Unanswered v = record {
+      dir = ap (λ xs. sum_by (dir_data c) xs) quiet;
+      owner = ap (λ xs. sum_by (owner_data c) xs) quiet;
+      excl = ap (λ xs. sum_by (excl_data c) xs) quiet;
+    } in
     let begins : v.link ≡ m.kind ∷ rest_of b c = own-begins b c m l.0 at in
-    let invs : 0 < v.invs → Found tables b block = λ p. found-inv n tables k b block c h (omega (arith, ap (λ xs. sum_by (inv_ack c) xs) quiet)) in
+    let invs : 0 < v.invs → Found tables b block = λ p. found-inv n tables k b block c h pl (omega (arith, ap (λ xs. sum_by (inv_ack c) xs) quiet)) in
     let owners : 0 < v.fwd_getm → Found tables b block = λ p.
     let e : (e : ℕ) × (0 < sum_by (names c is_fwd_getm) (link b.traffic e)) = find-link (names c is_fwd_getm) b.traffic p in
     let x : (x : Forward) × (Some x ≡ slice_get (link b.traffic e.0) 0) = head-of (names c is_fwd_getm) (link b.traffic e.0) e.1 in
-    heads n tables k b block rk ranked h quiet most e.0 (omega (arith, ranked e.0 c e.1)) x.0 x.1 in
-    by-kind m.kind (λ q. Serves (cache_table.baseline_entry l.0.state (forward_event q))) (Found tables b block)
-    (found-head n tables k b block c m l.0 at l.1 h)
+    heads n tables k b block rk ranked h pl quiet most e.0 (omega (arith, ranked e.0 c e.1)) x.0 x.1 in
+    by-kind m.kind (λ q. Serves (cache_table.msi_e_entry l.0.state (forward_event q))) (Found tables b block)
+    (found-head n tables k b block c m l.0 at l.1 h pl)
     (λ q. elim (fwd_gets_serves l.0.state v (rest_of b c) (begins ∙ ap (λ x. x ∷ rest_of b c) q) un local) as
-    (λ _. Serves (cache_table.baseline_entry l.0.state line_event.FwdGetS) ⊎ Found tables b block) [
+    (λ _. Serves (cache_table.msi_e_entry l.0.state line_event.FwdGetS) ⊎ Found tables b block) [
       | inl s ↦ inl s
       | inr (inl p) ↦ inr (invs p)
       | inr (inr p) ↦ inr (owners p)
     ])
     (λ q. elim (fwd_getm_serves l.0.state v (rest_of b c) (begins ∙ ap (λ x. x ∷ rest_of b c) q) un local) as
-    (λ _. Serves (cache_table.baseline_entry l.0.state line_event.FwdGetM) ⊎ Found tables b block) [
+    (λ _. Serves (cache_table.msi_e_entry l.0.state line_event.FwdGetM) ⊎ Found tables b block) [
       | inl s ↦ inl s
       | inr (inl p) ↦ inr (invs p)
       | inr (inr p) ↦ inr (owners p)
@@ -155,12 +160,12 @@ heads n tables k b block rk ranked h quiet (suc most) c below m at =
     (λ q. inl (put_ack_serves l.0.state))
 
 any-head : (n : ℕ) (tables : Tables) → KeepsGoing tables → (b : BlockState) (block : BlockId) (f : Forward → ℕ) → Ranked b → Sound n b →
-    b.traffic.responses ≡ [] →
+    Plain tables.protocol b → b.traffic.responses ≡ [] →
     0 < total f b.traffic.links → Found tables b block
-any-head n tables k b block f rd h quiet some =
+any-head n tables k b block f rd h pl quiet some =
     let e : (e : ℕ) × (0 < sum_by f (link b.traffic e)) = find-link f b.traffic some in
     let x : (x : Forward) × (Some x ≡ slice_get (link b.traffic e.0) 0) = head-of f (link b.traffic e.0) e.1 in
-    heads n tables k b block rd.ranks.0 rd.ranks.1 h quiet (rd.ranks.0 e.0 + 1) e.0 (omega arith) x.0 x.1
+    heads n tables k b block rd.ranks.0 rd.ranks.1 h pl quiet (rd.ranks.0 e.0 + 1) e.0 (omega arith) x.0 x.1
 
 no-heads : (l : List Forward) → sum_by (λ f. 1) l ≡ 0 → l ≡ []
 no-heads [] e = refl
@@ -175,23 +180,23 @@ few-fwd_gets PutAck = omega arith
 ones-above : (ls : List (List Forward)) → total (of_kind is_fwd_gets) ls ≤ total (λ f. 1) ls
 ones-above ls = total-below (of_kind is_fwd_gets) (λ f. 1) (λ f. few-fwd_gets f.kind) ls
 
-requests-left : (n : ℕ) (tables : Tables) → KeepsGoing tables → (b : BlockState) (block : BlockId) (rs : List Request) → rs ≡ b.traffic.requests → Sound n b →
-    b.traffic.responses ≡ [] →
+requests-left : (n : ℕ) (tables : Tables) → KeepsGoing tables → (b : BlockState) (block : BlockId) (rs : List Request) → rs ≡ b.traffic.requests →
+    Sound n b → Plain tables.protocol b → b.traffic.responses ≡ [] →
     ((c : ℕ) → link b.traffic c ≡ []) → (IsQuiet b.traffic → ⊥) → (b.home.state ≡ home.SD → Never) → Found tables b block
-requests-left n tables k b block [] e h quiet empty not_quiet not_sd = absurd (not_quiet (record { requests = sym e; links = empty; responses = quiet }))
-requests-left n tables k b block (r ∷ rs) e h quiet empty not_quiet not_sd =
-    found-request n tables k b block r (ap (λ l. slice_get l 0) e) h (λ sd. absurd (omega (arith, not_sd sd)))
+requests-left n tables k b block [] e h pl quiet empty not_quiet not_sd = absurd (not_quiet (record { requests = sym e; links = empty; responses = quiet }))
+requests-left n tables k b block (r ∷ rs) e h pl quiet empty not_quiet not_sd =
+    found-request n tables k b block r (ap (λ l. slice_get l 0) e) h pl (λ sd. absurd (omega (arith, not_sd sd)))
 
 -- a block with a message has one that can be delivered
 pub without-responses : (n : ℕ) (tables : Tables) → KeepsGoing tables → (b : BlockState) (block : BlockId) (rs : List Request) → rs ≡ b.traffic.requests →
-    Ranked b → Sound n b →
+    Ranked b → Sound n b → Plain tables.protocol b →
     b.traffic.responses ≡ [] → (IsQuiet b.traffic → ⊥) → Found tables b block
-without-responses n tables k b block rs er rd h quiet not_quiet =
+without-responses n tables k b block rs er rd h pl quiet not_quiet =
     elim (cases_eq (total (λ f. 1) b.traffic.links) 0) as (λ _. Found tables b block) [
-      | inr ne ↦ any-head n tables k b block (λ f. 1) rd h quiet (omega (arith, ne))
+      | inr ne ↦ any-head n tables k b block (λ f. 1) rd h pl quiet (omega (arith, ne))
       | inl z ↦
           let empty : (c : ℕ) → link b.traffic c ≡ [] = λ c. no-heads (link b.traffic c) (omega (arith, link-total (λ f. 1) b.traffic c)) in
           let no_fwd_gets : total (of_kind is_fwd_gets) b.traffic.links ≡ 0 = omega (arith, ones-above b.traffic.links) in
-          requests-left n tables k b block rs er h quiet empty not_quiet
+          requests-left n tables k b block rs er h pl quiet empty not_quiet
           (λ sd. omega (arith, h.good.blocked sd, ap (λ xs. sum_by home_data xs) quiet, no_fwd_gets))
     ]

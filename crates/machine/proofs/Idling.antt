@@ -17,10 +17,10 @@ use Rattle.machine.specs.Transition.{carried_out, at_line, at_ask}
 use Rattle.machine.specs.Transition.{is_idle, transition}
 use Rattle.machine.specs.declared.decision.Origin.TheVariants as origin
 use Rattle.machine.specs.declared.decision.Decision.TheVariants.{Refused}
-use Rattle.both_tables.specs.Tables.{Tables, baseline}
+use Rattle.both_tables.specs.Tables.{Tables, baseline_of}
 use Rattle.machine.proofs.Quiet.{IsQuiet}
 use Rattle.machine.proofs.Counts.{total}
-use Rattle.machine.proofs.Seen.{seen, names, is_fwd_gets, is_fwd_getm, is_inv, dir_data, owner_data, inv_ack}
+use Rattle.machine.proofs.Seen.{seen, names, is_fwd_gets, is_fwd_getm, is_inv, dir_data, owner_data, excl_data, inv_ack}
 use Rattle.machine.proofs.Sound.{Sound, local-at}
 use Rattle.machine.proofs.Values.{Valued}
 use Rattle.machine.proofs.LineValues.{waits-at}
@@ -29,15 +29,16 @@ use Rattle.machine.proofs.StallRules.{idle_pending}
 use Rattle.machine.proofs.StallRules.{idle_load, idle_store, idle_replace}
 use Rattle.machine.proofs.Cases.{by-test}
 use Rattle.machine.proofs.Moves.{IsMet, line-goes}
-use Rattle.machine.proofs.StepTransitions.{transition-fine}
+use Rattle.machine.proofs.Plain.{Plain}
+use Rattle.machine.proofs.Own.{own-fine}
 use Rattle.machine.proofs.Views.{View, Local}
 use Rattle.machine.specs.Going.{KeepsGoing, ServesAsks, IsSettled}
 use Rattle.cache_table.specs.Table.{CacheEntry}
-use Rattle.cache_table.specs.Baseline.{baseline_entry}
+use Rattle.cache_table.specs.Baseline.{msi_e_entry}
 use Rattle.control.specs.Events.{ask_event}
 use Rattle.machine.specs.Transition.{by_line_entry}
 use Rattle.cache_table.specs.declared.state.CacheState.{CacheState}
-use Rattle.cache_table.specs.declared.state.CacheState.TheVariants.{I, IsD, ImAd, ImA, S, SmAd, SmA, M, MiA, SiA, IiA}
+use Rattle.cache_table.specs.declared.state.CacheState.TheVariants.{I, IsD, ImAd, ImA, S, SmAd, SmA, M, MiA, SiA, IiA, E}
 use Rattle.machine.proofs.HeadMoves.{find-link}
 
 -- a block without messages is idle
@@ -59,6 +60,7 @@ quiet-idle b c line q = record {
   invs = omega (arith, no-total (names c is_inv) b.traffic q.links, ap (λ l. sum_by (inv_ack c) l) q.responses);
   dir = ap (λ l. sum_by (dir_data c) l) q.responses;
   owner = ap (λ l. sum_by (owner_data c) l) q.responses;
+  excl = ap (λ l. sum_by (excl_data c) l) q.responses;
   link = ap (λ l. map (λ f. f.kind) l) (q.links c);
 }
 
@@ -81,11 +83,12 @@ idle-settled M v i h = tt
 idle-settled MiA v i h = grind (arith)
 idle-settled SiA v i h = grind (arith)
 idle-settled IiA v i h = grind (arith)
+idle-settled E v i h = tt
 
 -- at such a line an ask isn't held
 ask-served : (tables : Tables) → KeepsGoing tables → ServesAsks tables → (b : BlockState) (cache : CacheId) (ask : Ask) (line : Line) →
-    Serves (baseline_entry line.state (ask_event ask)) → IsSettled line.state →
-    IsMet (at_line baseline.cache cache (line_input.Ask ask) origin.Core (Some line)) b →
+    Serves (msi_e_entry line.state (ask_event ask)) → IsSettled line.state →
+    IsMet (at_line (baseline_of tables.protocol).cache cache (line_input.Ask ask) origin.Core (Some line)) b →
     (carried_out (at_line tables.cache cache (line_input.Ask ask) origin.Core (Some line)) b).outcome ≢ outcome.Held
 ask-served tables k asks b cache ask line own settled met =
     elim (line-goes tables k b cache (line_input.Ask ask) origin.Core (Some line) line refl own met) [
@@ -95,7 +98,7 @@ ask-served tables k asks b cache ask line own settled met =
     ]
 
 asks-ready : (n : ℕ) (tables : Tables) → KeepsGoing tables → ServesAsks tables → (b : BlockState) (cache : CacheId) (ask : Ask) (found : Option Line) →
-    found ≡ slice_get b.lines cache.0 → Sound n b → IsQuiet b.traffic → IsMet (at_ask baseline.cache cache ask found) b →
+    found ≡ slice_get b.lines cache.0 → Sound n b → IsQuiet b.traffic → IsMet (at_ask (baseline_of tables.protocol).cache cache ask found) b →
     (carried_out (at_ask tables.cache cache ask found) b).outcome ≢ outcome.Held
 asks-ready n tables k asks b cache ask None e h q met = λ x. absurd (cc)
 asks-ready n tables k asks b cache Load (Some line) e h q met =
@@ -114,13 +117,14 @@ asks-ready n tables k asks b cache Replace (Some line) e h q met =
     let local : Local line.state v = local-at n b cache.0 line h e in
     by-test
     (λ t.
-    IsMet (if t then Refused outcome.Idle else at_line baseline.cache cache (line_input.Ask Replace) origin.Core (Some line)) b →
+    IsMet (if t then Refused outcome.Idle else at_line (baseline_of tables.protocol).cache cache (line_input.Ask Replace) origin.Core (Some line)) b →
     (carried_out (if t then Refused outcome.Idle else at_line tables.cache cache (line_input.Ask Replace) origin.Core (Some line)) b).outcome ≢ outcome.Held)
     (is_idle Replace line.state)
     (λ t m x. absurd (cc))
     (λ t m. ask-served tables k asks b cache Replace line (idle_replace line.state v idle local) (idle-settled line.state v idle local) m) met
 
-pub quiet-ready : (n : ℕ) (tables : Tables) → KeepsGoing tables → ServesAsks tables → (b : BlockState) (block : BlockId) → Sound n b → IsQuiet b.traffic →
+pub quiet-ready : (n : ℕ) (tables : Tables) → KeepsGoing tables → ServesAsks tables → (b : BlockState) (block : BlockId) → Sound n b →
+    Plain tables.protocol b → IsQuiet b.traffic →
     (cache : CacheId) (ask : Ask) → (transition tables (step.Ask cache block ask) b).outcome ≢ outcome.Held
-quiet-ready n tables k asks b block h q cache ask =
-    asks-ready n tables k asks b cache ask (slice_get b.lines cache.0) refl h q (transition-fine n (step.Ask cache block ask) b h).met
+quiet-ready n tables k asks b block h pl q cache ask =
+    asks-ready n tables k asks b cache ask (slice_get b.lines cache.0) refl h q (own-fine tables.protocol n (step.Ask cache block ask) b h pl).met

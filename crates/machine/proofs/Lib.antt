@@ -5,7 +5,9 @@ pub mod Fitting
 pub mod Cases
 pub mod Places
 pub mod Views
+pub mod Exclusive
 pub mod LocalSteps
+pub mod OpenHomes
 pub mod BlockSteps
 pub mod CellRules
 pub mod Counts
@@ -31,6 +33,7 @@ pub mod SingleWriter
 pub mod Opened
 pub mod Runs
 pub mod ValueRules
+pub mod QuietRules
 pub mod AskSettling
 pub mod ForwardSettling
 pub mod ResponseSettling
@@ -52,6 +55,8 @@ pub mod ResponseMoves
 pub mod HeadMoves
 pub mod AckMoves
 pub mod Idling
+pub mod Plain
+pub mod Own
 pub mod Invariant
 pub mod Restraining
 pub mod ProvedCells

@@ -1,8 +1,8 @@
 -- What a message sent or taken does to one cache's view, by state.
-use Rattle.std.proofs.Common.{◌≡◌, ℕ, ◌+◌, ◌-◌, ◌<◌, true, false, [], ◌∷◌, ◌⊎◌, ◌++◌, arith}
+use Rattle.std.proofs.Common.{◌≡◌, ℕ, ◌+◌, ◌-◌, ◌<◌, true, false, [], ◌∷◌, ◌++◌, arith}
 use Rattle.network.specs.declared.message.ForwardKind.TheVariants.{FwdGetS, FwdGetM, Inv, PutAck}
 use Rattle.cache_table.specs.declared.state.CacheState.{CacheState}
-use Rattle.cache_table.specs.declared.state.CacheState.TheVariants.{I, IsD, ImAd, ImA, S, SmAd, SmA, M, MiA, SiA, IiA}
+use Rattle.cache_table.specs.declared.state.CacheState.TheVariants.{I, IsD, ImAd, ImA, S, SmAd, SmA, M, MiA, SiA, IiA, E}
 use Rattle.machine.proofs.Truths.{Never}
 use Rattle.machine.proofs.Views.{View, Local, Holds, HasFwdGetS, HasInv}
 
@@ -17,6 +17,10 @@ give n v = record v { getm = v.getm - 1; dir_data = v.dir_data + 1; promised = v
 -- the home answers a GetS with Data
 abbrev pub give_shared : View → View
 give_shared v = record v { gets = v.gets - 1; dir_data = v.dir_data + 1; shares = true }
+
+-- the home answers a GetS with exclusive Data
+abbrev pub give_exclusive : View → View
+give_exclusive v = record v { gets = v.gets - 1; excl_data = v.excl_data + 1; owns = true }
 
 -- the home forwards the GetS of this cache
 abbrev pub name_s : View → View
@@ -63,6 +67,7 @@ invite_at M v p f g h = grind (arith)
 invite_at MiA v p f g h = grind (arith)
 invite_at SiA v p f g h = grind (arith)
 invite_at IiA v p f g h = grind (arith)
+invite_at E v p f g h = grind (arith)
 
 pub invite_holds : (s : CacheState) (v : View) → v.shares ≡ true → v.fwd_gets ≡ 0 → (HasFwdGetS v.link → Never) → Local s v → Holds s (invite v) → Holds s v
 invite_holds I v p f g h x = grind (arith)
@@ -76,6 +81,7 @@ invite_holds M v p f g h x = grind (arith)
 invite_holds MiA v p f g h x = grind (arith)
 invite_holds SiA v p f g h x = grind (arith)
 invite_holds IiA v p f g h x = grind (arith)
+invite_holds E v p f g h x = grind (arith)
 
 pub give_at : (s : CacheState) (v : View) (n : ℕ) → 0 < v.getm → (HasInv v.link → Never) → Local s v → Local s (give n v)
 give_at I v n p i h = grind (arith)
@@ -89,6 +95,7 @@ give_at M v n p i h = grind (arith)
 give_at MiA v n p i h = grind (arith)
 give_at SiA v n p i h = grind (arith)
 give_at IiA v n p i h = grind (arith)
+give_at E v n p i h = grind (arith)
 
 -- acks are owed to a holder alone
 pub owed : (s : CacheState) (v : View) → 0 < v.invs → Local s v → Holds s v
@@ -103,6 +110,7 @@ owed M v p h = grind (arith)
 owed MiA v p h = grind (arith)
 owed SiA v p h = grind (arith)
 owed IiA v p h = grind (arith)
+owed E v p h = grind (arith)
 
 pub give_shared_at : (s : CacheState) (v : View) → 0 < v.gets → Local s v → Local s (give_shared v)
 give_shared_at I v p h = grind (arith)
@@ -116,6 +124,7 @@ give_shared_at M v p h = grind (arith)
 give_shared_at MiA v p h = grind (arith)
 give_shared_at SiA v p h = grind (arith)
 give_shared_at IiA v p h = grind (arith)
+give_shared_at E v p h = grind (arith)
 
 pub give_shared_holds : (s : CacheState) (v : View) → 0 < v.gets → Local s v → Holds s (give_shared v) → Holds s v
 give_shared_holds I v p h x = grind (arith)
@@ -129,6 +138,21 @@ give_shared_holds M v p h x = grind (arith)
 give_shared_holds MiA v p h x = grind (arith)
 give_shared_holds SiA v p h x = grind (arith)
 give_shared_holds IiA v p h x = grind (arith)
+give_shared_holds E v p h x = grind (arith)
+
+pub give_exclusive_at : (s : CacheState) (v : View) → 0 < v.gets → Local s v → Local s (give_exclusive v)
+give_exclusive_at I v p h = grind (arith)
+give_exclusive_at IsD v p h = grind (arith)
+give_exclusive_at ImAd v p h = grind (arith)
+give_exclusive_at ImA v p h = grind (arith)
+give_exclusive_at S v p h = grind (arith)
+give_exclusive_at SmAd v p h = grind (arith)
+give_exclusive_at SmA v p h = grind (arith)
+give_exclusive_at M v p h = grind (arith)
+give_exclusive_at MiA v p h = grind (arith)
+give_exclusive_at SiA v p h = grind (arith)
+give_exclusive_at IiA v p h = grind (arith)
+give_exclusive_at E v p h = grind (arith)
 
 pub name_s_at : (s : CacheState) (v : View) → 0 < v.gets → Local s v → Local s (name_s v)
 name_s_at I v p h = grind (arith)
@@ -142,6 +166,7 @@ name_s_at M v p h = grind (arith)
 name_s_at MiA v p h = grind (arith)
 name_s_at SiA v p h = grind (arith)
 name_s_at IiA v p h = grind (arith)
+name_s_at E v p h = grind (arith)
 
 pub name_s_holds : (s : CacheState) (v : View) → 0 < v.gets → Local s v → Holds s (name_s v) → Holds s v
 name_s_holds I v p h x = grind (arith)
@@ -155,6 +180,7 @@ name_s_holds M v p h x = grind (arith)
 name_s_holds MiA v p h x = grind (arith)
 name_s_holds SiA v p h x = grind (arith)
 name_s_holds IiA v p h x = grind (arith)
+name_s_holds E v p h x = grind (arith)
 
 pub name_m_at : (s : CacheState) (v : View) → 0 < v.getm → v.shares ≡ false → Local s v → Local s (name_m v)
 name_m_at I v p q h = grind (arith)
@@ -168,6 +194,7 @@ name_m_at M v p q h = grind (arith)
 name_m_at MiA v p q h = grind (arith)
 name_m_at SiA v p q h = grind (arith)
 name_m_at IiA v p q h = grind (arith)
+name_m_at E v p q h = grind (arith)
 
 pub name_m_holds : (s : CacheState) (v : View) → 0 < v.getm → Local s v → Holds s (name_m v) → Holds s v
 name_m_holds I v p h x = grind (arith)
@@ -181,6 +208,7 @@ name_m_holds M v p h x = grind (arith)
 name_m_holds MiA v p h x = grind (arith)
 name_m_holds SiA v p h x = grind (arith)
 name_m_holds IiA v p h x = grind (arith)
+name_m_holds E v p h x = grind (arith)
 
 pub pass_s_at : (s : CacheState) (v : View) → v.owns ≡ true → Local s v → Local s (pass_s v)
 pass_s_at I v p h = grind (arith)
@@ -194,6 +222,7 @@ pass_s_at M v p h = grind (arith)
 pass_s_at MiA v p h = grind (arith)
 pass_s_at SiA v p h = grind (arith)
 pass_s_at IiA v p h = grind (arith)
+pass_s_at E v p h = grind (arith)
 
 pub pass_s_holds : (s : CacheState) (v : View) → v.owns ≡ true → Local s v → Holds s (pass_s v) → Holds s v
 pass_s_holds I v p h x = grind (arith)
@@ -207,6 +236,7 @@ pass_s_holds M v p h x = grind (arith)
 pass_s_holds MiA v p h x = grind (arith)
 pass_s_holds SiA v p h x = grind (arith)
 pass_s_holds IiA v p h x = grind (arith)
+pass_s_holds E v p h x = grind (arith)
 
 pub pass_m_at : (s : CacheState) (v : View) → v.owns ≡ true → Local s v → Local s (pass_m v)
 pass_m_at I v p h = grind (arith)
@@ -220,6 +250,7 @@ pass_m_at M v p h = grind (arith)
 pass_m_at MiA v p h = grind (arith)
 pass_m_at SiA v p h = grind (arith)
 pass_m_at IiA v p h = grind (arith)
+pass_m_at E v p h = grind (arith)
 
 pub pass_m_holds : (s : CacheState) (v : View) → v.owns ≡ true → Local s v → Holds s (pass_m v) → Holds s v
 pass_m_holds I v p h x = grind (arith)
@@ -233,6 +264,7 @@ pass_m_holds M v p h x = grind (arith)
 pass_m_holds MiA v p h x = grind (arith)
 pass_m_holds SiA v p h x = grind (arith)
 pass_m_holds IiA v p h x = grind (arith)
+pass_m_holds E v p h x = grind (arith)
 
 pub ack_s_at : (s : CacheState) (v : View) → 0 < v.puts → Local s v → Local s (ack_s v)
 ack_s_at I v p h = grind (arith)
@@ -246,6 +278,7 @@ ack_s_at M v p h = grind (arith)
 ack_s_at MiA v p h = grind (arith)
 ack_s_at SiA v p h = grind (arith)
 ack_s_at IiA v p h = grind (arith)
+ack_s_at E v p h = grind (arith)
 
 pub ack_s_holds : (s : CacheState) (v : View) → 0 < v.puts → Local s v → Holds s (ack_s v) → Holds s v
 ack_s_holds I v p h x = grind (arith)
@@ -259,6 +292,7 @@ ack_s_holds M v p h x = grind (arith)
 ack_s_holds MiA v p h x = grind (arith)
 ack_s_holds SiA v p h x = grind (arith)
 ack_s_holds IiA v p h x = grind (arith)
+ack_s_holds E v p h x = grind (arith)
 
 pub ack_m_at : (s : CacheState) (v : View) → 0 < v.putm → Local s v → Local s (ack_m v)
 ack_m_at I v p h = grind (arith)
@@ -272,6 +306,7 @@ ack_m_at M v p h = grind (arith)
 ack_m_at MiA v p h = grind (arith)
 ack_m_at SiA v p h = grind (arith)
 ack_m_at IiA v p h = grind (arith)
+ack_m_at E v p h = grind (arith)
 
 pub ack_m_holds : (s : CacheState) (v : View) → 0 < v.putm → Local s v → Holds s (ack_m v) → Holds s v
 ack_m_holds I v p h x = grind (arith)
@@ -285,6 +320,7 @@ ack_m_holds M v p h x = grind (arith)
 ack_m_holds MiA v p h x = grind (arith)
 ack_m_holds SiA v p h x = grind (arith)
 ack_m_holds IiA v p h x = grind (arith)
+ack_m_holds E v p h x = grind (arith)
 
 pub ack_m_owner : (s : CacheState) (v : View) → 0 < v.putm → v.owns ≡ true → Local s v → Holds s (ack_m v) → Never
 ack_m_owner I v p o h x = grind (arith)
@@ -298,6 +334,7 @@ ack_m_owner M v p o h x = grind (arith)
 ack_m_owner MiA v p o h x = grind (arith)
 ack_m_owner SiA v p o h x = grind (arith)
 ack_m_owner IiA v p o h x = grind (arith)
+ack_m_owner E v p o h x = grind (arith)
 
 pub owner_holds : (s : CacheState) (v : View) → 0 < v.putm → v.owns ≡ true → Local s v → Holds s v
 owner_holds I v p o h = grind (arith)
@@ -311,6 +348,7 @@ owner_holds M v p o h = grind (arith)
 owner_holds MiA v p o h = grind (arith)
 owner_holds SiA v p o h = grind (arith)
 owner_holds IiA v p o h = grind (arith)
+owner_holds E v p o h = grind (arith)
 
 pub get_s_at : (s : CacheState) (v : View) → 0 < v.fwd_gets → Local s v → Local s (get_s v)
 get_s_at I v p h = grind (arith)
@@ -324,6 +362,7 @@ get_s_at M v p h = grind (arith)
 get_s_at MiA v p h = grind (arith)
 get_s_at SiA v p h = grind (arith)
 get_s_at IiA v p h = grind (arith)
+get_s_at E v p h = grind (arith)
 
 pub get_s_holds : (s : CacheState) (v : View) → 0 < v.fwd_gets → Local s v → Holds s (get_s v) → Never
 get_s_holds I v p h x = grind (arith)
@@ -337,6 +376,7 @@ get_s_holds M v p h x = grind (arith)
 get_s_holds MiA v p h x = grind (arith)
 get_s_holds SiA v p h x = grind (arith)
 get_s_holds IiA v p h x = grind (arith)
+get_s_holds E v p h x = grind (arith)
 
 pub get_m_at : (s : CacheState) (v : View) → 0 < v.fwd_getm → (HasInv v.link → Never) → Local s v → Local s (get_m v)
 get_m_at I v p i h = grind (arith)
@@ -350,42 +390,4 @@ get_m_at M v p i h = grind (arith)
 get_m_at MiA v p i h = grind (arith)
 get_m_at SiA v p i h = grind (arith)
 get_m_at IiA v p i h = grind (arith)
-
-pub open_shares : (s : CacheState) (v : View) → 0 < v.getm → Local s v → (v.owns ≡ false) × (v.fwd_gets ≡ 0) × (HasFwdGetS v.link → Never)
-open_shares I v p h = grind (arith)
-open_shares IsD v p h = grind (arith)
-open_shares ImAd v p h = grind (arith)
-open_shares ImA v p h = grind (arith)
-open_shares S v p h = grind (arith)
-open_shares SmAd v p h = grind (arith)
-open_shares SmA v p h = grind (arith)
-open_shares M v p h = grind (arith)
-open_shares MiA v p h = grind (arith)
-open_shares SiA v p h = grind (arith)
-open_shares IiA v p h = grind (arith)
-
-pub open_gets : (s : CacheState) (v : View) → 0 < v.gets → Local s v → (v.owns ≡ false) × (v.shares ≡ false)
-open_gets I v p h = grind (arith)
-open_gets IsD v p h = grind (arith)
-open_gets ImAd v p h = grind (arith)
-open_gets ImA v p h = grind (arith)
-open_gets S v p h = grind (arith)
-open_gets SmAd v p h = grind (arith)
-open_gets SmA v p h = grind (arith)
-open_gets M v p h = grind (arith)
-open_gets MiA v p h = grind (arith)
-open_gets SiA v p h = grind (arith)
-open_gets IiA v p h = grind (arith)
-
-pub with_inv : (s : CacheState) (v : View) → v.shares ≡ false → 0 < v.getm → Local s v → (v.link ≡ []) ⊎ HasInv v.link
-with_inv I v p q h = grind (arith)
-with_inv IsD v p q h = grind (arith)
-with_inv ImAd v p q h = grind (arith)
-with_inv ImA v p q h = grind (arith)
-with_inv S v p q h = grind (arith)
-with_inv SmAd v p q h = grind (arith)
-with_inv SmA v p q h = grind (arith)
-with_inv M v p q h = grind (arith)
-with_inv MiA v p q h = grind (arith)
-with_inv SiA v p q h = grind (arith)
-with_inv IiA v p q h = grind (arith)
+get_m_at E v p i h = grind (arith)

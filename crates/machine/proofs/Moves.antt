@@ -2,6 +2,8 @@
 use Rattle.std.proofs.Common.{◌≡◌, ◌≢◌, ◌⊎◌, ℕ, ◌<◌, ◌+◌, List, [], ◌∷◌, inl, inr, length, refl, ap, sym, subst, ◌∙◌, zero, suc, arith}
 use Rattle.std.proofs.Common.{Option, Some, None, Bool, true, false, ◌==◌, ◌&&◌, if◌then◌else◌, slice_get, sum_by, eq-eqb}
 use Rattle.std.proofs.lemmas.Bool.{cases_lt}
+use Rattle.base.specs.declared.controller.protocol.Protocol.{Protocol}
+use Rattle.base.specs.declared.controller.protocol.Protocol.TheVariants.{Msi, MsiE}
 use Rattle.base.specs.declared.ids.CacheId.{CacheId}
 use Rattle.base.specs.declared.ids.BlockId.{BlockId}
 use Rattle.base.specs.declared.ids.Place.TheVariants.{Dir, Cache}
@@ -21,10 +23,11 @@ use Rattle.network.specs.declared.message.Response.{Response}
 use Rattle.network.specs.declared.message.Response.TheVariants as response
 use Rattle.network.specs.Traffic.{link}
 use Rattle.cache_table.specs.declared.state.CacheState.{CacheState}
+use Rattle.cache_table.specs.declared.state.CacheState.TheVariants.{IsD, E}
 use Rattle.cache_table.specs.declared.event.CacheEvent.{CacheEvent}
 use Rattle.cache_table.specs.declared.event.CacheEvent.TheVariants as line_event
 use Rattle.cache_table.specs.Table.{CacheEntry, cell}
-use Rattle.cache_table.specs.Baseline.{baseline_entry}
+use Rattle.cache_table.specs.Baseline.{baseline_entry, msi_e_entry}
 use Rattle.cache_table.proofs.BaselineCells.{cell-baseline}
 use Rattle.directory_table.specs.declared.state.DirectoryState.{DirectoryState}
 use Rattle.directory_table.specs.declared.state.DirectoryState.TheVariants as home
@@ -44,7 +47,7 @@ use Rattle.control.specs.declared.home.HomeInput.TheVariants as home_input
 use Rattle.control.specs.Sharing.{shares, is_sole, others_from}
 use Rattle.control.specs.Events.{event_at_line, forward_event, response_event, is_count, more_acks, event_at_home, owns}
 use Rattle.control.specs.LineEffect.{line_completes}
-use Rattle.both_tables.specs.Tables.{Tables, baseline}
+use Rattle.both_tables.specs.Tables.{Tables, baseline_of}
 use Rattle.machine.specs.Block.{BlockState}
 use Rattle.machine.specs.Transition.{Transition, outcome_of, carried_out, by_line_entry, by_home_entry, at_line, at_home, at_request}
 use Rattle.machine.specs.Transition.{at_forward, at_response, transition}
@@ -55,11 +58,12 @@ use Rattle.machine.specs.Going.{KeepsGoing, MayWait, MayWaitAtHome}
 use Rattle.machine.specs.Unstuck.{IsDelivery}
 use Rattle.machine.proofs.Views.{Local}
 use Rattle.machine.proofs.Counts.{only, sum_by-remove}
-use Rattle.machine.proofs.Seen.{view_of, dir_data, owner_data, inv_ack}
+use Rattle.machine.proofs.Seen.{view_of, dir_data, owner_data, excl_data, inv_ack}
 use Rattle.machine.proofs.Sound.{Sound}
 use Rattle.machine.proofs.Homes.{line_of-past}
-use Rattle.machine.proofs.StepTransitions.{transition-fine}
-use Rattle.machine.proofs.StallRules.{Serves, data_zero_serves, data_more_serves, data_owner_serves, inv_ack_serves}
+use Rattle.machine.proofs.Plain.{Plain}
+use Rattle.machine.proofs.Own.{own-fine}
+use Rattle.machine.proofs.StallRules.{Serves, data_zero_serves, data_more_serves, data_owner_serves, data_excl_serves, inv_ack_serves}
 use Rattle.machine.proofs.StallRules.{last_ack_serves}
 use Rattle.machine.proofs.StallRules.{response_waits}
 use Rattle.machine.proofs.Cases.{by-test}
@@ -102,10 +106,19 @@ serves-or-stalls entry.Blank = inl tt
 serves-or-stalls entry.Stall = inr refl
 serves-or-stalls (entry.Act next actions) = inl tt
 
-stalls-only : (tables : Tables) → KeepsGoing tables → (s : CacheState) (e : CacheEvent) → Serves (baseline_entry s e) →
-    (cell baseline.cache s e ≡ entry.Blank → ⊥) → cell tables.cache s e ≡ entry.Stall → MayWait tables s e
+-- a cell that isn't a stall under MSI+E is none under MSI
+serves-own : (p : Protocol) (s : CacheState) (e : CacheEvent) → Serves (msi_e_entry s e) → Serves (baseline_entry p s e)
+serves-own MsiE s e h = h
+serves-own Msi IsD line_event.FwdGetS h = tt
+serves-own Msi IsD line_event.FwdGetM h = tt
+serves-own Msi IsD line_event.DataDirExcl h = tt
+serves-own Msi E e h = tt
+serves-own Msi s e h = h
+
+stalls-only : (tables : Tables) → KeepsGoing tables → (s : CacheState) (e : CacheEvent) → Serves (msi_e_entry s e) →
+    (cell (baseline_of tables.protocol).cache s e ≡ entry.Blank → ⊥) → cell tables.cache s e ≡ entry.Stall → MayWait tables s e
 stalls-only tables k s e own met x = elim (k.cache s e x) [
-  | inl stall ↦ absurd (subst Serves (sym (cell-baseline s e) ∙ stall) own)
+  | inl stall ↦ absurd (subst Serves (sym (cell-baseline tables.protocol s e) ∙ stall) (serves-own tables.protocol s e own))
   | inr (inl blank) ↦ absurd (met blank)
   | inr (inr may) ↦ may
 ]
@@ -116,7 +129,7 @@ IsMet own b = (carried_out own b).outcome ≡ outcome.Blank → ⊥
 
 -- what the own tables serve either moves or waits where it may
 line-goes-on : (tables : Tables) → KeepsGoing tables → (b : BlockState) (cache : CacheId) (input : LineInput) (from : Origin) (line : Line) →
-    Serves (baseline_entry line.state (event_at_line line.acks input)) → IsMet (at_line baseline.cache cache input from (Some line)) b →
+    Serves (msi_e_entry line.state (event_at_line line.acks input)) → IsMet (at_line (baseline_of tables.protocol).cache cache input from (Some line)) b →
     Moves (carried_out (at_line tables.cache cache input from (Some line)) b) ⊎ Waits tables line.state (event_at_line line.acks input)
 line-goes-on tables k b cache input from line own met =
     let e : CacheEvent = event_at_line line.acks input in
@@ -131,10 +144,11 @@ line-goes-on tables k b cache input from line own met =
 
 pub line-goes : (tables : Tables) → KeepsGoing tables →
     (b : BlockState) (cache : CacheId) (input : LineInput) (from : Origin) (found : Option Line) (line : Line) →
-    Some line ≡ found → Serves (baseline_entry line.state (event_at_line line.acks input)) → IsMet (at_line baseline.cache cache input from found) b →
+    Some line ≡ found → Serves (msi_e_entry line.state (event_at_line line.acks input)) →
+    IsMet (at_line (baseline_of tables.protocol).cache cache input from found) b →
     Moves (carried_out (at_line tables.cache cache input from found) b) ⊎ Waits tables line.state (event_at_line line.acks input)
 line-goes tables k b cache input from found line e own =
-    subst (λ (o : Option Line). IsMet (at_line baseline.cache cache input from o) b →
+    subst (λ (o : Option Line). IsMet (at_line (baseline_of tables.protocol).cache cache input from o) b →
     Moves (carried_out (at_line tables.cache cache input from o) b) ⊎ Waits tables line.state (event_at_line line.acks input)) e
     (line-goes-on tables k b cache input from line own)
 
@@ -144,15 +158,16 @@ line-there [] c h = absurd (omega arith)
 line-there (l ∷ ls) zero h = (l, refl)
 line-there (l ∷ ls) (suc c) h = line-there ls c (omega arith)
 
-pub receiver-below : (n : ℕ) (b : BlockState) (c : ℕ) → Sound n b → 0 < (view_of b c).dir_data + (view_of b c).owner_data + (view_of b c).invs →
+pub receiver-below : (n : ℕ) (b : BlockState) (c : ℕ) → Sound n b →
+    0 < (view_of b c).dir_data + (view_of b c).owner_data + (view_of b c).invs + (view_of b c).excl_data →
     c < length b.lines
 receiver-below n b c h some =
     elim (cases_lt c (length b.lines)) [
       | inl lt ↦ lt
       | inr past ↦
-          let z : ((view_of b c).dir_data ≡ 0) × ((view_of b c).owner_data ≡ 0) × ((view_of b c).invs ≡ 0) =
+          let z : ((view_of b c).dir_data ≡ 0) × ((view_of b c).owner_data ≡ 0) × ((view_of b c).invs ≡ 0) × ((view_of b c).excl_data ≡ 0) =
           response_waits (view_of b c) (subst (λ (l : Line). Local l.state (view_of b c)) (line_of-past b.lines c past) (h.good.each c)) in
-          absurd (omega (arith, z.0, z.1, z.2))
+          absurd (omega (arith, z.0, z.1, z.2, z.3))
     ]
 
 -- the same of a home's cell
@@ -172,8 +187,9 @@ home-serves-or-stalls entry.Stall = inr refl
 home-serves-or-stalls (entry.Act next actions) = inl tt
 
 home-goes : (tables : Tables) → KeepsGoing tables → (b : BlockState) (input : HomeInput) (from : Origin) →
-    HomeServes (directory_baseline.baseline_entry b.home.state (event_at_home b.home.owner b.home.sharers input)) →
-    (MayWaitAtHome b.home.state (event_at_home b.home.owner b.home.sharers input) → ⊥) → IsMet (at_home baseline.directory input from b.home) b →
+    HomeServes (directory_baseline.baseline_entry tables.protocol b.home.state (event_at_home b.home.owner b.home.sharers input)) →
+    (MayWaitAtHome b.home.state (event_at_home b.home.owner b.home.sharers input) → ⊥) →
+    IsMet (at_home (baseline_of tables.protocol).directory input from b.home) b →
     Moves (carried_out (at_home tables.directory input from b.home) b)
 home-goes tables k b input from own stays met =
     let s : DirectoryState = b.home.state in
@@ -181,17 +197,21 @@ home-goes tables k b input from own stays met =
     elim (home-serves-or-stalls (directory_table.cell tables.directory s e)) [
       | inl serves ↦ home-moves b input from (directory_table.cell tables.directory s e) serves
       | inr x ↦ elim (k.directory s e x) [
-        | inl stall ↦ absurd (subst HomeServes (sym (directory_cells.cell-baseline s e) ∙ stall) own)
+        | inl stall ↦ absurd (subst HomeServes (sym (directory_cells.cell-baseline tables.protocol s e) ∙ stall) own)
         | inr (inl blank) ↦ absurd (met (ap (λ (y : DirectoryEntry). (carried_out (by_home_entry y input from) b).outcome) blank))
         | inr (inr may) ↦ absurd (stays may)
       ]
     ]
 
-data-serves : (s : DirectoryState) → HomeServes (directory_baseline.baseline_entry s home_event.Data)
-data-serves home.I = tt
-data-serves home.S = tt
-data-serves home.M = tt
-data-serves home.SD = tt
+data-serves : (p : Protocol) (s : DirectoryState) → HomeServes (directory_baseline.baseline_entry p s home_event.Data)
+data-serves Msi home.I = tt
+data-serves Msi home.S = tt
+data-serves Msi home.M = tt
+data-serves Msi home.SD = tt
+data-serves MsiE home.I = tt
+data-serves MsiE home.S = tt
+data-serves MsiE home.M = tt
+data-serves MsiE home.SD = tt
 
 data-stays : (s : DirectoryState) → MayWaitAtHome s home_event.Data → ⊥
 data-stays home.I h = h
@@ -206,14 +226,16 @@ ResponseWaits tables b (response.Data by (Cache c) value acks) =
     (line : Line) × (Some line ≡ slice_get b.lines c.0) × Waits tables line.state (response_event line.acks (response.Data by (Cache c) value acks))
 ResponseWaits tables b (response.InvAck by c) =
     (line : Line) × (Some line ≡ slice_get b.lines c.0) × Waits tables line.state (response_event line.acks (response.InvAck by c))
+ResponseWaits tables b (response.DataExcl c value) =
+    (line : Line) × (Some line ≡ slice_get b.lines c.0) × Waits tables line.state (response_event line.acks (response.DataExcl c value))
 
 mine : (f : Response → ℕ) (xs : List Response) (i : ℕ) (x : Response) → Some x ≡ slice_get xs i → f x ≡ 1 → 0 < sum_by f xs
 mine f xs i x at e = omega (arith, sum_by-remove f xs i x at)
 
 to-line : (n : ℕ) (tables : Tables) → KeepsGoing tables → (b : BlockState) (i : ℕ) (c : CacheId) (x : Response) →
-    0 < (view_of b c.0).dir_data + (view_of b c.0).owner_data + (view_of b c.0).invs → Sound n b →
-    ((line : Line) → Serves (baseline_entry line.state (response_event line.acks x))) →
-    IsMet (at_line baseline.cache c (line_input.Response x) (origin.Response i) (slice_get b.lines c.0)) b →
+    0 < (view_of b c.0).dir_data + (view_of b c.0).owner_data + (view_of b c.0).invs + (view_of b c.0).excl_data → Sound n b →
+    ((line : Line) → Serves (msi_e_entry line.state (response_event line.acks x))) →
+    IsMet (at_line (baseline_of tables.protocol).cache c (line_input.Response x) (origin.Response i) (slice_get b.lines c.0)) b →
     Moves (carried_out (at_line tables.cache c (line_input.Response x) (origin.Response i) (slice_get b.lines c.0)) b)
     ⊎ ((line : Line) × (Some line ≡ slice_get b.lines c.0) × Waits tables line.state (response_event line.acks x))
 to-line n tables k b i c x some h serves met =
@@ -224,14 +246,15 @@ to-line n tables k b i c x some h serves met =
     ]
 
 response-moves : (n : ℕ) (tables : Tables) → KeepsGoing tables → (b : BlockState) (i : ℕ) (x : Response) → Some x ≡ slice_get b.traffic.responses i →
-    Sound n b → IsMet (at_response baseline i b (Some x)) b → Moves (carried_out (at_response tables i b (Some x)) b) ⊎ ResponseWaits tables b x
+    Sound n b → IsMet (at_response (baseline_of tables.protocol) i b (Some x)) b → Moves (carried_out (at_response tables i b (Some x)) b) ⊎
+    ResponseWaits tables b x
 response-moves n tables k b i (response.Data by Dir value acks) at h met =
-    inl (home-goes tables k b (home_input.Data value) (origin.Response i) (data-serves b.home.state) (data-stays b.home.state) met)
+    inl (home-goes tables k b (home_input.Data value) (origin.Response i) (data-serves tables.protocol b.home.state) (data-stays b.home.state) met)
 response-moves n tables k b i (response.Data Dir (Cache c) value acks) at h met =
     let some : 0 < sum_by (dir_data c.0) b.traffic.responses =
     mine (dir_data c.0) b.traffic.responses i (response.Data Dir (Cache c) value acks) at (ap (λ t. only t 1) (eq-eqb c.0 c.0 refl)) in
     to-line n tables k b i c (response.Data Dir (Cache c) value acks) (omega arith) h
-    (λ line. by-test (λ t. Serves (baseline_entry line.state (if t then line_event.DataDirZero else line_event.DataDirMore)))
+    (λ line. by-test (λ t. Serves (msi_e_entry line.state (if t then line_event.DataDirZero else line_event.DataDirMore)))
     (is_count (more_acks line.acks acks) 0) (λ t. data_zero_serves line.state) (λ t. data_more_serves line.state)) met
 response-moves n tables k b i (response.Data (Cache by) (Cache c) value acks) at h met =
     let some : 0 < sum_by (owner_data c.0) b.traffic.responses =
@@ -241,8 +264,12 @@ response-moves n tables k b i (response.InvAck by c) at h met =
     let some : 0 < sum_by (inv_ack c.0) b.traffic.responses =
     mine (inv_ack c.0) b.traffic.responses i (response.InvAck by c) at (ap (λ t. only t 1) (eq-eqb c.0 c.0 refl)) in
     to-line n tables k b i c (response.InvAck by c) (omega arith) h
-    (λ line. by-test (λ t. Serves (baseline_entry line.state (if t then line_event.LastInvAck else line_event.InvAck))) (is_count line.acks 1)
+    (λ line. by-test (λ t. Serves (msi_e_entry line.state (if t then line_event.LastInvAck else line_event.InvAck))) (is_count line.acks 1)
     (λ t. last_ack_serves line.state) (λ t. inv_ack_serves line.state)) met
+response-moves n tables k b i (response.DataExcl c value) at h met =
+    let some : 0 < sum_by (excl_data c.0) b.traffic.responses =
+    mine (excl_data c.0) b.traffic.responses i (response.DataExcl c value) at (ap (λ t. only t 1) (eq-eqb c.0 c.0 refl)) in
+    to-line n tables k b i c (response.DataExcl c value) (omega arith) h (λ line. data_excl_serves line.state) met
 
 -- what can be delivered
 abbrev pub Found : Tables → BlockState → BlockId → Type 0
@@ -250,10 +277,11 @@ Found tables b block = (d : Step) × IsDelivery d × (block_of d ≡ block.0) ×
 
 -- a response can be delivered, or waits where it may
 pub response-goes : (n : ℕ) (tables : Tables) → KeepsGoing tables → (b : BlockState) (block : BlockId) (i : ℕ) (x : Response) →
-    Some x ≡ slice_get b.traffic.responses i → Sound n b → Found tables b block ⊎ ResponseWaits tables b x
-response-goes n tables k b block i x at h =
+    Some x ≡ slice_get b.traffic.responses i → Sound n b → Plain tables.protocol b → Found tables b block ⊎ ResponseWaits tables b x
+response-goes n tables k b block i x at h pl =
     elim (response-moves n tables k b i x at h
-    (subst (λ (o : Option Response). IsMet (at_response baseline i b o) b) (sym at) (transition-fine n (step.Response block i) b h).met)) [
+    (subst (λ (o : Option Response). IsMet (at_response (baseline_of tables.protocol) i b o) b) (sym at)
+    (own-fine tables.protocol n (step.Response block i) b h pl).met)) [
       | inl moves ↦ inl (step.Response block i, tt, refl, subst (λ (o : Option Response). Moves (carried_out (at_response tables i b o) b)) at moves)
       | inr waits ↦ inr waits
     ]
@@ -266,12 +294,14 @@ head-stays tables s forward.Inv h = h
 head-stays tables s forward.PutAck h = h
 
 pub found-head : (n : ℕ) (tables : Tables) → KeepsGoing tables → (b : BlockState) (block : BlockId) (c : ℕ) (m : Forward) (line : Line) →
-    Some m ≡ slice_get (link b.traffic c) 0 → Some line ≡ slice_get b.lines c → Sound n b → Serves (baseline_entry line.state (forward_event m.kind)) →
+    Some m ≡ slice_get (link b.traffic c) 0 → Some line ≡ slice_get b.lines c → Sound n b → Plain tables.protocol b →
+    Serves (msi_e_entry line.state (forward_event m.kind)) →
     Found tables b block
-found-head n tables k b block c m line at there h own =
+found-head n tables k b block c m line at there h pl own =
     let cache : CacheId = record { 0 = c } in
-    let met : IsMet (at_forward baseline.cache cache b.lines (Some m)) b =
-    subst (λ (o : Option Forward). IsMet (at_forward baseline.cache cache b.lines o) b) (sym at) (transition-fine n (step.Forward block cache) b h).met in
+    let met : IsMet (at_forward (baseline_of tables.protocol).cache cache b.lines (Some m)) b =
+    subst (λ (o : Option Forward). IsMet (at_forward (baseline_of tables.protocol).cache cache b.lines o) b) (sym at)
+    (own-fine tables.protocol n (step.Forward block cache) b h pl).met in
     elim (line-goes tables k b cache (line_input.Forward m) (origin.Head cache) (slice_get b.lines c) line there own met) [
       | inl moves ↦ (
         step.Forward block cache,
@@ -283,10 +313,11 @@ found-head n tables k b block c m line at there h own =
     ]
 
 -- a home that isn't in S^D holds no request
-request-serves : (e : DirectoryEvent) (s : DirectoryState) → s ≢ home.SD → HomeServes (directory_baseline.baseline_entry s e)
-request-serves home_event.Data s ne = data-serves s
-request-serves e home.SD ne = absurd (ne refl)
-request-serves e s ne = tt
+request-serves : (p : Protocol) (e : DirectoryEvent) (s : DirectoryState) → s ≢ home.SD → HomeServes (directory_baseline.baseline_entry p s e)
+request-serves p home_event.Data s ne = data-serves p s
+request-serves p e home.SD ne = absurd (ne refl)
+request-serves Msi e s ne = tt
+request-serves MsiE e s ne = tt
 
 -- but of one that isn't there
 waits-last : (s : DirectoryState) (e : DirectoryEvent) → s ≢ home.SD → MayWaitAtHome s e → (e ≡ home_event.PutSLast) × (s ≢ home.S)
@@ -328,15 +359,16 @@ request-stays n b r h ne may =
     ]
 
 pub found-request : (n : ℕ) (tables : Tables) → KeepsGoing tables → (b : BlockState) (block : BlockId) (r : Request) → Some r ≡ slice_get b.traffic.requests 0 →
-    Sound n b → b.home.state ≢ home.SD → Found tables b block
-found-request n tables k b block r at h ne =
-    let met : IsMet (at_request baseline.directory 0 b.home (Some r)) b =
-    subst (λ (o : Option Request). IsMet (at_request baseline.directory 0 b.home o) b) (sym at) (transition-fine n (step.Request block 0) b h).met in (
+    Sound n b → Plain tables.protocol b → b.home.state ≢ home.SD → Found tables b block
+found-request n tables k b block r at h pl ne =
+    let met : IsMet (at_request (baseline_of tables.protocol).directory 0 b.home (Some r)) b =
+    subst (λ (o : Option Request). IsMet (at_request (baseline_of tables.protocol).directory 0 b.home o) b) (sym at)
+    (own-fine tables.protocol n (step.Request block 0) b h pl).met in (
       step.Request block 0,
       tt,
       refl,
       subst (λ (o : Option Request). Moves (carried_out (at_request tables.directory 0 b.home o) b)) at
           (home-goes tables k b (home_input.Request r) (origin.Request 0)
-          (request-serves (event_at_home b.home.owner b.home.sharers (home_input.Request r)) b.home.state ne)
+          (request-serves tables.protocol (event_at_home b.home.owner b.home.sharers (home_input.Request r)) b.home.state ne)
           (request-stays n b r h ne) met),
     )

@@ -3,6 +3,8 @@ use Rattle.std.proofs.Common.{◌≡◌, ◌≢◌, ℕ, ◌≤◌, List, [], �
 use Rattle.std.proofs.Common.{Some, None, Bool, true, false, if◌then◌else◌, slice_get, replicate, zero, suc, inl, subst}
 use Rattle.base.specs.Extent.{Extent, IsWithinLimits}
 use Rattle.base.specs.Steps.{block_of}
+use Rattle.base.specs.declared.controller.protocol.Protocol.{Protocol}
+use Rattle.base.specs.declared.controller.protocol.Protocol.TheVariants.{Msi, MsiE}
 use Rattle.base.specs.declared.ids.BlockId.{BlockId}
 use Rattle.base.specs.declared.step.Step.{Step}
 use Rattle.base.specs.declared.step.Step.TheVariants as step
@@ -12,7 +14,7 @@ use Rattle.machine.specs.Block.{BlockState, opened_block}
 use Rattle.machine.specs.Restraint.{AreRestrained}
 use Rattle.machine.specs.Going.{AreNeverStuck, KeepsGoing, ServesAsks, IsSettled}
 use Rattle.cache_table.specs.declared.state.CacheState.{CacheState}
-use Rattle.cache_table.specs.declared.state.CacheState.TheVariants.{I, S, M}
+use Rattle.cache_table.specs.declared.state.CacheState.TheVariants.{I, S, M, E}
 use Rattle.cache_table.specs.declared.event.CacheEvent.{CacheEvent}
 use Rattle.cache_table.specs.declared.event.CacheEvent.TheVariants.{Load}
 use Rattle.cache_table.specs.Table.{CacheEntry}
@@ -20,7 +22,7 @@ use Rattle.cache_table.specs.Baseline.{baseline_entry}
 use Rattle.cache_table.proofs.BaselineCells.{cell-baseline}
 use Rattle.control.specs.declared.line.Line.{Line}
 use Rattle.control.specs.LineEffect.{opened_line}
-use Rattle.both_tables.specs.Tables.{Tables, baseline}
+use Rattle.both_tables.specs.Tables.{Tables, baseline_of}
 use Rattle.machine.specs.Transition.{transition}
 use Rattle.machine.specs.Machine.{State, Next, IsRefusal, next, next_at, is_blank, opened, state_after}
 use Rattle.machine.specs.Unstuck.{Unstuck, Flows, Flowing}
@@ -104,7 +106,7 @@ opened-line n c line at = replicated n c line at
 
 -- the invariant that not being stuck needs
 pub record Going (n : ℕ) (tables : Tables) (b : BlockState) : Type 0 where
-  pub holding : Holding n b
+  pub holding : Holding tables.protocol n b
   pub ranked : Ranked b
   pub gathering : Gathering tables b
 
@@ -116,13 +118,17 @@ opened-gathering tables n value = record {
 
 going-guards : (tables : Tables) (n : ℕ) → AreRestrained tables → n ≤ 4294967296 → Guards (Going n tables) tables n
 going-guards tables n r few =
-    let g : Guards (Holding n) tables n = restrained-guards tables n r few in
+    let g : Guards (Holding tables.protocol n) tables n = restrained-guards tables n r few in
     record {
-      at_first = λ value. record { holding = g.at_first value; ranked = ((guards n few).at_first value).ranked; gathering = opened-gathering tables n value };
+      at_first = λ value. record {
+        holding = g.at_first value;
+        ranked = ((guards tables.protocol n few).at_first value).ranked;
+        gathering = opened-gathering tables n value;
+      };
       kept = λ s b h. record {
         holding = g.kept s b h.holding;
-        ranked = (step-passes n tables s b r h.holding.sound h.holding.valued).order h.ranked;
-        gathering = transition-gathering n tables s b r h.holding.sound h.gathering;
+        ranked = (step-passes n tables s b r h.holding.sound h.holding.valued h.holding.plain).order h.ranked;
+        gathering = transition-gathering n tables s b r h.holding.sound h.holding.plain h.gathering;
       };
       single = λ b h. g.single b h.holding;
       unmet = λ s b h. g.unmet s b h.holding;
@@ -136,7 +142,8 @@ flowing-at caches tables going g s h w block b e =
     record {
       moves = λ not_quiet.
           let f : Found tables b block =
-          some-move caches tables going b block b.traffic.responses refl k.ranked k.holding.sound k.gathering (λ q. not_quiet (quiet-tells b.traffic q)) in
+          some-move caches tables going b block b.traffic.responses refl k.ranked k.holding.sound k.holding.plain k.gathering
+          (λ q. not_quiet (quiet-tells b.traffic q)) in
           let o : (next tables s f.0).outcome ≡ (transition tables f.0 b).outcome = outcome-at tables s f.0 b block w f.2 there in
           let m : Moves (transition tables f.0 b) = f.3 in (
             f.0,
@@ -161,7 +168,7 @@ unstuck-at caches tables going asks g s h w block b e =
       moves = f.moves;
       done = f.done;
       ready =
-          λ quiet cache ask x. quiet-ready caches tables going asks b block k.holding.sound (quiet-told b.traffic quiet) cache ask
+          λ quiet cache ask x. quiet-ready caches tables going asks b block k.holding.sound k.holding.plain (quiet-told b.traffic quiet) cache ask
           (sym (outcome-at tables s (step.Ask cache block ask) b block w refl there) ∙ x);
     }
 
@@ -189,24 +196,28 @@ never_stuck tables shape opening steps never within =
     reached tables shape opening steps (Unstuck tables) never.restrained within (unstuck-at shape.caches tables never.going never.serving)
 
 -- the own tables keep going
-own-going : KeepsGoing baseline
-own-going = record { cache = λ s e x. inl x; directory = λ s e x. inl x }
+own-going : (p : Protocol) → KeepsGoing (baseline_of p)
+own-going p = record { cache = λ s e x. inl x; directory = λ s e x. inl x }
 
 -- and serve asks
-settled-serves : (e : CacheEvent) (s : CacheState) → IsSettled s → Serves (baseline_entry s e)
-settled-serves Load I h = tt
-settled-serves e I h = tt
-settled-serves e S h = tt
-settled-serves e M h = tt
-settled-serves e s h = absurd h
+settled-serves : (p : Protocol) (e : CacheEvent) (s : CacheState) → IsSettled s → Serves (baseline_entry p s e)
+settled-serves Msi Load I h = tt
+settled-serves MsiE Load I h = tt
+settled-serves p e I h = tt
+settled-serves p e S h = tt
+settled-serves p e M h = tt
+settled-serves p e E h = tt
+settled-serves p e s h = absurd h
 
-own-serves-asks : ServesAsks baseline
-own-serves-asks = record { served = λ s e h x. absurd (subst (λ (y : CacheEntry). Serves y) (sym (cell-baseline s e) ∙ x) (settled-serves e s h)) }
+own-serves-asks : (p : Protocol) → ServesAsks (baseline_of p)
+own-serves-asks p = record {
+  served = λ s e h x. absurd (subst (λ (y : CacheEntry). Serves y) (sym (cell-baseline p s e) ∙ x) (settled-serves p e s h));
+}
 
-pub own-never_stuck : AreNeverStuck baseline
-own-never_stuck = record { restrained = own-restrained; going = own-going; serving = own-serves-asks }
+pub own-never_stuck : (p : Protocol) → AreNeverStuck (baseline_of p)
+own-never_stuck p = record { restrained = own-restrained p; going = own-going p; serving = own-serves-asks p }
 
 -- so under them no reached state is stuck
-pub unstuck : (shape : Extent) (opening : List ℕ) (steps : List Step) → IsWithinLimits shape →
-    Unstuck baseline (state_after baseline (opened shape opening) steps)
-unstuck shape opening steps within = never_stuck baseline shape opening steps own-never_stuck within
+pub unstuck : (p : Protocol) (shape : Extent) (opening : List ℕ) (steps : List Step) → IsWithinLimits shape →
+    Unstuck (baseline_of p) (state_after (baseline_of p) (opened shape opening) steps)
+unstuck p shape opening steps within = never_stuck (baseline_of p) shape opening steps (own-never_stuck p) within

@@ -3,6 +3,7 @@ use Rattle.std.proofs.Common.{◌≡◌, ◌≢◌, ℕ, ◌<◌, ◌≤◌, ◌
 use Rattle.std.proofs.Common.{Some, None, Bool, true, false, ◌==◌, ◌&&◌, not, if◌then◌else◌, get_or, slice_get, sum_by, eq-eqb, map}
 use Rattle.std.proofs.lemmas.Bool.{ne_eqb, cases_eq}
 use Rattle.std.proofs.lemmas.List.Sums.{sum_by_push, sum_by-cons}
+use Rattle.base.specs.declared.controller.protocol.Protocol.TheVariants.{MsiE}
 use Rattle.base.specs.declared.ids.CacheId.{CacheId}
 use Rattle.base.specs.declared.step.Ask.{Ask}
 use Rattle.base.specs.declared.step.Step.{Step}
@@ -23,7 +24,6 @@ use Rattle.cache_table.specs.Table.{CacheEntry}
 use Rattle.base.specs.declared.controller.entry.Entry.TheVariants as entry
 use Rattle.cache_table.specs.declared.actions.CacheAction.{CacheAction}
 use Rattle.cache_table.specs.declared.actions.CacheAction.TheVariants as cache_action
-use Rattle.cache_table.specs.Baseline as cache_table
 use Rattle.cache_table.specs.Table as cache_table_cells
 use Rattle.directory_table.specs.declared.state.DirectoryState.{DirectoryState}
 use Rattle.directory_table.specs.declared.state.DirectoryState.TheVariants as home
@@ -47,11 +47,11 @@ use Rattle.machine.specs.Transition.{is_idle, transition, without}
 use Rattle.machine.specs.declared.decision.Origin.{Origin}
 use Rattle.machine.specs.declared.decision.Origin.TheVariants as origin
 use Rattle.machine.specs.declared.decision.Decision.TheVariants.{Refused, AtHome}
-use Rattle.both_tables.specs.Tables.{baseline}
+use Rattle.machine.proofs.Exclusive.{exclusive}
 use Rattle.machine.proofs.Views.{View}
 use Rattle.machine.proofs.Counts.{only, link-sent, link-sent_other, link-taken, link-taken_other, link-there, link-total, only-nothing}
 use Rattle.machine.proofs.Seen.{view_of, names, is_fwd_getm, is_owner}
-use Rattle.machine.proofs.LocalSteps.{open_shares}
+use Rattle.machine.proofs.OpenHomes.{open_shares}
 use Rattle.machine.proofs.Sound.{Sound}
 use Rattle.machine.proofs.Homes.{request-own, owner-below}
 use Rattle.machine.proofs.GetTransitions.{req}
@@ -78,7 +78,7 @@ ranked-fewer b b' h f = record { ranks = (h.ranks.0, λ a d p. h.ranks.1 a d (om
 pub same-links : (old new : Traffic) → new.links ≡ old.links → Fewer old new
 same-links old new e a d = omega (arith, ap (λ ls. sum_by (names d is_fwd_getm) (get_or ls a [])) e)
 
-ranked-same : (b b' : BlockState) → Ranked b → b'.traffic.links ≡ b.traffic.links → Ranked b'
+pub ranked-same : (b b' : BlockState) → Ranked b → b'.traffic.links ≡ b.traffic.links → Ranked b'
 ranked-same b b' h e = ranked-fewer b b' h (same-links b.traffic b'.traffic e)
 
 head-fewer : (f : Forward → ℕ) (l : List Forward) → sum_by f (remove l 0) ≤ sum_by f l
@@ -141,10 +141,10 @@ line-ranked b cache line input from (entry.Act next actions) h f =
     ))
 
 at-line-ranked : (b : BlockState) (cache : CacheId) (input : LineInput) (from : Origin) (found : Option Line) → Ranked b →
-    Fewer b.traffic (without from b.traffic) → Ranked (carried_out (at_line cache_table.baseline_cells cache input from found) b).block
+    Fewer b.traffic (without from b.traffic) → Ranked (carried_out (at_line exclusive.cache cache input from found) b).block
 at-line-ranked b cache input from None h f = h
 at-line-ranked b cache input from (Some line) h f =
-    line-ranked b cache line input from (cache_table_cells.cell cache_table.baseline_cells line.state (event_at_line line.acks input)) h f
+    line-ranked b cache line input from (cache_table_cells.cell exclusive.cache line.state (event_at_line line.acks input)) h f
 
 if-ranked : (t : Bool) (x y : Transition) → Ranked x.block → Ranked y.block → Ranked (if t then x else y).block
 if-ranked true x y p q = p
@@ -230,7 +230,7 @@ invs-fewer b r w n h e a d =
     )
 
 gets-ranked : (n : ℕ) (b : BlockState) (i : ℕ) (r : CacheId) (s : DirectoryState) → b.home.state ≡ s → Sound n b → Ranked b →
-    Ranked (carried_out (by_home_entry (directory_table.baseline_entry s event.GetS) (home_input.Request (req request.GetS r)) (origin.Request i)) b).block
+    Ranked (carried_out (by_home_entry (directory_table.msi_e_entry s event.GetS) (home_input.Request (req request.GetS r)) (origin.Request i)) b).block
 gets-ranked n b i r home.I e h k = ranked-same b _ k refl
 gets-ranked n b i r home.S e h k = ranked-same b _ k refl
 gets-ranked n b i r home.M e h k =
@@ -249,7 +249,7 @@ gets-ranked n b i r home.SD e h k = k
 
 getm-ranked : (n : ℕ) (b : BlockState) (i : ℕ) (r : CacheId) (s : DirectoryState) → b.home.state ≡ s → Sound n b → Ranked b →
     Some (req request.GetM r) ≡ slice_get b.traffic.requests i →
-    Ranked (carried_out (by_home_entry (directory_table.baseline_entry s event.GetM) (home_input.Request (req request.GetM r)) (origin.Request i)) b).block
+    Ranked (carried_out (by_home_entry (directory_table.msi_e_entry s event.GetM) (home_input.Request (req request.GetM r)) (origin.Request i)) b).block
 getm-ranked n b i r home.I e h k at = ranked-same b _ k refl
 getm-ranked n b i r home.S e h k at =
     let w : Traffic = response_sent (response.Data Dir (Cache r) b.home.memory (others_from 0 r.0 b.home.sharers)) (request_taken i b.traffic) in
@@ -284,7 +284,7 @@ put-ranked n b i kind r b' h k at e =
 puts-ranked : (n : ℕ) (b : BlockState) (i : ℕ) (r : CacheId) (s : DirectoryState) → Sound n b → Ranked b →
     Some (req request.PutS r) ≡ slice_get b.traffic.requests i →
     Ranked
-    (carried_out (by_home_entry (directory_table.baseline_entry s event.PutSNotLast) (home_input.Request (req request.PutS r)) (origin.Request i)) b).block
+    (carried_out (by_home_entry (directory_table.msi_e_entry s event.PutSNotLast) (home_input.Request (req request.PutS r)) (origin.Request i)) b).block
 puts-ranked n b i r home.I h k at = put-ranked n b i request.PutS r _ h k at refl
 puts-ranked n b i r home.S h k at = put-ranked n b i request.PutS r _ h k at refl
 puts-ranked n b i r home.M h k at = put-ranked n b i request.PutS r _ h k at refl
@@ -292,7 +292,7 @@ puts-ranked n b i r home.SD h k at = put-ranked n b i request.PutS r _ h k at re
 
 puts_last-ranked : (n : ℕ) (b : BlockState) (i : ℕ) (r : CacheId) (s : DirectoryState) → Sound n b → Ranked b →
     Some (req request.PutS r) ≡ slice_get b.traffic.requests i →
-    Ranked (carried_out (by_home_entry (directory_table.baseline_entry s event.PutSLast) (home_input.Request (req request.PutS r)) (origin.Request i)) b).block
+    Ranked (carried_out (by_home_entry (directory_table.msi_e_entry s event.PutSLast) (home_input.Request (req request.PutS r)) (origin.Request i)) b).block
 puts_last-ranked n b i r home.I h k at = put-ranked n b i request.PutS r _ h k at refl
 puts_last-ranked n b i r home.S h k at = put-ranked n b i request.PutS r _ h k at refl
 puts_last-ranked n b i r home.M h k at = put-ranked n b i request.PutS r _ h k at refl
@@ -302,7 +302,7 @@ putm-ranked : (n : ℕ) (b : BlockState) (i : ℕ) (r : CacheId) (value : ℕ) (
     Some (req (request.PutM value) r) ≡ slice_get b.traffic.requests i →
     Ranked
     (carried_out
-    (by_home_entry (directory_table.baseline_entry s event.PutMNonOwner) (home_input.Request (req (request.PutM value) r)) (origin.Request i)) b).block
+    (by_home_entry (directory_table.msi_e_entry s event.PutMNonOwner) (home_input.Request (req (request.PutM value) r)) (origin.Request i)) b).block
 putm-ranked n b i r value home.I h k at = put-ranked n b i (request.PutM value) r _ h k at refl
 putm-ranked n b i r value home.S h k at = put-ranked n b i (request.PutM value) r _ h k at refl
 putm-ranked n b i r value home.M h k at = put-ranked n b i (request.PutM value) r _ h k at refl
@@ -312,7 +312,7 @@ putm_owner-ranked : (n : ℕ) (b : BlockState) (i : ℕ) (r : CacheId) (value : 
     Some (req (request.PutM value) r) ≡ slice_get b.traffic.requests i →
     Ranked
     (carried_out
-    (by_home_entry (directory_table.baseline_entry s event.PutMOwner) (home_input.Request (req (request.PutM value) r)) (origin.Request i)) b).block
+    (by_home_entry (directory_table.msi_e_entry s event.PutMOwner) (home_input.Request (req (request.PutM value) r)) (origin.Request i)) b).block
 putm_owner-ranked n b i r value home.I h k at = k
 putm_owner-ranked n b i r value home.S h k at = k
 putm_owner-ranked n b i r value home.M h k at = put-ranked n b i (request.PutM value) r _ h k at refl
@@ -321,7 +321,7 @@ putm_owner-ranked n b i r value home.SD h k at = k
 request-ranked : (n : ℕ) (b : BlockState) (i : ℕ) (kind : RequestKind) (r : CacheId) → Sound n b → Ranked b → Some (req kind r) ≡ slice_get b.traffic.requests i
     → Ranked
     (carried_out
-    (by_home_entry (directory_table.baseline_entry b.home.state (event_at_home b.home.owner b.home.sharers (home_input.Request (req kind r))))
+    (by_home_entry (directory_table.msi_e_entry b.home.state (event_at_home b.home.owner b.home.sharers (home_input.Request (req kind r))))
     (home_input.Request (req kind r)) (origin.Request i)) b).block
 request-ranked n b i request.GetS r h k at = gets-ranked n b i r b.home.state refl h k
 request-ranked n b i request.GetM r h k at = getm-ranked n b i r b.home.state refl h k at
@@ -329,7 +329,7 @@ request-ranked n b i request.PutS r h k at =
     by-test
     (λ t. Ranked
     (carried_out
-    (by_home_entry (directory_table.baseline_entry b.home.state (if t then event.PutSLast else event.PutSNotLast))
+    (by_home_entry (directory_table.msi_e_entry b.home.state (if t then event.PutSLast else event.PutSNotLast))
     (home_input.Request (req request.PutS r)) (origin.Request i)) b).block)
     (is_sole r.0 b.home.sharers)
     (λ t. puts_last-ranked n b i r b.home.state h k at) (λ t. puts-ranked n b i r b.home.state h k at)
@@ -337,47 +337,47 @@ request-ranked n b i (request.PutM value) r h k at =
     by-test
     (λ t. Ranked
     (carried_out
-    (by_home_entry (directory_table.baseline_entry b.home.state (if t then event.PutMOwner else event.PutMNonOwner))
+    (by_home_entry (directory_table.msi_e_entry b.home.state (if t then event.PutMOwner else event.PutMNonOwner))
     (home_input.Request (req (request.PutM value) r)) (origin.Request i)) b).block)
     (owns b.home.owner r)
     (λ t. putm_owner-ranked n b i r value b.home.state h k at) (λ t. putm-ranked n b i r value b.home.state h k at)
 
 data-ranked : (b : BlockState) (i : ℕ) (value : ℕ) (s : DirectoryState) → Ranked b →
-    Ranked (carried_out (by_home_entry (directory_table.baseline_entry s event.Data) (home_input.Data value) (origin.Response i)) b).block
+    Ranked (carried_out (by_home_entry (directory_table.msi_e_entry s event.Data) (home_input.Data value) (origin.Response i)) b).block
 data-ranked b i value home.I k = k
 data-ranked b i value home.S k = k
 data-ranked b i value home.M k = k
 data-ranked b i value home.SD k = ranked-same b _ k refl
 
 asked-ranked : (b : BlockState) (cache : CacheId) (ask : Ask) (found : Option Line) → Ranked b →
-    Ranked (carried_out (at_ask cache_table.baseline_cells cache ask found) b).block
+    Ranked (carried_out (at_ask exclusive.cache cache ask found) b).block
 asked-ranked b cache ask None k = k
 asked-ranked b cache ask (Some line) k =
     by-test
     (λ t. Ranked
-    (carried_out (if t then Refused outcome.Idle else at_line cache_table.baseline_cells cache (line_input.Ask ask) origin.Core (Some line)) b).block)
+    (carried_out (if t then Refused outcome.Idle else at_line exclusive.cache cache (line_input.Ask ask) origin.Core (Some line)) b).block)
     (is_idle ask line.state)
     (λ t. k) (λ t. at-line-ranked b cache (line_input.Ask ask) origin.Core (Some line) k (same-links b.traffic b.traffic refl))
 
 requested-ranked : (n : ℕ) (b : BlockState) (i : ℕ) (found : Option Request) → found ≡ slice_get b.traffic.requests i → Sound n b → Ranked b →
-    Ranked (carried_out (at_request directory_table.baseline_cells i b.home found) b).block
+    Ranked (carried_out (at_request exclusive.directory i b.home found) b).block
 requested-ranked n b i None e h k = k
 requested-ranked n b i (Some r) e h k =
     subst (λ (x : DirectoryEntry). Ranked (carried_out (by_home_entry x (home_input.Request r) (origin.Request i)) b).block)
-    (sym (directory_cells.cell-baseline b.home.state (event_at_home b.home.owner b.home.sharers (home_input.Request r))))
+    (sym (directory_cells.cell-baseline MsiE b.home.state (event_at_home b.home.owner b.home.sharers (home_input.Request r))))
     (request-ranked n b i r.kind r.from h k e)
 
 headed-ranked : (b : BlockState) (cache : CacheId) (found : Option Forward) → found ≡ slice_get (link b.traffic cache.0) 0 → Ranked b →
-    Ranked (carried_out (at_forward cache_table.baseline_cells cache b.lines found) b).block
+    Ranked (carried_out (at_forward exclusive.cache cache b.lines found) b).block
 headed-ranked b cache None e k = k
 headed-ranked b cache (Some m) e k =
     at-line-ranked b cache (line_input.Forward m) (origin.Head cache) (slice_get b.lines cache.0) k (taken-fewer b.traffic cache.0 m e)
 
-answered-ranked : (b : BlockState) (i : ℕ) (found : Option Response) → Ranked b → Ranked (carried_out (at_response baseline i b found) b).block
+answered-ranked : (b : BlockState) (i : ℕ) (found : Option Response) → Ranked b → Ranked (carried_out (at_response exclusive i b found) b).block
 answered-ranked b i None k = k
 answered-ranked b i (Some (response.Data by Dir value acks)) k =
     subst (λ (x : DirectoryEntry). Ranked (carried_out (by_home_entry x (home_input.Data value) (origin.Response i)) b).block)
-    (sym (directory_cells.cell-baseline b.home.state (event_at_home b.home.owner b.home.sharers (home_input.Data value))))
+    (sym (directory_cells.cell-baseline MsiE b.home.state (event_at_home b.home.owner b.home.sharers (home_input.Data value))))
     (data-ranked b i value b.home.state k)
 answered-ranked b i (Some (response.Data by (Cache cache) value acks)) k =
     at-line-ranked b cache (line_input.Response (response.Data by (Cache cache) value acks)) (origin.Response i) (slice_get b.lines cache.0) k
@@ -385,9 +385,12 @@ answered-ranked b i (Some (response.Data by (Cache cache) value acks)) k =
 answered-ranked b i (Some (response.InvAck by cache)) k =
     at-line-ranked b cache (line_input.Response (response.InvAck by cache)) (origin.Response i) (slice_get b.lines cache.0) k
     (same-links b.traffic (response_taken i b.traffic) refl)
+answered-ranked b i (Some (response.DataExcl cache value)) k =
+    at-line-ranked b cache (line_input.Response (response.DataExcl cache value)) (origin.Response i) (slice_get b.lines cache.0) k
+    (same-links b.traffic (response_taken i b.traffic) refl)
 
 -- each step keeps the owners ranked
-pub transition-ranked : (n : ℕ) (s : Step) (b : BlockState) → Sound n b → Ranked b → Ranked (transition baseline s b).block
+pub transition-ranked : (n : ℕ) (s : Step) (b : BlockState) → Sound n b → Ranked b → Ranked (transition exclusive s b).block
 transition-ranked n (step.Ask cache block ask) b h k = asked-ranked b cache ask (slice_get b.lines cache.0) k
 transition-ranked n (step.Request block index) b h k = requested-ranked n b index (slice_get b.traffic.requests index) refl h k
 transition-ranked n (step.Forward block cache) b h k = headed-ranked b cache (slice_get (link b.traffic cache.0) 0) refl k

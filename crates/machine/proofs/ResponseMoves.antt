@@ -6,7 +6,7 @@ use Rattle.std.proofs.lemmas.List.Sums.{sum_by-cons}
 use Rattle.base.specs.declared.ids.BlockId.{BlockId}
 use Rattle.base.specs.declared.ids.Place.TheVariants.{Dir, Cache}
 use Rattle.network.specs.declared.message.Response.{Response}
-use Rattle.network.specs.declared.message.Response.TheVariants.{Data, InvAck}
+use Rattle.network.specs.declared.message.Response.TheVariants.{Data, InvAck, DataExcl}
 use Rattle.cache_table.specs.declared.state.CacheState.{CacheState}
 use Rattle.cache_table.specs.declared.event.CacheEvent.TheVariants as event
 use Rattle.control.specs.declared.line.Line.{Line}
@@ -15,8 +15,9 @@ use Rattle.both_tables.specs.Tables.{Tables}
 use Rattle.machine.specs.Block.{BlockState}
 use Rattle.machine.specs.Going.{KeepsGoing}
 use Rattle.machine.proofs.Counts.{only}
-use Rattle.machine.proofs.Seen.{view_of, dir_data, owner_data}
+use Rattle.machine.proofs.Seen.{view_of, dir_data, owner_data, excl_data}
 use Rattle.machine.proofs.Sound.{Sound}
+use Rattle.machine.proofs.Plain.{Plain}
 use Rattle.machine.proofs.Places.{some-same}
 use Rattle.machine.proofs.Moves.{Found, Waits, ResponseWaits, response-goes}
 
@@ -45,36 +46,45 @@ pub more-waits : (tables : Tables) (t : Bool) (s : CacheState) → Waits tables 
 more-waits tables true s w = absurd w.0
 more-waits tables false s w = (refl, w)
 
-data-waits : (tables : Tables) (b : BlockState) (c : ℕ) (line : Line) → Some line ≡ slice_get b.lines c → (x : Response) → 0 < dir_data c x + owner_data c x →
+data-waits : (tables : Tables) (b : BlockState) (c : ℕ) (line : Line) → Some line ≡ slice_get b.lines c → (x : Response) →
+    0 < dir_data c x + owner_data c x + excl_data c x →
     ResponseWaits tables b x → Waits tables line.state event.DataDirMore
 data-waits tables b c line there (Data Dir Dir value acks) p w = absurd w
 data-waits tables b c line there (Data (Cache by) Dir value acks) p w = absurd w
 data-waits tables b c line there (Data (Cache by) (Cache to) value acks) p w = absurd w.2.0
 data-waits tables b c line there (InvAck by to) p w = absurd (omega arith)
+data-waits tables b c line there (DataExcl to value) p w = absurd w.2.0
 data-waits tables b c line there (Data Dir (Cache to) value acks) p w =
     subst (λ (l : Line). Waits tables l.state event.DataDirMore) (same-line b c to.0 w.0 line (only-same to.0 c (omega arith)) w.1 there)
     (more-waits tables (is_count (more_acks w.0.acks acks) 0) w.0.state w.2).1
 
 data-goes : (n : ℕ) (tables : Tables) → KeepsGoing tables → (b : BlockState) (block : BlockId) (c : ℕ) (line : Line) → Some line ≡ slice_get b.lines c →
-    Sound n b →
-    (i : ℕ) (x : Response) → Some x ≡ slice_get b.traffic.responses i → 0 < dir_data c x + owner_data c x →
+    Sound n b → Plain tables.protocol b →
+    (i : ℕ) (x : Response) → Some x ≡ slice_get b.traffic.responses i → 0 < dir_data c x + owner_data c x + excl_data c x →
     Found tables b block ⊎ Waits tables line.state event.DataDirMore
-data-goes n tables k b block c line there h i x at p = elim (response-goes n tables k b block i x at h) [
+data-goes n tables k b block c line there h pl i x at p = elim (response-goes n tables k b block i x at h pl) [
   | inl f ↦ inl f
   | inr w ↦ inr (data-waits tables b c line there x p w)
 ]
 
 -- Data that is on its way to a cache can be delivered, or waits for acks
 pub data-found : (n : ℕ) (tables : Tables) → KeepsGoing tables → (b : BlockState) (block : BlockId) (c : ℕ) (line : Line) → Some line ≡ slice_get b.lines c →
-    Sound n b → 0 < (view_of b c).dir_data + (view_of b c).owner_data → Found tables b block ⊎ Waits tables line.state event.DataDirMore
-data-found n tables k b block c line there h some =
+    Sound n b → Plain tables.protocol b → 0 < (view_of b c).dir_data + (view_of b c).owner_data + (view_of b c).excl_data →
+    Found tables b block ⊎ Waits tables line.state event.DataDirMore
+data-found n tables k b block c line there h pl some =
     elim (cases_eq (view_of b c).dir_data 0) as (λ _. Found tables b block ⊎ Waits tables line.state event.DataDirMore) [
-      | inl z ↦
-          let r : (i : ℕ) × (x : Response) × (Some x ≡ slice_get b.traffic.responses i) × (0 < owner_data c x) =
-          find-response (owner_data c) b.traffic.responses (omega (arith, z)) in
-          data-goes n tables k b block c line there h r.0 r.1 r.2 (omega (arith, r.3))
+      | inl z ↦ elim (cases_eq (view_of b c).owner_data 0) as (λ _. Found tables b block ⊎ Waits tables line.state event.DataDirMore) [
+        | inl y ↦
+            let r : (i : ℕ) × (x : Response) × (Some x ≡ slice_get b.traffic.responses i) × (0 < excl_data c x) =
+            find-response (excl_data c) b.traffic.responses (omega (arith, z, y)) in
+            data-goes n tables k b block c line there h pl r.0 r.1 r.2 (omega (arith, r.3))
+        | inr ne ↦
+            let r : (i : ℕ) × (x : Response) × (Some x ≡ slice_get b.traffic.responses i) × (0 < owner_data c x) =
+            find-response (owner_data c) b.traffic.responses (omega (arith, ne)) in
+            data-goes n tables k b block c line there h pl r.0 r.1 r.2 (omega (arith, r.3))
+      ]
       | inr ne ↦
           let r : (i : ℕ) × (x : Response) × (Some x ≡ slice_get b.traffic.responses i) × (0 < dir_data c x) =
           find-response (dir_data c) b.traffic.responses (omega (arith, ne)) in
-          data-goes n tables k b block c line there h r.0 r.1 r.2 (omega (arith, r.3))
+          data-goes n tables k b block c line there h pl r.0 r.1 r.2 (omega (arith, r.3))
     ]

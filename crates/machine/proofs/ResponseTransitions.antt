@@ -6,12 +6,12 @@ use Rattle.std.proofs.lemmas.Bool.{ne_eqb}
 use Rattle.base.specs.declared.ids.CacheId.{CacheId}
 use Rattle.base.specs.declared.ids.Place.TheVariants.{Dir, Cache}
 use Rattle.network.specs.declared.message.Response.{Response}
-use Rattle.network.specs.declared.message.Response.TheVariants.{Data, InvAck}
+use Rattle.network.specs.declared.message.Response.TheVariants.{Data, InvAck, DataExcl}
 use Rattle.network.specs.Traffic.{Traffic, response_taken}
 use Rattle.cache_table.specs.declared.state.CacheState.{CacheState}
-use Rattle.cache_table.specs.declared.state.CacheState.TheVariants.{I, IsD, ImAd, ImA, S, SmAd, SmA, M, MiA, SiA, IiA}
+use Rattle.cache_table.specs.declared.state.CacheState.TheVariants.{I, IsD, ImAd, ImA, S, SmAd, SmA, M, MiA, SiA, IiA, E}
 use Rattle.cache_table.specs.declared.event.CacheEvent.TheVariants as event
-use Rattle.cache_table.specs.Baseline.{baseline_entry}
+use Rattle.cache_table.specs.Baseline.{msi_e_entry}
 use Rattle.cache_table.specs.Table.{CacheEntry}
 use Rattle.base.specs.declared.controller.entry.Entry.TheVariants as entry
 use Rattle.cache_table.specs.declared.actions.CacheAction.{CacheAction}
@@ -31,8 +31,8 @@ use Rattle.machine.proofs.Seen.{seen, line_of, early_of, late_of, home_data}
 use Rattle.machine.proofs.Seeing.{response_added, response_taken-seen}
 use Rattle.machine.proofs.Facts.{promised-zero}
 use Rattle.machine.proofs.Acks.{sum-early, sum-late, rest-early, rest-late}
-use Rattle.machine.proofs.CellRules.{Comes, ResponseRule, dir_data_taken, owner_data_taken, ack_taken, data_zero_rule, data_more_rule}
-use Rattle.machine.proofs.CellRules.{data_owner_rule, inv_ack_rule, last_ack_rule}
+use Rattle.machine.proofs.CellRules.{Comes, ResponseRule, dir_data_taken, owner_data_taken, excl_data_taken, ack_taken, data_zero_rule, data_more_rule}
+use Rattle.machine.proofs.CellRules.{data_owner_rule, data_excl_rule, inv_ack_rule, last_ack_rule}
 use Rattle.machine.proofs.Settling.{acted-outcome}
 use Rattle.machine.proofs.Sound.{Sound, Fine, Bounded, Alike, own-sound, local-at, line_block}
 use Rattle.machine.proofs.AskTransitions.{seen-after, bounded-at}
@@ -68,19 +68,26 @@ taken-sound n b cache i x line next latest after h there at home none e comes al
 
 -- what the Data from the home leaves
 data-left : (v u : View) (n early acks : ℕ) → early ≡ v.early - (v.acks + n) → acks ≡ v.acks + n - v.early →
-    record u { invs = u.invs + 0; dir_data = u.dir_data + 1; owner_data = u.owner_data + 0; promised = u.promised + n } ≡ v
+    record u { invs = u.invs + 0; dir_data = u.dir_data + 1; owner_data = u.owner_data + 0; excl_data = u.excl_data + 0; promised = u.promised + n } ≡ v
     → (next : CacheState) → record u { state = next; early = early; acks = acks } ≡ record (dir_data_taken n v) { state = next }
 data-left v u n early acks p q e next = grind (arith)
 
-pub nothing-added : (v : View) → record v { invs = v.invs + 0; dir_data = v.dir_data + 0; owner_data = v.owner_data + 0; promised = v.promised + 0 } ≡ v
+pub nothing-added : (v : View) →
+    record v { invs = v.invs + 0; dir_data = v.dir_data + 0; owner_data = v.owner_data + 0; excl_data = v.excl_data + 0; promised = v.promised + 0 } ≡ v
 nothing-added v = grind (arith)
 
-owner-left : (v u : View) → record u { invs = u.invs + 0; dir_data = u.dir_data + 0; owner_data = u.owner_data + 1; promised = u.promised + 0 } ≡ v
+owner-left : (v u : View) →
+    record u { invs = u.invs + 0; dir_data = u.dir_data + 0; owner_data = u.owner_data + 1; excl_data = u.excl_data + 0; promised = u.promised + 0 } ≡ v
     → (next : CacheState) → record u { state = next; early = v.early; acks = v.acks } ≡ record (owner_data_taken v) { state = next }
 owner-left v u e next = grind (arith)
 
+excl-left : (v u : View) →
+    record u { invs = u.invs + 0; dir_data = u.dir_data + 0; owner_data = u.owner_data + 0; excl_data = u.excl_data + 1; promised = u.promised + 0 } ≡ v
+    → (next : CacheState) → record u { state = next; early = v.early; acks = v.acks } ≡ record (excl_data_taken v) { state = next }
+excl-left v u e next = grind (arith)
+
 ack-left : (v u : View) (early acks : ℕ) → early ≡ v.early + 1 - v.acks → acks ≡ v.acks - 1 →
-    record u { invs = u.invs + 1; dir_data = u.dir_data + 0; owner_data = u.owner_data + 0; promised = u.promised + 0 } ≡ v
+    record u { invs = u.invs + 1; dir_data = u.dir_data + 0; owner_data = u.owner_data + 0; excl_data = u.excl_data + 0; promised = u.promised + 0 } ≡ v
     → (next : CacheState) → record u { state = next; early = early; acks = acks } ≡ record (ack_taken v) { state = next }
 ack-left v u early acks p q e next = grind (arith)
 
@@ -97,6 +104,7 @@ early-promised M v h = grind (arith)
 early-promised MiA v h = grind (arith)
 early-promised SiA v h = grind (arith)
 early-promised IiA v h = grind (arith)
+early-promised E v h = grind (arith)
 
 none-awaited : (s : CacheState) (v : View) → 0 < v.dir_data → Local s v → v.acks ≡ 0
 none-awaited I v p h = grind (arith)
@@ -110,6 +118,7 @@ none-awaited M v p h = grind (arith)
 none-awaited MiA v p h = grind (arith)
 none-awaited SiA v p h = grind (arith)
 none-awaited IiA v p h = grind (arith)
+none-awaited E v p h = grind (arith)
 
 -- a response that finds its cell is fine
 response-fine : (n : ℕ) (b : BlockState) (cache : CacheId) (i : ℕ) (r : Response) (line : Line) (after : View) (x : CacheEntry) → Sound n b →
@@ -148,7 +157,7 @@ pub dir-data-fine : (n : ℕ) (b : BlockState) (cache : CacheId) (i : ℕ) (valu
     Some line ≡ slice_get b.lines cache.0 → Some (Data Dir (Cache cache) value acks) ≡ slice_get b.traffic.responses i
     → Fine n
     (carried_out
-    (by_line_entry (baseline_entry line.state (event_at_line line.acks (line_input.Response (Data Dir (Cache cache) value acks)))) cache line
+    (by_line_entry (msi_e_entry line.state (event_at_line line.acks (line_input.Response (Data Dir (Cache cache) value acks)))) cache line
     (line_input.Response (Data Dir (Cache cache) value acks)) (origin.Response i)) b)
 dir-data-fine n b cache i value acks line h there at =
     let r : Response = Data Dir (Cache cache) value acks in
@@ -156,8 +165,20 @@ dir-data-fine n b cache i value acks line h there at =
     let u : View = seen line b.home (response_taken i b.traffic) cache.0 in
     let local : Local line.state v = local-at n b cache.0 line h there in
     let bound : Bounded n v = bounded-at n b cache.0 line h there in
-    let added : record u { invs = u.invs + 0; dir_data = u.dir_data + 1; owner_data = u.owner_data + 0; promised = u.promised + acks } ≡ v =
-    ap (λ t. record u { invs = u.invs + 0; dir_data = u.dir_data + only t 1; owner_data = u.owner_data + 0; promised = u.promised + only t acks })
+    let added : record u {
+      invs = u.invs + 0;
+      dir_data = u.dir_data + 1;
+      owner_data = u.owner_data + 0;
+      excl_data = u.excl_data + 0;
+      promised = u.promised + acks;
+    } ≡ v =
+    ap (λ t. record u {
+      invs = u.invs + 0;
+      dir_data = u.dir_data + only t 1;
+      owner_data = u.owner_data + 0;
+      excl_data = u.excl_data + 0;
+      promised = u.promised + only t acks;
+    })
     (sym (eq-eqb cache.0 cache.0 refl))
     ∙ response_taken-seen line b.home b.traffic i r cache.0 at in
     let more : u.dir_data + 1 ≡ v.dir_data = ap (λ (x : View). x.dir_data) added in
@@ -170,14 +191,20 @@ dir-data-fine n b cache i value acks line h there at =
     sum-early line.acks acks (omega (arith, bound.promised)) (omega (arith, bound.acks)) (omega (arith, bound.promised)) in
     let e2 : late_of (more_acks line.acks acks) ≡ v.acks + acks - v.early =
     sum-late line.acks acks (omega (arith, bound.promised)) (omega (arith, bound.acks)) (omega (arith, bound.promised)) in
-    response-fine n b cache i r line (dir_data_taken acks v) (baseline_entry line.state (event_at_line line.acks (line_input.Response r))) h there at refl
+    response-fine n b cache i r line (dir_data_taken acks v) (msi_e_entry line.state (event_at_line line.acks (line_input.Response r))) h there at refl
     (λ d x ne. ap
-    (λ t. record x { invs = x.invs + 0; dir_data = x.dir_data + only t 1; owner_data = x.owner_data + 0; promised = x.promised + only t acks })
+    (λ t. record x {
+      invs = x.invs + 0;
+      dir_data = x.dir_data + only t 1;
+      owner_data = x.owner_data + 0;
+      excl_data = x.excl_data + 0;
+      promised = x.promised + only t acks;
+    })
     (ne_eqb cache.0 d (λ e. ne (sym e))) ∙ nothing-added x)
     (data-left v u acks (early_of (more_acks line.acks acks)) (late_of (more_acks line.acks acks)) e1 e2 added)
     (record { shares = refl; owns = refl; fwd_gets = refl; link = λ p. p })
     (record { promised = omega (arith, bound.promised); acks = omega (arith, bound.promised) })
-    (by-test (λ t. ResponseRule line.state v (dir_data_taken acks v) (baseline_entry line.state (if t then event.DataDirZero else event.DataDirMore)))
+    (by-test (λ t. ResponseRule line.state v (dir_data_taken acks v) (msi_e_entry line.state (if t then event.DataDirZero else event.DataDirMore)))
     (is_count (more_acks line.acks acks) 0)
     (λ t. data_zero_rule line.state v acks (omega arith) first (omega (arith, zero-true (more_acks line.acks acks) t, e1, e2)) local)
     (λ t. data_more_rule line.state v acks (omega arith) first (λ e. zero-false (more_acks line.acks acks) t (omega (arith, e1, e2, e))) local))
@@ -188,32 +215,92 @@ pub owner-data-fine : (n : ℕ) (b : BlockState) (by cache : CacheId) (i : ℕ) 
     → Fine n
     (carried_out
     (by_line_entry
-    (baseline_entry line.state (event_at_line line.acks (line_input.Response (Data (Cache by) (Cache cache) value acks)))) cache line
+    (msi_e_entry line.state (event_at_line line.acks (line_input.Response (Data (Cache by) (Cache cache) value acks)))) cache line
     (line_input.Response (Data (Cache by) (Cache cache) value acks)) (origin.Response i)) b)
 owner-data-fine n b by cache i value acks line h there at =
     let r : Response = Data (Cache by) (Cache cache) value acks in
     let v : View = seen line b.home b.traffic cache.0 in
     let u : View = seen line b.home (response_taken i b.traffic) cache.0 in
     let bound : Bounded n v = bounded-at n b cache.0 line h there in
-    let added : record u { invs = u.invs + 0; dir_data = u.dir_data + 0; owner_data = u.owner_data + 1; promised = u.promised + 0 } ≡ v =
-    ap (λ t. record u { invs = u.invs + 0; dir_data = u.dir_data + 0; owner_data = u.owner_data + only t 1; promised = u.promised + 0 })
+    let added : record u {
+      invs = u.invs + 0;
+      dir_data = u.dir_data + 0;
+      owner_data = u.owner_data + 1;
+      excl_data = u.excl_data + 0;
+      promised = u.promised + 0;
+    } ≡ v =
+    ap (λ t. record u {
+      invs = u.invs + 0;
+      dir_data = u.dir_data + 0;
+      owner_data = u.owner_data + only t 1;
+      excl_data = u.excl_data + 0;
+      promised = u.promised + 0;
+    })
     (sym (eq-eqb cache.0 cache.0 refl))
     ∙ response_taken-seen line b.home b.traffic i r cache.0 at in
     let more : u.owner_data + 1 ≡ v.owner_data = ap (λ (x : View). x.owner_data) added in
-    response-fine n b cache i r line (owner_data_taken v) (baseline_entry line.state event.DataOwner) h there at refl
-    (λ d x ne. ap (λ t. record x { invs = x.invs + 0; dir_data = x.dir_data + 0; owner_data = x.owner_data + only t 1; promised = x.promised + 0 })
+    response-fine n b cache i r line (owner_data_taken v) (msi_e_entry line.state event.DataOwner) h there at refl
+    (λ d x ne. ap (λ t. record x {
+      invs = x.invs + 0;
+      dir_data = x.dir_data + 0;
+      owner_data = x.owner_data + only t 1;
+      excl_data = x.excl_data + 0;
+      promised = x.promised + 0;
+    })
     (ne_eqb cache.0 d (λ e. ne (sym e))) ∙ nothing-added x)
     (owner-left v u added)
     (record { shares = refl; owns = refl; fwd_gets = refl; link = λ p. p })
     (record { promised = bound.promised; acks = bound.acks })
     (data_owner_rule line.state v (omega arith) (local-at n b cache.0 line h there))
 
+-- exclusive Data from the home
+pub excl-data-fine : (n : ℕ) (b : BlockState) (cache : CacheId) (i : ℕ) (value : ℕ) (line : Line) → Sound n b →
+    Some line ≡ slice_get b.lines cache.0 → Some (DataExcl cache value) ≡ slice_get b.traffic.responses i
+    → Fine n
+    (carried_out
+    (by_line_entry (msi_e_entry line.state event.DataDirExcl) cache line (line_input.Response (DataExcl cache value)) (origin.Response i)) b)
+excl-data-fine n b cache i value line h there at =
+    let r : Response = DataExcl cache value in
+    let v : View = seen line b.home b.traffic cache.0 in
+    let u : View = seen line b.home (response_taken i b.traffic) cache.0 in
+    let bound : Bounded n v = bounded-at n b cache.0 line h there in
+    let added : record u {
+      invs = u.invs + 0;
+      dir_data = u.dir_data + 0;
+      owner_data = u.owner_data + 0;
+      excl_data = u.excl_data + 1;
+      promised = u.promised + 0;
+    } ≡ v =
+    ap (λ t. record u {
+      invs = u.invs + 0;
+      dir_data = u.dir_data + 0;
+      owner_data = u.owner_data + 0;
+      excl_data = u.excl_data + only t 1;
+      promised = u.promised + 0;
+    })
+    (sym (eq-eqb cache.0 cache.0 refl))
+    ∙ response_taken-seen line b.home b.traffic i r cache.0 at in
+    let more : u.excl_data + 1 ≡ v.excl_data = ap (λ (x : View). x.excl_data) added in
+    response-fine n b cache i r line (excl_data_taken v) (msi_e_entry line.state event.DataDirExcl) h there at refl
+    (λ d x ne. ap (λ t. record x {
+      invs = x.invs + 0;
+      dir_data = x.dir_data + 0;
+      owner_data = x.owner_data + 0;
+      excl_data = x.excl_data + only t 1;
+      promised = x.promised + 0;
+    })
+    (ne_eqb cache.0 d (λ e. ne (sym e))) ∙ nothing-added x)
+    (excl-left v u added)
+    (record { shares = refl; owns = refl; fwd_gets = refl; link = λ p. p })
+    (record { promised = bound.promised; acks = bound.acks })
+    (data_excl_rule line.state v (omega arith) (local-at n b cache.0 line h there))
+
 -- an Inv-Ack
 pub inv-ack-fine : (n : ℕ) (b : BlockState) (by cache : CacheId) (i : ℕ) (line : Line) → Sound n b → Some line ≡ slice_get b.lines cache.0 →
     Some (InvAck by cache) ≡ slice_get b.traffic.responses i
     → Fine n
     (carried_out
-    (by_line_entry (baseline_entry line.state (event_at_line line.acks (line_input.Response (InvAck by cache)))) cache line
+    (by_line_entry (msi_e_entry line.state (event_at_line line.acks (line_input.Response (InvAck by cache)))) cache line
     (line_input.Response (InvAck by cache)) (origin.Response i)) b)
 inv-ack-fine n b by cache i line h there at =
     let r : Response = InvAck by cache in
@@ -223,19 +310,37 @@ inv-ack-fine n b by cache i line h there at =
     let bound : Bounded n v = bounded-at n b cache.0 line h there in
     let few : n ≤ 4294967296 = h.few in
     let early : v.early ≤ v.promised = early-promised line.state v local in
-    let added : record u { invs = u.invs + 1; dir_data = u.dir_data + 0; owner_data = u.owner_data + 0; promised = u.promised + 0 } ≡ v =
-    ap (λ t. record u { invs = u.invs + only t 1; dir_data = u.dir_data + 0; owner_data = u.owner_data + 0; promised = u.promised + 0 })
+    let added : record u {
+      invs = u.invs + 1;
+      dir_data = u.dir_data + 0;
+      owner_data = u.owner_data + 0;
+      excl_data = u.excl_data + 0;
+      promised = u.promised + 0;
+    } ≡ v =
+    ap (λ t. record u {
+      invs = u.invs + only t 1;
+      dir_data = u.dir_data + 0;
+      owner_data = u.owner_data + 0;
+      excl_data = u.excl_data + 0;
+      promised = u.promised + 0;
+    })
     (sym (eq-eqb cache.0 cache.0 refl))
     ∙ response_taken-seen line b.home b.traffic i r cache.0 at in
     let more : u.invs + 1 ≡ v.invs = ap (λ (x : View). x.invs) added in
     let e1 : early_of (one_ack_less line.acks) ≡ v.early + 1 - v.acks = rest-early line.acks (omega (arith, bound.promised)) (omega (arith, bound.acks)) in
     let e2 : late_of (one_ack_less line.acks) ≡ v.acks - 1 = rest-late line.acks (omega (arith, bound.promised)) (omega (arith, bound.acks)) in
-    response-fine n b cache i r line (ack_taken v) (baseline_entry line.state (event_at_line line.acks (line_input.Response r))) h there at refl
-    (λ d x ne. ap (λ t. record x { invs = x.invs + only t 1; dir_data = x.dir_data + 0; owner_data = x.owner_data + 0; promised = x.promised + 0 })
+    response-fine n b cache i r line (ack_taken v) (msi_e_entry line.state (event_at_line line.acks (line_input.Response r))) h there at refl
+    (λ d x ne. ap (λ t. record x {
+      invs = x.invs + only t 1;
+      dir_data = x.dir_data + 0;
+      owner_data = x.owner_data + 0;
+      excl_data = x.excl_data + 0;
+      promised = x.promised + 0;
+    })
     (ne_eqb cache.0 d (λ e. ne (sym e))) ∙ nothing-added x)
     (ack-left v u (early_of (one_ack_less line.acks)) (late_of (one_ack_less line.acks)) e1 e2 added)
     (record { shares = refl; owns = refl; fwd_gets = refl; link = λ p. p })
     (record { promised = bound.promised; acks = omega (arith, bound.acks) })
-    (by-test (λ t. ResponseRule line.state v (ack_taken v) (baseline_entry line.state (if t then event.LastInvAck else event.InvAck))) (is_count line.acks 1)
+    (by-test (λ t. ResponseRule line.state v (ack_taken v) (msi_e_entry line.state (if t then event.LastInvAck else event.InvAck))) (is_count line.acks 1)
     (λ t. last_ack_rule line.state v (omega arith) (one-true line.acks t) local)
     (λ t. inv_ack_rule line.state v (omega arith) (one-false line.acks t) local))

@@ -3,7 +3,8 @@ use Rattle.std.proofs.Common.{ℕ, inl, refl, ◌≤◌, List, [], subst, arith}
 use Rattle.base.specs.Extent.{Extent, IsWithinLimits}
 use Rattle.base.specs.declared.step.Step.{Step}
 use Rattle.machine.specs.Machine.{opened, after, outcomes_of}
-use Rattle.both_tables.specs.Tables.{Tables, baseline}
+use Rattle.base.specs.declared.controller.protocol.Protocol.{Protocol}
+use Rattle.both_tables.specs.Tables.{Tables, baseline_of}
 use Rattle.machine.specs.Block.{BlockState}
 use Rattle.machine.specs.Transition.{transition}
 use Rattle.machine.specs.Restraint.{AreRestrained}
@@ -33,20 +34,21 @@ guarded-safe P tables shape opening steps g fits = record {
 pub restrained-safe : (tables : Tables) (shape : Extent) (opening : List ℕ) (steps : List Step) → AreRestrained tables → IsWithinLimits shape →
     Safe shape tables opening steps
 restrained-safe tables shape opening steps r within =
-    guarded-safe (Holding shape.caches) tables shape opening steps (restrained-guards tables shape.caches r (few-enough shape within))
+    guarded-safe (Holding tables.protocol shape.caches) tables shape opening steps (restrained-guards tables shape.caches r (few-enough shape within))
     (restrained-fits tables shape.caches r)
 
 -- the own tables are restrained
-pub own-restrained : AreRestrained baseline
-own-restrained = record { cache = λ s e. inl refl; directory = λ s e. inl refl }
+pub own-restrained : (p : Protocol) → AreRestrained (baseline_of p)
+own-restrained p = record { cache = λ s e. inl refl; directory = λ s e. inl refl }
 
 -- and no step of a run under restrained tables comes to a cell that the own tables leave blank
 pub restrained-never-met : (tables : Tables) (shape : Extent) (opening : List ℕ) (steps : List Step) (step : Step) → AreRestrained tables → IsWithinLimits shape →
-    ¬ Met baseline (after tables (opened shape opening) steps).state step
+    ¬ Met (baseline_of tables.protocol) (after tables (opened shape opening) steps).state step
 restrained-never-met tables shape opening steps step r within =
-    guarded-unmet-under (Holding shape.caches) tables baseline shape (restrained-guards tables shape.caches r (few-enough shape within))
-    (restrained-guards baseline shape.caches own-restrained (few-enough shape within)) opening steps step
+    guarded-unmet-under (Holding tables.protocol shape.caches) tables (baseline_of tables.protocol) shape
+    (restrained-guards tables shape.caches r (few-enough shape within))
+    (restrained-guards (baseline_of tables.protocol) shape.caches (own-restrained tables.protocol) (few-enough shape within)) opening steps step
 
 -- so under them all runs are safe
-pub safe : (shape : Extent) (opening : List ℕ) (steps : List Step) → IsWithinLimits shape → Safe shape baseline opening steps
-safe shape opening steps within = restrained-safe baseline shape opening steps own-restrained within
+pub safe : (p : Protocol) (shape : Extent) (opening : List ℕ) (steps : List Step) → IsWithinLimits shape → Safe shape (baseline_of p) opening steps
+safe p shape opening steps within = restrained-safe (baseline_of p) shape opening steps (own-restrained p) within

@@ -1,16 +1,16 @@
 -- Where the latest value of a block is, by state and cell.
-use Rattle.std.proofs.Common.{◌≡◌, ℕ, ◌+◌, ◌<◌, true, List, [], ◌∷◌, ◌⊎◌, arith, Option, Some, None, ℤ}
+use Rattle.std.proofs.Common.{◌≡◌, ℕ, ◌+◌, ◌<◌, true, List, ◌∷◌, ◌⊎◌, arith, Option, Some, None, ℤ}
 use Rattle.base.specs.declared.step.Ask.{Ask}
 use Rattle.base.specs.declared.step.Ask.TheVariants as ask
 use Rattle.network.specs.declared.message.ForwardKind.{ForwardKind}
 use Rattle.network.specs.declared.message.ForwardKind.TheVariants.{FwdGetS, FwdGetM}
 use Rattle.cache_table.specs.declared.state.CacheState.{CacheState}
-use Rattle.cache_table.specs.declared.state.CacheState.TheVariants.{I, IsD, ImAd, ImA, S, SmAd, SmA, M, MiA, SiA, IiA}
+use Rattle.cache_table.specs.declared.state.CacheState.TheVariants.{I, IsD, ImAd, ImA, S, SmAd, SmA, M, MiA, SiA, IiA, E}
 use Rattle.cache_table.specs.declared.event.CacheEvent.{CacheEvent}
 use Rattle.cache_table.specs.declared.event.CacheEvent.TheVariants as event
 use Rattle.cache_table.specs.Table.{CacheEntry}
 use Rattle.base.specs.declared.controller.entry.Entry.TheVariants.{Blank, Stall, Act}
-use Rattle.cache_table.specs.Baseline.{baseline_entry}
+use Rattle.cache_table.specs.Baseline.{msi_e_entry}
 use Rattle.control.specs.declared.line.Line.{Line}
 use Rattle.control.specs.declared.line.LineInput.{LineInput}
 use Rattle.control.specs.declared.line.LineCompletion.{LineCompletion}
@@ -26,6 +26,7 @@ HasValue S v = Always
 HasValue SmAd v = Always
 HasValue SmA v = Always
 HasValue M v = Always
+HasValue E v = Always
 HasValue MiA v = Holds MiA v
 HasValue other v = Never
 
@@ -82,7 +83,7 @@ ValueRule s v Stall = Unit {0}
 ValueRule s v (Act next actions) = HasValue s v
 
 pub fwd_gets_value : (s : CacheState) (v : View) (rest : List ForwardKind) → v.link ≡ FwdGetS ∷ rest → Local s v →
-    ValueRule s v (baseline_entry s event.FwdGetS)
+    ValueRule s v (msi_e_entry s event.FwdGetS)
 fwd_gets_value I v rest l h = grind (arith)
 fwd_gets_value IsD v rest l h = grind (arith)
 fwd_gets_value ImAd v rest l h = grind (arith)
@@ -94,9 +95,10 @@ fwd_gets_value M v rest l h = grind (arith)
 fwd_gets_value MiA v rest l h = grind (arith)
 fwd_gets_value SiA v rest l h = grind (arith)
 fwd_gets_value IiA v rest l h = grind (arith)
+fwd_gets_value E v rest l h = grind (arith)
 
 pub fwd_getm_value : (s : CacheState) (v : View) (rest : List ForwardKind) → v.link ≡ FwdGetM ∷ rest → Local s v →
-    ValueRule s v (baseline_entry s event.FwdGetM)
+    ValueRule s v (msi_e_entry s event.FwdGetM)
 fwd_getm_value I v rest l h = grind (arith)
 fwd_getm_value IsD v rest l h = grind (arith)
 fwd_getm_value ImAd v rest l h = grind (arith)
@@ -108,6 +110,7 @@ fwd_getm_value M v rest l h = grind (arith)
 fwd_getm_value MiA v rest l h = grind (arith)
 fwd_getm_value SiA v rest l h = grind (arith)
 fwd_getm_value IiA v rest l h = grind (arith)
+fwd_getm_value E v rest l h = grind (arith)
 
 -- a line that comes to MI^A has the latest value, and no PutM on its way
 abbrev pub PutRule : CacheState → View → CacheEntry → Type 0
@@ -115,7 +118,7 @@ PutRule s v Blank = Unit {0}
 PutRule s v Stall = Unit {0}
 PutRule s v (Act next actions) = next ≡ MiA → (v.putm ≡ 0) × HasValue s v
 
-pub put_rule : (s : CacheState) (e : CacheEvent) (v : View) → Local s v → PutRule s v (baseline_entry s e)
+pub put_rule : (s : CacheState) (e : CacheEvent) (v : View) → Local s v → PutRule s v (msi_e_entry s e)
 put_rule I event.Load v h = grind (arith)
 put_rule I event.Store v h = grind (arith)
 put_rule I event.Replacement v h = grind (arith)
@@ -128,6 +131,7 @@ put_rule I event.DataDirMore v h = grind (arith)
 put_rule I event.DataOwner v h = grind (arith)
 put_rule I event.InvAck v h = grind (arith)
 put_rule I event.LastInvAck v h = grind (arith)
+put_rule I event.DataDirExcl v h = grind (arith)
 put_rule IsD event.Load v h = grind (arith)
 put_rule IsD event.Store v h = grind (arith)
 put_rule IsD event.Replacement v h = grind (arith)
@@ -140,6 +144,7 @@ put_rule IsD event.DataDirMore v h = grind (arith)
 put_rule IsD event.DataOwner v h = grind (arith)
 put_rule IsD event.InvAck v h = grind (arith)
 put_rule IsD event.LastInvAck v h = grind (arith)
+put_rule IsD event.DataDirExcl v h = grind (arith)
 put_rule ImAd event.Load v h = grind (arith)
 put_rule ImAd event.Store v h = grind (arith)
 put_rule ImAd event.Replacement v h = grind (arith)
@@ -152,6 +157,7 @@ put_rule ImAd event.DataDirMore v h = grind (arith)
 put_rule ImAd event.DataOwner v h = grind (arith)
 put_rule ImAd event.InvAck v h = grind (arith)
 put_rule ImAd event.LastInvAck v h = grind (arith)
+put_rule ImAd event.DataDirExcl v h = grind (arith)
 put_rule ImA event.Load v h = grind (arith)
 put_rule ImA event.Store v h = grind (arith)
 put_rule ImA event.Replacement v h = grind (arith)
@@ -164,6 +170,7 @@ put_rule ImA event.DataDirMore v h = grind (arith)
 put_rule ImA event.DataOwner v h = grind (arith)
 put_rule ImA event.InvAck v h = grind (arith)
 put_rule ImA event.LastInvAck v h = grind (arith)
+put_rule ImA event.DataDirExcl v h = grind (arith)
 put_rule S event.Load v h = grind (arith)
 put_rule S event.Store v h = grind (arith)
 put_rule S event.Replacement v h = grind (arith)
@@ -176,6 +183,7 @@ put_rule S event.DataDirMore v h = grind (arith)
 put_rule S event.DataOwner v h = grind (arith)
 put_rule S event.InvAck v h = grind (arith)
 put_rule S event.LastInvAck v h = grind (arith)
+put_rule S event.DataDirExcl v h = grind (arith)
 put_rule SmAd event.Load v h = grind (arith)
 put_rule SmAd event.Store v h = grind (arith)
 put_rule SmAd event.Replacement v h = grind (arith)
@@ -188,6 +196,7 @@ put_rule SmAd event.DataDirMore v h = grind (arith)
 put_rule SmAd event.DataOwner v h = grind (arith)
 put_rule SmAd event.InvAck v h = grind (arith)
 put_rule SmAd event.LastInvAck v h = grind (arith)
+put_rule SmAd event.DataDirExcl v h = grind (arith)
 put_rule SmA event.Load v h = grind (arith)
 put_rule SmA event.Store v h = grind (arith)
 put_rule SmA event.Replacement v h = grind (arith)
@@ -200,6 +209,7 @@ put_rule SmA event.DataDirMore v h = grind (arith)
 put_rule SmA event.DataOwner v h = grind (arith)
 put_rule SmA event.InvAck v h = grind (arith)
 put_rule SmA event.LastInvAck v h = grind (arith)
+put_rule SmA event.DataDirExcl v h = grind (arith)
 put_rule M event.Load v h = grind (arith)
 put_rule M event.Store v h = grind (arith)
 put_rule M event.Replacement v h = grind (arith)
@@ -212,6 +222,7 @@ put_rule M event.DataDirMore v h = grind (arith)
 put_rule M event.DataOwner v h = grind (arith)
 put_rule M event.InvAck v h = grind (arith)
 put_rule M event.LastInvAck v h = grind (arith)
+put_rule M event.DataDirExcl v h = grind (arith)
 put_rule MiA event.Load v h = grind (arith)
 put_rule MiA event.Store v h = grind (arith)
 put_rule MiA event.Replacement v h = grind (arith)
@@ -224,6 +235,7 @@ put_rule MiA event.DataDirMore v h = grind (arith)
 put_rule MiA event.DataOwner v h = grind (arith)
 put_rule MiA event.InvAck v h = grind (arith)
 put_rule MiA event.LastInvAck v h = grind (arith)
+put_rule MiA event.DataDirExcl v h = grind (arith)
 put_rule SiA event.Load v h = grind (arith)
 put_rule SiA event.Store v h = grind (arith)
 put_rule SiA event.Replacement v h = grind (arith)
@@ -236,6 +248,7 @@ put_rule SiA event.DataDirMore v h = grind (arith)
 put_rule SiA event.DataOwner v h = grind (arith)
 put_rule SiA event.InvAck v h = grind (arith)
 put_rule SiA event.LastInvAck v h = grind (arith)
+put_rule SiA event.DataDirExcl v h = grind (arith)
 put_rule IiA event.Load v h = grind (arith)
 put_rule IiA event.Store v h = grind (arith)
 put_rule IiA event.Replacement v h = grind (arith)
@@ -248,6 +261,20 @@ put_rule IiA event.DataDirMore v h = grind (arith)
 put_rule IiA event.DataOwner v h = grind (arith)
 put_rule IiA event.InvAck v h = grind (arith)
 put_rule IiA event.LastInvAck v h = grind (arith)
+put_rule IiA event.DataDirExcl v h = grind (arith)
+put_rule E event.Load v h = grind (arith)
+put_rule E event.Store v h = grind (arith)
+put_rule E event.Replacement v h = grind (arith)
+put_rule E event.FwdGetS v h = grind (arith)
+put_rule E event.FwdGetM v h = grind (arith)
+put_rule E event.Inv v h = grind (arith)
+put_rule E event.PutAck v h = grind (arith)
+put_rule E event.DataDirZero v h = grind (arith)
+put_rule E event.DataDirMore v h = grind (arith)
+put_rule E event.DataOwner v h = grind (arith)
+put_rule E event.InvAck v h = grind (arith)
+put_rule E event.LastInvAck v h = grind (arith)
+put_rule E event.DataDirExcl v h = grind (arith)
 
 -- where a cache has the latest value, it holds the block, or the home knows of it, or an Inv is on its way
 abbrev pub Reads : CacheState → View → Type 0
@@ -265,9 +292,10 @@ value_reads M v p h = grind (arith)
 value_reads MiA v p h = grind (arith)
 value_reads SiA v p h = grind (arith)
 value_reads IiA v p h = grind (arith)
+value_reads E v p h = grind (arith)
 
 -- and so has one to which Data is on its way
-pub data_reads : (s : CacheState) (v : View) → 0 < v.dir_data + v.owner_data → Local s v → Reads s v
+pub data_reads : (s : CacheState) (v : View) → 0 < v.dir_data + v.owner_data + v.excl_data → Local s v → Reads s v
 data_reads I v p h = grind (arith)
 data_reads IsD v p h = grind (arith)
 data_reads ImAd v p h = grind (arith)
@@ -279,6 +307,7 @@ data_reads M v p h = grind (arith)
 data_reads MiA v p h = grind (arith)
 data_reads SiA v p h = grind (arith)
 data_reads IiA v p h = grind (arith)
+data_reads E v p h = grind (arith)
 
 -- the link alone decides it
 pub value_link : (s : CacheState) (v w : View) → v.link ≡ w.link → HasValue s v → HasValue s w
@@ -293,77 +322,7 @@ value_link M v w e h = grind (arith)
 value_link MiA v w e h = grind (arith)
 value_link SiA v w e h = grind (arith)
 value_link IiA v w e h = grind (arith)
-
--- a response is answered by nothing
-abbrev pub QuietRule : CacheEntry → Type 0
-QuietRule Blank = Unit {0}
-QuietRule Stall = Unit {0}
-QuietRule (Act next actions) = actions ≡ []
-
-pub data_zero_quiet : (s : CacheState) → QuietRule (baseline_entry s event.DataDirZero)
-data_zero_quiet I = grind (arith)
-data_zero_quiet IsD = grind (arith)
-data_zero_quiet ImAd = grind (arith)
-data_zero_quiet ImA = grind (arith)
-data_zero_quiet S = grind (arith)
-data_zero_quiet SmAd = grind (arith)
-data_zero_quiet SmA = grind (arith)
-data_zero_quiet M = grind (arith)
-data_zero_quiet MiA = grind (arith)
-data_zero_quiet SiA = grind (arith)
-data_zero_quiet IiA = grind (arith)
-
-pub data_more_quiet : (s : CacheState) → QuietRule (baseline_entry s event.DataDirMore)
-data_more_quiet I = grind (arith)
-data_more_quiet IsD = grind (arith)
-data_more_quiet ImAd = grind (arith)
-data_more_quiet ImA = grind (arith)
-data_more_quiet S = grind (arith)
-data_more_quiet SmAd = grind (arith)
-data_more_quiet SmA = grind (arith)
-data_more_quiet M = grind (arith)
-data_more_quiet MiA = grind (arith)
-data_more_quiet SiA = grind (arith)
-data_more_quiet IiA = grind (arith)
-
-pub data_owner_quiet : (s : CacheState) → QuietRule (baseline_entry s event.DataOwner)
-data_owner_quiet I = grind (arith)
-data_owner_quiet IsD = grind (arith)
-data_owner_quiet ImAd = grind (arith)
-data_owner_quiet ImA = grind (arith)
-data_owner_quiet S = grind (arith)
-data_owner_quiet SmAd = grind (arith)
-data_owner_quiet SmA = grind (arith)
-data_owner_quiet M = grind (arith)
-data_owner_quiet MiA = grind (arith)
-data_owner_quiet SiA = grind (arith)
-data_owner_quiet IiA = grind (arith)
-
-pub inv_ack_quiet : (s : CacheState) → QuietRule (baseline_entry s event.InvAck)
-inv_ack_quiet I = grind (arith)
-inv_ack_quiet IsD = grind (arith)
-inv_ack_quiet ImAd = grind (arith)
-inv_ack_quiet ImA = grind (arith)
-inv_ack_quiet S = grind (arith)
-inv_ack_quiet SmAd = grind (arith)
-inv_ack_quiet SmA = grind (arith)
-inv_ack_quiet M = grind (arith)
-inv_ack_quiet MiA = grind (arith)
-inv_ack_quiet SiA = grind (arith)
-inv_ack_quiet IiA = grind (arith)
-
-pub last_ack_quiet : (s : CacheState) → QuietRule (baseline_entry s event.LastInvAck)
-last_ack_quiet I = grind (arith)
-last_ack_quiet IsD = grind (arith)
-last_ack_quiet ImAd = grind (arith)
-last_ack_quiet ImA = grind (arith)
-last_ack_quiet S = grind (arith)
-last_ack_quiet SmAd = grind (arith)
-last_ack_quiet SmA = grind (arith)
-last_ack_quiet M = grind (arith)
-last_ack_quiet MiA = grind (arith)
-last_ack_quiet SiA = grind (arith)
-last_ack_quiet IiA = grind (arith)
+value_link E v w e h = grind (arith)
 
 -- nothing is on its way that the home could answer, and the home doesn't know of it
 abbrev pub Calm : View → Type 0
@@ -382,6 +341,7 @@ value_steady M v w l c h = grind (arith)
 value_steady MiA v w l c h = grind (arith)
 value_steady SiA v w l c h = grind (arith)
 value_steady IiA v w l c h = grind (arith)
+value_steady E v w l c h = grind (arith)
 
 -- an owner that puts the block back is in MI^A
 pub owner_puts : (s : CacheState) (v : View) → 0 < v.putm → v.owns ≡ true → Local s v → s ≡ MiA
@@ -396,3 +356,4 @@ owner_puts M v p o h = grind (arith)
 owner_puts MiA v p o h = grind (arith)
 owner_puts SiA v p o h = grind (arith)
 owner_puts IiA v p o h = grind (arith)
+owner_puts E v p o h = grind (arith)

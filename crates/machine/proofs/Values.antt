@@ -9,7 +9,7 @@ use Rattle.network.specs.declared.message.Request.{Request}
 use Rattle.network.specs.declared.message.RequestKind.{RequestKind}
 use Rattle.network.specs.declared.message.RequestKind.TheVariants as request
 use Rattle.network.specs.declared.message.Response.{Response}
-use Rattle.network.specs.declared.message.Response.TheVariants.{Data, InvAck}
+use Rattle.network.specs.declared.message.Response.TheVariants.{Data, InvAck, DataExcl}
 use Rattle.cache_table.specs.declared.state.CacheState.{CacheState}
 use Rattle.cache_table.specs.declared.state.CacheState.TheVariants.{M, MiA}
 use Rattle.directory_table.specs.declared.state.DirectoryState.TheVariants as home
@@ -18,7 +18,7 @@ use Rattle.machine.specs.Block.{BlockState}
 use Rattle.machine.proofs.Views.{View, Good, Local, Holds}
 use Rattle.machine.proofs.Counts.{only}
 use Rattle.machine.proofs.Facts.{counted}
-use Rattle.machine.proofs.Seen.{view_of, block_view, line_of, from, is_putm, dir_data, owner_data, home_data}
+use Rattle.machine.proofs.Seen.{view_of, block_view, line_of, from, is_putm, dir_data, owner_data, excl_data, home_data}
 use Rattle.machine.proofs.Sound.{Sound}
 use Rattle.machine.proofs.SingleWriter.{sole-reader}
 use Rattle.machine.proofs.ValueRules.{HasValue, Waits, Reads, value_reads, data_reads}
@@ -27,6 +27,7 @@ use Rattle.machine.proofs.ValueRules.{HasValue, Waits, Reads, value_reads, data_
 abbrev pub CarriesOne : ℕ → Response → Type 0
 CarriesOne latest (Data by to value acks) = value ≡ latest
 CarriesOne latest (InvAck by to) = Unit {0}
+CarriesOne latest (DataExcl to value) = value ≡ latest
 
 -- all Data on its way carries this value
 abbrev pub Carries : ℕ → List Response → Type 0
@@ -99,24 +100,26 @@ puts-none latest c (r ∷ rs) e = (
 )
 
 -- without Data either
-data-none : (latest : ℕ) (x : Response) → home_data x ≡ 0 → ((d : ℕ) → dir_data d x ≡ 0) → ((d : ℕ) → owner_data d x ≡ 0) → CarriesOne latest x
-data-none latest (Data Dir Dir value acks) h p q = absurd (omega (arith, h))
-data-none latest (Data (Cache by) Dir value acks) h p q = absurd (omega (arith, h))
-data-none latest (Data Dir (Cache to) value acks) h p q = absurd (omega (arith, p to.0, ap (λ t. only t 1) (eq-eqb to.0 to.0 refl)))
-data-none latest (Data (Cache by) (Cache to) value acks) h p q = absurd (omega (arith, q to.0, ap (λ t. only t 1) (eq-eqb to.0 to.0 refl)))
-data-none latest (InvAck by to) h p q = tt
+data-none : (latest : ℕ) (x : Response) → home_data x ≡ 0 → ((d : ℕ) → dir_data d x ≡ 0) → ((d : ℕ) → owner_data d x ≡ 0) →
+    ((d : ℕ) → excl_data d x ≡ 0) → CarriesOne latest x
+data-none latest (Data Dir Dir value acks) h p q r = absurd (omega (arith, h))
+data-none latest (Data (Cache by) Dir value acks) h p q r = absurd (omega (arith, h))
+data-none latest (Data Dir (Cache to) value acks) h p q r = absurd (omega (arith, p to.0, ap (λ t. only t 1) (eq-eqb to.0 to.0 refl)))
+data-none latest (Data (Cache by) (Cache to) value acks) h p q r = absurd (omega (arith, q to.0, ap (λ t. only t 1) (eq-eqb to.0 to.0 refl)))
+data-none latest (InvAck by to) h p q r = tt
+data-none latest (DataExcl to value) h p q r = absurd (omega (arith, r to.0, ap (λ t. only t 1) (eq-eqb to.0 to.0 refl)))
 
 carries-none : (latest : ℕ) (xs : List Response) → sum_by home_data xs ≡ 0 → ((d : ℕ) → sum_by (dir_data d) xs ≡ 0) →
-    ((d : ℕ) → sum_by (owner_data d) xs ≡ 0) → Carries latest xs
-carries-none latest [] h p q = tt
-carries-none latest (x ∷ xs) h p q = (
+    ((d : ℕ) → sum_by (owner_data d) xs ≡ 0) → ((d : ℕ) → sum_by (excl_data d) xs ≡ 0) → Carries latest xs
+carries-none latest [] h p q r = tt
+carries-none latest (x ∷ xs) h p q r = (
   data-none latest x (omega (arith, sum_by-cons home_data x xs)) (λ d. omega (arith, p d, sum_by-cons (dir_data d) x xs))
-      (λ d. omega (arith, q d, sum_by-cons (owner_data d) x xs)),
+      (λ d. omega (arith, q d, sum_by-cons (owner_data d) x xs)) (λ d. omega (arith, r d, sum_by-cons (excl_data d) x xs)),
   carries-none latest xs (omega (arith, sum_by-cons home_data x xs)) (λ d. omega (arith, p d, sum_by-cons (dir_data d) x xs))
-      (λ d. omega (arith, q d, sum_by-cons (owner_data d) x xs)),
+      (λ d. omega (arith, q d, sum_by-cons (owner_data d) x xs)) (λ d. omega (arith, r d, sum_by-cons (excl_data d) x xs)),
 )
 
-writer : (s : CacheState) (v : View) → s ≡ M → Local s v → Holds s v × (v.invs ≡ 0) × (v.dir_data ≡ 0) × (v.owner_data ≡ 0)
+writer : (s : CacheState) (v : View) → s ≡ M → Local s v → Holds s v × (v.invs ≡ 0) × (v.dir_data ≡ 0) × (v.owner_data ≡ 0) × (v.excl_data ≡ 0)
 writer s v e h = grind (arith)
 
 put-holds : (s : CacheState) (v : View) → s ≡ MiA → 0 < v.putm → Local s v → Holds s v
@@ -127,15 +130,25 @@ pub fresh : (n : ℕ) (b : BlockState) (c : ℕ) → Sound n b → (line_of b.li
     ((d : ℕ) → Waits (line_of b.lines d).state (line_of b.lines d).pending) → Valued b
 fresh n b c h e is_latest waits =
     let g : Good (block_view b) = h.good in
-    let w : Holds (line_of b.lines c).state (view_of b c) × ((view_of b c).invs ≡ 0) × ((view_of b c).dir_data ≡ 0) × ((view_of b c).owner_data ≡ 0) =
+    let w : Holds (line_of b.lines c).state (view_of b c) × ((view_of b c).invs ≡ 0) × ((view_of b c).dir_data ≡ 0) × ((view_of b c).owner_data ≡ 0)
+    × ((view_of b c).excl_data ≡ 0) =
     writer (line_of b.lines c).state (view_of b c) e (g.each c) in
     let sole : (d : ℕ) → Reads (line_of b.lines d).state (view_of b d) → c ≡ d = λ d p. sole-reader (block_view b) c d g (counted b) w.0 w.1 p in
-    let quiet : (d : ℕ) → (view_of b d).dir_data + (view_of b d).owner_data ≡ 0 =
-    λ d. elim (cases_eq ((view_of b d).dir_data + (view_of b d).owner_data) 0) as (λ _. (view_of b d).dir_data + (view_of b d).owner_data ≡ 0) [
+    let quiet : (d : ℕ) → (view_of b d).dir_data + (view_of b d).owner_data + (view_of b d).excl_data ≡ 0 =
+    λ d. elim (cases_eq ((view_of b d).dir_data + (view_of b d).owner_data + (view_of b d).excl_data) 0) as
+    (λ _. (view_of b d).dir_data + (view_of b d).owner_data + (view_of b d).excl_data ≡ 0) [
       | inl z ↦ z
       | inr ne ↦
           let same : c ≡ d = sole d (data_reads (line_of b.lines d).state (view_of b d) (omega (arith, ne)) (g.each d)) in
-          omega (arith, ap (λ x. (view_of b x).dir_data) same, ap (λ x. (view_of b x).owner_data) same, w.2, w.3)
+          omega (
+            arith,
+            ap (λ x. (view_of b x).dir_data) same,
+            ap (λ x. (view_of b x).owner_data) same,
+            ap (λ x. (view_of b x).excl_data) same,
+            w.2,
+            w.3,
+            w.4,
+          )
     ] in
     record {
       lines = λ d p. subst (λ x. (line_of b.lines x).value ≡ b.latest) (sole d (value_reads (line_of b.lines d).state (view_of b d) p (g.each d))) is_latest;
@@ -144,7 +157,7 @@ fresh n b c h e is_latest waits =
             | inl z ↦ z
             | inr ne ↦ absurd (omega (arith, g.home_holds (inr (inr (omega (arith, ne)))) c w.0))
           ])
-          (λ d. omega (arith, quiet d)) (λ d. omega (arith, quiet d));
+          (λ d. omega (arith, quiet d)) (λ d. omega (arith, quiet d)) (λ d. omega (arith, quiet d));
       memory = λ p. absurd (omega (
         arith,
         elim p as (λ _. Never) [

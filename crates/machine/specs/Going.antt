@@ -2,7 +2,7 @@
 use Rattle.std.specs.Prelude.{◌≡◌, ◌⊎◌}
 use Rattle.base.specs.declared.controller.entry.Entry.TheVariants.{Blank, Stall}
 use Rattle.cache_table.specs.declared.state.CacheState.{CacheState}
-use Rattle.cache_table.specs.declared.state.CacheState.TheVariants.{I, ImAd, ImA, S, SmAd, SmA, M}
+use Rattle.cache_table.specs.declared.state.CacheState.TheVariants.{I, ImAd, ImA, S, SmAd, SmA, M, E}
 use Rattle.cache_table.specs.declared.event.CacheEvent.{CacheEvent}
 use Rattle.cache_table.specs.declared.event.CacheEvent.TheVariants.{Load, Store, Replacement, DataDirMore, InvAck, LastInvAck}
 use Rattle.cache_table.specs.Table as cache_table
@@ -11,7 +11,7 @@ use Rattle.directory_table.specs.declared.state.DirectoryState.TheVariants as ho
 use Rattle.directory_table.specs.declared.event.DirectoryEvent.{DirectoryEvent}
 use Rattle.directory_table.specs.declared.event.DirectoryEvent.TheVariants.{PutSNotLast, PutSLast, PutMNonOwner}
 use Rattle.directory_table.specs.Table as directory_table
-use Rattle.both_tables.specs.Tables.{Tables, baseline}
+use Rattle.both_tables.specs.Tables.{Tables, baseline_of}
 use Rattle.machine.specs.Restraint.{AreRestrained}
 
 -- a store waits for its Data
@@ -60,21 +60,24 @@ MayWaitAtHome other event = ⊥
 -- each stall is an own one, or stands where no run comes, or lets messages flow
 pub record KeepsGoing (tables : Tables) : Type 0 where
   pub cache : (state : CacheState) (event : CacheEvent) → cache_table.cell tables.cache state event ≡ Stall →
-      (cache_table.cell baseline.cache state event ≡ Stall) ⊎ (cache_table.cell baseline.cache state event ≡ Blank) ⊎ MayWait tables state event
+      (cache_table.cell (baseline_of tables.protocol).cache state event ≡ Stall) ⊎
+      (cache_table.cell (baseline_of tables.protocol).cache state event ≡ Blank) ⊎ MayWait tables state event
   pub directory : (state : DirectoryState) (event : DirectoryEvent) → directory_table.cell tables.directory state event ≡ Stall →
-      (directory_table.cell baseline.directory state event ≡ Stall) ⊎ (directory_table.cell baseline.directory state event ≡ Blank) ⊎ MayWaitAtHome state event
+      (directory_table.cell (baseline_of tables.protocol).directory state event ≡ Stall) ⊎
+      (directory_table.cell (baseline_of tables.protocol).directory state event ≡ Blank) ⊎ MayWaitAtHome state event
 
 -- a line that waits for nothing
 abbrev pub IsSettled : CacheState → Type 0
 IsSettled I = Unit {0}
 IsSettled S = Unit {0}
 IsSettled M = Unit {0}
+IsSettled E = Unit {0}
 IsSettled other = ⊥
 
 -- such a line holds nothing that comes to it, so no ask either
 pub record ServesAsks (tables : Tables) : Type 0 where
   pub served : (state : CacheState) (event : CacheEvent) → IsSettled state → cache_table.cell tables.cache state event ≡ Stall →
-      cache_table.cell baseline.cache state event ≡ Blank
+      cache_table.cell (baseline_of tables.protocol).cache state event ≡ Blank
 
 -- tables under which nothing is ever stuck: restrained ones that keep going and serve asks
 pub record AreNeverStuck (tables : Tables) : Type 0 where

@@ -17,7 +17,7 @@ use Rattle.directory_table.specs.declared.event.DirectoryEvent.TheVariants.{PutS
 use Rattle.directory_table.specs.declared.actions.DirectoryAction.TheVariants.{RemoveReq, PutAck}
 use Rattle.directory_table.specs.Table as directory_table
 use Rattle.directory_table.specs.Table.{DirectoryChange}
-use Rattle.both_tables.specs.Tables.{Tables, baseline}
+use Rattle.both_tables.specs.Tables.{Tables, baseline_of}
 
 -- a state in which an ask leaves the line as it is and sends nothing
 abbrev pub unchanged : CacheState → CacheEvent → CacheChange
@@ -67,5 +67,7 @@ home_cell tables state event = record { state = state; event = event; entry = di
 
 -- each cell holds what it may hold
 pub record AreRestrained (tables : Tables) : Type 0 where
-  pub cache : (state : CacheState) (event : CacheEvent) → Admits proved_lines (cache_table.cell baseline.cache state event) (line_cell tables state event)
-  pub directory : (state : DirectoryState) (event : DirectoryEvent) → Admits proved_homes (directory_table.cell baseline.directory state event) (home_cell tables state event)
+  pub cache : (state : CacheState) (event : CacheEvent) →
+      Admits proved_lines (cache_table.cell (baseline_of tables.protocol).cache state event) (line_cell tables state event)
+  pub directory : (state : DirectoryState) (event : DirectoryEvent) →
+      Admits proved_homes (directory_table.cell (baseline_of tables.protocol).directory state event) (home_cell tables state event)

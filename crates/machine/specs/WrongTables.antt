@@ -20,7 +20,8 @@ use Rattle.directory_table.specs.declared.event.DirectoryEvent.{DirectoryEvent}
 use Rattle.directory_table.specs.declared.event.DirectoryEvent.TheVariants as directory_event
 use Rattle.directory_table.specs.Table.{DirectoryEntry}
 use Rattle.directory_table.specs.declared.actions.DirectoryAction.TheVariants as directory_action
-use Rattle.both_tables.specs.Tables.{Tables, baseline}
+use Rattle.base.specs.declared.controller.protocol.Protocol.TheVariants.{MsiE}
+use Rattle.both_tables.specs.Tables.{Tables, baseline, baseline_of}
 use Rattle.machine.specs.Machine.{opened, after}
 use Rattle.machine.specs.Restraint.{AreRestrained}
 use Rattle.machine.specs.Coherence.{Safe}
@@ -106,6 +107,18 @@ DeafSharerIsStuck = ¬ Unstuck deaf_sharer (after deaf_sharer (opened two_by_one
 abbrev pub DeafSharerIsRestrained : Type 0
 DeafSharerIsRestrained = AreRestrained deaf_sharer
 
+-- under MSI+E an owner that only read stays so when it serves another reader
+abbrev pub kept_e : Tables
+kept_e = record (baseline_of MsiE) {
+  cache =
+      cache_table.with_cell (baseline_of MsiE).cache cache_state.E cache_event.FwdGetS
+      (table_entry.Act cache_state.E (cache_action.DataReq ∷ cache_action.DataDir ∷ []));
+}
+
+-- then it may write beside a reader
+abbrev pub KeptEIsUnsafe : Type 0
+KeptEIsUnsafe = IsUnsafe kept_e (load 0 ∷ request 0 ∷ response 0 ∷ load 1 ∷ request 0 ∷ forward 0 ∷ response 0 ∷ [])
+
 -- the Data of a store waits until its acks have come
 abbrev pub patient_data : Tables
 patient_data = with_cache_cell cache_state.ImAd cache_event.DataDirMore table_entry.Stall
@@ -132,3 +145,30 @@ CrossedWaitsAreRestrained = AreRestrained crossed_waits
 abbrev pub CrossedWaitsAreStuck : Type 0
 CrossedWaitsAreStuck = ¬ Flowing crossed_waits (after crossed_waits (opened two_by_one (0 ∷ []))
     (load 0 ∷ request 0 ∷ response 0 ∷ store 1 5 ∷ request 0 ∷ forward 0 ∷ [])).state
+
+-- under MSI+E a reader leaves the exclusive Data that it waits for where it is
+abbrev pub deaf_reader : Tables
+deaf_reader = record (baseline_of MsiE) {
+  cache = cache_table.with_cell (baseline_of MsiE).cache cache_state.IsD cache_event.DataDirExcl table_entry.Stall;
+}
+
+abbrev pub DeafReaderIsRestrained : Type 0
+DeafReaderIsRestrained = AreRestrained deaf_reader
+
+-- then nothing else can be delivered
+abbrev pub DeafReaderIsStuck : Type 0
+DeafReaderIsStuck = ¬ Flowing deaf_reader (after deaf_reader (opened two_by_one (0 ∷ [])) (load 0 ∷ request 0 ∷ [])).state
+
+-- an owner that only read holds its core's stores
+abbrev pub read_only_owner : Tables
+read_only_owner = record (baseline_of MsiE) {
+  cache = cache_table.with_cell (baseline_of MsiE).cache cache_state.E cache_event.Store table_entry.Stall;
+}
+
+-- then messages flow
+abbrev pub ReadOnlyOwnerKeepsGoing : Type 0
+ReadOnlyOwnerKeepsGoing = KeepsGoing read_only_owner
+
+-- but a store waits for ever
+abbrev pub ReadOnlyOwnerIsStuck : Type 0
+ReadOnlyOwnerIsStuck = ¬ Unstuck read_only_owner (after read_only_owner (opened two_by_one (0 ∷ [])) (load 0 ∷ request 0 ∷ response 0 ∷ [])).state

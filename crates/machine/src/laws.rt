@@ -4,19 +4,21 @@ ghost use Rattle.base.specs.declared.ids.CacheId.{CacheId};
 ghost use Rattle.base.specs.declared.step.Outcome.{Outcome};
 ghost use Rattle.base.specs.declared.step.Step.{Step};
 ghost use Rattle.machine.specs.declared.decision.Decision.{Decision};
-ghost use Rattle.both_tables.specs.Tables.{Tables, baseline};
+ghost use Rattle.base.specs.declared.controller.protocol.Protocol.{Protocol};
+ghost use Rattle.both_tables.specs.Tables.{Tables, baseline_of};
 ghost use Rattle.machine.specs.Coherence.{Met, Safe};
 ghost use Rattle.machine.specs.Restraint.{AreRestrained};
 ghost use Rattle.machine.specs.Going.{AreNeverStuck, KeepsGoing};
 ghost use Rattle.machine.specs.Unstuck.{Unstuck, Flowing};
 ghost use Rattle.machine.specs.CoherenceRows.{StoreThenLoad, StaleLoadIsRefused, EarlyLoadIsRefused, OneWriterOrManyReaders};
 ghost use Rattle.machine.specs.WrongTables.{HastyReaderIsUnsafe, HastyLoadIsUnsafe, BlankCacheIsUnsafe, HastyWriterIsUnsafe, SecondWriterIsUnsafe};
-ghost use Rattle.machine.specs.WrongTables.{DroppedValueIsUnsafe, BlankDirectoryIsUnsafe, DeafSharerIsStuck, DeafSharerIsRestrained};
+ghost use Rattle.machine.specs.WrongTables.{DroppedValueIsUnsafe, BlankDirectoryIsUnsafe, DeafSharerIsStuck, DeafSharerIsRestrained, KeptEIsUnsafe};
+ghost use Rattle.machine.specs.WrongTables.{DeafReaderIsRestrained, DeafReaderIsStuck, ReadOnlyOwnerKeepsGoing, ReadOnlyOwnerIsStuck};
 ghost use Rattle.machine.specs.WrongTables.{PatientDataKeepsGoing, PatientAcksKeepGoing, CrossedWaitsAreRestrained, CrossedWaitsAreStuck};
 ghost use Rattle.machine.specs.Block.{BlockState, IsBlockAmong};
 ghost use Rattle.machine.specs.Transition.{decision_of, decided_outcome, messages_of, transition};
 ghost use Rattle.machine.specs.Machine.{State, IsRefusal, next, opened, after, sent_by};
-ghost use Rattle.machine.specs.Rows.{NothingHappens, LoadFromMemory, LoadFromOwner, HeldForward, EarlyAck};
+ghost use Rattle.machine.specs.Rows.{NothingHappens, LoadFromMemory, LoadFromOwner, HeldForward, EarlyAck, StoreInE, ForwardBeforeData, LeaveE};
 
 /// Runs of the protocol's own tables, worked out step by step.
 pub fn worked_rows()
@@ -25,6 +27,9 @@ pub fn worked_rows()
     ensures load_from_owner { LoadFromOwner }
     ensures held_forward { HeldForward }
     ensures early_ack { EarlyAck }
+    ensures store_in_e { StoreInE }
+    ensures forward_before_data { ForwardBeforeData }
+    ensures leave_e { LeaveE }
 {}
 
 /// A step's outcome is known before anything is done.
@@ -61,32 +66,33 @@ pub fn wrong_tables_are_refused()
     ensures dropped_value { DroppedValueIsUnsafe }
     ensures blank_directory { BlankDirectoryIsUnsafe }
     ensures deaf_sharer { DeafSharerIsStuck }
+    ensures kept_e { KeptEIsUnsafe }
 {}
 
-/// Under the protocol's own tables every run of every world is safe: each block always has one
+/// Under the own tables of each protocol every run of every world is safe: each block always has one
 /// writer or many readers, no step meets a blank cell, and each load returns the value of the last
 /// store to its block, or the opening value.
 pub fn safe()
-    ensures { (shape : Extent) (opening : List ℕ) (steps : List Step) → IsWithinLimits shape → length opening ≡ shape.blocks →
-        Safe shape baseline opening steps }
+    ensures { (protocol : Protocol) (shape : Extent) (opening : List ℕ) (steps : List Step) → IsWithinLimits shape → length opening ≡ shape.blocks →
+        Safe shape (baseline_of protocol) opening steps }
 {}
 
 /// Nor does such a run ever get stuck: in each state that it reaches a block with messages on their
 /// way has one that can be delivered, and in a block without any no ask waits and none is held.
 pub fn unstuck()
-    ensures { (shape : Extent) (opening : List ℕ) (steps : List Step) → IsWithinLimits shape → length opening ≡ shape.blocks →
-        Unstuck baseline (after baseline (opened shape opening) steps).state }
+    ensures { (protocol : Protocol) (shape : Extent) (opening : List ℕ) (steps : List Step) → IsWithinLimits shape → length opening ≡ shape.blocks →
+        Unstuck (baseline_of protocol) (after (baseline_of protocol) (opened shape opening) steps).state }
 {}
 
 /// Every run is safe too under restrained tables: each of their cells holds the protocol's own
 /// entry, or a stall, or stands where the own one is blank, or is one of those that were proved.
 /// No step of such a run comes to a cell where the own entry is blank.
 pub fn restrained_tables_are_safe()
-    ensures own { AreRestrained baseline }
+    ensures own { (protocol : Protocol) → AreRestrained (baseline_of protocol) }
     ensures safe { (tables : Tables) (shape : Extent) (opening : List ℕ) (steps : List Step) → AreRestrained tables → IsWithinLimits shape →
         length opening ≡ shape.blocks → Safe shape tables opening steps }
     ensures never_met { (tables : Tables) (shape : Extent) (opening : List ℕ) (steps : List Step) (step : Step) → AreRestrained tables →
-        IsWithinLimits shape → length opening ≡ shape.blocks → ¬ Met baseline (after tables (opened shape opening) steps).state step }
+        IsWithinLimits shape → length opening ≡ shape.blocks → ¬ Met (baseline_of tables.protocol) (after tables (opened shape opening) steps).state step }
 {}
 
 /// Nor does a run under restrained tables get stuck where they keep going: each of their stalls is
@@ -94,7 +100,7 @@ pub fn restrained_tables_are_safe()
 /// message on its way is delivered, or another of its block can be; and where asks are served too,
 /// nothing is ever stuck.
 pub fn restrained_tables_are_unstuck()
-    ensures own { AreNeverStuck baseline }
+    ensures own { (protocol : Protocol) → AreNeverStuck (baseline_of protocol) }
     ensures flowing { (tables : Tables) (shape : Extent) (opening : List ℕ) (steps : List Step) → AreRestrained tables → KeepsGoing tables →
         IsWithinLimits shape → length opening ≡ shape.blocks → Flowing tables (after tables (opened shape opening) steps).state }
     ensures unstuck { (tables : Tables) (shape : Extent) (opening : List ℕ) (steps : List Step) → AreNeverStuck tables →
@@ -115,4 +121,12 @@ pub fn harmless_stalls_can_cross()
     ensures patient_acks { PatientAcksKeepGoing }
     ensures restrained { CrossedWaitsAreRestrained }
     ensures stuck { CrossedWaitsAreStuck }
+{}
+
+/// Under MSI+E, too, restrained tables can get stuck, and tables that keep going can hold an ask.
+pub fn restraint_can_get_stuck_in_e()
+    ensures restrained { DeafReaderIsRestrained }
+    ensures stuck { DeafReaderIsStuck }
+    ensures keeps_going { ReadOnlyOwnerKeepsGoing }
+    ensures holds_asks { ReadOnlyOwnerIsStuck }
 {}

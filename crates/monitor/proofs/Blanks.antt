@@ -10,7 +10,7 @@ use Rattle.base.specs.declared.step.Outcome.TheVariants as outcome
 use Rattle.network.specs.declared.message.Request.{Request}
 use Rattle.network.specs.declared.message.Forward.{Forward}
 use Rattle.network.specs.declared.message.Response.{Response}
-use Rattle.network.specs.declared.message.Response.TheVariants.{Data, InvAck}
+use Rattle.network.specs.declared.message.Response.TheVariants.{Data, InvAck, DataExcl}
 use Rattle.network.specs.Traffic.{link}
 use Rattle.control.specs.declared.line.Line.{Line}
 use Rattle.control.specs.declared.line.LineInput.{LineInput}
@@ -79,6 +79,8 @@ response-blank tables b index (Some (Data from (Cache to) value acks)) e =
     line-blank tables.cache to (line_input.Response (Data from (Cache to) value acks)) (origin.Response index) (slice_get b.lines to.0) e
 response-blank tables b index (Some (InvAck from to)) e =
     line-blank tables.cache to (line_input.Response (InvAck from to)) (origin.Response index) (slice_get b.lines to.0) e
+response-blank tables b index (Some (DataExcl to value)) e =
+    line-blank tables.cache to (line_input.Response (DataExcl to value)) (origin.Response index) (slice_get b.lines to.0) e
 
 -- a blank cell is that of a controller that can be named
 place-blank : (tables : Tables) (s : Step) (b : BlockState) → decided_outcome (decision_of tables s b) ≡ outcome.Blank → IsSome (place_in s b)

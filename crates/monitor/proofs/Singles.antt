@@ -62,6 +62,7 @@ reads-or-not s cache block = some-and (line_at s cache block) (λ line. IsTrue (
 
 writer-reads : (c : CacheState) → IsTrue (is_writer c) → IsTrue (is_reader c)
 writer-reads state.M w = refl
+writer-reads state.E w = refl
 writer-reads other w = absurd (cc w)
 
 some-more : {T : Type 0} (o : Option T) (P Q : T → Type 0) → ((x : T) → P x → Q x) → IsSomeAnd o P → IsSomeAnd o Q

@@ -56,6 +56,11 @@ pub enum Response {
         from: CacheId,
         to: CacheId,
     },
+    /// The block's value, from the home to a cache that is its owner from then on.
+    DataExcl {
+        to: CacheId,
+        value: u64,
+    },
 }
 
 /// A message with the wire that it is put on.

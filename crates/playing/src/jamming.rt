@@ -3,7 +3,7 @@ ghost use Rattle.machine.specs.Unstuck.{Flowing};
 ghost use Rattle.playing.specs.Jams.{GetsStuck};
 ghost use Rattle.playing.specs.inner.Leading.{HasGoneOn, IsFresh};
 
-use crate::schedules::{CACHES, SCHEDULES};
+use crate::schedules::{CACHES, schedules_of};
 use base::{NoMemory, Outcome, Shape, Step};
 use both_tables::Tables;
 use certify::Cell;
@@ -20,7 +20,7 @@ pub(crate) fn jam_from(
     ensures { IfOk result (λ found. IfSome found (λ steps. GetsStuck tables.now)) }
 {
     let mut is_due = false;
-    for (from, steps) in &SCHEDULES {
+    for (from, steps) in schedules_of(tables.protocol()) {
         is_due = is_due || *from == cell;
         if is_due && jams(alloc, tables, steps)? {
             return Ok(Some(steps));

@@ -13,6 +13,7 @@ mod playing;
 mod printing;
 mod replaying;
 mod schedules;
+mod schedules_with_e;
 mod tables;
 
 pub use certificates::print_certificate;

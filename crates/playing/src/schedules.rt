@@ -1,3 +1,5 @@
+use crate::schedules_with_e::SCHEDULES_WITH_E;
+use base::controller::Protocol;
 use cache_table::{CacheEvent, CacheState};
 use certify::Cell;
 use directory_table::{DirectoryEvent, DirectoryState};
@@ -5,11 +7,19 @@ use directory_table::{DirectoryEvent, DirectoryState};
 /// How many caches the world of a schedule has. It has one block.
 pub(crate) const CACHES: u32 = 3;
 
-/// Cells, in the order of [`Cell::at`], each with steps after which messages are on their way and all are held, where it alone
+/// The schedules of a protocol.
+pub(crate) fn schedules_of(protocol: Protocol) -> &'static [(Cell, &'static str)] {
+    match protocol {
+        Protocol::Msi => &SCHEDULES,
+        Protocol::MsiE => &SCHEDULES_WITH_E,
+    }
+}
+
+/// Cells of MSI, in the order of [`Cell::at`], each with steps after which messages are on their way and all are held, where it alone
 /// of the protocol's own tables is a stall; for Inv-Ack in IM^AD and SM^AD, where Data-Dir-More is one there too.
 ///
 /// Each is a shortest one, as a walk over all states of a block found it.
-pub(crate) const SCHEDULES: [(Cell, &str); 36] = [
+const SCHEDULES: [(Cell, &str); 36] = [
     (
         Cell::Cache(CacheState::IsD, CacheEvent::DataDirZero),
         "ask 0 0 load\nrequest 0 0\n",

@@ -1,14 +1,14 @@
 use crate::fault::Fault;
 use crate::finding::Finding;
 use crate::printing::Printer;
-use base::controller::Side;
+use base::controller::{Listed, Side};
 use both_tables::Tables;
 use cache_table::{CacheChange, CacheEvent, CacheState, CacheTable};
 use directory_table::{DirectoryChange, DirectoryEvent, DirectoryState, DirectoryTable};
 use std::alloc::Global;
 use std::io::Write;
 
-/// Prints all cells: the cache's before the directory's, by state and then by event.
+/// Prints all cells that the tables' protocol has: the cache's before the directory's, by state and then by event.
 pub fn print_tables<O: Write + Drop>(
     alloc: Global,
     tables: &Tables,
@@ -21,14 +21,17 @@ pub fn print_tables<O: Write + Drop>(
 }
 
 fn print_cache_cells<O: Write + Drop>(table: &CacheTable, printer: &mut Printer<O>) {
+    let protocol = table.protocol();
     for state in CacheState::ALL {
         for event in CacheEvent::ALL {
-            let cell = CacheChange {
-                state,
-                event,
-                entry: table.entry(state, event),
-            };
-            printer.line(cell.text(Side::Cache));
+            if state.is_in(protocol) && event.is_in(protocol) {
+                let cell = CacheChange {
+                    state,
+                    event,
+                    entry: table.entry(state, event),
+                };
+                printer.line(cell.text(Side::Cache));
+            }
         }
     }
 }

@@ -1,5 +1,6 @@
 -- Cells that are spelled alike, and cells that hold the same.
 use Rattle.std.proofs.Common.{◌≡◌, ◌≤◌, ℕ, Bool, true, false, not, List, refl, ap, sym, subst}
+use Rattle.base.specs.declared.controller.protocol.Protocol.{Protocol}
 use Rattle.base.specs.Entries.{IsNoChange}
 use Rattle.base.specs.declared.controller.entry.Side.TheVariants as side
 use Rattle.base.proofs.Same.{entry-equal}
@@ -12,12 +13,12 @@ use Rattle.directory_table.specs.Baseline as directory_baseline
 use Rattle.directory_table.specs.Names as directory
 use Rattle.directory_table.specs.Table as directory_table
 use Rattle.directory_table.specs.inner.Standing as directory_standing
-use Rattle.both_tables.specs.Tables.{Tables, baseline}
+use Rattle.both_tables.specs.Tables.{Tables, baseline_of}
 use Rattle.record.specs.declared.cells.Cell.{Cell}
 use Rattle.record.specs.declared.cells.Cell.TheVariants as cell
 use Rattle.record.specs.declared.cells.Spot.{Spot}
 use Rattle.record.specs.declared.cells.Spot.TheVariants as spot
-use Rattle.record.specs.Cells.{cell_at, cell_words, is_same, spot_of, spot_number}
+use Rattle.record.specs.Cells.{cell_at, cell_words, is_known, is_same, spot_of, spot_number}
 use Rattle.record.specs.Grammar.{IsListed}
 use Rattle.record.specs.inner.Reading.{IsNoCell}
 
@@ -45,23 +46,27 @@ pub same-spot : (c d : Cell) → cell_words c ≡ cell_words d → spot_of c ≡
 same-spot c d h = ap spot_of (cell-same c d h)
 
 -- what may be listed of one of them may be listed of the other
-pub in-order : (from : ℕ) (c d : Cell) → cell_words c ≡ cell_words d → IsListed from d → from ≤ spot_number (spot_of c)
-in-order from c d h listed = subst (λ e. from ≤ spot_number (spot_of e)) (sym (cell-same c d h)) listed.in_order
+pub in-order : (p : Protocol) (from : ℕ) (c d : Cell) → cell_words c ≡ cell_words d → IsListed p from d → from ≤ spot_number (spot_of c)
+in-order p from c d h listed = subst (λ e. from ≤ spot_number (spot_of e)) (sym (cell-same c d h)) listed.in_order
 
-pub differs : (from : ℕ) (c d : Cell) → cell_words c ≡ cell_words d → IsListed from d → is_same c (cell_at baseline (spot_of c)) ≡ false
-differs from c d h listed = subst (λ e. is_same e (cell_at baseline (spot_of e)) ≡ false) (sym (cell-same c d h)) listed.differs
+pub differs : (p : Protocol) (from : ℕ) (c d : Cell) → cell_words c ≡ cell_words d → IsListed p from d →
+    is_same c (cell_at (baseline_of p) (spot_of c)) ≡ false
+differs p from c d h listed = subst (λ e. is_same e (cell_at (baseline_of p) (spot_of e)) ≡ false) (sym (cell-same c d h)) listed.differs
+
+pub known : (p : Protocol) (from : ℕ) (c d : Cell) → cell_words c ≡ cell_words d → IsListed p from d → is_known p c ≡ true
+known p from c d h listed = subst (λ e. is_known p e ≡ true) (sym (cell-same c d h)) listed.known
 
 not-false : (b : Bool) → not b ≡ false → b ≡ true
 not-false true e = refl
 not-false false e = cc
 
--- a cell that doesn't differ from the baseline's is the baseline's
-pub unchanged : (t : Tables) (s : Spot) → not (is_same (cell_at t s) (cell_at baseline s)) ≡ false → cell_at t s ≡ cell_at baseline s
-unchanged t (spot.Cache s e) h =
+-- a cell that doesn't differ from that of other tables is that
+pub unchanged : (t u : Tables) (s : Spot) → not (is_same (cell_at t s) (cell_at u s)) ≡ false → cell_at t s ≡ cell_at u s
+unchanged t u (spot.Cache s e) h =
     ap (cell.Cache s e)
     (entry-equal cache_baseline.all_states cache_table.state_number cache_standing.state_stands cache.all_actions cache.action_number
     cache_standing.action_stands _ _ (not-false _ h))
-unchanged t (spot.Directory s e) h =
+unchanged t u (spot.Directory s e) h =
     ap (cell.Directory s e)
     (entry-equal directory_baseline.all_states directory_table.state_number directory_standing.state_stands directory.all_actions
     directory.action_number directory_standing.action_stands _ _ (not-false _ h))

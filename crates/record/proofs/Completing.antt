@@ -1,5 +1,5 @@
 -- Well formed bytes are the text of a recording.
-use Rattle.std.proofs.Common.{◌≡◌, ◌≢◌, ◌≤◌, ◌+◌, ◌-◌, ℕ, zero, suc, List, [], ◌∷◌, ◌++◌, Some, length, map, take, refl, ap, sym, subst}
+use Rattle.std.proofs.Common.{◌≡◌, ◌≢◌, ◌≤◌, ◌+◌, ◌-◌, ℕ, zero, suc, List, [], ◌∷◌, ◌++◌, Some, true, length, map, take, refl, ap, sym, subst}
 use Rattle.std.proofs.Common.{◌∙◌, arith, append-nil, append_assoc}
 use Rattle.std.specs.List.{AllByRecursion, flat_map}
 use Rattle.std.proofs.lemmas.List.Elements.{All-from_recursion}
@@ -8,18 +8,22 @@ use Rattle.std.proofs.lemmas.List.{length-map}
 use Rattle.base.specs.Spelling.{words}
 use Rattle.base.proofs.Cells.{TableOf, HasSize-replaced, replaced-here, replaced-other}
 use Rattle.cache_table.specs.Baseline as cache_baseline
+use Rattle.cache_table.specs.Keeping as cache_keeping
 use Rattle.cache_table.specs.Table as cache_table
+use Rattle.cache_table.proofs.Keeping.{keeps-replaced as cache-keeps}
 use Rattle.cache_table.specs.inner.Standing as cache_standing
 use Rattle.directory_table.specs.Baseline as directory_baseline
+use Rattle.directory_table.specs.Keeping as directory_keeping
 use Rattle.directory_table.specs.Table as directory_table
+use Rattle.directory_table.proofs.Keeping.{keeps-replaced as directory-keeps}
 use Rattle.directory_table.specs.inner.Standing as directory_standing
-use Rattle.both_tables.specs.Tables.{Tables, baseline}
+use Rattle.both_tables.specs.Tables.{Tables, baseline_of}
 use Rattle.record.specs.declared.cells.Spot.{Spot}
 use Rattle.record.specs.declared.cells.Spot.TheVariants as spot
 use Rattle.record.specs.declared.cells.Cell.{Cell}
 use Rattle.record.specs.declared.cells.Cell.TheVariants as cell
 use Rattle.record.specs.declared.recording.Entry.{Entry}
-use Rattle.record.specs.Cells.{all_spots, cell_at, cell_words, spot_number, spot_of, FitsCell}
+use Rattle.record.specs.Cells.{all_spots, cell_at, cell_words, is_known, spot_number, spot_of, FitsCell}
 use Rattle.record.specs.View.{RecordingView}
 use Rattle.record.specs.Text.{text, line, header_words, shape_words, opening_words, cells_words, entries_words, told, told_words, end_words, changed, changed_cells}
 use Rattle.base.specs.Extent.{Extent}
@@ -53,69 +57,86 @@ directory-listed = record { states_stand = directory_standing.state_stands; even
 
 -- tables with this cell in its place
 put : Tables → Cell → Tables
-put t (cell.Cache s e x) = record { cache = cache_table.with_cell t.cache s e x; directory = t.directory }
-put t (cell.Directory s e x) = record { cache = t.cache; directory = directory_table.with_cell t.directory s e x }
+put t (cell.Cache s e x) = record { protocol = t.protocol; cache = cache_table.with_cell t.cache s e x; directory = t.directory }
+put t (cell.Directory s e x) = record { protocol = t.protocol; cache = t.cache; directory = directory_table.with_cell t.directory s e x }
 
 put-here : (t : Tables) (c : Cell) → AreWhole t → cell_at (put t c) (spot_of c) ≡ c
 unfolding put
 put-here t (cell.Cache s e x) h =
     ap (cell.Cache s e)
-    (replaced-here cache_baseline.all_states cache_baseline.all_events cache_table.state_number cache_table.event_number cache-listed t.cache s e x h.cache)
+    (replaced-here cache_baseline.all_states cache_baseline.all_events cache_table.state_number cache_table.event_number cache-listed
+    t.cache s e x h.cache.whole)
 put-here t (cell.Directory s e x) h =
     ap (cell.Directory s e)
     (replaced-here directory_baseline.all_states directory_baseline.all_events directory_table.state_number directory_table.event_number directory-listed
-    t.directory s e x h.directory)
+    t.directory s e x h.directory.whole)
 
 put-others : (t : Tables) (c : Cell) → AreWhole t → (s : Spot) → s ≢ spot_of c → cell_at (put t c) s ≡ cell_at t s
 unfolding put
 put-others t (cell.Cache s e x) h (spot.Cache u f) other =
     ap (cell.Cache u f)
     (replaced-other cache_baseline.all_states cache_baseline.all_events cache_table.state_number cache_table.event_number cache-listed t.cache s e x u f
-    h.cache (λ both. other (ap (λ z. spot.Cache z f) both.0 ∙ ap (spot.Cache s) both.1)))
+    h.cache.whole (λ both. other (ap (λ z. spot.Cache z f) both.0 ∙ ap (spot.Cache s) both.1)))
 put-others t (cell.Cache s e x) h (spot.Directory u f) other = refl
 put-others t (cell.Directory s e x) h (spot.Cache u f) other = refl
 put-others t (cell.Directory s e x) h (spot.Directory u f) other =
     ap (cell.Directory u f)
     (replaced-other directory_baseline.all_states directory_baseline.all_events directory_table.state_number directory_table.event_number
-    directory-listed t.directory s e x u f h.directory (λ both. other (ap (λ z. spot.Directory z f) both.0 ∙ ap (spot.Directory s) both.1)))
+    directory-listed t.directory s e x u f h.directory.whole (λ both. other (ap (λ z. spot.Directory z f) both.0 ∙ ap (spot.Directory s) both.1)))
 
-put-cache : (t : Tables) (c : Cell) → AreWhole t → cache_table.IsWhole (put t c).cache
+put-cache : (t : Tables) (c : Cell) → AreWhole t → is_known t.protocol c ≡ true → cache_keeping.IsTable (put t c).protocol (put t c).cache
 unfolding put
-put-cache t (cell.Cache s e x) h =
-    HasSize-replaced cache_baseline.all_states 12 cache_table.state_number cache_table.event_number cache_standing.state_stands t.cache s e x h.cache
-put-cache t (cell.Directory s e x) h = h.cache
+put-cache t (cell.Cache s e x) h known = record {
+  whole =
+      HasSize-replaced cache_baseline.all_states 13 cache_table.state_number cache_table.event_number cache_standing.state_stands
+      t.cache s e x h.cache.whole;
+  keeps = cache-keeps t.protocol t.cache s e x h.cache known;
+}
+put-cache t (cell.Directory s e x) h known = h.cache
 
-put-directory : (t : Tables) (c : Cell) → AreWhole t → directory_table.IsWhole (put t c).directory
+put-directory : (t : Tables) (c : Cell) → AreWhole t → is_known t.protocol c ≡ true → directory_keeping.IsTable (put t c).protocol (put t c).directory
 unfolding put
-put-directory t (cell.Cache s e x) h = h.directory
-put-directory t (cell.Directory s e x) h =
-    HasSize-replaced directory_baseline.all_states 7 directory_table.state_number directory_table.event_number directory_standing.state_stands
-    t.directory s e x h.directory
+put-directory t (cell.Cache s e x) h known = h.directory
+put-directory t (cell.Directory s e x) h known = record {
+  whole =
+      HasSize-replaced directory_baseline.all_states 7 directory_table.state_number directory_table.event_number directory_standing.state_stands
+      t.directory s e x h.directory.whole;
+  keeps = directory-keeps t.protocol t.directory s e x h.directory known;
+}
 
-put-whole : (t : Tables) (c : Cell) → AreWhole t → FitsCell c → AreWhole (put t c)
-put-whole t c h fits = whole-more t (put t c) c (put-here t c h) (put-others t c h) (put-cache t c h) (put-directory t c h) h fits
+put-protocol : (t : Tables) (c : Cell) → (put t c).protocol ≡ t.protocol
+unfolding put
+put-protocol t (cell.Cache s e x) = refl
+put-protocol t (cell.Directory s e x) = refl
 
--- tables that differ from the baseline's in just these cells
-record Made (cells : List Cell) : Type 0 where
+put-whole : (t : Tables) (c : Cell) → AreWhole t → FitsCell c → is_known t.protocol c ≡ true → AreWhole (put t c)
+put-whole t c h fits known =
+    whole-more t (put t c) c (put-here t c h) (put-others t c h) (put-cache t c h known) (put-directory t c h known) h fits
+
+-- tables of a protocol that differ from its own in just these cells
+record Made (protocol : Protocol) (cells : List Cell) : Type 0 where
   tables : Tables
   whole : AreWhole tables
+  same : tables.protocol ≡ protocol
   just : changed_cells tables ≡ cells
 
-made-from : (t : Tables) (from : ℕ) (cs : List Cell) → AreWhole t → from ≤ 160 → IsBaselineFrom from t → AreListed from cs →
-    Made (changed t (take from all_spots) ++ cs)
-made-from t from [] h low plain listed =
-    record { tables = t; whole = h; just = sym (listed-all t from low plain) ∙ sym (append-nil (changed t (take from all_spots))) }
-made-from t from (c ∷ cs) h low plain listed =
+made-from : (p : Protocol) (t : Tables) (from : ℕ) (cs : List Cell) → t.protocol ≡ p → AreWhole t → from ≤ 184 → IsBaselineFrom from t →
+    AreListed t.protocol from cs → Made p (changed t (take from all_spots) ++ cs)
+made-from p t from [] same h low plain listed =
+    record { tables = t; whole = h; same = same; just = sym (listed-all t from low plain) ∙ sym (append-nil (changed t (take from all_spots))) }
+made-from p t from (c ∷ cs) same h low plain listed =
     let own = at-own (spot_of c) in
+    let kept : (put t c).protocol ≡ t.protocol = put-protocol t c in
     let others = put-others t c h in
-    let more = listed-more t (put t c) from c plain listed.0 (put-here t c h) others in
+    let more = listed-more t (put t c) from c kept plain listed.0 (put-here t c h) others in
     let rest =
-    made-from (put t c) (spot_number (spot_of c) + 1) cs (put-whole t c h listed.0.fits) (omega (arith, own.1))
-    (plain-more t (put t c) from c plain listed.0.in_order others) listed.1 in
-    subst Made (ap (λ l. l ++ cs) more ∙ append_assoc (changed t (take from all_spots)) (c ∷ []) cs) rest
+    made-from p (put t c) (spot_number (spot_of c) + 1) cs (kept ∙ same) (put-whole t c h listed.0.fits listed.0.known) (omega (arith, own.1))
+    (plain-more t (put t c) from c kept plain listed.0.in_order others)
+    (subst (λ q. AreListed q (spot_number (spot_of c) + 1) cs) (sym kept) listed.1) in
+    subst (Made p) (ap (λ l. l ++ cs) more ∙ append_assoc (changed t (take from all_spots)) (c ∷ []) cs) rest
 
-made-of : (cs : List Cell) → AreListed 0 cs → Made cs
-made-of cs listed = made-from baseline 0 cs baseline-whole (omega arith) (λ s high. refl) listed
+made-of : (p : Protocol) (cs : List Cell) → AreListed p 0 cs → Made p cs
+made-of p cs listed = made-from p (baseline_of p) 0 cs refl (baseline-whole p) (omega arith) (λ s high. refl) listed
 
 -- ---- lines
 
@@ -147,7 +168,7 @@ one-line ls rest l ws is spelled = ap (flat_map ended) is ∙ ap (λ x. x ++ fla
 record Cells (f : Form) (from count : ℕ) (ls : List (List ℕ)) : Type 0 where
   cells : List Cell
   rest : List (List ℕ)
-  listed : AreListed from cells
+  listed : AreListed f.protocol from cells
   many : length cells ≡ count
   follow : Follow (EntryCount f) rest Nothing
   bytes : flat_map ended ls ≡ flat_map line (map cell_words cells) ++ flat_map ended rest
@@ -290,7 +311,8 @@ tail-is cs ts =
     ap (λ l. line (cells_words (length cs)) ++ l) (flat_map-append line (map cell_words cs) (entries_words (length ts) ∷ map told_words ts ++ end_words ∷ []))
 
 tail-of : (f : Form) (ls : List (List ℕ)) → Follow (CellCount f) ls Nothing →
-    (cs : List Cell) × (ts : List Told) × AreListed 0 cs × (length ts ≤ 1000000) × AllByRecursion (FitsTold f.seats) ts × (flat_map ended ls ≡ tail_text cs ts)
+    (cs : List Cell) × (ts : List Told) × AreListed f.protocol 0 cs × (length ts ≤ 1000000) × AllByRecursion (FitsTold f.seats) ts ×
+    (flat_map ended ls ≡ tail_text cs ts)
 unfolding tail_text
 tail-of f ls g =
     let b = begins-of (CellCount f) ls Nothing (λ e. cc) g in
@@ -326,12 +348,11 @@ lines-text ls f =
     let v : Version = a.leads.0 in
     let h = head-of v a.rest (turned a.next _ a.rest Nothing a.leads.2 a.follow) in
     let rest = tail-of (form v h.protocol h.seats) h.rest h.follow in
-    let made = made-of rest.0 rest.2 in
+    let made = made-of h.protocol rest.0 rest.2 in
     let ts : List Told = rest.1 in
     let entries : List Entry = entries_of ts in
     let owners : List ℕ = owners_of ts in
     let r : RecordingView = record {
-      protocol = h.protocol;
       seats = h.seats;
       shape = h.shape;
       tables = made.tables;
@@ -343,7 +364,10 @@ lines-text ls f =
     let few : length entries ≤ 1000000 = omega (arith, n, rest.3) in
     let tail : flat_map ended h.rest ≡ tail_text (changed_cells made.tables) ts = rest.5 ∙ ap (λ cs. tail_text cs ts) (sym made.just) in
     let all = tail-told made.tables ts owners entries (told-of h.seats ts rest.4) (sym n) in
-    let head : List (List (List ℕ)) = protocol_lines v h.protocol ++ (shape_words h.shape ∷ seats_lines v h.seats ++ opening_words h.opening ∷ []) in (
+    let head : List (List (List ℕ)) = protocol_lines v made.tables.protocol ++ (shape_words h.shape ∷ seats_lines v h.seats ++ opening_words h.opening ∷ []) in
+    let headed = ap
+    (λ p. flat_map line (protocol_lines v p ++ (shape_words h.shape ∷ seats_lines v h.seats ++ opening_words h.opening ∷ [])) ++ flat_map ended h.rest)
+    (sym made.same) in (
       v,
       r,
       (
@@ -355,9 +379,9 @@ lines-text ls f =
           owners = are-owners h.seats ts h.few rest.4;
           fits = All-from_recursion FitsEntry entries (entries-fit h.seats ts rest.4);
         },
-        record { shape = h.within; told = h.can },
+        record { shape = h.within; told = subst (λ p. CanTell v p h.seats) (sym made.same) h.can },
         one-line ls a.rest a.first (header_words v) a.is a.leads.1
-            ∙ ap (λ l. line (header_words v) ++ l) (h.bytes ∙ ap (λ l. flat_map line head ++ l) (tail ∙ all)
+            ∙ ap (λ l. line (header_words v) ++ l) (h.bytes ∙ headed ∙ ap (λ l. flat_map line head ++ l) (tail ∙ all)
             ∙ sym (flat_map-append line head _)),
       ),
     )

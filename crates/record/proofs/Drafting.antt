@@ -13,7 +13,7 @@ use Rattle.record.specs.declared.version.Version.TheVariants.{One, Two}
 use Rattle.record.specs.Refused.{limit}
 use Rattle.record.specs.Versions.{form, header_leads, shape_leads_in, protocol_lines, protocol_words, seats_lines, seats_words, CanTell, IsShapeIn}
 use Rattle.record.proofs.Owners.{more-owners, told-more}
-use Rattle.both_tables.specs.Tables.{Tables, baseline}
+use Rattle.both_tables.specs.Tables.{Tables, baseline_of}
 use Rattle.record.specs.declared.cells.Spot.{Spot}
 use Rattle.record.specs.declared.cells.Cell.{Cell}
 use Rattle.record.specs.declared.draft.Draft.{Draft}
@@ -31,6 +31,7 @@ use Rattle.record.specs.inner.Drafts.{HasRoom}
 use Rattle.record.specs.inner.Readers.{IsReady}
 use Rattle.record.specs.inner.Reading.{IsTakenOff}
 use Rattle.record.proofs.Listed.{at-own, listed-all, listed-more, plain-more}
+use Rattle.record.proofs.Standing.{baseline-whole}
 use Rattle.record.proofs.Steps.{fewer-left}
 
 -- ---- what is due behind a count, and behind one of so many
@@ -47,7 +48,7 @@ entries-before f (suc n) r = refl
 abbrev IsHead : Form → Kept → Type 0
 IsHead f r = IsHeadedAs f r × IsShapeIn r.version r.shape
 
-cells-read : (f : Form) (n from : ℕ) (r : Kept) → IsWithinLimits r.shape → AreWhole r.tables → AreValues r.shape r.opening → r.entries ≡ [] → from ≤ 160 →
+cells-read : (f : Form) (n from : ℕ) (r : Kept) → IsWithinLimits r.shape → AreWhole r.tables → AreValues r.shape r.opening → r.entries ≡ [] → from ≤ 184 →
     IsBaselineFrom from r.tables → All FitsEntry r.entries → AreOwners r.seats r.owners r.entries → IsHead f r → IsReadTo (cells_due f n from) r
 cells-read f zero from r shape tables opening entries low plain fits owners head =
     record { shape = shape; tables = tables; fits = fits; opening = opening; cells = tt; entries = entries; owners = owners; head = head }
@@ -77,8 +78,8 @@ entries-read f (suc n) r shape tables opening few fits owners head = record {
   head = head;
 }
 
-baseline-changed : changed_cells baseline ≡ []
-baseline-changed = sym (listed-all baseline 0 (omega arith) (λ s high. refl))
+baseline-changed : (p : Protocol) → changed_cells (baseline_of p) ≡ []
+baseline-changed p = sym (listed-all (baseline_of p) 0 (omega arith) (λ s high. refl))
 
 -- nobody owns an entry where there is none
 pub no-owners : (seats : ℕ) (owners : List ℕ) (entries : List Entry) → AreOwners seats owners entries → entries ≡ [] → owners ≡ []
@@ -94,7 +95,7 @@ no-owners (suc n) owners entries h none = by-length owners (h.each (λ e. absurd
 at-cell_count : (f : Form) (r : Kept) (line : List (List ℕ)) (next : Due) → IsReadTo (CellCount f) r → Leads (CellCount f) line next →
     IsTaken (CellCount f) r line next r
 at-cell_count f r line next h leads =
-    let none : changed_cells r.tables ≡ [] = ap changed_cells h.cells ∙ baseline-changed in
+    let none : changed_cells r.tables ≡ [] = ap changed_cells h.cells ∙ baseline-changed r.tables.protocol in
     let n : length (changed_cells r.tables) + leads.0 ≡ leads.0 = omega (arith, ap length none) in
     let plain : IsBaselineFrom 0 r.tables = λ s high. ap (λ (t : Tables). cell_at t s) h.cells in
     let head : List (List (List ℕ)) = head_lines r.version (recorded r) in
@@ -140,7 +141,6 @@ entry_count-taken due f r line next is h leads =
 abbrev pub with_tables : Kept → Tables → Kept
 with_tables r tables = record {
   version = r.version;
-  protocol = r.protocol;
   seats = r.seats;
   shape = r.shape;
   tables = tables;
@@ -149,18 +149,23 @@ with_tables r tables = record {
   owners = r.owners;
 }
 
+-- the lines of the head, if the protocol were this one
+abbrev head_of : Kept → Protocol → List (List (List ℕ))
+head_of r p = head_lines r.version (recorded (with_tables r (record { protocol = p; cache = r.tables.cache; directory = r.tables.directory })))
+
 pub cell-taken : (f : Form) (r : Kept) (tables : Tables) (left from : ℕ) (cell : Cell) (line : List (List ℕ)) (next : Due) →
-    IsReadTo (CellLine f left from) r → IsListed from cell → line ≡ cell_words cell → AreWhole tables →
+    IsReadTo (CellLine f left from) r → IsListed f.protocol from cell → line ≡ cell_words cell → AreWhole tables → tables.protocol ≡ r.tables.protocol →
     cell_at tables (spot_of cell) ≡ cell → ((spot : Spot) → spot ≢ spot_of cell → cell_at tables spot ≡ cell_at r.tables spot) →
     next ≡ cells_due f (left - 1) (spot_number (spot_of cell) + 1) → IsTaken (CellLine f left from) r line next (with_tables r tables)
-cell-taken f r tables left from cell line next h listed spelled whole here others due =
+cell-taken f r tables left from cell line next h listed spelled whole p here others due =
     let s : Kept = with_tables r tables in
     let own = at-own (spot_of cell) in
     let behind : ℕ = spot_number (spot_of cell) + 1 in
-    let low : behind ≤ 160 = omega (arith, own.1) in
-    let plain = plain-more r.tables tables from cell h.cells.2 listed.in_order others in
+    let low : behind ≤ 184 = omega (arith, own.1) in
+    let first : IsListed r.tables.protocol from cell = subst (λ q. IsListed q from cell) h.head.0.1 listed in
+    let plain = plain-more r.tables tables from cell p h.cells.2 listed.in_order others in
     let more : changed_cells tables ≡ changed_cells r.tables ++ cell ∷ [] =
-    sym (listed-all tables behind low plain) ∙ listed-more r.tables tables from cell h.cells.2 listed here others
+    sym (listed-all tables behind low plain) ∙ listed-more r.tables tables from cell p h.cells.2 first here others
     ∙ ap (λ cs. cs ++ cell ∷ []) (listed-all r.tables from h.cells.1 h.cells.2) in
     let n : length (changed_cells tables) + (left - 1) ≡ length (changed_cells r.tables) + left =
     omega (arith, ap length more, length_push (changed_cells r.tables) cell, h.cells.0) in
@@ -170,20 +175,21 @@ cell-taken f r tables left from cell line next h listed spelled whole here other
       leads = (cell, listed, spelled, due);
       before =
           ap (λ d. lines_before d s) due ∙ cells-before f (left - 1) behind s ∙ ap (lines_to_cells s) n
+          ∙ ap (λ q. head_of r q ++ cells_words count ∷ map cell_words (changed_cells tables)) p
           ∙ ap (λ cs. head ++ cells_words count ∷ cs)
           (ap (map cell_words) more ∙ map-append cell_words (changed_cells r.tables) (cell ∷ [])
           ∙ ap (λ l. map cell_words (changed_cells r.tables) ++ l ∷ []) (sym spelled))
           ∙ sym (append_assoc head (cells_words count ∷ map cell_words (changed_cells r.tables)) (line ∷ []));
       read =
           subst (λ d. IsReadTo d s) (sym due)
-          (cells-read f (left - 1) behind s h.shape whole h.opening h.entries low plain h.fits h.owners h.head);
+          (cells-read f (left - 1) behind s h.shape whole h.opening h.entries low plain h.fits h.owners
+          ((h.head.0.0, h.head.0.1 ∙ sym p, h.head.0.2, subst (λ q. CanTell r.version q r.seats) (sym p) h.head.0.3), h.head.1));
     }
 
 -- a recording with these entries, and these owners
 abbrev pub with_told : Kept → List Entry → List ℕ → Kept
 with_told r entries owners = record {
   version = r.version;
-  protocol = r.protocol;
   seats = r.seats;
   shape = r.shape;
   tables = r.tables;
@@ -229,19 +235,6 @@ entry-taken f r entries owners left t line next h fits spelled is same due =
 abbrev pub with_version : Kept → Version → Kept
 with_version r version = record {
   version = version;
-  protocol = r.protocol;
-  seats = r.seats;
-  shape = r.shape;
-  tables = r.tables;
-  opening = r.opening;
-  entries = r.entries;
-  owners = r.owners;
-}
-
-abbrev pub with_protocol : Kept → Protocol → Kept
-with_protocol r protocol = record {
-  version = r.version;
-  protocol = protocol;
   seats = r.seats;
   shape = r.shape;
   tables = r.tables;
@@ -253,7 +246,6 @@ with_protocol r protocol = record {
 abbrev pub with_shape : Kept → Extent → Kept
 with_shape r shape = record {
   version = r.version;
-  protocol = r.protocol;
   seats = r.seats;
   shape = shape;
   tables = r.tables;
@@ -265,7 +257,6 @@ with_shape r shape = record {
 abbrev pub with_seats : Kept → ℕ → Kept
 with_seats r seats = record {
   version = r.version;
-  protocol = r.protocol;
   seats = seats;
   shape = r.shape;
   tables = r.tables;
@@ -277,7 +268,6 @@ with_seats r seats = record {
 abbrev pub with_opening : Kept → List ℕ → Kept
 with_opening r opening = record {
   version = r.version;
-  protocol = r.protocol;
   seats = r.seats;
   shape = r.shape;
   tables = r.tables;
@@ -289,24 +279,25 @@ with_opening r opening = record {
 can-second : (v : Version) (p : Protocol) (n : ℕ) → v ≡ Two → CanTell v p n
 can-second v p n is = subst (λ x. CanTell x p n) (sym is) tt
 
-pub protocol-taken : (r : Kept) (line : List (List ℕ)) (p : Protocol) (next : Due) → IsReadTo ProtocolLine r → line ≡ protocol_words p →
-    next ≡ ShapeLine (form Two p 0) → IsTaken ProtocolLine r line next (with_protocol r p)
-protocol-taken r line p next h spelled due =
-    subst (λ d. IsTaken ProtocolLine r line d (with_protocol r p)) (sym due) (record {
+pub protocol-taken : (r : Kept) (tables : Tables) (line : List (List ℕ)) (p : Protocol) (next : Due) → IsReadTo ProtocolLine r → line ≡ protocol_words p →
+    tables ≡ baseline_of p → next ≡ ShapeLine (form Two p 0) → IsTaken ProtocolLine r line next (with_tables r tables)
+protocol-taken r tables line p next h spelled own due =
+    subst (λ t. IsTaken ProtocolLine r line next (with_tables r t)) (sym own)
+    (subst (λ d. IsTaken ProtocolLine r line d (with_tables r (baseline_of p))) (sym due) (record {
       leads = (p, spelled, refl);
       before =
           ap (λ v. header_words v ∷ protocol_lines v p) h.head.0 ∙ ap (λ l. header_words Two ∷ l ∷ []) (sym spelled);
       read = record {
         shape = h.shape;
-        tables = h.tables;
+        tables = baseline-whole p;
         fits = h.fits;
         opening = tt;
-        cells = h.cells;
+        cells = refl;
         entries = h.entries;
         owners = h.owners;
         head = (sym h.head.0, refl, sym h.head.1, can-second r.version p r.seats h.head.0);
       };
-    })
+    }))
 
 pub shape-taken : (f : Form) (r : Kept) (line : List (List ℕ)) (shape : Extent) (next : Due) → IsReadTo (ShapeLine f) r → IsShapeIn f.version shape →
     line ≡ shape_words shape → next ≡ shape_leads_in f.version f shape → IsTaken (ShapeLine f) r line next (with_shape r shape)
@@ -323,8 +314,8 @@ shape-taken f r line shape next h within spelled due =
         subst (λ d. IsTaken (ShapeLine f) r line d (with_shape r shape)) (sym lead) (record {
           leads = (shape, within, spelled, sym lead);
           before =
-              ap (λ ls. header_words r.version ∷ protocol_lines r.version r.protocol ++ (shape_words shape ∷ ls)) (ap (λ v. seats_lines v r.seats) first)
-              ∙ ap (λ l. header_words r.version ∷ protocol_lines r.version r.protocol ++ (l ∷ [])) (sym spelled);
+              ap (λ ls. header_words r.version ∷ protocol_lines r.version r.tables.protocol ++ (shape_words shape ∷ ls)) (ap (λ v. seats_lines v r.seats) first)
+              ∙ ap (λ l. header_words r.version ∷ protocol_lines r.version r.tables.protocol ++ (l ∷ [])) (sym spelled);
           read = record {
             shape = within.within;
             tables = h.tables;
@@ -341,7 +332,7 @@ shape-taken f r line shape next h within spelled due =
         let lead : shape_leads_in f.version f shape ≡ SeatsLine f shape = ap (λ v. shape_leads_in v f shape) is in
         subst (λ d. IsTaken (ShapeLine f) r line d (with_shape r shape)) (sym lead) (record {
           leads = (shape, within, spelled, sym lead);
-          before = ap (λ l. header_words r.version ∷ protocol_lines r.version r.protocol ++ (l ∷ [])) (sym spelled);
+          before = ap (λ l. header_words r.version ∷ protocol_lines r.version r.tables.protocol ++ (l ∷ [])) (sym spelled);
           read = record {
             shape = within.within;
             tables = h.tables;
@@ -360,9 +351,9 @@ seats-taken f shape r line n next h few spelled due =
     subst (λ d. IsTaken (SeatsLine f shape) r line d (with_seats r n)) (sym due) (record {
       leads = (n, few, spelled, refl);
       before =
-          ap (λ ls. header_words r.version ∷ protocol_lines r.version r.protocol ++ (shape_words shape ∷ ls))
+          ap (λ ls. header_words r.version ∷ protocol_lines r.version r.tables.protocol ++ (shape_words shape ∷ ls))
           (ap (λ v. seats_lines v n) h.head.1 ∙ ap (λ l. l ∷ []) (sym spelled))
-          ∙ ap (λ l. header_words r.version ∷ l) (sym (append_assoc (protocol_lines r.version r.protocol) (shape_words shape ∷ []) (line ∷ [])));
+          ∙ ap (λ l. header_words r.version ∷ l) (sym (append_assoc (protocol_lines r.version r.tables.protocol) (shape_words shape ∷ []) (line ∷ [])));
       read = record {
         shape = h.shape;
         tables = h.tables;
@@ -376,7 +367,7 @@ seats-taken f shape r line n next h few spelled due =
           each = λ some. ap length (no-owners r.seats r.owners r.entries h.owners h.entries) ∙ sym (ap length h.entries);
           within = subst (All (λ k. k < n)) (sym (no-owners r.seats r.owners r.entries h.owners h.entries)) (All-from_recursion (λ k. k < n) [] tt);
         };
-        head = ((h.head.0.0, h.head.0.1, refl, can-second r.version r.protocol n h.head.1), h.head.2);
+        head = ((h.head.0.0, h.head.0.1, refl, can-second r.version r.tables.protocol n h.head.1), h.head.2);
       };
     })
 
@@ -386,11 +377,13 @@ opening-taken f shape r line values next h are spelled due =
     subst (λ d. IsTaken (OpeningLine f shape) r line d (with_opening r values)) (sym due) (record {
       leads = (values, are, spelled, refl);
       before =
-          ap (λ x. header_words r.version ∷ protocol_lines r.version r.protocol ++ (shape_words x ∷ seats_lines r.version r.seats ++ opening_words values ∷ []))
+          ap (λ x. header_words r.version ∷ protocol_lines r.version r.tables.protocol ++
+          (shape_words x ∷ seats_lines r.version r.seats ++ opening_words values ∷ []))
           h.opening
-          ∙ ap (λ l. header_words r.version ∷ protocol_lines r.version r.protocol ++ (shape_words shape ∷ seats_lines r.version r.seats ++ l ∷ [])) (sym spelled)
+          ∙ ap (λ l. header_words r.version ∷ protocol_lines r.version r.tables.protocol ++ (shape_words shape ∷ seats_lines r.version r.seats ++ l ∷ []))
+          (sym spelled)
           ∙ ap (λ l. header_words r.version ∷ l)
-          (sym (append_assoc (protocol_lines r.version r.protocol) (shape_words shape ∷ seats_lines r.version r.seats) (line ∷ [])));
+          (sym (append_assoc (protocol_lines r.version r.tables.protocol) (shape_words shape ∷ seats_lines r.version r.seats) (line ∷ [])));
       read = record {
         shape = h.shape;
         tables = h.tables;

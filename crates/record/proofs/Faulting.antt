@@ -1,5 +1,6 @@
 -- A line that is well formed where it is due has no fault.
-use Rattle.std.proofs.Common.{◌≡◌, ◌≢◌, ◌≤◌, ◌<◌, ◌^◌, ℕ, List, [], ◌∷◌, ◌++◌, Option, Some, None, length, refl, ap, sym, subst, ◌∙◌, arith, codes, length-append}
+use Rattle.std.proofs.Common.{◌≡◌, ◌≢◌, ◌≤◌, ◌<◌, ◌^◌, ℕ, List, [], ◌∷◌, ◌++◌, Option, Some, None}
+use Rattle.std.proofs.Common.{length, refl, ap, sym, subst, ◌∙◌, arith, codes, length-append}
 use Rattle.std.specs.List.{AllByRecursion}
 use Rattle.std.specs.Fmt.{decimal}
 use Rattle.std.proofs.lemmas.Fmt.{decimal_by_steps, decimal_injective}
@@ -9,11 +10,13 @@ use Rattle.base.specs.declared.step.Ask.TheVariants.{Load, Store, Replace}
 use Rattle.base.specs.declared.step.Step.{Step}
 use Rattle.base.specs.declared.step.Step.TheVariants as step
 use Rattle.record.specs.declared.fault.ReadKind.{ReadKind}
-use Rattle.record.specs.declared.fault.ReadKind.TheVariants.{BadHeader, BadLine, Truncated, CountDiffers, BadOutcome, OverLimit, NoMemory, Device, UnknownProtocol}
+use Rattle.record.specs.declared.fault.ReadKind.TheVariants.{BadHeader, BadLine, Truncated, CountDiffers, BadOutcome, OverLimit, NoMemory, Device}
+use Rattle.record.specs.declared.fault.ReadKind.TheVariants.{UnknownProtocol}
 use Rattle.base.specs.Protocols.{protocol_name}
 use Rattle.record.specs.Text.{by_words, end_words}
 use Rattle.record.specs.declared.due.Due.{Due}
-use Rattle.record.specs.declared.due.Due.TheVariants.{Header, ProtocolLine, ShapeLine, SeatsLine, OpeningLine, CellCount, CellLine, EntryCount, EntryLine, EndLine, Nothing}
+use Rattle.record.specs.declared.due.Due.TheVariants.{Header, ProtocolLine, ShapeLine, SeatsLine, OpeningLine, CellCount, CellLine}
+use Rattle.record.specs.declared.due.Due.TheVariants.{EntryCount, EntryLine, EndLine, Nothing}
 use Rattle.record.specs.Grammar.{IsOwner, Leads}
 use Rattle.record.specs.Refused.{IsOver, IsMiscounted, IsBadOutcome, IsUnknown, IsFaultOfLine}
 use Rattle.record.proofs.Legible.{all-append}
@@ -45,7 +48,8 @@ step-no_sign (step.Request b i) f = (λ e. cc, (number-no_sign b.0 (omega (arith
 step-no_sign (step.Forward b c) f = (λ e. cc, (number-no_sign b.0 (omega (arith, f.0)), (number-no_sign c.0 (omega (arith, f.1)), tt)))
 step-no_sign (step.Response b i) f = (λ e. cc, (number-no_sign b.0 (omega (arith, f.0)), (number-no_sign i f.1, tt)))
 
-behind-sign : (xs ys us vs : List (List ℕ)) → AllByRecursion IsNoSign xs → AllByRecursion IsNoSign ys → xs ++ codes "=" ∷ us ≡ ys ++ codes "=" ∷ vs →
+behind-sign : (xs ys us vs : List (List ℕ)) → AllByRecursion IsNoSign xs → AllByRecursion IsNoSign ys →
+    xs ++ codes "=" ∷ us ≡ ys ++ codes "=" ∷ vs →
     (xs ≡ ys) × (us ≡ vs)
 behind-sign [] [] us vs h k e = (refl, cc)
 behind-sign [] (y ∷ ys) us vs h k e = let is : y ≡ codes "=" = cc in absurd (k.0 is)
@@ -57,7 +61,8 @@ behind-sign (x ∷ xs) (y ∷ ys) us vs h k e =
     (ap (λ w. w ∷ xs) first ∙ ap (λ l. y ∷ l) both.0, both.1)
 
 -- a line has one step before its equals sign, and one outcome behind it
-pub same-halves : (s t : Step) (us vs : List (List ℕ)) → FitsStep s → FitsStep t → step_words s ++ codes "=" ∷ us ≡ step_words t ++ codes "=" ∷ vs →
+pub same-halves : (s t : Step) (us vs : List (List ℕ)) → FitsStep s → FitsStep t →
+    step_words s ++ codes "=" ∷ us ≡ step_words t ++ codes "=" ∷ vs →
     (step_words s ≡ step_words t) × (us ≡ vs)
 same-halves s t us vs f g e = behind-sign (step_words s) (step_words t) us vs (step-no_sign s f) (step-no_sign t g) e
 
@@ -94,10 +99,12 @@ by-same seats (Some a) (Some b) xs ys few h k e =
 over-not_good : (due : Due) (line : List (List ℕ)) (next : Due) → Leads due line next → IsOver due line → ⊥
 over-not_good Header line next l h = h
 over-not_good ProtocolLine line next l h = h
-over-not_good (SeatsLine f shape) line next l h = let same : codes "seats" ∷ h.count ∷ [] ≡ codes "seats" ∷ decimal l.0 ∷ [] = sym h.spelled ∙ l.2 in h.higher l.0 l.1 cc
+over-not_good (SeatsLine f shape) line next l h =
+    let same : codes "seats" ∷ h.count ∷ [] ≡ codes "seats" ∷ decimal l.0 ∷ [] = sym h.spelled ∙ l.2 in h.higher l.0 l.1 cc
 over-not_good (ShapeLine f) line next l h = h.outside l.0 l.1 l.2
 over-not_good (OpeningLine f shape) line next l h = h
-over-not_good (CellCount f) line next l h = let same : codes "cells" ∷ h.count ∷ [] ≡ codes "cells" ∷ decimal l.0 ∷ [] = sym h.spelled ∙ l.2 in h.higher l.0 l.1 cc
+over-not_good (CellCount f) line next l h =
+    let same : codes "cells" ∷ h.count ∷ [] ≡ codes "cells" ∷ decimal l.0 ∷ [] = sym h.spelled ∙ l.2 in h.higher l.0 l.1 cc
 over-not_good (CellLine f left from) line next l h = h
 over-not_good (EntryCount f) line next l h =
     let same : codes "entries" ∷ h.count ∷ [] ≡ codes "entries" ∷ decimal l.0 ∷ [] = sym h.spelled ∙ l.2 in h.higher l.0 l.1 cc
@@ -149,7 +156,8 @@ unknown-not_good (EntryLine f left) line next l h = h
 unknown-not_good (EndLine f) line next l h = h
 unknown-not_good Nothing line next l h = h
 
-pub fault-not_good : (due : Due) (line : List (List ℕ)) (next : Due) (kind : ReadKind) → IsDue due → Leads due line next → IsFaultOfLine due line kind → ⊥
+pub fault-not_good : (due : Due) (line : List (List ℕ)) (next : Due) (kind : ReadKind) →
+    IsDue due → Leads due line next → IsFaultOfLine due line kind → ⊥
 fault-not_good due line next OverLimit is l h = over-not_good due line next l h
 fault-not_good due line next BadHeader is l h = let good = subst (λ d. Leads d line next) h.0 l in h.1 good.0 good.1
 fault-not_good due line next UnknownProtocol is l h = unknown-not_good due line next l h

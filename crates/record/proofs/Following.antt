@@ -1,18 +1,21 @@
 -- The lines of a recording follow one another, each as it is due.
-use Rattle.std.proofs.Common.{◌≡◌, ◌≤◌, ◌+◌, ◌-◌, ℕ, zero, suc, Bool, true, false, not, List, [], ◌∷◌, ◌++◌, Some, length, map, refl, ap, sym, subst}
-use Rattle.std.proofs.Common.{◌∙◌, arith, append-nil}
+use Rattle.std.proofs.Common.{◌≡◌, ◌≤◌, ◌+◌, ◌-◌, ℕ, zero, suc, Bool, true, false, not, inl, inr, List, [], ◌∷◌, ◌++◌, Some, length, map, refl, ap, sym, subst}
+use Rattle.std.proofs.Common.{◌∙◌, arith, append-nil, cond}
+use Rattle.std.specs.Prelude.{filter, ◌&&◌}
 use Rattle.std.specs.List.{AllByRecursion, range_with_len}
 use Rattle.std.proofs.lemmas.List.Elements.{All-from_recursion, recursion_from_All}
-use Rattle.both_tables.specs.Tables.{Tables, baseline}
+use Rattle.cache_table.specs.Table.{has_event, has_state}
+use Rattle.both_tables.specs.Tables.{Tables, baseline_of}
 use Rattle.record.specs.declared.cells.Spot.{Spot}
 use Rattle.record.specs.declared.cells.Spot.TheVariants as spot
 use Rattle.record.specs.declared.cells.Cell.{Cell}
-use Rattle.record.specs.Cells.{all_spots, cell_at, cell_words, is_same, spot_of, spot_number}
+use Rattle.record.specs.Cells.{all_spots, cell_at, cell_words, is_known, is_same, most_cells, spot_of, spot_number}
 use Rattle.record.specs.View.{RecordingView}
 use Rattle.base.specs.Spelling.{joined}
 use Rattle.record.specs.Text.{text, lines, header_words, shape_words, opening_words, cells_words, entries_words, told, told_words, end_words, is_changed, changed, changed_cells}
 use Rattle.base.specs.Extent.{Extent}
-use Rattle.base.specs.declared.controller.protocol.Protocol.TheVariants.{Msi}
+use Rattle.base.specs.declared.controller.protocol.Protocol.{Protocol}
+use Rattle.base.specs.declared.controller.protocol.Protocol.TheVariants.{Msi, MsiE}
 use Rattle.record.specs.declared.due.Due.{Due}
 use Rattle.record.specs.declared.due.Form.{Form}
 use Rattle.record.specs.declared.told.Told.{Told}
@@ -28,7 +31,9 @@ use Rattle.record.specs.Recordable.{AreWhole, IsRecordable}
 use Rattle.record.proofs.Changed.{changed-cons}
 use Rattle.record.proofs.Legible.{IsLine, words-joined}
 use Rattle.record.proofs.Leading.{IsDue, leads-line, leads-due, leads-short}
-use Rattle.record.proofs.Listed.{numbers}
+use Rattle.record.proofs.Listed.{numbers, same-self}
+use Rattle.record.proofs.Spots.{few-most}
+use Rattle.record.proofs.Standing.{known-at, IsKnownAt}
 use Rattle.record.proofs.Whole.{flat_map-map}
 
 -- these lines of words are well formed one after the other
@@ -48,13 +53,14 @@ followed-lines due last (x ∷ xs) is f = (leads-line due x f.0 is f.1, followed
 -- ---- the cells that differ
 
 -- these cells may be listed one after the other, from this place on
-abbrev pub AreListed : ℕ → List Cell → Type 0
-AreListed from [] = Unit {0}
-AreListed from (c ∷ cs) = IsListed from c × AreListed (spot_number (spot_of c) + 1) cs
+abbrev pub AreListed : Protocol → ℕ → List Cell → Type 0
+AreListed p from [] = Unit {0}
+AreListed p from (c ∷ cs) = IsListed p from c × AreListed p (spot_number (spot_of c) + 1) cs
 
-sooner : (from : ℕ) (cs : List Cell) → AreListed (from + 1) cs → AreListed from cs
-sooner from [] h = tt
-sooner from (c ∷ cs) h = (record { fits = h.0.fits; in_order = omega (arith, h.0.in_order); differs = h.0.differs }, h.1)
+sooner : (p : Protocol) (from : ℕ) (cs : List Cell) → AreListed p (from + 1) cs → AreListed p from cs
+sooner p from [] h = tt
+sooner p from (c ∷ cs) h =
+    (record { fits = h.0.fits; known = h.0.known; in_order = omega (arith, h.0.in_order); differs = h.0.differs }, h.1)
 
 pub spot-own : (t : Tables) (s : Spot) → spot_of (cell_at t s) ≡ s
 spot-own t (spot.Cache state event) = refl
@@ -64,19 +70,38 @@ not-true : (b : Bool) → not b ≡ true → b ≡ false
 not-true true e = cc
 not-true false e = refl
 
-pub changed-differs : (t : Tables) (s : Spot) → is_changed t s ≡ true → is_same (cell_at t s) (cell_at baseline (spot_of (cell_at t s))) ≡ false
-changed-differs t s e = ap (λ p. is_same (cell_at t s) (cell_at baseline p)) (spot-own t s) ∙ not-true (is_same (cell_at t s) (cell_at baseline s)) e
+pub changed-differs : (t : Tables) (s : Spot) → is_changed t s ≡ true →
+    is_same (cell_at t s) (cell_at (baseline_of t.protocol) (spot_of (cell_at t s))) ≡ false
+changed-differs t s e =
+    ap (λ p. is_same (cell_at t s) (cell_at (baseline_of t.protocol) p)) (spot-own t s)
+    ∙ not-true (is_same (cell_at t s) (cell_at (baseline_of t.protocol) s)) e
+
+changed-known : (t : Tables) (s : Spot) → IsKnownAt t s → is_changed t s ≡ true → is_known t.protocol (cell_at t s) ≡ true
+changed-known t s (inr known) e = known
+changed-known t s (inl own) e =
+    let o : Cell = cell_at (baseline_of t.protocol) s in
+    let same : is_same (cell_at t s) o ≡ true = ap (λ c. is_same c o) own ∙ same-self o in
+    let other : is_same (cell_at t s) o ≡ false = not-true _ e in
+    let no : true ≡ false = sym same ∙ other in absurd (cc)
 
 listed-one : (t : Tables) (s : Spot) (ss : List Spot) (a : ℕ) (b : Bool) → AreWhole t → is_changed t s ≡ b → spot_number s ≡ a →
-    AreListed (a + 1) (changed t ss) → AreListed a (changed t (s ∷ ss))
+    AreListed t.protocol (a + 1) (changed t ss) → AreListed t.protocol a (changed t (s ∷ ss))
 listed-one t s ss a true whole e here rest =
     let place : spot_number (spot_of (cell_at t s)) ≡ a = ap spot_number (spot-own t s) ∙ here in
-    let first : IsListed a (cell_at t s) = record { fits = whole.fits s; in_order = omega (arith, place); differs = changed-differs t s e } in
-    subst (AreListed a) (sym (changed-cons t s ss true e)) (first, subst (λ n. AreListed (n + 1) (changed t ss)) (sym place) rest)
-listed-one t s ss a false whole e here rest = subst (AreListed a) (sym (changed-cons t s ss false e)) (sooner a (changed t ss) rest)
+    let first : IsListed t.protocol a (cell_at t s) = record {
+      fits = whole.fits s;
+      known = changed-known t s (known-at t whole s) e;
+      in_order = omega (arith, place);
+      differs = changed-differs t s e;
+    } in
+    subst (AreListed t.protocol a) (sym (changed-cons t s ss true e))
+    (first, subst (λ n. AreListed t.protocol (n + 1) (changed t ss)) (sym place) rest)
+listed-one t s ss a false whole e here rest =
+    subst (AreListed t.protocol a) (sym (changed-cons t s ss false e)) (sooner t.protocol a (changed t ss) rest)
 
 -- the cells that differ are listed in order, at places that are
-pub listed-from : (t : Tables) → AreWhole t → (spots : List Spot) (a n : ℕ) → map spot_number spots ≡ range_with_len a n → AreListed a (changed t spots)
+pub listed-from : (t : Tables) → AreWhole t → (spots : List Spot) (a n : ℕ) → map spot_number spots ≡ range_with_len a n →
+    AreListed t.protocol a (changed t spots)
 listed-from t whole [] a n e = tt
 listed-from t whole (s ∷ ss) a zero e = absurd (cc)
 listed-from t whole (s ∷ ss) a (suc n) e =
@@ -84,20 +109,50 @@ listed-from t whole (s ∷ ss) a (suc n) e =
     let rest : map spot_number ss ≡ range_with_len (a + 1) n = cc in
     listed-one t s ss a (is_changed t s) whole refl here (listed-from t whole ss (a + 1) n rest)
 
-fewer : (t : Tables) (s : Spot) (ss : List Spot) (b : Bool) → is_changed t s ≡ b → length (changed t ss) ≤ length ss →
-    length (changed t (s ∷ ss)) ≤ length (s ∷ ss)
-fewer t s ss true e few = omega (arith, ap length (changed-cons t s ss true e), few)
-fewer t s ss false e few = omega (arith, ap length (changed-cons t s ss false e), few)
+-- whether a protocol has a place
+abbrev has_spot : Protocol → Spot → Bool
+has_spot p (spot.Cache state event) = has_state p state && has_event p event
+has_spot p (spot.Directory state event) = true
 
-few-changed : (t : Tables) (spots : List Spot) → length (changed t spots) ≤ length spots
-few-changed t [] = omega arith
-few-changed t (s ∷ ss) = fewer t s ss (is_changed t s) refl (few-changed t ss)
+both-first : (a b c : Bool) → (a && b && c) ≡ true → (a && b) ≡ true
+both-first true true c e = refl
+both-first true false c e = cc
+both-first false b c e = cc
 
-pub few-cells : (t : Tables) → length (changed_cells t) ≤ 160
-few-cells t = let n : length all_spots ≡ 160 = refl in omega (arith, few-changed t all_spots, n)
+known-spot : (t : Tables) (s : Spot) → is_known t.protocol (cell_at t s) ≡ true → has_spot t.protocol s ≡ true
+known-spot t (spot.Cache state event) e = both-first (has_state t.protocol state) (has_event t.protocol event) _ e
+known-spot t (spot.Directory state event) e = refl
 
-cells-followed : (f : Form) (cs : List Cell) (from : ℕ) (rest : List (List (List ℕ))) → AreListed from cs → Followed (EntryCount f) rest Nothing →
-    Followed (cells_due f (length cs) from) (map cell_words cs ++ rest) Nothing
+had-cons : (p : Protocol) (s : Spot) (ss : List Spot) (b : Bool) → has_spot p s ≡ b →
+    filter (has_spot p) (s ∷ ss) ≡ cond b (s ∷ filter (has_spot p) ss) (filter (has_spot p) ss)
+had-cons p s ss b e = ap (λ (x : Bool). cond x (s ∷ filter (has_spot p) ss) (filter (has_spot p) ss)) e
+
+fewer : (t : Tables) (s : Spot) (ss : List Spot) (b c : Bool) → is_changed t s ≡ b → has_spot t.protocol s ≡ c → (b ≡ true → c ≡ true) →
+    length (changed t ss) ≤ length (filter (has_spot t.protocol) ss) → length (changed t (s ∷ ss)) ≤ length (filter (has_spot t.protocol) (s ∷ ss))
+fewer t s ss true true e f known few = omega (arith, ap length (changed-cons t s ss true e), ap length (had-cons t.protocol s ss true f), few)
+fewer t s ss true false e f known few = absurd (cc (known refl))
+fewer t s ss false true e f known few = omega (arith, ap length (changed-cons t s ss false e), ap length (had-cons t.protocol s ss true f), few)
+fewer t s ss false false e f known few = omega (arith, ap length (changed-cons t s ss false e), ap length (had-cons t.protocol s ss false f), few)
+
+-- only places that the protocol has are changed
+few-changed : (t : Tables) → AreWhole t → (spots : List Spot) → length (changed t spots) ≤ length (filter (has_spot t.protocol) spots)
+few-changed t whole [] = omega arith
+few-changed t whole (s ∷ ss) =
+    fewer t s ss (is_changed t s) (has_spot t.protocol s) refl refl
+    (λ e. known-spot t s (changed-known t s (known-at t whole s) e)) (few-changed t whole ss)
+
+had-spots : (p : Protocol) → length (filter (has_spot p) all_spots) ≡ most_cells p
+had-spots Msi = refl
+had-spots MsiE = refl
+
+pub few-cells : (t : Tables) → AreWhole t → length (changed_cells t) ≤ most_cells t.protocol
+few-cells t whole = omega (arith, few-changed t whole all_spots, had-spots t.protocol)
+
+pub few-listed : (t : Tables) → AreWhole t → length (changed_cells t) ≤ 184
+few-listed t whole = omega (arith, few-cells t whole, few-most t.protocol)
+
+cells-followed : (f : Form) (cs : List Cell) (from : ℕ) (rest : List (List (List ℕ))) → AreListed f.protocol from cs →
+    Followed (EntryCount f) rest Nothing → Followed (cells_due f (length cs) from) (map cell_words cs ++ rest) Nothing
 cells-followed f [] from rest h g = g
 cells-followed f (c ∷ cs) from rest h g =
     let n : ℕ = spot_number (spot_of c) + 1 in
@@ -120,9 +175,10 @@ tail_lines r =
     cells_words (length (changed_cells r.tables)) ∷ map cell_words (changed_cells r.tables) ++
     (entries_words (length r.entries) ∷ map told_words (told r.owners r.entries) ++ end_words ∷ [])
 
-tail-followed : (f : Form) (r : RecordingView) → IsRecordable r → f.seats ≡ r.seats → Followed (CellCount f) (tail_lines r) Nothing
+tail-followed : (f : Form) (r : RecordingView) → IsRecordable r → f.protocol ≡ r.tables.protocol → f.seats ≡ r.seats →
+    Followed (CellCount f) (tail_lines r) Nothing
 unfolding tail_lines
-tail-followed f r h seats =
+tail-followed f r h protocol seats =
     let ts : List Told = told r.owners r.entries in
     let n : length ts ≡ length r.entries = told-length r.owners r.entries in
     let fits : AllByRecursion (FitsTold f.seats) ts =
@@ -130,34 +186,38 @@ tail-followed f r h seats =
     let entries : Followed (EntryCount f) (entries_words (length r.entries) ∷ map told_words ts ++ end_words ∷ []) Nothing =
     (entries_due f (length ts), (length r.entries, h.few, refl, ap (entries_due f) n), told-followed f ts fits) in (
       cells_due f (length (changed_cells r.tables)) 0,
-      (length (changed_cells r.tables), few-cells r.tables, refl, refl),
-      cells-followed f (changed_cells r.tables) 0 _ (listed-from r.tables h.tables all_spots 0 160 numbers) entries,
+      (length (changed_cells r.tables), subst (λ p. length (changed_cells r.tables) ≤ most_cells p) (sym protocol) (few-cells r.tables h.tables), refl, refl),
+      cells-followed f (changed_cells r.tables) 0 _
+          (subst (λ p. AreListed p 0 (changed_cells r.tables)) (sym protocol) (listed-from r.tables h.tables all_spots 0 184 numbers)) entries,
     )
 
 -- the lines behind the first
 abbrev lines_behind : Version → RecordingView → List (List (List ℕ))
 lines_behind version r =
-    (protocol_lines version r.protocol ++ (shape_words r.shape ∷ seats_lines version r.seats ++ opening_words r.opening ∷ [])) ++
+    (protocol_lines version r.tables.protocol ++ (shape_words r.shape ∷ seats_lines version r.seats ++ opening_words r.opening ∷ [])) ++
     (cells_words (length (changed_cells r.tables)) ∷ map cell_words (changed_cells r.tables) ++
     (entries_words (length r.entries) ∷ map told_words (told r.owners r.entries) ++ end_words ∷ []))
 
 behind-followed : (v : Version) (r : RecordingView) → IsRecordable r → HasTextIn v r → Followed (header_leads v) (lines_behind v r) Nothing
 unfolding tail_lines
 behind-followed One r h t =
-    let f : Form = form One Msi 0 in
-    (OpeningLine f r.shape, (r.shape, t.shape, refl, refl), (CellCount f, (r.opening, h.opening, refl, refl), tail-followed f r h (sym t.told.1)))
+    let f : Form = form One Msi 0 in (
+      OpeningLine f r.shape,
+      (r.shape, t.shape, refl, refl),
+      (CellCount f, (r.opening, h.opening, refl, refl), tail-followed f r h (sym t.told.0) (sym t.told.1)),
+    )
 behind-followed Two r h t =
-    let f : Form = form Two r.protocol 0 in
-    let g : Form = form Two r.protocol r.seats in (
+    let f : Form = form Two r.tables.protocol 0 in
+    let g : Form = form Two r.tables.protocol r.seats in (
       ShapeLine f,
-      (r.protocol, refl, refl),
+      (r.tables.protocol, refl, refl),
       (
         SeatsLine f r.shape,
         (r.shape, t.shape, refl, refl),
         (
           OpeningLine g r.shape,
           (r.seats, h.owners.few, refl, refl),
-          (CellCount g, (r.opening, h.opening, refl, refl), tail-followed g r h refl),
+          (CellCount g, (r.opening, h.opening, refl, refl), tail-followed g r h refl refl),
         ),
       ),
     )

@@ -12,7 +12,7 @@ use Rattle.base.specs.declared.step.Outcome.{Outcome}
 use Rattle.base.specs.declared.step.Outcome.TheVariants as outcome
 use Rattle.base.proofs.Spellings.{same_step}
 use Rattle.base.specs.Extent.{Extent}
-use Rattle.both_tables.specs.Tables.{Tables}
+use Rattle.both_tables.specs.Tables.{Tables, baseline_of}
 use Rattle.record.specs.declared.cells.Spot.{Spot}
 use Rattle.record.specs.declared.cells.Cell.{Cell}
 use Rattle.record.specs.declared.recording.Entry.{Entry}
@@ -21,7 +21,6 @@ use Rattle.record.specs.View.{RecordingView}
 use Rattle.base.specs.Spelling.{joined}
 use Rattle.record.specs.Text.{text, line, lines, shape_words, opening_words, cells_words, entries_words, entry_words, told, told_words, end_words, is_changed}
 use Rattle.record.specs.Text.{changed, changed_cells}
-use Rattle.base.specs.declared.controller.protocol.Protocol.{Protocol}
 use Rattle.record.specs.declared.due.Due.TheVariants.{Header}
 use Rattle.record.specs.declared.told.Told.{Told}
 use Rattle.record.specs.declared.version.Version.{Version}
@@ -39,7 +38,7 @@ use Rattle.record.proofs.Legible.{IsLine, joined-open, words-joined}
 use Rattle.record.proofs.Ending.{some-line, one-line_first}
 use Rattle.record.proofs.Leading.{count-same, protocol-same, shape-same, version-same}
 use Rattle.record.proofs.Faulting.{by-same, same-halves}
-use Rattle.record.proofs.Following.{AreListed, spot-own, listed-from, few-cells, recorded-lines, text-whole}
+use Rattle.record.proofs.Following.{AreListed, spot-own, listed-from, few-listed, recorded-lines, text-whole}
 use Rattle.record.proofs.Listed.{at-own, numbers, some_spot}
 use Rattle.record.proofs.Refusals.{whole-alone, whole-refused}
 use Rattle.record.proofs.Tabled.{tables-same}
@@ -136,67 +135,67 @@ tolds-same seats (t ∷ ts) (u ∷ us) xs ys few n h k e =
 
 -- ---- tables
 
--- cells that are as the baseline's in the same place are the same
-plain-same : (t u : Tables) (s : Spot) → is_changed t s ≡ false → is_changed u s ≡ false → cell_at t s ≡ cell_at u s
-plain-same t u s e f = unchanged t s e ∙ sym (unchanged u s f)
+-- cells that are as the protocol's own in the same place are the same
+plain-same : (t u : Tables) (s : Spot) → t.protocol ≡ u.protocol → is_changed t s ≡ false → is_changed u s ≡ false → cell_at t s ≡ cell_at u s
+plain-same t u s p e f =
+    unchanged t (baseline_of t.protocol) s e ∙ ap (λ q. cell_at (baseline_of q) s) p ∙ sym (unchanged u (baseline_of u.protocol) s f)
 
 -- a cell isn't among those of later places
-later : (t u : Tables) (s : Spot) (ss : List Spot) (a : ℕ) → AreListed (a + 1) (changed u ss) → spot_number s ≡ a →
+later : (t u : Tables) (s : Spot) (ss : List Spot) (a : ℕ) → AreListed u.protocol (a + 1) (changed u ss) → spot_number s ≡ a →
     cell_at t s ∷ changed t ss ≡ changed u ss → ⊥
 later t u s ss a listed here e =
-    let first = (subst (AreListed (a + 1)) (sym e) listed).0.in_order in
+    let first = (subst (AreListed u.protocol (a + 1)) (sym e) listed).0.in_order in
     absurd (omega (arith, first, ap spot_number (spot-own t s), here))
 
-one-more : (t u : Tables) (s : Spot) (ss : List Spot) (a : ℕ) (b c : Bool) → AreWhole t → AreWhole u → is_changed t s ≡ b → is_changed u s ≡ c →
-    spot_number s ≡ a → AreListed (a + 1) (changed t ss) → AreListed (a + 1) (changed u ss)
+one-more : (t u : Tables) (s : Spot) (ss : List Spot) (a : ℕ) (b c : Bool) → t.protocol ≡ u.protocol → is_changed t s ≡ b → is_changed u s ≡ c →
+    spot_number s ≡ a → AreListed t.protocol (a + 1) (changed t ss) → AreListed u.protocol (a + 1) (changed u ss)
     → changed t (s ∷ ss) ≡ changed u (s ∷ ss) → (cell_at t s ≡ cell_at u s) × (changed t ss ≡ changed u ss)
-one-more t u s ss a true true h k x y here lt lu e =
+one-more t u s ss a true true p x y here lt lu e =
     let both : cell_at t s ∷ changed t ss ≡ cell_at u s ∷ changed u ss = sym (changed-cons t s ss true x) ∙ e ∙ changed-cons u s ss true y in (cc, cc)
-one-more t u s ss a false false h k x y here lt lu e =
-    (plain-same t u s x y, sym (changed-cons t s ss false x) ∙ e ∙ changed-cons u s ss false y)
-one-more t u s ss a true false h k x y here lt lu e = absurd (later t u s ss a lu here (sym (changed-cons t s ss true x) ∙ e ∙ changed-cons u s ss false y))
-one-more t u s ss a false true h k x y here lt lu e = absurd (later u t s ss a lt here (sym (changed-cons u s ss true y) ∙ sym e ∙ changed-cons t s ss false x))
+one-more t u s ss a false false p x y here lt lu e =
+    (plain-same t u s p x y, sym (changed-cons t s ss false x) ∙ e ∙ changed-cons u s ss false y)
+one-more t u s ss a true false p x y here lt lu e = absurd (later t u s ss a lu here (sym (changed-cons t s ss true x) ∙ e ∙ changed-cons u s ss false y))
+one-more t u s ss a false true p x y here lt lu e = absurd (later u t s ss a lt here (sym (changed-cons u s ss true y) ∙ sym e ∙ changed-cons t s ss false x))
 
-spots-same : (t u : Tables) → AreWhole t → AreWhole u → (spots : List Spot) (a n : ℕ) → map spot_number spots ≡ range_with_len a n →
+spots-same : (t u : Tables) → t.protocol ≡ u.protocol → AreWhole t → AreWhole u → (spots : List Spot) (a n : ℕ) → map spot_number spots ≡ range_with_len a n →
     changed t spots ≡ changed u spots → AllByRecursion (λ s. cell_at t s ≡ cell_at u s) spots
-spots-same t u h k [] a n e same = tt
-spots-same t u h k (s ∷ ss) a zero e same = absurd (cc)
-spots-same t u h k (s ∷ ss) a (suc n) e same =
+spots-same t u p h k [] a n e same = tt
+spots-same t u p h k (s ∷ ss) a zero e same = absurd (cc)
+spots-same t u p h k (s ∷ ss) a (suc n) e same =
     let here : spot_number s ≡ a = cc in
     let rest : map spot_number ss ≡ range_with_len (a + 1) n = cc in
     let both =
-    one-more t u s ss a (is_changed t s) (is_changed u s) h k refl refl here (listed-from t h ss (a + 1) n rest) (listed-from u k ss (a + 1) n rest) same in
-    (both.0, spots-same t u h k ss (a + 1) n rest both.1)
+    one-more t u s ss a (is_changed t s) (is_changed u s) p refl refl here (listed-from t h ss (a + 1) n rest) (listed-from u k ss (a + 1) n rest) same in
+    (both.0, spots-same t u p h k ss (a + 1) n rest both.1)
 
 at-index : {X : Type 0} (P : X → Type 0) (xs : List X) (i : ℕ) (d : X) → i < length xs → AllByRecursion P xs → P (get_or xs i d)
 at-index P [] i d low h = absurd (omega (arith, low))
 at-index P (x ∷ xs) zero d low h = h.0
 at-index P (x ∷ xs) (suc i) d low h = at-index P xs i d (omega (arith, low)) h.1
 
-cells-agree : (t u : Tables) → AreWhole t → AreWhole u → changed_cells t ≡ changed_cells u → (s : Spot) → cell_at t s ≡ cell_at u s
-cells-agree t u h k e s =
+cells-agree : (t u : Tables) → t.protocol ≡ u.protocol → AreWhole t → AreWhole u → changed_cells t ≡ changed_cells u → (s : Spot) → cell_at t s ≡ cell_at u s
+cells-agree t u p h k e s =
     let own = at-own s in
-    let n : length all_spots ≡ 160 = refl in
-    subst (λ p. cell_at t p ≡ cell_at u p) own.0
-    (at-index (λ p. cell_at t p ≡ cell_at u p) all_spots (spot_number s) some_spot (omega (arith, n, own.1)) (spots-same t u h k all_spots 0 160 numbers e))
+    let n : length all_spots ≡ 184 = refl in
+    subst (λ q. cell_at t q ≡ cell_at u q) own.0
+    (at-index (λ q. cell_at t q ≡ cell_at u q) all_spots (spot_number s) some_spot (omega (arith, n, own.1)) (spots-same t u p h k all_spots 0 184 numbers e))
 
 -- ---- recordings
 
-kept : Protocol → ℕ → Extent → Tables → List ℕ → List Entry → List ℕ → RecordingView
-kept protocol seats shape tables opening entries owners =
-    record { protocol = protocol; seats = seats; shape = shape; tables = tables; opening = opening; entries = entries; owners = owners }
+kept : ℕ → Extent → Tables → List ℕ → List Entry → List ℕ → RecordingView
+kept seats shape tables opening entries owners =
+    record { seats = seats; shape = shape; tables = tables; opening = opening; entries = entries; owners = owners }
 
-parts-same : (r s : RecordingView) → r.protocol ≡ s.protocol → r.seats ≡ s.seats → r.shape ≡ s.shape → r.tables ≡ s.tables → r.opening ≡ s.opening →
-    r.entries ≡ s.entries → r.owners ≡ s.owners → r ≡ s
+parts-same : (r s : RecordingView) → r.seats ≡ s.seats → r.shape ≡ s.shape → r.tables ≡ s.tables → r.opening ≡ s.opening → r.entries ≡ s.entries →
+    r.owners ≡ s.owners → r ≡ s
 unfolding kept
-parts-same r s p n a b c d o =
-    ap (λ x. kept x r.seats r.shape r.tables r.opening r.entries r.owners) p
-    ∙ ap (λ x. kept s.protocol x r.shape r.tables r.opening r.entries r.owners) n
-    ∙ ap (λ x. kept s.protocol s.seats x r.tables r.opening r.entries r.owners) a
-    ∙ ap (λ x. kept s.protocol s.seats s.shape x r.opening r.entries r.owners) b
-    ∙ ap (λ x. kept s.protocol s.seats s.shape s.tables x r.entries r.owners) c
-    ∙ ap (λ x. kept s.protocol s.seats s.shape s.tables s.opening x r.owners) d
-    ∙ ap (λ x. kept s.protocol s.seats s.shape s.tables s.opening s.entries x) o
+parts-same r s n a b c d o =
+    ap (λ x. kept x r.shape r.tables r.opening r.entries r.owners) n
+    ∙ ap (λ x. kept s.seats x r.tables r.opening r.entries r.owners) a
+    ∙ ap (λ x. kept s.seats s.shape x r.opening r.entries r.owners) b
+    ∙ ap (λ x. kept s.seats s.shape s.tables x r.entries r.owners) c
+    ∙ ap (λ x. kept s.seats s.shape s.tables s.opening x r.owners) d
+    ∙ ap (λ x. kept s.seats s.shape s.tables s.opening s.entries x) o
 
 behind_one : {X : Type 0} → List X → List X
 behind_one [] = []
@@ -207,7 +206,7 @@ rest_of r = map cell_words (changed_cells r.tables) ++ (entries_words (length r.
 
 -- what the lines of two recordings in one version tell is the same
 record SameHeads (r s : RecordingView) : Type 0 where
-  protocol : r.protocol ≡ s.protocol
+  protocol : r.tables.protocol ≡ s.tables.protocol
   seats : r.seats ≡ s.seats
   shape : shape_words r.shape ≡ shape_words s.shape
   opening : opening_words r.opening ≡ opening_words s.opening
@@ -225,7 +224,7 @@ heads-same One r s h t k u all = record {
   rest = ap (λ l. behind_one (behind_one (behind_one (behind_one l)))) all;
 }
 heads-same Two r s h t k u all = record {
-  protocol = protocol-same r.protocol s.protocol (ap (λ l. get_or l 1 []) all);
+  protocol = protocol-same r.tables.protocol s.tables.protocol (ap (λ l. get_or l 1 []) all);
   seats =
       count-same (codes "seats") r.seats s.seats (omega (arith, h.owners.few)) (omega (arith, k.owners.few)) (ap (λ l. get_or l 3 []) all);
   shape = ap (λ l. get_or l 2 []) all;
@@ -238,8 +237,8 @@ same-parts : (r s : RecordingView) → IsRecordable r → IsRecordable s → Sam
 unfolding rest_of behind_one
 same-parts r s h k same =
     let n =
-    count-same (codes "cells") (length (changed_cells r.tables)) (length (changed_cells s.tables)) (omega (arith, few-cells r.tables))
-    (omega (arith, few-cells s.tables)) same.count in
+    count-same (codes "cells") (length (changed_cells r.tables)) (length (changed_cells s.tables)) (omega (arith, few-listed r.tables h.tables))
+    (omega (arith, few-listed s.tables k.tables)) same.count in
     let cells = cells-same (changed_cells r.tables) (changed_cells s.tables) _ _ n same.rest in
     let entry_count : entries_words (length r.entries) ≡ entries_words (length s.entries) = ap (λ l. get_or l 0 []) cells.1 in
     let m = count-same (codes "entries") (length r.entries) (length s.entries) h.few k.few entry_count in
@@ -252,9 +251,9 @@ same-parts r s h k same =
     subst (λ x. AllByRecursion (FitsTold x) us) (sym same.seats)
     (told-fit s.seats s.owners s.entries k.owners (recursion_from_All FitsEntry s.entries k.fits)) in
     let all : ts ≡ us = tolds-same r.seats ts us (end_words ∷ []) (end_words ∷ []) h.owners.few many fits others tolds in
-    parts-same r s same.protocol same.seats
+    parts-same r s same.seats
     (shape-same r.shape s.shape h.shape k.shape same.shape)
-    (tables-same r.tables s.tables h.tables k.tables (cells-agree r.tables s.tables h.tables k.tables cells.0))
+    (tables-same r.tables s.tables same.protocol h.tables k.tables (cells-agree r.tables s.tables same.protocol h.tables k.tables cells.0))
     (values-same r.opening s.opening (recursion_from_All _ r.opening h.opening.small) (recursion_from_All _ s.opening k.opening.small)
     (ap behind_one same.opening))
     (sym (entries-told r.owners r.entries) ∙ ap entries_of all ∙ entries-told s.owners s.entries)

@@ -29,7 +29,7 @@ use Rattle.record.specs.Cells.{cell_words, spot_number, FitsCell}
 use Rattle.record.specs.Text.{by_words, header_words, shape_words, opening_words, entry_words, told_words}
 use Rattle.base.specs.Spelling.{joined}
 use Rattle.base.specs.declared.controller.protocol.Protocol.{Protocol}
-use Rattle.base.specs.declared.controller.protocol.Protocol.TheVariants.{Msi}
+use Rattle.base.specs.declared.controller.protocol.Protocol.TheVariants.{Msi, MsiE}
 use Rattle.record.specs.declared.due.Due.{Due}
 use Rattle.record.specs.declared.due.Form.{Form}
 use Rattle.record.specs.declared.told.Told.{Told}
@@ -41,6 +41,7 @@ use Rattle.record.specs.declared.due.Due.TheVariants.{Header, ProtocolLine, Shap
 use Rattle.record.specs.Grammar.{cells_due}
 use Rattle.record.specs.Grammar.{entries_due, AreValues, FitsEntry, FitsTold, IsOwner, Leads}
 use Rattle.record.proofs.Alike.{same-spot}
+use Rattle.record.proofs.Spots.{few-most}
 use Rattle.record.proofs.Legible.{IsWord, IsLine, all-append, joined-short, text-word, name-word, number-word}
 
 -- ---- the words of each line
@@ -153,6 +154,7 @@ cell-few (cell.Directory s e x) f =
 
 protocol-line : (p : Protocol) → IsLine (protocol_words p)
 protocol-line Msi = record { each = (text-word _ refl (omega arith), (text-word _ refl (omega arith), tt)); some = omega arith; few = omega arith }
+protocol-line MsiE = record { each = (text-word _ refl (omega arith), (text-word _ refl (omega arith), tt)); some = omega arith; few = omega arith }
 
 header-line : (v : Version) → IsLine (header_words v)
 header-line One = record { each = (text-word _ refl (omega arith), (text-word _ refl (omega arith), tt)); some = omega arith; few = omega arith }
@@ -206,7 +208,8 @@ leads-line ProtocolLine line next h l = subst IsLine (sym l.1) (protocol-line l.
 leads-line (ShapeLine f) line next h l = subst IsLine (sym l.2) (shape-line l.0 l.1.within)
 leads-line (SeatsLine f shape) line next h l = subst IsLine (sym l.2) (count-line (codes "seats") l.0 (text-word _ refl (omega arith)) (omega (arith, l.1)))
 leads-line (OpeningLine f shape) line next h l = subst IsLine (sym l.2) (opening-line shape l.0 h.0.within l.1)
-leads-line (CellCount f) line next h l = subst IsLine (sym l.2) (count-line (codes "cells") l.0 (text-word _ refl (omega arith)) (omega (arith, l.1)))
+leads-line (CellCount f) line next h l = subst IsLine (sym l.2)
+    (count-line (codes "cells") l.0 (text-word _ refl (omega arith)) (omega (arith, l.1, few-most f.protocol)))
 leads-line (CellLine f left from) line next h l = subst IsLine (sym l.2) (cell-line l.0 l.1.fits)
 leads-line (EntryCount f) line next h l = subst IsLine (sym l.2) (count-line (codes "entries") l.0 (text-word _ refl (omega arith)) (omega (arith, l.1)))
 leads-line (EntryLine f left) line next h l = subst IsLine (sym l.2) (told-line f.seats l.0 h l.1).0
@@ -277,6 +280,9 @@ version-same Two Two e = refl
 
 pub protocol-same : (p q : Protocol) → protocol_words p ≡ protocol_words q → p ≡ q
 protocol-same Msi Msi e = refl
+protocol-same Msi MsiE e = let n : 3 ≡ 5 = ap (λ l. length (get_or l 1 [])) e in absurd (omega (arith, n))
+protocol-same MsiE Msi e = let n : 5 ≡ 3 = ap (λ l. length (get_or l 1 [])) e in absurd (omega (arith, n))
+protocol-same MsiE MsiE e = refl
 
 pub shape-same : (s t : Extent) → IsWithinLimits s → IsWithinLimits t → shape_words s ≡ shape_words t → s ≡ t
 shape-same s t h k e =
@@ -298,7 +304,8 @@ leads-one (SeatsLine f shape) line a b l m =
     (count-same (codes "seats") l.0 m.0 (omega (arith, l.1)) (omega (arith, m.1)) (sym l.2 ∙ m.2)) ∙ sym m.3
 leads-one (OpeningLine f shape) line a b l m = l.3 ∙ sym m.3
 leads-one (CellCount f) line a b l m =
-    l.3 ∙ ap (λ n. cells_due f n 0) (count-same (codes "cells") l.0 m.0 (omega (arith, l.1)) (omega (arith, m.1)) (sym l.2 ∙ m.2)) ∙ sym m.3
+    l.3 ∙ ap (λ n. cells_due f n 0)
+    (count-same (codes "cells") l.0 m.0 (omega (arith, l.1, few-most f.protocol)) (omega (arith, m.1, few-most f.protocol)) (sym l.2 ∙ m.2)) ∙ sym m.3
 leads-one (CellLine f left from) line a b l m =
     l.3 ∙ ap (λ s. cells_due f (left - 1) (spot_number s + 1)) (same-spot l.0 m.0 (sym l.2 ∙ m.2)) ∙ sym m.3
 leads-one (EntryCount f) line a b l m = l.3 ∙ ap (entries_due f) (count-same (codes "entries") l.0 m.0 l.1 m.1 (sym l.2 ∙ m.2)) ∙ sym m.3

@@ -3,6 +3,7 @@ pub mod Changed
 pub mod Completing
 pub mod Distinct
 pub mod Drafting
+pub mod DueFaults
 pub mod Ending
 pub mod Exits
 pub mod Faulting

@@ -42,11 +42,12 @@ past-values r n i e =
     next r n (length r.opening + 1 + i) (omega (arith, e))
     ∙ past (map value_piece r.opening) (cells_piece (length (changed_cells r.tables))) (behind_values r) (length r.opening + 1 + i) i [] (omega (arith, count))
 
-past-cells : (r : RecordingView) (n i : ℕ) → n ≡ length r.opening + 163 + i → get_or (pieces r) n [] ≡ get_or (map told_piece (told r.owners r.entries) ++ end_piece ∷ []) i []
+past-cells : (r : RecordingView) (n i : ℕ) → n ≡ length r.opening + 187 + i →
+    get_or (pieces r) n [] ≡ get_or (map told_piece (told r.owners r.entries) ++ end_piece ∷ []) i []
 past-cells r n i e =
     let count = length-map all_spots (cell_piece r.tables) in
-    past-values r n (161 + i) (omega (arith, e))
-    ∙ past (map (cell_piece r.tables) all_spots) (entries_piece (length r.entries)) (map told_piece (told r.owners r.entries) ++ end_piece ∷ []) (161 + i) i []
+    past-values r n (185 + i) (omega (arith, e))
+    ∙ past (map (cell_piece r.tables) all_spots) (entries_piece (length r.entries)) (map told_piece (told r.owners r.entries) ++ end_piece ∷ []) (185 + i) i []
     (omega (arith, count))
 
 pub value-at : (r : RecordingView) (n i : ℕ) (d : ℕ) → n ≡ i + 1 → i < length r.opening → get_or (pieces r) n [] ≡ value_piece (get_or r.opening i d)
@@ -58,16 +59,18 @@ cells-at r n e =
     next r n (length r.opening) e
     ∙ seam (map value_piece r.opening) (cells_piece (length (changed_cells r.tables))) (behind_values r) (length r.opening) [] (omega (arith, count))
 
-pub cell-at : (r : RecordingView) (n i : ℕ) (d : Spot) → n ≡ length r.opening + 2 + i → i < 160 → get_or (pieces r) n [] ≡ cell_piece r.tables (get_or all_spots i d)
+pub cell-at : (r : RecordingView) (n i : ℕ) (d : Spot) → n ≡ length r.opening + 2 + i → i < 184 →
+    get_or (pieces r) n [] ≡ cell_piece r.tables (get_or all_spots i d)
 cell-at r n i d e low = past-values r n i e ∙ among (cell_piece r.tables) all_spots (behind_cells r) i d low
 
-pub entries-at : (r : RecordingView) (n : ℕ) → n ≡ length r.opening + 162 → get_or (pieces r) n [] ≡ entries_piece (length r.entries)
+pub entries-at : (r : RecordingView) (n : ℕ) → n ≡ length r.opening + 186 → get_or (pieces r) n [] ≡ entries_piece (length r.entries)
 entries-at r n e =
     let count = length-map all_spots (cell_piece r.tables) in
-    past-values r n 160 (omega (arith, e))
-    ∙ seam (map (cell_piece r.tables) all_spots) (entries_piece (length r.entries)) (map told_piece (told r.owners r.entries) ++ end_piece ∷ []) 160 [] (omega (arith, count))
+    past-values r n 184 (omega (arith, e))
+    ∙ seam (map (cell_piece r.tables) all_spots) (entries_piece (length r.entries)) (map told_piece (told r.owners r.entries) ++ end_piece ∷ []) 184 []
+    (omega (arith, count))
 
-pub entry-at : (r : RecordingView) (n i : ℕ) (t : Told) → n ≡ length r.opening + 163 + i → i < length r.entries → t.owner ≡ slice_get r.owners i →
+pub entry-at : (r : RecordingView) (n i : ℕ) (t : Told) → n ≡ length r.opening + 187 + i → i < length r.entries → t.owner ≡ slice_get r.owners i →
     slice_get r.entries i ≡ Some t.entry → get_or (pieces r) n [] ≡ told_piece t
 entry-at r n i t e low owner entry =
     let ts : List Told = told r.owners r.entries in
@@ -81,7 +84,7 @@ entry-at r n i t e low owner entry =
     here (e ∷ es) zero x low is = let same : e ≡ x = cc in same
     here (e ∷ es) (suc i) x low is = here es i x (omega (arith, low)) is
 
-pub end-at : (r : RecordingView) (n : ℕ) → n ≡ length r.opening + 163 + length r.entries → get_or (pieces r) n [] ≡ end_piece
+pub end-at : (r : RecordingView) (n : ℕ) → n ≡ length r.opening + 187 + length r.entries → get_or (pieces r) n [] ≡ end_piece
 end-at r n e =
     let ts : List Told = told r.owners r.entries in
     let count = length-map ts told_piece in

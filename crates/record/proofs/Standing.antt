@@ -3,26 +3,34 @@ use Rattle.std.proofs.Common.{◌≡◌, ◌≢◌, ◌⊎◌, inl, inr, ◌<◌
 use Rattle.std.proofs.Common.{sym, subst, ◌∙◌, arith, rules, below_more}
 use Rattle.std.proofs.lemmas.List.{get_or_default}
 use Rattle.std.proofs.lemmas.Bool.Decides.{nat_tests}
+use Rattle.cache_table.specs.Keeping as cache_keeping
 use Rattle.cache_table.specs.Table as cache_table
+use Rattle.cache_table.proofs.BaselineCells.{cell-baseline as cache-baseline}
+use Rattle.cache_table.proofs.Keeping.{table-with as cache-with}
 use Rattle.cache_table.specs.Table.{CacheEntry}
+use Rattle.base.specs.declared.controller.protocol.Protocol.{Protocol}
+use Rattle.base.specs.declared.controller.protocol.Protocol.TheVariants.{Msi, MsiE}
 use Rattle.base.specs.Entries.{HasFewActions}
 use Rattle.base.specs.declared.controller.entry.Entry as table_cell
 use Rattle.base.specs.declared.controller.entry.Entry.TheVariants as table_entry
 use Rattle.cache_table.specs.declared.state.CacheState.{CacheState}
 use Rattle.cache_table.specs.declared.event.CacheEvent.{CacheEvent}
+use Rattle.directory_table.specs.Keeping as directory_keeping
 use Rattle.directory_table.specs.Table as directory_table
-use Rattle.base.proofs.Cells.{HasSize-set}
+use Rattle.directory_table.proofs.BaselineCells.{cell-baseline as directory-baseline}
+use Rattle.directory_table.proofs.Keeping.{table-with as directory-with}
 use Rattle.directory_table.specs.Table.{DirectoryEntry}
 use Rattle.directory_table.specs.declared.state.DirectoryState.{DirectoryState}
 use Rattle.directory_table.specs.declared.event.DirectoryEvent.{DirectoryEvent}
-use Rattle.both_tables.specs.Tables.{Tables, baseline}
+use Rattle.both_tables.specs.Tables.{Tables, baseline, baseline_of}
 use Rattle.record.specs.declared.cells.Spot.{Spot}
+use Rattle.record.specs.declared.cells.Spot.TheVariants as spot
 use Rattle.record.specs.declared.cells.Cell.{Cell}
 use Rattle.record.specs.declared.cells.Cell.TheVariants as cell
-use Rattle.record.specs.Cells.{all_spots, cell_at, spot_number, spot_of, FitsCell}
+use Rattle.record.specs.Cells.{all_spots, cell_at, is_known, spot_number, spot_of, FitsCell}
 use Rattle.record.specs.inner.Pieces.{IsInWhole}
 use Rattle.record.specs.Recordable.{AreWhole}
-use Rattle.record.proofs.Listed.{at, at-own, cache-state-at, directory-state-at, some_spot}
+use Rattle.record.proofs.Listed.{at, at-own, some_spot}
 use Rattle.std.proofs.lemmas.Bool.{cases_eq}
 
 abbrev Stands : Tables → Spot → Type 0
@@ -32,17 +40,17 @@ Stands t s = FitsCell (cell_at t s) × IsInWhole t s
 abbrev pub StandBefore : ℕ → Tables → Type 0
 StandBefore n t = (k : ℕ) → k < n → Stands t (at k)
 
-pub stand-more : (t : Tables) (n : ℕ) (s : Spot) → n < 160 → s ≡ get_or all_spots n s → FitsCell (cell_at t s) → IsInWhole t s → StandBefore n t →
+pub stand-more : (t : Tables) (n : ℕ) (s : Spot) → n < 184 → s ≡ get_or all_spots n s → FitsCell (cell_at t s) → IsInWhole t s → StandBefore n t →
     StandBefore (n + 1) t
 stand-more t n s low is fits whole before =
-    let count : length all_spots ≡ 160 = refl in
+    let count : length all_spots ≡ 184 = refl in
     let same : s ≡ at n = is ∙ get_or_default all_spots n s some_spot (omega (arith, low, count)) in
     below_more (λ k. Stands t (at k)) n before (subst (Stands t) same (fits, whole))
 
-pub all-stand : (t : Tables) → StandBefore 160 t → AreWhole t
+pub all-stand : (t : Tables) → StandBefore 184 t → AreWhole t
 all-stand t h = record {
   cache = (h 0 (omega arith)).1;
-  directory = (h 132 (omega arith)).1;
+  directory = (h 156 (omega arith)).1;
   fits = λ s. let own = at-own s in subst (λ p. FitsCell (cell_at t p)) own.0 (h (spot_number s) own.1).0;
 }
 
@@ -56,23 +64,29 @@ fits-at t u c s here other old new (inl e) =
 fits-at t u c s here other old new (inr ne) = subst FitsCell (sym (other (λ e. ne (ap spot_number e)))) old
 
 pub whole-more : (t u : Tables) (c : Cell) → cell_at u (spot_of c) ≡ c → ((s : Spot) → s ≢ spot_of c → cell_at u s ≡ cell_at t s) →
-    cache_table.IsWhole u.cache → directory_table.IsWhole u.directory → AreWhole t → FitsCell c → AreWhole u
+    cache_keeping.IsTable u.protocol u.cache → directory_keeping.IsTable u.protocol u.directory → AreWhole t → FitsCell c → AreWhole u
 whole-more t u c here others cache directory whole fits = record {
   cache = cache;
   directory = directory;
   fits = λ s. fits-at t u c s here (others s) (whole.fits s) fits (cases_eq (spot_number s) (spot_number (spot_of c)));
 }
 
-pub cache-more : (cells new : cache_table.Cells) (s : CacheState) (e : CacheEvent) (x : CacheEntry) → new ≡ cache_table.with_cell cells s e x →
-    cache_table.IsWhole cells → cache_table.IsWhole new
-cache-more cells new s e x is whole =
-    subst cache_table.IsWhole (sym is) (HasSize-set 11 12 cells (cache_table.state_number s) (cache_table.event_number e) x whole (cache-state-at s).1)
+pub cache-here : (t : Tables) (c : Cell) (s : CacheState) (e : CacheEvent) (x : CacheEntry) → c ≡ cell.Cache s e x → cache_table.cell t.cache s e ≡ x →
+    cell_at t (spot_of c) ≡ c
+cache-here t c s e x is here = subst (λ d. cell_at t (spot_of d) ≡ d) (sym is) (ap (cell.Cache s e) here)
 
-pub directory-more : (cells new : directory_table.Cells) (s : DirectoryState) (e : DirectoryEvent) (x : DirectoryEntry) →
-    new ≡ directory_table.with_cell cells s e x → directory_table.IsWhole cells → directory_table.IsWhole new
-directory-more cells new s e x is whole =
-    subst directory_table.IsWhole (sym is)
-    (HasSize-set 4 7 cells (directory_table.state_number s) (directory_table.event_number e) x whole (directory-state-at s).1)
+pub directory-here : (t : Tables) (c : Cell) (s : DirectoryState) (e : DirectoryEvent) (x : DirectoryEntry) → c ≡ cell.Directory s e x →
+    directory_table.cell t.directory s e ≡ x → cell_at t (spot_of c) ≡ c
+directory-here t c s e x is here = subst (λ d. cell_at t (spot_of d) ≡ d) (sym is) (ap (cell.Directory s e) here)
+
+pub cache-more : (table new : cache_table.Table) (s : CacheState) (e : CacheEvent) (x : CacheEntry) → new ≡ cache_table.with_entry table s e x →
+    cache_keeping.IsTable table.protocol table.cells → cache_keeping.IsTable new.protocol new.cells
+cache-more table new s e x is h = subst (λ (t : cache_table.Table). cache_keeping.IsTable t.protocol t.cells) (sym is) (cache-with table s e x h)
+
+pub directory-more : (table new : directory_table.Table) (s : DirectoryState) (e : DirectoryEvent) (x : DirectoryEntry) →
+    new ≡ directory_table.with_entry table s e x → directory_keeping.IsTable table.protocol table.cells → directory_keeping.IsTable new.protocol new.cells
+directory-more table new s e x is h =
+    subst (λ (t : directory_table.Table). directory_keeping.IsTable t.protocol t.cells) (sym is) (directory-with table s e x h)
 
 -- ---- the protocol's own tables
 
@@ -95,9 +109,9 @@ unfolding few
 few-fits (cell.Cache s e x) h = few_of-fits x h
 few-fits (cell.Directory s e x) h = few_of-fits x h
 
-all_few : List Spot → Bool
-all_few [] = true
-all_few (s ∷ ss) = cond (few (cell_at baseline s)) (all_few ss) false
+all_few : Protocol → List Spot → Bool
+all_few p [] = true
+all_few p (s ∷ ss) = cond (few (cell_at (baseline_of p) s)) (all_few p ss) false
 
 first : (b c : Bool) → cond b c false ≡ true → b ≡ true
 first true c h = refl
@@ -107,22 +121,46 @@ second : (b c : Bool) → cond b c false ≡ true → c ≡ true
 second true c h = h
 second false c h = cc
 
-few-at : (ss : List Spot) (i : ℕ) (d : Spot) → i < length ss → all_few ss ≡ true → few (cell_at baseline (get_or ss i d)) ≡ true
+few-at : (p : Protocol) (ss : List Spot) (i : ℕ) (d : Spot) → i < length ss → all_few p ss ≡ true → few (cell_at (baseline_of p) (get_or ss i d)) ≡ true
 unfolding all_few
-few-at [] i d low h = absurd (omega (arith, low))
-few-at (s ∷ ss) zero d low h = first (few (cell_at baseline s)) (all_few ss) h
-few-at (s ∷ ss) (suc i) d low h = few-at ss i d (omega (arith, low)) (second (few (cell_at baseline s)) (all_few ss) h)
+few-at p [] i d low h = absurd (omega (arith, low))
+few-at p (s ∷ ss) zero d low h = first (few (cell_at (baseline_of p) s)) (all_few p ss) h
+few-at p (s ∷ ss) (suc i) d low h = few-at p ss i d (omega (arith, low)) (second (few (cell_at (baseline_of p) s)) (all_few p ss) h)
 
-pub baseline-whole : AreWhole baseline
-unfolding all_few few few_of
-baseline-whole =
-    let all : all_few all_spots ≡ true = refl in
-    let count : length all_spots ≡ 160 = refl in
+whole-of : (p : Protocol) → all_few p all_spots ≡ true → AreWhole (baseline_of p)
+whole-of p all =
+    let count : length all_spots ≡ 184 = refl in
     record {
-      cache = record { rows_are = refl; columns_are = search rules };
-      directory = record { rows_are = refl; columns_are = search rules };
+      cache = record { whole = record { rows_are = refl; columns_are = search rules }; keeps = λ s e. inl (cache-baseline p s e) };
+      directory = record { whole = record { rows_are = refl; columns_are = search rules }; keeps = λ s e. inl (directory-baseline p s e) };
       fits =
           λ s. let own =
-          at-own s in subst (λ p. FitsCell (cell_at baseline p)) own.0
-          (few-fits _ (few-at all_spots (spot_number s) some_spot (omega (arith, count, own.1)) all));
+          at-own s in subst (λ q. FitsCell (cell_at (baseline_of p) q)) own.0
+          (few-fits _ (few-at p all_spots (spot_number s) some_spot (omega (arith, count, own.1)) all));
     }
+
+pub baseline-whole : (p : Protocol) → AreWhole (baseline_of p)
+unfolding all_few few few_of
+baseline-whole Msi = whole-of Msi refl
+baseline-whole MsiE = whole-of MsiE refl
+
+pub msi-whole : AreWhole baseline
+msi-whole = baseline-whole Msi
+
+-- ---- tables that keep to their protocol
+
+-- the cell at this place is the protocol's own, or the protocol has all that it names
+abbrev pub IsKnownAt : Tables → Spot → Type 0
+IsKnownAt t s = (cell_at t s ≡ cell_at (baseline_of t.protocol) s) ⊎ (is_known t.protocol (cell_at t s) ≡ true)
+
+line-at : (t : Tables) (s : CacheState) (e : CacheEvent) → cache_keeping.IsKeptAt t.protocol t.cache s e → IsKnownAt t (spot.Cache s e)
+line-at t s e (inl own) = inl (ap (cell.Cache s e) (own ∙ sym (cache-baseline t.protocol s e)))
+line-at t s e (inr known) = inr known
+
+home-at : (t : Tables) (s : DirectoryState) (e : DirectoryEvent) → directory_keeping.IsKeptAt t.protocol t.directory s e → IsKnownAt t (spot.Directory s e)
+home-at t s e (inl own) = inl (ap (cell.Directory s e) (own ∙ sym (directory-baseline t.protocol s e)))
+home-at t s e (inr known) = inr known
+
+pub known-at : (t : Tables) → AreWhole t → (s : Spot) → IsKnownAt t s
+known-at t whole (spot.Cache s e) = line-at t s e (whole.cache.keeps s e)
+known-at t whole (spot.Directory s e) = home-at t s e (whole.directory.keeps s e)

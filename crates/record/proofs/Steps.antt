@@ -25,6 +25,7 @@ use Rattle.record.specs.inner.Drafts.{kept, recorded, lines_before, lines_left, 
 use Rattle.record.specs.inner.Readers.{HasPulled, HasTaken}
 use Rattle.record.specs.inner.Reading.{Gathered, AreSomeIf, IsTakenOff, IsWholeIf, pending, stream}
 use Rattle.record.proofs.Streams.{let-go, line-off, none-held, pulled}
+use Rattle.record.proofs.Spots.{few-most}
 use Rattle.record.proofs.Words.{spelled-text}
 
 follow-append : (due mid last : Due) (xs ys : List (List ℕ)) → Follow due xs mid → Follow mid ys last → Follow due (xs ++ ys) last
@@ -226,11 +227,11 @@ fewer-entries-behind f zero = omega arith
 fewer-entries-behind f (suc n) =
     let is : suc n - 1 ≡ n = omega arith in omega (arith, ap (λ k. lines_left (entries_due f k)) is, fewer-entries f n)
 
-fewer-header : (v : Version) → lines_left (header_leads v) < 1000170
+fewer-header : (v : Version) → lines_left (header_leads v) < 1000194
 fewer-header One = omega arith
 fewer-header Two = omega arith
 
-fewer-shape : (v : Version) (f : Form) (shape : Extent) → lines_left (shape_leads_in v f shape) < 1000168
+fewer-shape : (v : Version) (f : Form) (shape : Extent) → lines_left (shape_leads_in v f shape) < 1000192
 fewer-shape One f shape = omega arith
 fewer-shape Two f shape = omega arith
 
@@ -240,7 +241,7 @@ fewer-left ProtocolLine words next l = omega (arith, ap lines_left l.2)
 fewer-left (ShapeLine f) words next l = omega (arith, ap lines_left l.3, fewer-shape f.version f l.0)
 fewer-left (SeatsLine f shape) words next l = omega (arith, ap lines_left l.3)
 fewer-left (OpeningLine f shape) words next l = omega (arith, ap lines_left l.3)
-fewer-left (CellCount f) words next l = omega (arith, ap lines_left l.3, fewer-cells f l.0 0, l.1)
+fewer-left (CellCount f) words next l = omega (arith, ap lines_left l.3, fewer-cells f l.0 0, l.1, few-most f.protocol)
 fewer-left (CellLine f left from) words next l = omega (arith, ap lines_left l.3, fewer-cells-behind f left (spot_number (spot_of l.0) + 1))
 fewer-left (EntryCount f) words next l = omega (arith, ap lines_left l.3, fewer-entries f l.0, l.1)
 fewer-left (EntryLine f left) words next l = omega (arith, ap lines_left l.3, fewer-entries-behind f left)

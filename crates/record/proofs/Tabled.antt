@@ -75,7 +75,7 @@ same-table states events row column rows columns places c d h k same =
     ∙ same-row states events row column rows columns places c d h k same i (omega (arith, low, h.rows_are))
     ∙ get_or_default d i [] e (omega (arith, low, h.rows_are, k.rows_are)))
 
-cache-places : HasPlaces cache_baseline.all_states cache_baseline.all_events cache_table.state_number cache_table.event_number 11 12
+cache-places : HasPlaces cache_baseline.all_states cache_baseline.all_events cache_table.state_number cache_table.event_number 12 13
 cache-places = record { rows_count = refl; columns_count = refl; some_state = first_state; some_event = first_event }
 
 directory-places :
@@ -92,12 +92,13 @@ at_home (cell.Cache state event entry) = Blank
 at_home (cell.Directory state event entry) = entry
 
 -- tables are what their cells are
-pub tables-same : (t u : Tables) → AreWhole t → AreWhole u → ((s : Spot) → cell_at t s ≡ cell_at u s) → t ≡ u
+pub tables-same : (t u : Tables) → t.protocol ≡ u.protocol → AreWhole t → AreWhole u → ((s : Spot) → cell_at t s ≡ cell_at u s) → t ≡ u
 unfolding at_line at_home
-tables-same t u h k same =
-    ap (λ c. let x : Tables = record { cache = c; directory = t.directory } in x)
-    (same-table cache_baseline.all_states cache_baseline.all_events cache_table.state_number cache_table.event_number 11 12 cache-places
-    t.cache u.cache h.cache k.cache (λ s e. ap at_line (same (spot.Cache s e))))
-    ∙ ap (λ d. let x : Tables = record { cache = u.cache; directory = d } in x)
+tables-same t u p h k same =
+    ap (λ q. let x : Tables = record { protocol = q; cache = t.cache; directory = t.directory } in x) p
+    ∙ ap (λ c. let x : Tables = record { protocol = u.protocol; cache = c; directory = t.directory } in x)
+    (same-table cache_baseline.all_states cache_baseline.all_events cache_table.state_number cache_table.event_number 12 13 cache-places
+    t.cache u.cache h.cache.whole k.cache.whole (λ s e. ap at_line (same (spot.Cache s e))))
+    ∙ ap (λ d. let x : Tables = record { protocol = u.protocol; cache = u.cache; directory = d } in x)
     (same-table directory_baseline.all_states directory_baseline.all_events directory_table.state_number directory_table.event_number 4 7
-    directory-places t.directory u.directory h.directory k.directory (λ s e. ap at_home (same (spot.Directory s e))))
+    directory-places t.directory u.directory h.directory.whole k.directory.whole (λ s e. ap at_home (same (spot.Directory s e))))

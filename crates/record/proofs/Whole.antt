@@ -43,18 +43,18 @@ whole-text r =
     let count = length (changed_cells r.tables) in
     let head : List (List (List ℕ)) = head_lines Two r in
     let behind : List (List ℕ) = entries_piece (length r.entries) ∷ map told_piece ts ++ end_piece ∷ [] in
-    let first : List ℕ = head_piece r.protocol r.shape r.seats in
+    let first : List ℕ = head_piece r.tables.protocol r.shape r.seats in
     ap (λ l. first ++ l)
     (flat-then value_piece r.opening (cells_piece count ∷ map (cell_piece r.tables) all_spots ++ behind)
     ∙ ap (λ l. flat_map value_piece r.opening ++ (cells_piece count ++ l))
     (flat-then (cell_piece r.tables) all_spots behind
     ∙ ap (λ l. flat_map (cell_piece r.tables) all_spots ++ (entries_piece (length r.entries) ++ l)) (flat-then told_piece ts (end_piece ∷ []))))
-    ∙ regroup (line (header_words Two)) (line (protocol_words r.protocol)) (line (shape_words r.shape)) (line (seats_words r.seats)) (codes "opening")
+    ∙ regroup (line (header_words Two)) (line (protocol_words r.tables.protocol)) (line (shape_words r.shape)) (line (seats_words r.seats)) (codes "opening")
     (flat_map value_piece r.opening) (line (cells_words count))
     (flat_map (cell_piece r.tables) all_spots) (line (entries_words (length r.entries))) (flat_map told_piece ts) (line end_words)
     ∙ ap
     (λ os. (line (header_words Two) ++
-    (line (protocol_words r.protocol) ++
+    (line (protocol_words r.tables.protocol) ++
     (line (shape_words r.shape) ++ (line (seats_words r.seats) ++ (((codes "opening" ++ os) ++ 10 ∷ []) ++ []))))) ++
     (line (cells_words count) ++
     (flat_map (cell_piece r.tables) all_spots ++
@@ -69,7 +69,7 @@ whole-text r =
     ∙ sym (flat_map-append line head (cells_words count ∷ cells ++ (entries_words (length r.entries) ∷ entries ++ end_words ∷ [])))
 
 -- how many pieces there are
-pub pieces-count : (r : RecordingView) → length (pieces r) ≡ length r.opening + 164 + length r.entries
+pub pieces-count : (r : RecordingView) → length (pieces r) ≡ length r.opening + 188 + length r.entries
 pieces-count r =
     let behind : List (List ℕ) = entries_piece (length r.entries) ∷ map told_piece (told r.owners r.entries) ++ end_piece ∷ [] in
     omega (

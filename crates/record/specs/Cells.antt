@@ -3,6 +3,8 @@ use Rattle.std.specs.Prelude.{ℕ, Bool, false, ◌+◌, ◌*◌, List, ◌++◌
 use Rattle.std.specs.List.{flat_map}
 use Rattle.base.specs.Entries.{change_words, same_entry, HasFewActions}
 use Rattle.base.specs.declared.controller.entry.Side.TheVariants.{Cache, Directory}
+use Rattle.base.specs.declared.controller.protocol.Protocol.{Protocol}
+use Rattle.base.specs.declared.controller.protocol.Protocol.TheVariants.{Msi, MsiE}
 use Rattle.cache_table.specs.Table as cache_table
 use Rattle.cache_table.specs.Baseline as cache_baseline
 use Rattle.cache_table.specs.Names as cache_names
@@ -29,8 +31,13 @@ all_spots = cache_spots ++ directory_spots
 
 -- the number of a place among all places, counted from 0
 abbrev pub spot_number : Spot → ℕ
-spot_number (spot.Cache state event) = cache_table.state_number state * 12 + cache_table.event_number event
-spot_number (spot.Directory state event) = 132 + directory_table.state_number state * 7 + directory_table.event_number event
+spot_number (spot.Cache state event) = cache_table.state_number state * 13 + cache_table.event_number event
+spot_number (spot.Directory state event) = 156 + directory_table.state_number state * 7 + directory_table.event_number event
+
+-- how many cells the tables of a protocol have at most
+abbrev pub most_cells : Protocol → ℕ
+most_cells Msi = 160
+most_cells MsiE = 184
 
 -- the cell at a place of these tables
 abbrev pub cell_at : Tables → Spot → Cell
@@ -61,3 +68,8 @@ is_same (cell.Cache state event entry) (cell.Cache s e other) = same_entry cache
 is_same (cell.Directory state event entry) (cell.Directory s e other) =
     same_entry directory_table.state_number directory_names.action_number entry other
 is_same one other = false
+
+-- whether a protocol has all that a cell and its entry name
+abbrev pub is_known : Protocol → Cell → Bool
+is_known protocol (cell.Cache state event entry) = cache_table.has_cell protocol state event entry
+is_known protocol (cell.Directory state event entry) = directory_table.has_entry protocol entry

@@ -1,8 +1,8 @@
 -- Which line is due after which in a recording's text, and what a well formed line is.
-use Rattle.std.specs.Prelude.{◌≡◌, ℕ, ◌+◌, ◌-◌, ◌<◌, ◌≤◌, ◌^◌, List, [], ◌∷◌, false, All, Option, Some, None, length, zero, suc}
+use Rattle.std.specs.Prelude.{◌≡◌, ℕ, ◌+◌, ◌-◌, ◌<◌, ◌≤◌, ◌^◌, List, [], ◌∷◌, true, false, All, Option, Some, None, length, zero, suc}
 use Rattle.base.specs.Extent.{Extent}
 use Rattle.base.specs.Spelling.{words, FitsStep, FitsOutcome}
-use Rattle.both_tables.specs.Tables.{baseline}
+use Rattle.both_tables.specs.Tables.{baseline_of}
 use Rattle.record.specs.declared.due.Due.{Due}
 use Rattle.record.specs.declared.due.Due.TheVariants.{Header, ProtocolLine, ShapeLine, SeatsLine, OpeningLine, CellCount, CellLine, EntryCount, EntryLine, EndLine, Nothing}
 use Rattle.record.specs.declared.due.Form.{Form}
@@ -13,7 +13,7 @@ use Rattle.record.specs.declared.version.Version.TheVariants.{Two}
 use Rattle.base.specs.declared.controller.protocol.Protocol.{Protocol}
 use Rattle.record.specs.Versions.{form, header_leads, shape_leads_in, protocol_words, seats_words, IsShapeIn}
 use Rattle.record.specs.declared.cells.Cell.{Cell}
-use Rattle.record.specs.Cells.{cell_at, cell_words, spot_of, spot_number, FitsCell}
+use Rattle.record.specs.Cells.{cell_at, cell_words, is_known, most_cells, spot_of, spot_number, FitsCell}
 use Rattle.record.specs.Text.{header_words, shape_words, opening_words, cells_words, entries_words, told_words, end_words}
 use Rattle.record.specs.Cells.{is_same}
 
@@ -32,11 +32,12 @@ pub record AreValues (shape : Extent) (values : List ℕ) : Type 0 where
   pub each : length values ≡ shape.blocks
   pub small : All (λ value. value < 2 ^ 64) values
 
--- a cell that may be listed from a place on: it differs from the baseline's
-pub record IsListed (from : ℕ) (cell : Cell) : Type 0 where
+-- a cell that may be listed from a place on: its protocol has all that it names, and it differs from the protocol's own
+pub record IsListed (protocol : Protocol) (from : ℕ) (cell : Cell) : Type 0 where
   pub fits : FitsCell cell
+  pub known : is_known protocol cell ≡ true
   pub in_order : from ≤ spot_number (spot_of cell)
-  pub differs : is_same cell (cell_at baseline (spot_of cell)) ≡ false
+  pub differs : is_same cell (cell_at (baseline_of protocol) (spot_of cell)) ≡ false
 
 -- the numbers of an entry are in range of their types
 abbrev pub FitsEntry : Entry → Type 0
@@ -60,9 +61,9 @@ Leads (ShapeLine f) line next =
 Leads (SeatsLine f shape) line next =
     (seats : ℕ) × (seats ≤ 64) × (line ≡ seats_words seats) × (next ≡ OpeningLine (form f.version f.protocol seats) shape)
 Leads (OpeningLine f shape) line next = (values : List ℕ) × AreValues shape values × (line ≡ opening_words values) × (next ≡ CellCount f)
-Leads (CellCount f) line next = (count : ℕ) × (count ≤ 160) × (line ≡ cells_words count) × (next ≡ cells_due f count 0)
+Leads (CellCount f) line next = (count : ℕ) × (count ≤ most_cells f.protocol) × (line ≡ cells_words count) × (next ≡ cells_due f count 0)
 Leads (CellLine f left from) line next =
-    (cell : Cell) × IsListed from cell × (line ≡ cell_words cell) × (next ≡ cells_due f (left - 1) (spot_number (spot_of cell) + 1))
+    (cell : Cell) × IsListed f.protocol from cell × (line ≡ cell_words cell) × (next ≡ cells_due f (left - 1) (spot_number (spot_of cell) + 1))
 Leads (EntryCount f) line next = (count : ℕ) × (count ≤ 1000000) × (line ≡ entries_words count) × (next ≡ entries_due f count)
 Leads (EntryLine f left) line next = (t : Told) × FitsTold f.seats t × (line ≡ told_words t) × (next ≡ entries_due f (left - 1))
 Leads (EndLine f) line next = (line ≡ end_words) × (next ≡ Nothing)

@@ -3,6 +3,7 @@ pub mod Cells
 pub mod Versions
 pub mod Text
 pub mod Replaying
+pub mod Moving
 pub mod Grammar
 pub mod Recordable
 pub mod Refused

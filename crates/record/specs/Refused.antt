@@ -15,6 +15,7 @@ use Rattle.record.specs.declared.version.Version.TheVariants.{One, Two}
 use Rattle.record.specs.Versions.{most_bytes, IsShapeIn}
 use Rattle.record.specs.declared.fault.ReadKind.{ReadKind}
 use Rattle.record.specs.declared.fault.ReadKind.TheVariants.{BadHeader, BadLine, Truncated, CountDiffers, BadOutcome, OverLimit, NoMemory, Device, UnknownProtocol}
+use Rattle.record.specs.Cells.{most_cells}
 use Rattle.record.specs.Text.{header_words, shape_words, by_words, told_words, end_words}
 use Rattle.record.specs.declared.due.Due.{Due}
 use Rattle.record.specs.declared.due.Due.TheVariants.{Header, ProtocolLine, ShapeLine, SeatsLine, OpeningLine, CellCount, CellLine, EntryCount, EntryLine, EndLine, Nothing}
@@ -54,7 +55,7 @@ pub record IsOtherShape (version : Version) (line : List (List ℕ)) : Type 0 wh
 abbrev pub IsOver : Due → List (List ℕ) → Type 0
 IsOver (ShapeLine f) line = IsOtherShape f.version line
 IsOver (SeatsLine f shape) line = IsHigherCount (codes "seats") 64 line
-IsOver (CellCount f) line = IsHigherCount (codes "cells") 160 line
+IsOver (CellCount f) line = IsHigherCount (codes "cells") (most_cells f.protocol) line
 IsOver (EntryCount f) line = IsHigherCount (codes "entries") 1000000 line
 IsOver due line = ⊥
 

@@ -4,7 +4,7 @@ use Rattle.std.specs.List.{flat_map}
 use Rattle.std.specs.Fmt.{decimal}
 use Rattle.base.specs.Extent.{Extent}
 use Rattle.base.specs.Spelling.{joined, step_words, outcome_words}
-use Rattle.both_tables.specs.Tables.{Tables, baseline}
+use Rattle.both_tables.specs.Tables.{Tables, baseline_of}
 use Rattle.record.specs.declared.recording.Entry.{Entry}
 use Rattle.record.specs.declared.cells.Spot.{Spot}
 use Rattle.record.specs.declared.cells.Cell.{Cell}
@@ -61,22 +61,22 @@ told (seat ∷ owners) (e ∷ entries) = record { owner = Some seat; entry = e }
 abbrev pub end_words : List (List ℕ)
 end_words = codes "end" ∷ []
 
--- whether the cell at this place differs from the baseline's
+-- whether the cell at this place differs from the protocol's own
 abbrev pub is_changed : Tables → Spot → Bool
-is_changed tables spot = not (is_same (cell_at tables spot) (cell_at baseline spot))
+is_changed tables spot = not (is_same (cell_at tables spot) (cell_at (baseline_of tables.protocol) spot))
 
--- the cells at these places that differ from the baseline's
+-- the cells at these places that differ from the protocol's own
 abbrev pub changed : Tables → List Spot → List Cell
 changed tables spots = map (cell_at tables) (filter (is_changed tables) spots)
 
--- the cells that differ from the baseline's, in order
+-- the cells that differ from the protocol's own, in order
 abbrev pub changed_cells : Tables → List Cell
 changed_cells tables = changed tables all_spots
 
 -- the lines of a recording up to that of the opening values
 abbrev pub head_lines : Version → RecordingView → List (List (List ℕ))
 head_lines version r =
-    header_words version ∷ protocol_lines version r.protocol ++ (shape_words r.shape ∷ seats_lines version r.seats ++ opening_words r.opening ∷ [])
+    header_words version ∷ protocol_lines version r.tables.protocol ++ (shape_words r.shape ∷ seats_lines version r.seats ++ opening_words r.opening ∷ [])
 
 -- the lines of a recording
 abbrev pub lines : Version → RecordingView → List (List (List ℕ))

@@ -75,4 +75,4 @@ CanTell Two protocol seats = Unit {0}
 -- a recording that has a text of this version
 pub record HasTextIn (version : Version) (r : RecordingView) : Type 0 where
   pub shape : IsShapeIn version r.shape
-  pub told : CanTell version r.protocol r.seats
+  pub told : CanTell version r.tables.protocol r.seats

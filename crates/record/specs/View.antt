@@ -3,15 +3,12 @@ use Rattle.std.specs.Prelude.{◌≡◌, ◌≢◌, ◌<◌, ◌≤◌, ℕ, Lis
 use Rattle.base.specs.Extent.{Extent, IsWithinLimits}
 use Rattle.base.specs.declared.step.Step.{Step}
 use Rattle.base.specs.declared.step.Outcome.{Outcome}
-use Rattle.base.specs.declared.controller.protocol.Protocol.{Protocol}
-use Rattle.base.specs.declared.controller.protocol.Protocol.TheVariants.{Msi}
 use Rattle.both_tables.specs.Tables.{Tables}
 use Rattle.machine.specs.Machine.{after, opened}
 use Rattle.record.specs.declared.recording.Entry.{Entry}
 
--- a world's protocol, shape, tables and opening values, and the entries of its steps; and a number of seats, with the seat that owns each entry
+-- a world's shape, tables and opening values, and the entries of its steps; and a number of seats, with the seat that owns each entry
 pub record RecordingView : Type 0 where
-  pub protocol : Protocol
   pub seats : ℕ
   pub shape : Extent
   pub tables : Tables
@@ -36,7 +33,7 @@ pub record IsKept (r : RecordingView) : Type 0 where
 -- a recording of so many seats with no entries
 abbrev pub opened_of : ℕ → Extent → Tables → List ℕ → RecordingView
 opened_of seats shape tables opening =
-    record { protocol = Msi; seats = seats; shape = shape; tables = tables; opening = opening; entries = []; owners = [] }
+    record { seats = seats; shape = shape; tables = tables; opening = opening; entries = []; owners = [] }
 
 -- a recording without seats, with no entries
 abbrev pub opened_recording : Extent → Tables → List ℕ → RecordingView
@@ -50,7 +47,6 @@ owner_list (Some seat) = seat ∷ []
 -- a recording with one more entry, which has this owner
 abbrev pub with_owned : RecordingView → Entry → Option ℕ → RecordingView
 with_owned r entry owner = record {
-  protocol = r.protocol;
   seats = r.seats;
   shape = r.shape;
   tables = r.tables;
@@ -62,7 +58,6 @@ with_owned r entry owner = record {
 -- a recording with one more entry, of nobody
 abbrev pub with_entry : RecordingView → Entry → RecordingView
 with_entry r entry = record {
-  protocol = r.protocol;
   seats = r.seats;
   shape = r.shape;
   tables = r.tables;

@@ -1,13 +1,14 @@
-ghost use Rattle.std.specs.Prelude.{◌≡◌, ◌<◌, slice_index_or};
-ghost use Rattle.record.specs.Cells.{all_spots, cell_at, is_same, spot_of, spot_number, FitsCell};
+ghost use Rattle.std.specs.Prelude.{◌≡◌, ◌≤◌, ◌<◌, slice_index_or};
+ghost use Rattle.record.specs.Cells.{all_spots, cell_at, is_known, is_same, most_cells, spot_of, spot_number, FitsCell};
 ghost use Rattle.record.specs.inner.Pieces.{IsInWhole};
 
+use base::controller::Protocol;
 use both_tables::Tables;
-use cache_table::{CacheEntry, CacheEvent, CacheState};
-use directory_table::{DirectoryEntry, DirectoryEvent, DirectoryState};
+use cache_table::{CacheEntry, CacheEvent, CacheState, knows_cell};
+use directory_table::{DirectoryEntry, DirectoryEvent, DirectoryState, knows_entry};
 
-/// How many cells both tables have.
-pub(crate) const SPOTS: usize = 160;
+/// How many cells both tables have, also those that a protocol hasn't got.
+pub(crate) const SPOTS: usize = 184;
 
 /// The place of a cell.
 #[derive(Clone, Copy)]
@@ -31,15 +32,26 @@ pub(crate) enum Cell {
     },
 }
 
+/// How many cells the tables of a protocol have, and so a text lists at most.
+pub(crate) fn most_cells(protocol: Protocol) -> u32
+    ensures most { result ≡ most_cells protocol }
+    ensures small { most_cells protocol ≤ 184 }
+{
+    match protocol {
+        Protocol::Msi => 160,
+        Protocol::MsiE => 184,
+    }
+}
+
 /// The place with this number, in the order of all places.
 pub(crate) fn spot_at(number: usize) -> Spot
-    requires { number < 160 }
+    requires { number < 184 }
     ensures { result ≡ slice_index_or all_spots number result }
 {
-    if number < 132 {
-        Spot::Cache(CacheState::ALL[number / 12], CacheEvent::ALL[number % 12])
+    if number < 156 {
+        Spot::Cache(CacheState::ALL[number / 13], CacheEvent::ALL[number % 13])
     } else {
-        let number = number - 132;
+        let number = number - 156;
         Spot::Directory(
             DirectoryState::ALL[number / 7],
             DirectoryEvent::ALL[number % 7],
@@ -86,6 +98,20 @@ impl Cell {
         }
     }
 
+    /// Whether a protocol has all that the cell and its entry name.
+    pub(crate) fn is_known(&self, protocol: Protocol) -> bool
+        ensures { result ≡ is_known protocol self.now }
+    {
+        match self {
+            Cell::Cache {
+                state,
+                event,
+                entry,
+            } => knows_cell(protocol, *state, *event, entry),
+            Cell::Directory { entry, .. } => knows_entry(protocol, entry),
+        }
+    }
+
     /// The place of the cell.
     pub(crate) fn spot(&self) -> Spot
         ensures { result ≡ spot_of self.now }
@@ -100,10 +126,10 @@ impl Cell {
 /// The number of a place, in the order of all places.
 pub(crate) fn spot_number(spot: Spot) -> usize
     ensures number { result ≡ spot_number spot }
-    ensures small { result < 160 }
+    ensures small { result < 184 }
 {
     match spot {
-        Spot::Cache(state, event) => state as usize * 12 + event as usize,
-        Spot::Directory(state, event) => 132 + state as usize * 7 + event as usize,
+        Spot::Cache(state, event) => state as usize * 13 + event as usize,
+        Spot::Directory(state, event) => 156 + state as usize * 7 + event as usize,
     }
 }

@@ -11,7 +11,7 @@ ghost use Rattle.record.specs.inner.Reading.{IsFaultOfTold};
 ghost use Rattle.record.specs.Versions.{HasTextIn};
 ghost use Rattle.record.specs.View.{owner_list};
 
-use crate::cells::{SPOTS, spot_number};
+use crate::cells::{most_cells, spot_number};
 use crate::due::{Due, Form};
 use crate::fault::ReadKind;
 use crate::parsing::{count_of, is_end, opening_of, protocol_of, shape_of, told_of, version_of};
@@ -19,7 +19,6 @@ use crate::reading::{listed_cell, with_cell};
 use crate::recording::{Entry, MOST_ENTRIES, MOST_SEATS, Recording};
 use crate::told::Told;
 use crate::version::Version;
-use base::controller::Protocol;
 use base::{MOST_BLOCKS, NoMemory, Shape};
 use both_tables::Tables;
 use std::alloc::Global;
@@ -28,7 +27,6 @@ use std::alloc::Global;
 #[derive(Drop)]
 pub(crate) struct Draft {
     version: Version,
-    protocol: Protocol,
     seats: u32,
     shape: Shape,
     tables: Tables,
@@ -46,7 +44,6 @@ impl Draft {
         let opening = Vec::with_capacity(alloc, MOST_BLOCKS as usize)?;
         Ok(Draft {
             version: Version::One,
-            protocol: Protocol::Msi,
             seats: 0,
             // the smallest, until the line of the shape is read
             shape: Shape::new(1, 1).unwrap(),
@@ -112,10 +109,11 @@ impl Draft {
         ensures err { IfErr result (IsFaultOfLine due.ProtocolLine (words line.now)) }
         ensures room { (n : ℕ) → HasRoom self.old (n + 1) → HasRoom self.new n }
     {
-        self.protocol = protocol_of(line)?;
+        let protocol = protocol_of(line)?;
+        self.tables = Tables::baseline_of(protocol);
         Ok(Due::ShapeLine(Form {
             version: Version::Two,
-            protocol: self.protocol,
+            protocol,
             seats: 0,
         }))
     }
@@ -172,7 +170,7 @@ impl Draft {
         ensures err { IfErr result (IsFaultOfLine (due.CellLine form left from) (words line.now)) }
         ensures room { (n : ℕ) → HasRoom self.old (n + 1) → HasRoom self.new n }
     {
-        let Some(cell) = listed_cell(line, from) else {
+        let Some(cell) = listed_cell(line, form.protocol, from) else {
             return Err(ReadKind::BadLine);
         };
         self.tables = with_cell(self.tables, &cell);
@@ -201,7 +199,6 @@ impl Draft {
         ensures told { HasTextIn self.version (recorded (kept self)) }
     {
         Recording::of(
-            self.protocol,
             self.seats,
             self.shape,
             self.tables,
@@ -228,7 +225,7 @@ fn cell_count_due(line: &[u8], form: Form) -> Result<Due, ReadKind>
     ensures ok { IfOk result (Leads (due.CellCount form) (words line.now)) }
     ensures err { IfErr result (IsFaultOfLine (due.CellCount form) (words line.now)) }
 {
-    let count = count_of(line, b"cells".as_slice(), SPOTS as u32)?;
+    let count = count_of(line, b"cells".as_slice(), most_cells(form.protocol))?;
     Ok(Due::cells(form, count, 0))
 }
 

@@ -64,7 +64,7 @@ impl Reader {
         ensures read { OnOk result (IsReadTo due.Nothing (kept self.new.draft)) }
         ensures fault { IfErr result (IsRefused (S.left source.old) (S.left source.new) 0 due.Header (self.new.lines.number + 1)) }
         ensures device { IfErr result (λ kind. kind ≡ ReadKind.Device → S.has_failed source.new ≡ true) }
-        ensures few { self.new.lines.number ≤ 1000170 }
+        ensures few { self.new.lines.number ≤ 1000194 }
     {
         while !self.is_done() {
             self.gather(source)?;

@@ -6,7 +6,7 @@ ghost use Rattle.base.specs.Spelling.{words};
 ghost use Rattle.record.specs.declared.cells.Cell as cells;
 ghost use Rattle.record.specs.declared.cells.Spot as cells_spot;
 ghost use Rattle.record.specs.declared.due.Due.TheVariants.{Header};
-ghost use Rattle.record.specs.Cells.{cell_at, cell_words, spot_of, FitsCell};
+ghost use Rattle.record.specs.Cells.{cell_at, cell_words, is_known, spot_of, FitsCell};
 ghost use Rattle.record.specs.Grammar.{IsListed};
 ghost use Rattle.record.specs.View.{RecordingView};
 ghost use Rattle.record.specs.Recordable.{AreWhole, IsRecordable};
@@ -19,6 +19,7 @@ use crate::fault::{ReadFault, ReadKind};
 use crate::reader::Reader;
 use crate::recording::Recording;
 use base::Source;
+use base::controller::Protocol;
 use both_tables::Tables;
 use std::alloc::Global;
 
@@ -53,24 +54,30 @@ impl Recording {
     }
 }
 
-/// The cell of a line, if its place is of this number or a higher one and it differs from the baseline's.
-pub(crate) fn listed_cell(line: &[u8], from: usize) -> Option<Cell>
+/// The cell of a line, if this protocol has all that it names, its place is of this number or a higher one, and it differs
+/// from the protocol's own.
+pub(crate) fn listed_cell(line: &[u8], protocol: Protocol, from: usize) -> Option<Cell>
     ensures { MatchOption result
-        ((cell : cells.Cell) → IsListed from cell → words line.now ≢ cell_words cell)
-        (λ cell. IsListed from cell × (words line.now ≡ cell_words cell)) }
+        ((cell : cells.Cell) → IsListed protocol from cell → words line.now ≢ cell_words cell)
+        (λ cell. IsListed protocol from cell × (words line.now ≡ cell_words cell)) }
 {
     let cell = cell_of(line)?;
+    if !cell.is_known(protocol) {
+        return None;
+    }
     if spot_number(cell.spot()) < from {
         return None;
     }
-    if cell.is_in(&Tables::baseline()) {
+    if cell.is_in(&Tables::baseline_of(protocol)) {
         return None;
     }
     Some(cell)
 }
 
-/// The tables with this cell in its place.
+/// The tables with this cell, all of which their protocol has, in its place.
 pub(crate) fn with_cell(tables: Tables, cell: &Cell) -> Tables
+    requires { is_known tables.protocol cell.now ≡ true }
+    ensures protocol { result.protocol ≡ tables.protocol }
     ensures here { cell_at result (spot_of cell.now) ≡ cell.now }
     ensures others { (spot : cells_spot.Spot) → spot ≢ spot_of cell.now → cell_at result spot ≡ cell_at tables spot }
     ensures whole { AreWhole tables → FitsCell cell.now → AreWhole result }

@@ -36,7 +36,6 @@ pub enum PushFault {
 ///
 /// That the outcomes are those that the steps have isn't known of it: a replay tells.
 pub struct Recording {
-    protocol: Protocol,
     seats: u32,
     shape: Shape,
     tables: Tables,
@@ -49,7 +48,6 @@ impl Drop for Recording {
     fn drop(self) {
         // Whoever drops one has a call to prove, and not the drops of all its parts.
         let Recording {
-            protocol: _,
             seats: _,
             shape: _,
             tables: _,
@@ -66,7 +64,6 @@ impl Model for Recording {
     ghost Value = { RecordingView };
 
     ghost view = { λ r. record {
-      protocol = r.protocol;
       seats = r.seats;
       shape = r.shape;
       tables = r.tables;
@@ -76,7 +73,6 @@ impl Model for Recording {
     } };
 
     ghost invariant = { λ r. IsKept (record {
-      protocol = r.protocol;
       seats = r.seats;
       shape = r.shape;
       tables = r.tables;
@@ -109,7 +105,6 @@ impl Recording {
             return Err(OpenFault::OpeningLength);
         }
         Ok(Recording {
-            protocol: Protocol::Msi,
             seats: 0,
             shape,
             tables,
@@ -137,7 +132,6 @@ impl Recording {
             return Err(OpenFault::OpeningLength);
         }
         Ok(Recording {
-            protocol: Protocol::Msi,
             seats,
             shape,
             tables,
@@ -149,7 +143,6 @@ impl Recording {
 
     /// The recording of these entries, with these owners.
     pub(crate) fn of(
-        protocol: Protocol,
         seats: u32,
         shape: Shape,
         tables: Tables,
@@ -162,7 +155,6 @@ impl Recording {
         requires few { length entries.items ≤ 1000000 }
         requires owned { AreOwners seats owners.items entries.items }
         ensures { result ≡ record {
-          protocol = protocol;
           seats = seats;
           shape = shape;
           tables = tables;
@@ -172,7 +164,6 @@ impl Recording {
         } }
     {
         Recording {
-            protocol,
             seats,
             shape,
             tables,
@@ -224,9 +215,9 @@ impl Recording {
 
     /// The protocol of the world's controllers.
     pub fn protocol(&self) -> Protocol
-        ensures { result ≡ self.now.protocol }
+        ensures { result ≡ self.now.tables.protocol }
     {
-        self.protocol
+        self.tables.protocol()
     }
 
     /// How many seats there are. Where there is none, nobody owns an entry.

@@ -12,6 +12,7 @@ use base::controller::{Change, Side};
 use base::text::Text;
 
 /// The line of an entry, with its end.
+#[inline(always)]
 #[tactic(auto, using(crate::proofs::Words::told_then))]
 pub(crate) fn told_line(told: Told) -> Text
     ensures text { result ≡ line (told_words told) }
@@ -28,6 +29,7 @@ pub(crate) fn told_line(told: Told) -> Text
 }
 
 /// What stands in front of an entry that has an owner, with a blank behind it.
+#[inline(always)]
 fn by_front(owner: Option<u32>) -> Text
     ensures text { result ≡ by_text owner }
     ensures short { length result ≤ 24 }

@@ -1,7 +1,7 @@
 ghost use Rattle.std.specs.Prelude.{◌≡◌, ◌≤◌, ◌<◌, ◌+◌, ◌^◌, [], IfOk, IfErr, OnOk, slice_index_or, length, take};
 ghost use Rattle.std.specs.Io.KnownBytes.{Appends};
 ghost use Rattle.base.specs.Ends.{MarksFault};
-ghost use Rattle.both_tables.specs.Tables.{baseline};
+ghost use Rattle.both_tables.specs.Tables.{baseline_of};
 ghost use Rattle.record.specs.Cells.{cell_at, FitsCell};
 ghost use Rattle.record.specs.View.{IsKept};
 ghost use Rattle.record.specs.declared.version.Version.TheVariants as Version;
@@ -38,7 +38,7 @@ impl Recording {
         ensures mark { MarksFault (S.has_failed sink.old) result (S.has_failed sink.new) }
         ensures recordable { OnOk result (IsRecordable self.now) }
     {
-        let own = Tables::baseline();
+        let own = Tables::baseline_of(self.protocol());
         let changed = count_changed(&self.tables(), &own);
         let mut written = 0;
         for number in 0..self.count_of_pieces() {
@@ -52,15 +52,16 @@ impl Recording {
     /// behind them.
     fn count_of_pieces(&self) -> usize
         ensures count { result ≡ length (pieces self.now) }
-        ensures few { result ≤ 1065700 }
+        ensures few { result ≤ 1065724 }
         ensures kept { IsKept self.now }
     {
         self.opening().len() + SPOTS + self.entries().len() + 4
     }
 
     /// The piece of this number of the text, where so many cells differ from the protocol's own.
+    #[inline(always)]
     fn piece(&self, number: usize, changed: u64, own: &Tables) -> Text
-        requires own { own.now ≡ baseline }
+        requires own { own.now ≡ baseline_of self.now.tables.protocol }
         requires within { number < length (pieces self.now) }
         requires changed { changed ≡ length (changed_cells self.now.tables) }
         ensures piece { result ≡ slice_index_or (pieces self.now) number [] }
@@ -128,9 +129,9 @@ fn cells_head(changed: u64) -> Text
     text
 }
 
-/// The line of a cell, if it differs from the baseline's, and else nothing.
+/// The line of a cell, if it differs from the protocol's own, and else nothing.
 fn cell_if_changed(tables: &Tables, own: &Tables, spot: Spot) -> Text
-    requires { own.now ≡ baseline }
+    requires { own.now ≡ baseline_of tables.now.protocol }
     ensures piece { result ≡ cell_piece tables.now spot }
     ensures short { length result ≤ 192 }
 {
@@ -178,9 +179,9 @@ fn put_piece<S: Sink>(sink: &mut S, already: u64, piece: &[u8]) -> Result<u64, W
     }
 }
 
-/// Whether the cell at a place differs from the baseline's.
+/// Whether the cell at a place differs from the protocol's own.
 fn is_changed(tables: &Tables, own: &Tables, spot: Spot) -> bool
-    requires { own.now ≡ baseline }
+    requires { own.now ≡ baseline_of tables.now.protocol }
     ensures changed { result ≡ is_changed tables.now spot }
     ensures fits { FitsCell (cell_at tables.now spot) }
     ensures whole { IsInWhole tables.now spot }
@@ -188,11 +189,11 @@ fn is_changed(tables: &Tables, own: &Tables, spot: Spot) -> bool
     !Cell::at(tables, spot).is_in(own)
 }
 
-/// How many cells differ from the baseline's.
+/// How many cells differ from the protocol's own.
 fn count_changed(tables: &Tables, own: &Tables) -> u64
-    requires { own.now ≡ baseline }
+    requires { own.now ≡ baseline_of tables.now.protocol }
     ensures count { result ≡ length (changed_cells tables.now) }
-    ensures few { result ≤ 160 }
+    ensures few { result ≤ 184 }
     ensures whole { AreWhole tables.now }
 {
     let mut count = 0;

@@ -15,7 +15,7 @@ use Rattle.base.specs.declared.step.Outcome.TheVariants as outcome
 use Rattle.network.specs.declared.message.Request.{Request}
 use Rattle.network.specs.declared.message.Forward.{Forward}
 use Rattle.network.specs.declared.message.Response.{Response}
-use Rattle.network.specs.declared.message.Response.TheVariants.{Data, InvAck}
+use Rattle.network.specs.declared.message.Response.TheVariants.{Data, InvAck, DataExcl}
 use Rattle.network.specs.Traffic.{link}
 use Rattle.cache_table.specs.Table as cache_table
 use Rattle.cache_table.specs.Table.{CacheEntry}
@@ -90,6 +90,8 @@ response-goes tables i b (Some (Data from (Cache to) value acks)) =
     line-there tables.cache to (line_input.Response (Data from (Cache to) value acks)) (origin.Response i) (slice_get b.lines to.0)
 response-goes tables i b (Some (InvAck from to)) =
     line-there tables.cache to (line_input.Response (InvAck from to)) (origin.Response i) (slice_get b.lines to.0)
+response-goes tables i b (Some (DataExcl to value)) =
+    line-there tables.cache to (line_input.Response (DataExcl to value)) (origin.Response i) (slice_get b.lines to.0)
 
 pub decision-goes : (tables : Tables) (s : Step) (b : BlockState) → GoesTo (decision_of tables s b) (place_in s b)
 decision-goes tables (step.Ask cache block a) b = ask-goes tables.cache cache a (slice_get b.lines cache.0)

@@ -17,6 +17,7 @@ impl Trip {
             Message::Forward(..) => Place::Dir,
             Message::Response(Response::Data { from, .. }) => from,
             Message::Response(Response::InvAck { from, .. }) => Place::Cache(from),
+            Message::Response(Response::DataExcl { .. }) => Place::Dir,
         }
     }
 
@@ -26,7 +27,9 @@ impl Trip {
             Message::Request(_) => Place::Dir,
             Message::Forward(to, _) => Place::Cache(to),
             Message::Response(Response::Data { to, .. }) => to,
-            Message::Response(Response::InvAck { to, .. }) => Place::Cache(to),
+            Message::Response(Response::InvAck { to, .. } | Response::DataExcl { to, .. }) => {
+                Place::Cache(to)
+            }
         }
     }
 

@@ -134,6 +134,12 @@ fn put_response(response: Response, sheet: &mut Sheet) {
             sheet.push("Inv-Ack");
             put_ends(Place::Cache(to), Place::Cache(from), sheet);
         }
+        Response::DataExcl { to, value } => {
+            sheet.push("Data ");
+            sheet.put(&value);
+            put_ends(Place::Cache(to), Place::Dir, sheet);
+            sheet.push(", exclusive");
+        }
     }
 }
 

@@ -1,3 +1,4 @@
+use base::controller::Protocol;
 use both_tables::Tables;
 use cache_table::CacheEntry;
 use certify::{CELLS, Cell, Certificate, certify};
@@ -6,9 +7,9 @@ use playing::print_certificate;
 use std::alloc::Global;
 use std::process::Abort;
 
-/// The protocol's own tables with a stall in one cell.
-fn stalled(cell: Cell) -> Tables {
-    let own = Tables::baseline();
+/// A protocol's own tables with a stall in one cell.
+fn stalled(protocol: Protocol, cell: Cell) -> Tables {
+    let own = Tables::baseline_of(protocol);
     match cell {
         Cell::Cache(state, event) => Tables {
             cache: own.cache.with(state, event, CacheEntry::Stall),
@@ -29,16 +30,22 @@ fn is_shown(rt: &impl Abort, alloc: Global, tables: &Tables) -> bool {
     text.starts_with("safe\nmessages get stuck: cell ")
 }
 
-#[test]
-fn each_stall_that_jams_is_shown(rt: HostRuntime) {
+/// Holds that each stall over a cell that jams is shown, and how many do.
+fn are_shown(rt: &impl Abort, alloc: Global, protocol: Protocol, wanted: u32) {
     let mut count = 0u32;
     for number in 0..CELLS {
         if let Some(cell) = Cell::at(number) {
-            let tables = stalled(cell);
+            let tables = stalled(protocol, cell);
             let jams = matches!(certify(&tables), Certificate::MessagesMayGetStuck(_));
-            assert_eq!(rt; is_shown(&rt, rt.alloc(), &tables), jams, "at {cell:?}");
+            assert_eq!(rt; is_shown(rt, alloc, &tables), jams, "at {cell:?}");
             count = count.saturating_add(u32::from(jams));
         }
     }
-    assert_eq!(rt; count, 34);
+    assert_eq!(rt; count, wanted);
+}
+
+#[test]
+fn each_stall_that_jams_is_shown(rt: HostRuntime) {
+    are_shown(&rt, rt.alloc(), Protocol::Msi, 34);
+    are_shown(&rt, rt.alloc(), Protocol::MsiE, 37);
 }

@@ -4,11 +4,15 @@
 #[cfg(test)]
 mod broken;
 #[cfg(test)]
+mod broken_with_e;
+#[cfg(test)]
 mod cells;
 #[cfg(test)]
 mod certificates;
 #[cfg(test)]
 mod charted;
+#[cfg(test)]
+mod exclusive;
 #[cfg(test)]
 mod jams;
 #[cfg(test)]

@@ -100,6 +100,28 @@ block 0 home: I, owner none, sharers none, memory 0
 2  by 0 response 0 0  load 1 0  Data 0 to cache 1 from home  cache 1: IS^D > S, value 0
 "#;
 
+/// A load that gets the block exclusively, under MSI+E.
+const EXCLUSIVE: &str = r#"msi-recording 2
+protocol msi+e
+shape 2 1
+seats 0
+opening 0
+cells 0
+entries 3
+ask 1 0 load = sent
+request 0 0 = moved
+response 0 0 = load 1 0
+end
+"#;
+
+const EXCLUSIVE_TABLE: &str = r#"before step 0
+block 0 home: I, owner none, sharers none, memory 0
+   step          outcome   serves                                  changes                                       sends                                   finds
+0  ask 1 0 load  sent                                              cache 1: I > IS^D, pending load               GetS to home from cache 1
+1  request 0 0   moved     GetS to home from cache 1               home: I > M, owner 1, sharers none, memory 0  Data 0 to cache 1 from home, exclusive
+2  response 0 0  load 1 0  Data 0 to cache 1 from home, exclusive  cache 1: IS^D > E, value 0
+"#;
+
 #[test]
 fn recordings_are_shown(rt: HostRuntime) {
     let alloc = rt.alloc();
@@ -113,6 +135,7 @@ fn recordings_are_shown(rt: HostRuntime) {
         ),
         ("msi show", STALE, 1, STALE_TABLE),
         ("msi show", SEATS, 0, SEATS_TABLE),
+        ("msi show", EXCLUSIVE, 0, EXCLUSIVE_TABLE),
         ("msi chart", FROM_OWNER, 0, FROM_OWNER_CHART),
     ] {
         let served = run(&rt, alloc, line, recording).expect(&rt, "served");
@@ -127,6 +150,13 @@ fn a_picture_names_the_seats(rt: HostRuntime) {
     for step in ["by 1 ask 1 0 load", "by 2 request 0 0", "by 0 response 0 0"] {
         assert_eq!(rt; text.split_once(step).is_some(), true, "at {step}");
     }
+}
+
+#[test]
+fn a_picture_names_exclusive_data(rt: HostRuntime) {
+    let served = run(&rt, rt.alloc(), "msi chart", EXCLUSIVE).expect(&rt, "served");
+    let text = str::from_utf8(served.output.as_slice()).expect(&rt, "a text");
+    assert!(rt; text.split_once(">Data 0, exclusive<").is_some());
 }
 
 /// A recording of so many steps that do nothing.

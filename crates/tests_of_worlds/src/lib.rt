@@ -10,6 +10,8 @@ mod choosing;
 #[cfg(test)]
 mod entries;
 #[cfg(test)]
+mod exclusive;
+#[cfg(test)]
 mod recordings;
 #[cfg(test)]
 mod refusing;

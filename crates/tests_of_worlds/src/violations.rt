@@ -2,6 +2,7 @@ use crate::asserting::{same, same_at};
 use base::{BlockId, CacheId, Outcome, Place, Shape, Step};
 use both_tables::Tables;
 use cache_table::{CacheAction, CacheActions, CacheEntry, CacheEvent, CacheState, CacheTable};
+use directory_table::DirectoryTable;
 use monitor::{Violation, Watch, violation_after};
 use std::alloc::Global;
 use std::process::Abort;
@@ -69,8 +70,10 @@ fn see_all(
 /// A world of two caches and one block at 0.
 fn opened(rt: &impl Abort, alloc: Global, cache: CacheTable) -> World {
     let shape = Shape::new(2, 1).expect(rt, "a shape");
-    let mut tables = Tables::baseline();
-    tables.cache = cache;
+    let tables = Tables {
+        cache,
+        directory: DirectoryTable::baseline_of(cache.protocol()),
+    };
     let opening = vec![in alloc; 0].expect(rt, "memory");
     World::open(alloc, shape, tables, opening).expect(rt, "a world")
 }

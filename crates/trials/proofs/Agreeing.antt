@@ -21,7 +21,6 @@ use Rattle.trials.specs.declared.verdict.Verdict.{Verdict}
 use Rattle.trials.specs.declared.verdict.Verdict.TheVariants.{Quiet, Cut, Stuck, Broke}
 use Rattle.trials.proofs.Places.{same-some, get-low}
 use Rattle.trials.proofs.Walks.{Walks}
-use Rattle.base.specs.declared.controller.protocol.Protocol.TheVariants.{Msi}
 
 -- ---- a word leads to one moment
 
@@ -192,19 +191,17 @@ same-verdict terms steps last Stuck Cut only h k = absurd (k.1 h.1)
 same-verdict terms steps last Cut Quiet only h k = absurd (h.1 k.1)
 same-verdict terms steps last Cut Stuck only h k = absurd (h.1 k.1)
 
--- a recording of MSI without seats
+-- a recording without seats
 abbrev of : Extent → Tables → List ℕ → List Entry → RecordingView
 of shape tables opening entries =
-    record { protocol = Msi; seats = 0; shape = shape; tables = tables; opening = opening; entries = entries; owners = [] }
+    record { seats = 0; shape = shape; tables = tables; opening = opening; entries = entries; owners = [] }
 
 unowned-is : (r : RecordingView) → IsUnowned r → r ≡ of r.shape r.tables r.opening r.entries
 unowned-is r u =
-    ap (λ p. let x : RecordingView =
-    record { protocol = p; seats = r.seats; shape = r.shape; tables = r.tables; opening = r.opening; entries = r.entries; owners = r.owners } in x) u.protocol
-    ∙ ap (λ n. let x : RecordingView =
-    record { protocol = Msi; seats = n; shape = r.shape; tables = r.tables; opening = r.opening; entries = r.entries; owners = r.owners } in x) u.seats
+    ap (λ n. let x : RecordingView =
+    record { seats = n; shape = r.shape; tables = r.tables; opening = r.opening; entries = r.entries; owners = r.owners } in x) u.seats
     ∙ ap (λ os. let x : RecordingView =
-    record { protocol = Msi; seats = 0; shape = r.shape; tables = r.tables; opening = r.opening; entries = r.entries; owners = os } in x) u.owners
+    record { seats = 0; shape = r.shape; tables = r.tables; opening = r.opening; entries = r.entries; owners = os } in x) u.owners
 
 pub same-kept : (one other : RecordingView) → IsUnowned one → IsUnowned other → one.shape ≡ other.shape → one.tables ≡ other.tables →
     one.opening ≡ other.opening → one.entries ≡ other.entries → one ≡ other

@@ -139,7 +139,7 @@ goes-on-clean more left same terms tree number c made choice violation g taken m
       shape = (m.shape ∙ g.shape.0, ap (λ (r : RecordingView). r.shape) m.recorded ∙ g.shape.1);
       tables = (m.tables ∙ g.tables.0, ap (λ (r : RecordingView). r.tables) m.recorded ∙ g.tables.1);
       opening = ap (λ (r : RecordingView). r.opening) m.recorded ∙ g.opening;
-      unowned = subst IsUnowned (sym m.recorded) (record { protocol = g.unowned.protocol; seats = g.unowned.seats; owners = g.unowned.owners });
+      unowned = subst IsUnowned (sym m.recorded) (record { seats = g.unowned.seats; owners = g.unowned.owners });
       moments = g.moments ++ moment_made terms g.last choice ∷ [];
       last = moment_made terms g.last choice;
       path = path-made same terms tree number c made choice violation g m taken;
@@ -173,7 +173,7 @@ goes-on-rolled none first more left same terms tree number c made choice (Some v
       shape = ap (λ (r : RecordingView). r.shape) m.recorded ∙ g.shape.1;
       tables = ap (λ (r : RecordingView). r.tables) m.recorded ∙ g.tables.1;
       opening = ap (λ (r : RecordingView). r.opening) m.recorded ∙ g.opening;
-      unowned = subst IsUnowned (sym m.recorded) (record { protocol = g.unowned.protocol; seats = g.unowned.seats; owners = g.unowned.owners });
+      unowned = subst IsUnowned (sym m.recorded) (record { seats = g.unowned.seats; owners = g.unowned.owners });
       moments = g.moments ++ moment_made terms g.last choice ∷ [];
       last = moment_made terms g.last choice;
       path = path-made same terms tree number c made choice (Some violation) g m taken;

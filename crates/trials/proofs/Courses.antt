@@ -50,7 +50,7 @@ starts none terms tree number c s =
       shape = (s.shape, ap (λ (r : RecordingView). r.shape) s.recording);
       tables = (s.tables, ap (λ (r : RecordingView). r.tables) s.recording);
       opening = ap (λ (r : RecordingView). r.opening) s.recording;
-      unowned = subst IsUnowned (sym s.recording) (record { protocol = refl; seats = refl; owners = refl });
+      unowned = subst IsUnowned (sym s.recording) (record { seats = refl; owners = refl });
       moments = first_moment terms tree ∷ [];
       last = first_moment terms tree;
       path = subst (λ (es : List Entry). IsPath terms tree number (first_moment terms tree ∷ []) es) (sym nothing) (path-starts terms tree number);

@@ -15,7 +15,7 @@ use Rattle.base.specs.declared.step.Outcome.TheVariants as outcome
 use Rattle.network.specs.declared.message.Request.{Request}
 use Rattle.network.specs.declared.message.Forward.{Forward}
 use Rattle.network.specs.declared.message.Response.{Response}
-use Rattle.network.specs.declared.message.Response.TheVariants.{Data, InvAck}
+use Rattle.network.specs.declared.message.Response.TheVariants.{Data, InvAck, DataExcl}
 use Rattle.network.specs.Traffic.{link}
 use Rattle.cache_table.specs.Table as cache_table
 use Rattle.cache_table.specs.Table.{CacheEntry}
@@ -351,6 +351,9 @@ by-response before tables block i b (Some (Data from (Cache to) value acks)) her
 by-response before tables block i b (Some (InvAck from to)) here =
     message-at-line before (step.Response block i) b tables.cache to (line_input.Response (InvAck from to)) (origin.Response i)
     (slice_get b.lines to.0) here tt (wired-response i) refl (response-does (InvAck from to))
+by-response before tables block i b (Some (DataExcl to value)) here =
+    message-at-line before (step.Response block i) b tables.cache to (line_input.Response (DataExcl to value)) (origin.Response i)
+    (slice_get b.lines to.0) here tt (wired-response i) refl (response-does (DataExcl to value))
 
 at-block : (tables : Tables) (before : State) (s : Step) (b : BlockState) → Here before s b → Effect before s (next_at tables before s (Some b))
 at-block tables before (step.Ask cache block a) b here = ask-at-line before tables.cache cache block a b (slice_get b.lines cache.0) here refl

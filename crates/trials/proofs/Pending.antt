@@ -7,14 +7,14 @@ use Rattle.base.specs.declared.step.Ask.{Ask}
 use Rattle.base.specs.declared.step.Ask.TheVariants.{Load, Store, Replace}
 use Rattle.network.specs.declared.message.Forward.{Forward}
 use Rattle.network.specs.declared.message.Response.{Response}
-use Rattle.network.specs.declared.message.Response.TheVariants.{Data, InvAck}
+use Rattle.network.specs.declared.message.Response.TheVariants.{Data, InvAck, DataExcl}
 use Rattle.base.specs.declared.ids.Place.TheVariants.{Dir, Cache}
 use Rattle.cache_table.specs.declared.state.CacheState.{CacheState}
 use Rattle.control.specs.declared.line.Line.{Line}
 use Rattle.control.specs.declared.line.LineInput.TheVariants as line_input
 use Rattle.control.specs.declared.line.LineCompletion.{LineCompletion}
 use Rattle.control.specs.declared.line.LineCompletion.TheVariants as done
-use Rattle.control.specs.LineEffect.{is_reader, is_writer, line_after, line_completes, taken_in, moved_on, after_ask, after_message, pending_completed}
+use Rattle.control.specs.LineEffect.{is_reader, is_modified, line_after, line_completes, taken_in, moved_on, after_ask, after_message, pending_completed}
 use Rattle.machine.specs.Block.{BlockState}
 use Rattle.machine.specs.Machine.{State}
 use Rattle.machine.specs.Coherence.{line_at}
@@ -76,7 +76,7 @@ ask-does Load next line =
     ]
 ask-does (Store v) next line =
     let moved : Line = moved_on (line_input.Ask (Store v)) next line in
-    elim (is_writer next) as
+    elim (is_modified next) as
     (λ t. AskDoes (Store v) (if t then Some (done.Store v) else None) line (after_ask (Store v) (if t then Some (done.Store v) else None) moved)) [
       | true ↦ inr (inl (record { completion = done.Store v; some = refl; answers = refl; kept = refl }))
       | false ↦ inl (record { none = refl; completes = tt; waits = refl })
@@ -107,7 +107,7 @@ settling (Some Load) line e =
       | false ↦ inl (record { none = refl; kept = refl })
     ]
 settling (Some (Store v)) line e =
-    elim (is_writer line.state) as
+    elim (is_modified line.state) as
     (λ t. MessageDoes (if t then Some (done.Store v) else None) line (after_message (if t then Some (done.Store v) else None) line)) [
       | true ↦ inr (record { completion = done.Store v; some = refl; waited = e; free = refl })
       | false ↦ inl (record { none = refl; kept = refl })
@@ -126,6 +126,7 @@ taken-keeps : (r : Response) (line : Line) → (taken_in (line_input.Response r)
 taken-keeps (Data (Cache from) to value more) line = refl
 taken-keeps (Data Dir to value more) line = refl
 taken-keeps (InvAck from to) line = refl
+taken-keeps (DataExcl to value) line = refl
 
 pub response-does : (r : Response) (next : CacheState) (line : Line) →
     MessageDoes (line_completes (line_input.Response r) next line) line (line_after (line_input.Response r) next line)

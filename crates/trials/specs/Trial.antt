@@ -1,7 +1,6 @@
 -- How a trial ends, and what a trial and a batch of them are.
 use Rattle.std.specs.Prelude.{◌≡◌, ◌≢◌, ◌≤◌, ◌+◌, ℕ, true, List, [], Some, length, slice_get}
 use Rattle.base.specs.declared.step.Step.{Step}
-use Rattle.base.specs.declared.controller.protocol.Protocol.TheVariants.{Msi}
 use Rattle.cores.specs.Cores.{is_free}
 use Rattle.scenario.specs.Tree.{Tree}
 use Rattle.scenario.specs.Taking.{offers}
@@ -32,9 +31,8 @@ IsVerdict terms steps last Quiet = AreClean terms steps × (choices_at terms.tab
 IsVerdict terms steps last Stuck = AreClean terms steps × (choices_at terms.tables last ≡ []) × ¬ IsAtRest last
 IsVerdict terms steps last Cut = AreClean terms steps × (choices_at terms.tables last ≢ []) × (length steps ≡ terms.limit)
 
--- a recording of MSI in which there are no seats, so that nobody owns an entry
+-- a recording in which there are no seats, so that nobody owns an entry
 pub record IsUnowned (r : RecordingView) : Type 0 where
-  pub protocol : r.protocol ≡ Msi
   pub seats : r.seats ≡ 0
   pub owners : r.owners ≡ []
 

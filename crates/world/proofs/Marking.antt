@@ -14,7 +14,7 @@ use Rattle.base.specs.declared.step.Step.TheVariants as step
 use Rattle.network.specs.declared.message.Request.{Request}
 use Rattle.network.specs.declared.message.Forward.{Forward}
 use Rattle.network.specs.declared.message.Response.{Response}
-use Rattle.network.specs.declared.message.Response.TheVariants.{Data, InvAck}
+use Rattle.network.specs.declared.message.Response.TheVariants.{Data, InvAck, DataExcl}
 use Rattle.network.specs.Traffic.{link}
 use Rattle.cache_table.specs.Table as cache_table
 use Rattle.cache_table.specs.Table.{CacheEntry}
@@ -93,6 +93,8 @@ held-receiver tables i b (Data from (Cache to) value acks) =
     held-line tables.cache to (line_input.Response (Data from (Cache to) value acks)) (origin.Response i) (slice_get b.lines to.0) b
 held-receiver tables i b (InvAck from to) =
     held-line tables.cache to (line_input.Response (InvAck from to)) (origin.Response i) (slice_get b.lines to.0) b
+held-receiver tables i b (DataExcl to value) =
+    held-line tables.cache to (line_input.Response (DataExcl to value)) (origin.Response i) (slice_get b.lines to.0) b
 
 pub held-response : (tables : Tables) (block : BlockId) (b : BlockState) (i : ℕ) (r : Response) → slice_get b.traffic.responses i ≡ Some r →
     held_in tables (step.Response block i) b ≡ response_stalls tables b r

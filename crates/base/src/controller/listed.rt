@@ -1,5 +1,8 @@
-ghost use Rattle.std.specs.Prelude.{◌≡◌, ◌<◌, ◌≤◌, ℕ, List, MatchOption, Some, length, slice_get, true};
-ghost use Rattle.base.specs.Spelling.{is_name, named_in, IsUnnamed};
+ghost use Rattle.std.specs.Prelude.{◌≡◌, ◌<◌, ◌≤◌, ℕ, Bool, List, MatchOption, Some, length, slice_get, true};
+ghost use Rattle.base.specs.Spelling.{is_name, named_in, named_of, IsUnnamed};
+ghost use Rattle.base.specs.declared.controller.protocol.Protocol.{Protocol};
+
+use crate::controller::protocol::Protocol;
 
 /// A state, an event or an action of a controller: one of a few of its kind, which stand in a fixed order and have names.
 pub trait Listed: Copy + PartialEq + 'static {
@@ -14,6 +17,9 @@ pub trait Listed: Copy + PartialEq + 'static {
 
     /// The one that stands first.
     ghost head: { Self };
+
+    /// What of its kind a protocol has.
+    ghost has: { Protocol → Self → Bool };
 
     /// How it is spelled in texts: in at most 13 bytes.
     fn name(self) -> &'static str
@@ -33,6 +39,10 @@ pub trait Listed: Copy + PartialEq + 'static {
     fn first() -> Self
         ensures { result ≡ head };
 
+    /// Whether a protocol has it.
+    fn is_in(self, protocol: Protocol) -> bool
+        ensures { result ≡ has protocol self };
+
     /// Each stands at its number.
     ghost stands: { (x : Self) → slice_get kind (place x) ≡ Some x };
 
@@ -49,6 +59,18 @@ pub fn named<N: Listed>(name: &[u8]) -> Option<N>
     ensures named { result ≡ named_in N.spelling N.kind name.now }
 {
     find_named(N::all(), name)
+}
+
+/// The one of its kind that has this name, if a protocol has it.
+pub fn named_of<N: Listed>(protocol: Protocol, name: &[u8]) -> Option<N>
+    ensures { result ≡ named_of (N.has protocol) N.spelling N.kind name.now }
+{
+    let found = named::<N>(name)?;
+    if found.is_in(protocol) {
+        Some(found)
+    } else {
+        None
+    }
 }
 
 /// The first of these that has this name.

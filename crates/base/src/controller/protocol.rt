@@ -7,6 +7,8 @@ ghost use Rattle.base.specs.Protocols.{protocol_name, IsOfOne};
 pub enum Protocol {
     /// The baseline of Primer, section 8.2.
     Msi,
+    /// The same with a state E, into which the first reader of a block comes.
+    MsiE,
 }
 
 impl Protocol {
@@ -17,6 +19,7 @@ impl Protocol {
     {
         match self {
             Protocol::Msi => "msi",
+            Protocol::MsiE => "msi+e",
         }
     }
 
@@ -26,6 +29,9 @@ impl Protocol {
     {
         if name == b"msi".as_slice() {
             return Some(Protocol::Msi);
+        }
+        if name == b"msi+e".as_slice() {
+            return Some(Protocol::MsiE);
         }
         None
     }

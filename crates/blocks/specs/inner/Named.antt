@@ -5,7 +5,7 @@ use Rattle.base.specs.declared.ids.Place.TheVariants.{Dir, Cache}
 use Rattle.network.specs.declared.message.Request.{Request}
 use Rattle.network.specs.declared.message.Forward.{Forward}
 use Rattle.network.specs.declared.message.Response.{Response}
-use Rattle.network.specs.declared.message.Response.TheVariants.{Data, InvAck}
+use Rattle.network.specs.declared.message.Response.TheVariants.{Data, InvAck, DataExcl}
 use Rattle.network.specs.Traffic.{Traffic, link}
 use Rattle.control.specs.declared.home.Home.{Home}
 use Rattle.control.specs.HomeEffect.{sender_of}
@@ -40,6 +40,7 @@ abbrev pub NamesReceiver : List Bool → Response → Type 0
 NamesReceiver lines (Data from Dir value acks) = Unit {0}
 NamesReceiver lines (Data from (Cache to) value acks) = IsKept lines to.0
 NamesReceiver lines (InvAck from to) = IsKept lines to.0
+NamesReceiver lines (DataExcl to value) = IsKept lines to.0
 
 -- that of a request's sender is
 abbrev pub NamesSender : List Bool → Request → Type 0

@@ -165,6 +165,9 @@ impl Block {
             Response::InvAck { from: _, to } => {
                 self.at_line(tables, to, LineInput::Response(response), from)
             }
+            Response::DataExcl { to, value: _ } => {
+                self.at_line(tables, to, LineInput::Response(response), from)
+            }
         }
     }
 

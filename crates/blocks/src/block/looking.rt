@@ -129,6 +129,7 @@ impl Block {
                 acks: _,
             } => self.cache_place(to),
             Response::InvAck { from: _, to } => self.cache_place(to),
+            Response::DataExcl { to, value: _ } => self.cache_place(to),
         }
     }
 

@@ -52,6 +52,7 @@ fn row_passes(tables: &Tables, state: CacheState) -> bool
         && !stalls_at_line(tables, state, CacheEvent::DataOwner)
         && !stalls_at_line(tables, state, CacheEvent::InvAck)
         && !stalls_at_line(tables, state, CacheEvent::LastInvAck)
+        && !stalls_at_line(tables, state, CacheEvent::DataDirExcl)
 }
 
 /// Whether a line in any state holds no response.
@@ -69,6 +70,7 @@ fn lines_pass(tables: &Tables) -> bool
         && row_passes(tables, CacheState::MiA)
         && row_passes(tables, CacheState::SiA)
         && row_passes(tables, CacheState::IiA)
+        && row_passes(tables, CacheState::E)
 }
 
 /// Whether a home in any state holds no Data.

@@ -203,6 +203,9 @@ fn stalls_response(tables: &Tables, home: &Home, lines: &Sparse<Line>, response:
         Response::InvAck { from: _, to } => {
             stalls_line(tables, line_of(lines, to), LineInput::Response(response))
         }
+        Response::DataExcl { to, value: _ } => {
+            stalls_line(tables, line_of(lines, to), LineInput::Response(response))
+        }
     }
 }
 

@@ -4,23 +4,25 @@ ghost use Rattle.std.specs.Prelude.{◌≡◌, ◌≤◌, IfSome, IsErrOf, optio
 ghost use Rattle.std.specs.List.{list_any};
 ghost use Rattle.serde_json.specs.View.{items_view};
 ghost use Rattle.base.specs.Cells.{is_of};
-ghost use Rattle.base.specs.Spelling.{named_in};
+ghost use Rattle.base.specs.Spelling.{named_of};
 ghost use Rattle.both_tables.specs.Overrides.{change_of, changes_of, entry_of, known_actions, known_next};
 ghost use Rattle.both_tables.specs.inner.Seen.{Gives, HasFew, seen_cell, seen_entry, text};
 
 use crate::overrides::TablesFault;
 use crate::overrides::written::{WrittenCell, WrittenEntry, written_cell};
-use base::controller::{Actions, Change, Entry, Listed, named};
+use base::controller::{Actions, Change, Entry, Listed, Protocol, named_of};
 use serde_json::Value;
 use std::alloc::Global;
 
 /// The changes that the cells make in order, or the first fault.
 pub fn changes<S: Listed, E: Listed, A: Listed>(
     alloc: Global,
+    protocol: Protocol,
     values: &[Value],
 ) -> Result<Vec<Change<S, E, A>>, TablesFault>
-    ensures changes { Gives (λ v. v.items) result (changes_of (named_in S.spelling S.kind) (named_in E.spelling E.kind) (named_in A.spelling A.kind)
-        S.place E.place (items_view values.now)) }
+    ensures changes { Gives (λ v. v.items) result
+        (changes_of (named_of (S.has protocol) S.spelling S.kind) (named_of (E.has protocol) E.spelling E.kind)
+        (named_of (A.has protocol) A.spelling A.kind) S.place E.place (items_view values.now)) }
     ensures json { IsErrOf result TablesFault.NotJson → ⊥ }
 {
     let mut changes = Vec::new(alloc);
@@ -28,7 +30,7 @@ pub fn changes<S: Listed, E: Listed, A: Listed>(
         let Some(cell) = written_cell(value) else {
             return Err(TablesFault::BadShape);
         };
-        let change = change_of(cell)?;
+        let change = change_of(protocol, cell)?;
         if is_changed(changes.as_slice(), &change) {
             return Err(TablesFault::SameCellTwice);
         }
@@ -53,22 +55,25 @@ fn is_changed<S: Listed, E: Listed, A: Listed>(
 }
 
 fn change_of<S: Listed, E: Listed, A: Listed>(
+    protocol: Protocol,
     cell: WrittenCell<'_>,
 ) -> Result<Change<S, E, A>, TablesFault>
     requires { HasFew cell.entry }
-    ensures change { result ≡ change_of (named_in S.spelling S.kind) (named_in E.spelling E.kind) (named_in A.spelling A.kind) (seen_cell cell.entry) }
+    ensures change { result ≡
+        change_of (named_of (S.has protocol) S.spelling S.kind) (named_of (E.has protocol) E.spelling E.kind)
+        (named_of (A.has protocol) A.spelling A.kind) (seen_cell cell.entry) }
     ensures json { IsErrOf result TablesFault.NotJson → ⊥ }
 {
-    let Some(state) = named::<S>(cell.state.as_bytes()) else {
+    let Some(state) = named_of::<S>(protocol, cell.state.as_bytes()) else {
         return Err(TablesFault::UnknownState);
     };
-    let Some(entry) = known_next::<S>(cell.entry) else {
+    let Some(entry) = known_next::<S>(protocol, cell.entry) else {
         return Err(TablesFault::UnknownState);
     };
-    let Some(event) = named::<E>(cell.event.as_bytes()) else {
+    let Some(event) = named_of::<E>(protocol, cell.event.as_bytes()) else {
         return Err(TablesFault::UnknownEvent);
     };
-    let Some(entry) = entry_of::<S, A>(entry) else {
+    let Some(entry) = entry_of::<S, A>(protocol, entry) else {
         return Err(TablesFault::UnknownAction);
     };
     Ok(Change {
@@ -78,42 +83,48 @@ fn change_of<S: Listed, E: Listed, A: Listed>(
     })
 }
 
-fn known_next<'a, S: Listed>(written: WrittenEntry<'a, &'a str>) -> Option<WrittenEntry<'a, S>>
-    ensures next { option_map (seen_entry (λ s. s)) result ≡ known_next (named_in S.spelling S.kind) (seen_entry text written.entry) }
+fn known_next<'a, S: Listed>(
+    protocol: Protocol,
+    written: WrittenEntry<'a, &'a str>,
+) -> Option<WrittenEntry<'a, S>>
+    ensures next { option_map (seen_entry (λ s. s)) result ≡ known_next (named_of (S.has protocol) S.spelling S.kind) (seen_entry text written.entry) }
     ensures few { HasFew written.entry → IfSome result HasFew }
 {
     Some(match written {
         WrittenEntry::Blank => WrittenEntry::Blank,
         WrittenEntry::Stall => WrittenEntry::Stall,
         WrittenEntry::Act { next, actions } => WrittenEntry::Act {
-            next: named::<S>(next.as_bytes())?,
+            next: named_of::<S>(protocol, next.as_bytes())?,
             actions,
         },
     })
 }
 
-fn entry_of<S: Listed, A: Listed>(written: WrittenEntry<'_, S>) -> Option<Entry<S, A>>
+fn entry_of<S: Listed, A: Listed>(
+    protocol: Protocol,
+    written: WrittenEntry<'_, S>,
+) -> Option<Entry<S, A>>
     requires { HasFew written }
-    ensures { result ≡ entry_of (named_in A.spelling A.kind) (seen_entry (λ s. s) written.entry) }
+    ensures { result ≡ entry_of (named_of (A.has protocol) A.spelling A.kind) (seen_entry (λ s. s) written.entry) }
 {
     Some(match written {
         WrittenEntry::Blank => Entry::Blank,
         WrittenEntry::Stall => Entry::Stall,
         WrittenEntry::Act { next, actions } => Entry::Act {
             next,
-            actions: known_actions::<A>(actions)?,
+            actions: known_actions::<A>(protocol, actions)?,
         },
     })
 }
 
 /// The actions that the values name, if each names one.
-fn known_actions<A: Listed>(values: &[Value]) -> Option<Actions<A>>
+fn known_actions<A: Listed>(protocol: Protocol, values: &[Value]) -> Option<Actions<A>>
     requires { length values.now ≤ 8 }
-    ensures { result ≡ known_actions (named_in A.spelling A.kind) (items_view values.now) }
+    ensures { result ≡ known_actions (named_of (A.has protocol) A.spelling A.kind) (items_view values.now) }
 {
     let mut actions = Actions::none();
     for value in values {
-        actions = actions.with(named::<A>(value.as_str()?.as_bytes())?);
+        actions = actions.with(named_of::<A>(protocol, value.as_str()?.as_bytes())?);
     }
     Some(actions)
 }

@@ -23,6 +23,7 @@ state_stands state.M = refl
 state_stands state.MiA = refl
 state_stands state.SiA = refl
 state_stands state.IiA = refl
+state_stands state.E = refl
 
 pub event_stands : (x : CacheEvent) → slice_get all_events (event_number x) ≡ Some x
 event_stands event.Load = refl
@@ -37,6 +38,7 @@ event_stands event.DataDirMore = refl
 event_stands event.DataOwner = refl
 event_stands event.InvAck = refl
 event_stands event.LastInvAck = refl
+event_stands event.DataDirExcl = refl
 
 pub action_stands : (x : CacheAction) → slice_get all_actions (action_number x) ≡ Some x
 action_stands action.GetS = refl
@@ -59,6 +61,7 @@ state_found state.M = refl
 state_found state.MiA = refl
 state_found state.SiA = refl
 state_found state.IiA = refl
+state_found state.E = refl
 
 pub state_plain : (x : CacheState) → is_name (state_name x) ≡ true
 state_plain state.I = refl
@@ -72,6 +75,7 @@ state_plain state.M = refl
 state_plain state.MiA = refl
 state_plain state.SiA = refl
 state_plain state.IiA = refl
+state_plain state.E = refl
 
 pub event_found : (x : CacheEvent) → event_named (event_name x) ≡ Some x
 event_found event.Load = refl
@@ -86,6 +90,7 @@ event_found event.DataDirMore = refl
 event_found event.DataOwner = refl
 event_found event.InvAck = refl
 event_found event.LastInvAck = refl
+event_found event.DataDirExcl = refl
 
 pub event_plain : (x : CacheEvent) → is_name (event_name x) ≡ true
 event_plain event.Load = refl
@@ -100,6 +105,7 @@ event_plain event.DataDirMore = refl
 event_plain event.DataOwner = refl
 event_plain event.InvAck = refl
 event_plain event.LastInvAck = refl
+event_plain event.DataDirExcl = refl
 
 pub action_found : (x : CacheAction) → action_named (action_name x) ≡ Some x
 action_found action.GetS = refl

@@ -41,6 +41,7 @@ responses_by to (a ∷ actions) = responses_of to a + responses_by to actions
 abbrev pub replies_of : DirectoryAction → ℕ
 replies_of action.DataReq = 1
 replies_of action.DataAcks = 1
+replies_of action.DataExcl = 1
 replies_of other = 0
 
 -- how many responses the actions of a home send

@@ -40,6 +40,7 @@ action_stands action.ClearSharers = refl
 action_stands action.ClearOwner = refl
 action_stands action.SetOwner = refl
 action_stands action.CopyData = refl
+action_stands action.DataExcl = refl
 
 pub state_found : (x : DirectoryState) → state_named (state_name x) ≡ Some x
 state_found state.I = refl
@@ -85,6 +86,7 @@ action_found action.ClearSharers = refl
 action_found action.ClearOwner = refl
 action_found action.SetOwner = refl
 action_found action.CopyData = refl
+action_found action.DataExcl = refl
 
 pub action_plain : (x : DirectoryAction) → is_name (action_name x) ≡ true
 action_plain action.DataReq = refl
@@ -100,3 +102,4 @@ action_plain action.ClearSharers = refl
 action_plain action.ClearOwner = refl
 action_plain action.SetOwner = refl
 action_plain action.CopyData = refl
+action_plain action.DataExcl = refl

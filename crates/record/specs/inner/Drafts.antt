@@ -2,9 +2,8 @@
 use Rattle.std.specs.Prelude.{◌≡◌, ℕ, ◌+◌, ◌<◌, ◌≤◌, List, [], ◌∷◌, ◌++◌, All, length, map}
 use Rattle.std.specs.Vec.{vec_capacity}
 use Rattle.base.specs.Extent.{Extent, IsWithinLimits}
-use Rattle.base.specs.declared.controller.protocol.Protocol.{Protocol}
 use Rattle.base.specs.declared.controller.protocol.Protocol.TheVariants.{Msi}
-use Rattle.both_tables.specs.Tables.{Tables, baseline}
+use Rattle.both_tables.specs.Tables.{Tables, baseline_of}
 use Rattle.record.specs.declared.cells.Spot.{Spot}
 use Rattle.record.specs.declared.draft.Draft.{Draft}
 use Rattle.record.specs.declared.due.Due.{Due}
@@ -23,7 +22,6 @@ use Rattle.record.specs.Text.{lines, head_lines, header_words, shape_words, cell
 -- a recording as far as it was read, and the version of its text
 pub record Kept : Type 0 where
   pub version : Version
-  pub protocol : Protocol
   pub seats : ℕ
   pub shape : Extent
   pub tables : Tables
@@ -34,7 +32,6 @@ pub record Kept : Type 0 where
 -- the recording
 abbrev pub recorded : Kept → RecordingView
 recorded r = record {
-  protocol = r.protocol;
   seats = r.seats;
   shape = r.shape;
   tables = r.tables;
@@ -47,7 +44,6 @@ recorded r = record {
 abbrev pub kept : Draft → Kept
 kept draft = record {
   version = draft.version;
-  protocol = draft.protocol;
   seats = draft.seats;
   shape = draft.shape;
   tables = draft.tables;
@@ -69,9 +65,10 @@ lines_to_entries r count =
 abbrev pub lines_before : Due → Kept → List (List (List ℕ))
 lines_before Header r = []
 lines_before ProtocolLine r = header_words Two ∷ []
-lines_before (ShapeLine f) r = header_words r.version ∷ protocol_lines r.version r.protocol
-lines_before (SeatsLine f shape) r = header_words r.version ∷ protocol_lines r.version r.protocol ++ shape_words shape ∷ []
-lines_before (OpeningLine f shape) r = header_words r.version ∷ protocol_lines r.version r.protocol ++ (shape_words shape ∷ seats_lines r.version r.seats)
+lines_before (ShapeLine f) r = header_words r.version ∷ protocol_lines r.version r.tables.protocol
+lines_before (SeatsLine f shape) r = header_words r.version ∷ protocol_lines r.version r.tables.protocol ++ shape_words shape ∷ []
+lines_before (OpeningLine f shape) r = header_words r.version ∷ protocol_lines r.version r.tables.protocol ++
+    (shape_words shape ∷ seats_lines r.version r.seats)
 lines_before (CellCount f) r = head_lines r.version (recorded r)
 lines_before (CellLine f left from) r = lines_to_cells r (length (changed_cells r.tables) + left)
 lines_before (EntryCount f) r = lines_to_cells r (length (changed_cells r.tables))
@@ -81,10 +78,10 @@ lines_before Nothing r = lines r.version (recorded r)
 
 -- what the head of the text has told so far
 abbrev pub IsHeadedAs : Form → Kept → Type 0
-IsHeadedAs f r = (f.version ≡ r.version) × (f.protocol ≡ r.protocol) × (f.seats ≡ r.seats) × CanTell r.version r.protocol r.seats
+IsHeadedAs f r = (f.version ≡ r.version) × (f.protocol ≡ r.tables.protocol) × (f.seats ≡ r.seats) × CanTell r.version r.tables.protocol r.seats
 
 abbrev pub IsHeadedTo : Due → Kept → Type 0
-IsHeadedTo Header r = (r.protocol ≡ Msi) × (r.seats ≡ 0)
+IsHeadedTo Header r = (r.tables.protocol ≡ Msi) × (r.seats ≡ 0)
 IsHeadedTo ProtocolLine r = (r.version ≡ Two) × (r.seats ≡ 0)
 IsHeadedTo (ShapeLine f) r = IsHeadedAs f r
 IsHeadedTo (SeatsLine f shape) r = IsHeadedAs f r × (r.version ≡ Two) × IsShapeIn r.version shape
@@ -94,11 +91,11 @@ IsHeadedTo (CellLine f left from) r = IsHeadedAs f r × IsShapeIn r.version r.sh
 IsHeadedTo (EntryCount f) r = IsHeadedAs f r × IsShapeIn r.version r.shape
 IsHeadedTo (EntryLine f left) r = IsHeadedAs f r × IsShapeIn r.version r.shape
 IsHeadedTo (EndLine f) r = IsHeadedAs f r × IsShapeIn r.version r.shape
-IsHeadedTo Nothing r = CanTell r.version r.protocol r.seats × IsShapeIn r.version r.shape
+IsHeadedTo Nothing r = CanTell r.version r.tables.protocol r.seats × IsShapeIn r.version r.shape
 
 -- from this place on the cells are those of the protocol's own tables
 abbrev pub IsBaselineFrom : ℕ → Tables → Type 0
-IsBaselineFrom from tables = (spot : Spot) → from ≤ spot_number spot → cell_at tables spot ≡ cell_at baseline spot
+IsBaselineFrom from tables = (spot : Spot) → from ≤ spot_number spot → cell_at tables spot ≡ cell_at (baseline_of tables.protocol) spot
 
 -- the opening values are there once their line isn't due any more
 abbrev pub HasOpeningTo : Due → Kept → Type 0
@@ -111,12 +108,12 @@ HasOpeningTo due r = AreValues r.shape r.opening
 
 -- behind the cells that were read the tables are the protocol's own
 abbrev pub HasCellsTo : Due → Kept → Type 0
-HasCellsTo (CellLine f left from) r = (0 < left) × (from ≤ 160) × IsBaselineFrom from r.tables
+HasCellsTo (CellLine f left from) r = (0 < left) × (from ≤ 184) × IsBaselineFrom from r.tables
 HasCellsTo (EntryCount f) r = Unit {0}
 HasCellsTo (EntryLine f left) r = Unit {0}
 HasCellsTo (EndLine f) r = Unit {0}
 HasCellsTo Nothing r = Unit {0}
-HasCellsTo due r = r.tables ≡ baseline
+HasCellsTo due r = r.tables ≡ baseline_of r.tables.protocol
 
 -- the entries that were read and those still to come are a million at most
 abbrev pub HasEntriesTo : Due → Kept → Type 0
@@ -150,12 +147,12 @@ pub record HasRoom (draft : Draft) (more : ℕ) : Type 0 where
 
 -- at most so many lines are still to come
 abbrev pub lines_left : Due → ℕ
-lines_left Header = 1000170
-lines_left ProtocolLine = 1000169
-lines_left (ShapeLine f) = 1000168
-lines_left (SeatsLine f shape) = 1000167
-lines_left (OpeningLine f shape) = 1000166
-lines_left (CellCount f) = 1000165
+lines_left Header = 1000194
+lines_left ProtocolLine = 1000193
+lines_left (ShapeLine f) = 1000192
+lines_left (SeatsLine f shape) = 1000191
+lines_left (OpeningLine f shape) = 1000190
+lines_left (CellCount f) = 1000189
 lines_left (CellLine f left from) = left + 1000004
 lines_left (EntryCount f) = 1000003
 lines_left (EntryLine f left) = left + 2

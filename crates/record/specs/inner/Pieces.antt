@@ -7,8 +7,8 @@ use Rattle.base.specs.declared.controller.protocol.Protocol.{Protocol}
 use Rattle.record.specs.declared.told.Told.{Told}
 use Rattle.record.specs.declared.version.Version.TheVariants.{Two}
 use Rattle.record.specs.Versions.{protocol_words, seats_words}
-use Rattle.cache_table.specs.Table as cache_table
-use Rattle.directory_table.specs.Table as directory_table
+use Rattle.cache_table.specs.Keeping as cache_table
+use Rattle.directory_table.specs.Keeping as directory_table
 use Rattle.both_tables.specs.Tables.{Tables}
 use Rattle.record.specs.declared.cells.Spot.{Spot}
 use Rattle.record.specs.declared.cells.Spot.TheVariants as spot
@@ -43,7 +43,7 @@ value_piece value = 32 ∷ decimal value
 abbrev pub cells_piece : ℕ → List ℕ
 cells_piece count = 10 ∷ line (cells_words count)
 
--- the line of the cell at a place, if it differs from the baseline's
+-- the line of the cell at a place, if it differs from the protocol's own
 abbrev pub cell_piece : Tables → Spot → List ℕ
 cell_piece tables spot = if is_changed tables spot then line (cell_words (cell_at tables spot)) else []
 
@@ -67,20 +67,20 @@ end_piece = line end_words
 -- the pieces of a recording's text, in order
 abbrev pub pieces : RecordingView → List (List ℕ)
 pieces r =
-    head_piece r.protocol r.shape r.seats ∷ map value_piece r.opening ++
+    head_piece r.tables.protocol r.shape r.seats ∷ map value_piece r.opening ++
     (cells_piece (length (changed_cells r.tables)) ∷ map (cell_piece r.tables) all_spots ++
     (entries_piece (length r.entries) ∷ map told_piece (told r.owners r.entries) ++ end_piece ∷ []))
 
 -- how many pieces stand before those of the entries
 abbrev pub places_before : RecordingView → ℕ
-places_before r = length r.opening + 163
+places_before r = length r.opening + 187
 
 -- the opening value or the entry that the piece of this number tells has numbers in range of their types
 pub record PieceFits (r : RecordingView) (number : ℕ) : Type 0 where
   pub value : (k d : ℕ) → number ≡ k + 1 → k < length r.opening → slice_index_or r.opening k d < 2 ^ 64
   pub entry : (k : ℕ) (d : Entry) → number ≡ places_before r + k → k < length r.entries → FitsEntry (slice_index_or r.entries k d)
 
--- the table of a place has all its cells
+-- the table of a place has all its cells, and keeps to its protocol
 abbrev pub IsInWhole : Tables → Spot → Type 0
-IsInWhole tables (spot.Cache state event) = cache_table.IsWhole tables.cache
-IsInWhole tables (spot.Directory state event) = directory_table.IsWhole tables.directory
+IsInWhole tables (spot.Cache state event) = cache_table.IsTable tables.protocol tables.cache
+IsInWhole tables (spot.Directory state event) = directory_table.IsTable tables.protocol tables.directory

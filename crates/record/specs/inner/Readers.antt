@@ -29,7 +29,7 @@ pub record HasPulled (left more : Option (List ℕ)) (old new : Reader) : Type 0
 pub record IsReady (reader : Reader) : Type 0 where
   pub read : IsReadTo reader.due (kept reader.draft)
   pub room : HasRoom reader.draft (length reader.lines.ahead)
-  pub few : reader.lines.number + lines_left reader.due ≤ 1000170
+  pub few : reader.lines.number + lines_left reader.due ≤ 1000194
   pub line : reader.due ≡ Nothing → reader.lines.line ≡ []
   pub short : length reader.lines.line ≤ limit reader.due
 

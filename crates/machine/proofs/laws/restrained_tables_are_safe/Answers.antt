@@ -2,7 +2,7 @@ use Rattle.machine.proofs.Safety.{own-restrained, restrained-never-met, restrain
 use Rattle.machine.proofs.laws.restrained_tables_are_safe.Goals as goal
 
 pub returns-clause-own : goal.returns-clause-own
-returns-clause-own c = own-restrained
+returns-clause-own c protocol = own-restrained protocol
 
 pub returns-clause-safe : goal.returns-clause-safe
 returns-clause-safe c tables shape opening steps restrains within opens = restrained-safe tables shape opening steps restrains within

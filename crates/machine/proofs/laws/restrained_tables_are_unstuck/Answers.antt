@@ -2,7 +2,7 @@ use Rattle.machine.proofs.Progress.{own-never_stuck, restrained-flowing, never_s
 use Rattle.machine.proofs.laws.restrained_tables_are_unstuck.Goals as goal
 
 pub returns-clause-own : goal.returns-clause-own
-returns-clause-own c = own-never_stuck
+returns-clause-own c p = own-never_stuck p
 
 pub returns-clause-flowing : goal.returns-clause-flowing
 returns-clause-flowing c tables shape opening steps restrains going within opens = restrained-flowing tables shape opening steps restrains going within

@@ -1,16 +1,24 @@
-use Rattle.std.proofs.Common.{◌∙◌, sym, arith, ap}
-use Rattle.record.specs.Cells.{spot_number}
-use Rattle.record.proofs.Alike.{in-order, differs}
+use Rattle.std.proofs.Common.{◌≡◌, true, false, ◌∙◌, sym, arith, ap}
+use Rattle.record.specs.Cells.{cell_at, is_same, spot_number, spot_of}
+use Rattle.record.proofs.Alike.{in-order, differs, known}
 use Rattle.record.proofs.reading.listed_cell.Goals as goal
 
 pub returns-then-is_in : goal.returns-then-is_in
 returns-then-is_in c = λ other listed spelled.
     let same = sym c.in_ok-cell.ensures.cell ∙ spelled in
-    let no = differs c.args.from c.in_ok-cell.cell other same listed in
-    cc (no, c.is_in.ensures.same, c.if-is_in.true)
+    let no = differs c.args.protocol c.args.from c.in_ok-cell.cell other same listed in
+    let own = ap (λ t. is_same c.in_ok-cell.cell (cell_at t (spot_of c.in_ok-cell.cell))) c.baseline_of.ensures in
+    let it : true ≡ false = sym c.if-is_in.true ∙ c.is_in.ensures.same ∙ own ∙ no in
+    absurd (cc it)
+
+pub returns-then-not-is_known : goal.returns-then-not-is_known
+returns-then-not-is_known c = λ other listed spelled.
+    let same = sym c.in_ok-cell.ensures.cell ∙ spelled in
+    let yes = known c.args.protocol c.args.from c.in_ok-cell.cell other same listed in
+    cc (yes, c.if-not-is_known.ensures)
 
 pub returns-then-spot_number-from : goal.returns-then-spot_number-from
 returns-then-spot_number-from c = λ other listed spelled.
     let same = sym c.in_ok-cell.ensures.cell ∙ spelled in
-    let order = in-order c.args.from c.in_ok-cell.cell other same listed in
+    let order = in-order c.args.protocol c.args.from c.in_ok-cell.cell other same listed in
     absurd (omega (arith, order, c.spot_number.ensures.number, c.if-spot_number-from.true, ap spot_number c.spot.ensures))

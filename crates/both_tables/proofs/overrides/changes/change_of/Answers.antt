@@ -2,7 +2,7 @@ use Rattle.std.proofs.Common.{◌≡◌, ◌∙◌, ℕ, List, sym, ap, arith}
 use Rattle.std.proofs.lemmas.Grind.{common_steps}
 use Rattle.std.specs.Prelude.{Option, Ok, Some, None, Err}
 use Rattle.std.specs.Option.{option_map}
-use Rattle.base.specs.Spelling.{named_in}
+use Rattle.base.specs.Spelling.{named_of}
 use Rattle.both_tables.specs.declared.overrides.TablesFault.TheVariants.{UnknownState, UnknownEvent, UnknownAction}
 use Rattle.both_tables.specs.Written.{WrittenCell, WrittenEntry}
 use Rattle.both_tables.specs.Overrides.{needed, known_next, entry_of, change_of}
@@ -30,15 +30,16 @@ unknown-event state_named event_named action_named c state entry by-state by-ent
     needed UnknownAction (entry_of action_named entry) (λ entry. Ok (record { state = state; event = event; entry = entry }))))
     by-event
 
-pub returns-in_default-named-clause-change : goal.returns-in_default-named-clause-change
-returns-in_default-named-clause-change g c =
-    let state_named = named_in g.S.Listed.spelling g.S.Listed.kind in
-    let event_named = named_in g.E.Listed.spelling g.E.Listed.kind in
-    sym (unknown-event state_named event_named (named_in g.A.Listed.spelling g.A.Listed.kind) (seen_cell c.args.cell) c.in-Some.state
+pub returns-in_default-named_of-clause-change : goal.returns-in_default-named_of-clause-change
+returns-in_default-named_of-clause-change g c =
+    let state_named = named_of (g.S.Listed.has c.args.protocol) g.S.Listed.spelling g.S.Listed.kind in
+    let event_named = named_of (g.E.Listed.has c.args.protocol) g.E.Listed.spelling g.E.Listed.kind in
+    sym (unknown-event state_named event_named (named_of (g.A.Listed.has c.args.protocol) g.A.Listed.spelling g.A.Listed.kind)
+    (seen_cell c.args.cell) c.in-Some.state
     (seen_entry (λ s. s) c.in-Some-known_next.entry)
-    (ap state_named (sym c.as_bytes.ensures.value) ∙ sym c.named.ensures.named ∙ c.in-Some.is)
+    (ap state_named (sym c.as_bytes.ensures.value) ∙ sym c.named_of.ensures ∙ c.in-Some.is)
     (sym c.known_next.ensures.next ∙ ap (option_map (seen_entry (λ s. s))) c.in-Some-known_next.is)
-    (ap event_named (sym c.as_bytes-2.ensures.value) ∙ sym c.named-2.ensures.named ∙ c.in_default-named.is))
+    (ap event_named (sym c.as_bytes-2.ensures.value) ∙ sym c.named_of-2.ensures ∙ c.in_default-named_of.is))
 
 pub returns-in_default-clause-change : goal.returns-in_default-clause-change
 returns-in_default-clause-change g c = grind (arith, common_steps)
@@ -52,8 +53,8 @@ returns-in_default-known_next-clause-change g c = grind (arith, common_steps)
 pub returns-in_default-known_next-clause-json : goal.returns-in_default-known_next-clause-json
 returns-in_default-known_next-clause-json g c = grind (arith, common_steps)
 
-pub returns-in_default-named-clause-json : goal.returns-in_default-named-clause-json
-returns-in_default-named-clause-json g c = grind (arith, common_steps)
+pub returns-in_default-named_of-clause-json : goal.returns-in_default-named_of-clause-json
+returns-in_default-named_of-clause-json g c = grind (arith, common_steps)
 
 pub returns-in_default-entry_of-clause-change : goal.returns-in_default-entry_of-clause-change
 returns-in_default-entry_of-clause-change g c = grind (arith, common_steps)

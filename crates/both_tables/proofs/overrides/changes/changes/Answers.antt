@@ -6,7 +6,7 @@ use Rattle.serde_json.specs.Data.{item}
 use Rattle.serde_json.specs.View.{view, items_view}
 use Rattle.both_tables.specs.inner.Seen.{seen_cell}
 use Rattle.both_tables.specs.Written.{written_cell}
-use Rattle.base.specs.Spelling.{named_in}
+use Rattle.base.specs.Spelling.{named_of}
 use Rattle.both_tables.specs.Overrides.{changes_after, change_of, is_same_cell}
 use Rattle.both_tables.proofs.Overriding.{changes-more, changes-twice, items-next}
 use Rattle.both_tables.proofs.overrides.changes.changes.Goals as goal
@@ -15,7 +15,9 @@ use Rattle.both_tables.proofs.overrides.changes.changes.Goals as goal
 pub returns-then-is_changed-clause-changes : goal.returns-then-is_changed-clause-changes
 returns-then-is_changed-clause-changes g c =
     let of_cell =
-    change_of (named_in g.S.Listed.spelling g.S.Listed.kind) (named_in g.E.Listed.spelling g.E.Listed.kind) (named_in g.A.Listed.spelling g.A.Listed.kind) in
+    change_of (named_of (g.S.Listed.has c.args.protocol) g.S.Listed.spelling g.S.Listed.kind)
+    (named_of (g.E.Listed.has c.args.protocol) g.E.Listed.spelling g.E.Listed.kind)
+    (named_of (g.A.Listed.has c.args.protocol) g.A.Listed.spelling g.A.Listed.kind) in
     let same = is_same_cell g.S.Listed.place g.E.Listed.place in
     let next : items_view (drop c.loop-value.value-index c.args.values.now) ≡ item (view c.value-item.result)
     (items_view (drop (c.loop-value.value-index + 1) c.args.values.now)) =
@@ -32,7 +34,9 @@ returns-then-is_changed-clause-changes g c =
 pub loop-value-preserved : goal.loop-value-preserved
 loop-value-preserved g c =
     let of_cell =
-    change_of (named_in g.S.Listed.spelling g.S.Listed.kind) (named_in g.E.Listed.spelling g.E.Listed.kind) (named_in g.A.Listed.spelling g.A.Listed.kind) in
+    change_of (named_of (g.S.Listed.has c.args.protocol) g.S.Listed.spelling g.S.Listed.kind)
+    (named_of (g.E.Listed.has c.args.protocol) g.E.Listed.spelling g.E.Listed.kind)
+    (named_of (g.A.Listed.has c.args.protocol) g.A.Listed.spelling g.A.Listed.kind) in
     let same = is_same_cell g.S.Listed.place g.E.Listed.place in
     let next : items_view (drop c.loop-value.value-index c.args.values.now) ≡ item (view c.value-item.result)
     (items_view (drop (c.loop-value.value-index + 1) c.args.values.now)) =

@@ -1,5 +1,7 @@
-use Rattle.std.proofs.Common.{arith}
+use Rattle.std.proofs.Common.{◌≡◌, ◌∙◌, ap, arith}
 use Rattle.std.proofs.lemmas.Grind.{common_steps}
+use Rattle.cache_table.specs.Table.{Table, laid_over}
+use Rattle.cache_table.proofs.LaidOver.{laid-protocol}
 use Rattle.cache_table.proofs.table.CacheTable.with_changes.Goals as goal
 
 pub loop-change-init : goal.loop-change-init
@@ -8,5 +10,10 @@ loop-change-init c = grind (arith, common_steps)
 pub offset_bounds-changes-change-index : goal.offset_bounds-changes-change-index
 offset_bounds-changes-change-index c = grind (arith, common_steps)
 
-pub returns : goal.returns
-returns c = grind (arith, common_steps)
+pub returns-clause-table : goal.returns-clause-table
+returns-clause-table c = grind (arith, common_steps)
+
+pub returns-clause-protocol : goal.returns-clause-protocol
+returns-clause-protocol c =
+    let e : c.loop-change.table ≡ laid_over c.args.changes.now c.args.self = grind (arith, common_steps) in
+    ap (λ (t : Table). t.protocol) e ∙ laid-protocol c.args.changes.now c.args.self

@@ -6,7 +6,7 @@ use Rattle.record.specs.Refused.{limit, IsUnfinished}
 use Rattle.record.specs.inner.Reading.{pending}
 use Rattle.record.proofs.Drafting.{less-room, ready-gathered}
 use Rattle.record.proofs.Exits.{handed-on}
-use Rattle.record.proofs.Steps.{none-if, not-whole, some-if, pulled-gathered, pulled-more, then-longer, unfinished}
+use Rattle.record.proofs.Steps.{none-if, none-pulled, not-whole, some-if, pulled-gathered, pulled-more, then-longer, unfinished}
 use Rattle.record.proofs.reader.Reader.gather.Goals as goal
 
 pub returns-in_err-reserve-clause-err : goal.returns-in_err-reserve-clause-err
@@ -80,7 +80,7 @@ loop-self-preserved g c =
     }
 
 pub loop-self-init : goal.loop-self-init
-loop-self-init g c = grind (arith, common_steps)
+loop-self-init g c = record { ready = c.requires.ready; pulled = none-pulled _ c.args.self.now }
 
 pub returns-in_err-gather-clause-ok : goal.returns-in_err-gather-clause-ok
 returns-in_err-gather-clause-ok g c = grind (arith, common_steps)

@@ -41,7 +41,7 @@ returns-then-number-count-2-clause-piece c =
 pub returns-then-number-count-3-clause-piece : goal.returns-then-number-count-3-clause-piece
 returns-then-number-count-3-clause-piece c =
     let values = ap length c.opening-opening.ensures.value in
-    let i = c.args.number - (length c.opening-opening.result.now + 1 + 160 + 1) - 1 in
+    let i = c.args.number - (length c.opening-opening.result.now + 1 + 184 + 1) - 1 in
     c.told_line.ensures.text
     ∙ sym (entry-at c.args.self.now c.args.number i c.told.result
     (omega (arith, values, c.if-number-count.false, c.if-number-count-2.false))
@@ -60,7 +60,7 @@ pub returns-then-number-count-3-clause-fits : goal.returns-then-number-count-3-c
 returns-then-number-count-3-clause-fits c =
     let values = ap length c.opening-opening.ensures.value in
     let r = c.args.self.now in
-    let i = c.args.number - (length c.opening-opening.result.now + 1 + 160 + 1) - 1 in
+    let i = c.args.number - (length c.opening-opening.result.now + 1 + 184 + 1) - 1 in
     record {
       value = λ k d is low. absurd (omega (arith, is, low, values, c.if-number-cells.false));
       entry =

@@ -1,5 +1,0 @@
-use Rattle.directory_table.proofs.BaselineCells.{cell-baseline}
-use Rattle.directory_table.proofs.table.DirectoryTable.baseline.Goals as goal
-
-pub returns-clause-entries : goal.returns-clause-entries
-returns-clause-entries c = λ state event. rw c.baseline_rows.ensures (cell-baseline state event)

@@ -1,0 +1,38 @@
+-- What comes of a recording's text that is written again in version 2.
+use Rattle.std.specs.Prelude.{◌≡◌, ℕ, ◌<◌, List, Option, Bool, true, length, take}
+use Rattle.std.specs.Io.KnownBytes.{Appends}
+use Rattle.record.specs.Refused.{IsRefused}
+use Rattle.record.specs.Replaying.{IsTextRead}
+use Rattle.record.specs.Text.{text}
+use Rattle.record.specs.View.{RecordingView}
+use Rattle.record.specs.declared.due.Due.TheVariants.{Header}
+use Rattle.record.specs.declared.moving.MoveFault.{MoveFault}
+use Rattle.record.specs.declared.moving.MoveFault.TheVariants.{Read, Write}
+use Rattle.record.specs.declared.version.Version.TheVariants.{Two}
+
+-- what a source had left and has left, what a sink had and has, and whether the sink has failed
+pub record Passing : Type 0 where
+  pub left : Option (List ℕ)
+  pub left_then : Option (List ℕ)
+  pub taken : Option (List ℕ)
+  pub taken_then : Option (List ℕ)
+  pub has_failed : Bool
+
+-- the source had a text of a recording, of either version, and the sink has got its text in version 2
+pub record IsMoved (p : Passing) : Type 0 where
+  pub recording : RecordingView
+  pub read : IsTextRead p.left p.left_then recording
+  pub sent : Appends p.taken p.taken_then (text Two recording)
+
+-- the sink has failed behind so many bytes of it, which aren't all
+pub record IsCutShort (p : Passing) (written : ℕ) : Type 0 where
+  pub recording : RecordingView
+  pub read : IsTextRead p.left p.left_then recording
+  pub sent : Appends p.taken p.taken_then (take written (text Two recording))
+  pub short : written < length (text Two recording)
+  pub failed : p.has_failed ≡ true
+
+-- a text is refused as a reader refuses it, and nothing went out; or the sink has failed
+abbrev pub IsMoveFault : Passing → MoveFault → Type 0
+IsMoveFault p (Read fault) = IsRefused p.left p.left_then 0 Header fault.line fault.kind × (p.taken_then ≡ p.taken)
+IsMoveFault p (Write fault) = IsCutShort p fault.written
