@@ -1,5 +1,6 @@
 """What msi has to answer: as the second model has it where it has an answer, and in the forms of docs/FORMATS.md always."""
 
+import json
 import re
 from dataclasses import dataclass
 from xml.etree import ElementTree
@@ -27,7 +28,7 @@ RECORDING = (
     + OUTCOME
     + rb"|end"
 )
-RECORDED = "floor --recording"
+RECORDED, PLAYED = "floor --recording", "play --recording"
 RACED = rb"safe|violation \d+ " + VIOLATION
 FORMS = {
     "play": OUTCOME + rb"|violation " + VIOLATION,
@@ -37,18 +38,21 @@ FORMS = {
     + CELL
     + rb"|stuck with 3 caches after:|ask \d 0 (load|store 5|replace)|(request|forward|response) 0 \d|"
     + ADVICE.encode(),
+    "model": rb"[ -~]*",
     "trial": RECORDING,
     "batch": rb"\d+ " + RESULT + rb"|total (quiet|cut|stuck|broke) \d+",
     "move": RECORDING,
     "floor": RACED,
     RECORDED: RECORDING,
-    "show": rb"[ -~]*",
+    PLAYED: RECORDING,
+    "show": rb"[ -~\t]*",
     "chart": rb"[ -~]*",
 }
 TOLD = {
     "trial": rb"verdict " + RESULT + rb"\n",
-    "batch": rb"(msi: \d+ of \d+ trials, \d+ steps, \d+ broke\n)*",
+    "batch": rb"(msi: \d+ of \d+ trials, \d+ steps, \d+ broke, \d+ stuck\n)*(\S+ trial( --\w+ \S+)+\n)?",
     RECORDED: rb"(" + RACED + rb")\n",
+    PLAYED: rb"(" + RACED + rb")\n",
 }
 REFUSED = (
     rb"msi: (line \d+: not a step|line \d+: not an ask of this shape|too many turns|a word isn't UTF-8"
@@ -85,6 +89,9 @@ def fault_of_form(command, ended):
         return None if may_stand else "an unknown message"
     if ended.status not in (0, 1):
         return "an unexpected status"
+    if command.endswith("--json"):
+        told = TOLD.get(command.split()[0], b"")
+        return None if is_json(ended.out) and re.fullmatch(told, ended.errors) else "an object that isn't one"
     if command not in FORMS:
         return "more than help" if ended.status or ended.errors else None
     if not has_form(FORMS[command], ended.out):
@@ -94,6 +101,22 @@ def fault_of_form(command, ended):
     if command == RECORDED and not is_race(ended):
         return "a recording that isn't the race's"
     return None if re.fullmatch(TOLD.get(command, b""), ended.errors) else "text on standard error"
+
+
+def form_of(words):
+    """What tells of which form the answer to these words is: the command, and the option that changes that."""
+    command = words[0].decode(errors="replace") if words else "help"
+    for option in (b"--json", b"--recording"):
+        if option in words:
+            return f"{command} {option.decode()}"
+    return command
+
+
+def is_json(text):
+    try:
+        return all(isinstance(json.loads(line), dict) for line in text.splitlines())
+    except ValueError:
+        return False
 
 
 def is_picture(text):
@@ -143,6 +166,22 @@ def of_play(shape, tables, text):
         if found:
             return Answer(1, lines([*printed, f"violation {found}"]), b"")
     return Answer(0, lines(printed), b"")
+
+
+def of_recorded_play(shape, tables, text):
+    """The recording of the steps up to a line that is refused or a violation, and what is told beside it."""
+    watched, entries, status, told = Watched(*shape, tables), [], 0, "safe"
+    for number, line in lines_of(text):
+        step = step_of(line)
+        if step is None:
+            status, told = 2, f"msi: line {number}: not a step"
+            break
+        outcome, found = watched.step(step)
+        entries.append(f"{line.decode()} = {outcome}")
+        if found:
+            status, told = 1, f"violation {len(entries) - 1} {found}"
+            break
+    return Answer(status, text_of(shape, tables, [0] * shape[1], entries).encode(), f"{told}\n".encode())
 
 
 def of_replay(text):

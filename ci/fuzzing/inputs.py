@@ -15,7 +15,7 @@ from model.trials import tree_of, trial
 TABLES = b"overrides.json"
 WORDS = (
     b"play trial batch replay move floor tables certify show chart --protocol msi msi+e mesi --block --from --steps --caches --blocks --tables --seed --number --limit --trials --workers --seats --turns "
-    b"--progress --recording --help --version -h -V help -- - --caches=2 --blocks=1 --colour 0 1 2 3 64 65 4096 4097 65536 65537 1000000 1000001 "
+    b"--progress --recording --json --tsv --until broke stuck --explain check model --help --version -h -V help -- - --caches=2 --blocks=1 --colour 0 1 2 3 64 65 4096 4097 65536 65537 1000000 1000001 "
     b"4294967295 4294967296 18446744073709551615 18446744073709551616 -1 +1 01 1.0 two overrides.json absent.json \xff \xe2\x80\x8b"
 ).split(b" ") + [b"", b" "]
 
@@ -71,8 +71,12 @@ def play(dice):
     overrides = overrides_for(dice, protocol, 0.3, 0.1)
     steps = random_steps(dice, shape, baseline(protocol))
     text = perhaps(dice, 0.6, "".join(f"{step}\n" for step in steps).encode())
+    words = [b"play", *world_words(shape, protocol, overrides)]
+    if dice.random() < 0.2:
+        answer = with_tables(overrides, protocol, lambda tables: answers.of_recorded_play(shape, tables, text))
+        return Input(answers.PLAYED, [*words, b"--recording"], text, overrides, answer)
     answer = with_tables(overrides, protocol, lambda tables: answers.of_play(shape, tables, text))
-    return Input("play", [b"play", *world_words(shape, protocol, overrides)], text, overrides, answer)
+    return Input("play", words, text, overrides, answer)
 
 
 def tables(dice):
@@ -89,6 +93,13 @@ def certify(dice):
         overrides = perhaps(dice, 0.1, json.dumps(admitted_overrides(dice, protocol)).encode())
     answer = with_tables(overrides, protocol, answers.of_certify)
     return Input("certify", [b"certify", *protocol_words(protocol), b"--tables", TABLES], b"", overrides, answer)
+
+
+def modelled(dice):
+    protocol = dice.choice(PROTOCOLS)
+    overrides = overrides_for(dice, protocol, 1.0, 0.2)
+    words = [*protocol_words(protocol), b"--caches", b"%d" % dice.randrange(1, 9), b"--tables", TABLES]
+    return Input("model", [b"model", *words], b"", overrides, with_tables(overrides, protocol, lambda tables: None))
 
 
 def setup_of(dice, least):
@@ -162,7 +173,7 @@ def floor(dice):
 
 def other_words(dice):
     """Words of a command that are good but for some of them, or any words."""
-    made = dice.choice([play, tables, certify, replay, moved, shown, one_trial, batch, floor])(dice)
+    made = dice.choice([play, tables, certify, modelled, replay, moved, shown, one_trial, batch, floor])(dice)
     words = list(made.words) if dice.random() < 0.8 else [dice.choice(WORDS) for _ in range(dice.randrange(8))]
     for _ in range(dice.randrange(1, 4)):
         at = dice.randrange(len(words) + 1)
@@ -170,7 +181,7 @@ def other_words(dice):
     return Input("words", [word for word in words if b"\0" not in word], made.text, made.overrides, lambda: None)
 
 
-KINDS = [play] * 6 + [replay] * 5 + [moved] * 2 + [shown] * 2 + [tables] * 3 + [certify] * 2 + [one_trial] * 3 + [batch] * 2 + [floor, other_words]
+KINDS = [play] * 6 + [replay] * 5 + [moved] * 2 + [shown] * 2 + [tables] * 3 + [certify] * 2 + [modelled] + [one_trial] * 3 + [batch] * 2 + [floor, other_words]
 
 
 def random_input(dice):

@@ -4,7 +4,7 @@ import re
 import sys
 from dataclasses import dataclass
 
-from model.tables import MOST_ACTIONS, PROTOCOLS, SIDES, STALL, Act, baseline, sides_of
+from model.tables import MOST_ACTIONS, SIDES, STALL, Act, baseline, sides_of
 
 # Numbers are of any size.
 sys.set_int_max_str_digits(0)
@@ -90,7 +90,7 @@ def read_protocol(line):
     first, *names = line.split(" ")
     if first != "protocol" or len(names) != 1 or not names[0]:
         raise Refusal("BadLine")
-    if names[0] not in PROTOCOLS:
+    if names[0] not in SIDES:
         raise Refusal("UnknownProtocol")
     return names[0]
 

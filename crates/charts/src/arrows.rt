@@ -1,5 +1,6 @@
-use crate::captions::{ArrowText, BlockText, EndText, length};
+use crate::captions::{ArrowText, EndText, length};
 use crate::layout::{LETTER, Layout};
+use crate::marks::Layer;
 use crate::picture::{Arrow, Picture};
 use crate::svg::{Anchor, Pen, Point};
 use network::Message;
@@ -10,6 +11,8 @@ const BESIDE: i64 = 5;
 const TIP: i64 = 9;
 
 const HALF_TIP: i64 = 4;
+/// How large the dot is at which an arrow begins.
+const TAIL_DOT: i64 = 3;
 
 /// To which side an arrow goes.
 #[derive(Clone, Copy)]
@@ -53,16 +56,11 @@ struct Way {
     heading: Heading,
     /// Whether it goes back to where it comes from.
     is_loop: bool,
+    /// Whether its sender stands in the picture.
+    has_sender: bool,
 }
 
-/// What is drawn of arrows: their lines come under the boxes, and their names over them.
-#[derive(Clone, Copy)]
-pub enum Layer {
-    Lines,
-    Names,
-}
-
-/// Draws a layer of the arrows of a picture.
+/// Draws the arrows of a picture, or writes their names.
 pub fn draw_arrows(pen: &mut Pen, picture: &Picture, layout: &Layout, layer: Layer) {
     let mut left: usize = 0;
     for arrow in picture.arrows() {
@@ -73,8 +71,8 @@ pub fn draw_arrows(pen: &mut Pen, picture: &Picture, layout: &Layout, layer: Lay
         };
         if let Some(way) = Way::of(picture, layout, arrow, row, height) {
             match layer {
-                Layer::Lines => draw(pen, arrow, row, way),
-                Layer::Names => name(pen, picture, arrow, row, way),
+                Layer::Shapes => draw(pen, arrow, row, way),
+                Layer::Texts => name(pen, picture, arrow, row, way),
             }
         }
         if row.is_none() {
@@ -98,7 +96,7 @@ impl Way {
             x: layout.lane_x(to).saturating_add(heading.back().along(half)),
             y: height.saturating_sub(BESIDE),
         };
-        let level = length(&name_of(picture, arrow))
+        let level = length(&ArrowText::of(picture, arrow))
             .saturating_mul(LETTER)
             .saturating_add(TIP + 6);
         Some(Way {
@@ -107,6 +105,7 @@ impl Way {
             tip,
             heading,
             is_loop: from == to,
+            has_sender: picture.row_of(arrow.trip.sent).is_some(),
         })
     }
 
@@ -137,19 +136,14 @@ fn start_of(picture: &Picture, layout: &Layout, arrow: &Arrow, from: u32, to: u3
     }
 }
 
-/// Draws an arrow's line and tip. What is served behind the picture has no tip.
+/// Draws an arrow's line, with a rim that shows it over what it passes, a dot at its sender and a tip. What is served behind
+/// the picture has no tip.
 fn draw(pen: &mut Pen, arrow: &Arrow, row: Option<usize>, way: Way) {
     pen.group("arrow", kind_of(arrow), end_of(arrow, row));
-    let stop = way.before_tip(TIP - 1);
-    if way.is_loop {
-        let turn = way.bend.moved(8, 0);
-        let corner = Point {
-            x: turn.x,
-            y: way.from.y,
-        };
-        pen.path("wire", &[way.from, corner, turn, stop]);
-    } else {
-        pen.path("wire", &[way.from, way.bend, stop]);
+    draw_line(pen, "rim", way);
+    draw_line(pen, "wire", way);
+    if way.has_sender {
+        pen.circle("tail", way.from, TAIL_DOT);
     }
     if row.is_some() || arrow.served.is_none() {
         let back = way.before_tip(TIP);
@@ -159,9 +153,23 @@ fn draw(pen: &mut Pen, arrow: &Arrow, row: Option<usize>, way: Way) {
     pen.end_group();
 }
 
+fn draw_line(pen: &mut Pen, class: &str, way: Way) {
+    let stop = way.before_tip(TIP - 1);
+    if way.is_loop {
+        let turn = way.bend.moved(8, 0);
+        let corner = Point {
+            x: turn.x,
+            y: way.from.y,
+        };
+        pen.path(class, &[way.from, corner, turn, stop]);
+    } else {
+        pen.path(class, &[way.from, way.bend, stop]);
+    }
+}
+
 /// Writes an arrow's name above its level part, and behind its tip how it ends where that isn't in the picture.
 fn name(pen: &mut Pen, picture: &Picture, arrow: &Arrow, row: Option<usize>, way: Way) {
-    let name = name_of(picture, arrow);
+    let name = ArrowText::of(picture, arrow);
     let half = length(&name).saturating_mul(LETTER) / 2;
     let at = way.before_tip(half.saturating_add(TIP + 2)).moved(0, -4);
     pen.text("label", at, Anchor::Middle, &name);
@@ -173,13 +181,6 @@ fn name(pen: &mut Pen, picture: &Picture, arrow: &Arrow, row: Option<usize>, way
         Heading::Left => (way.tip.moved(-12, 4), Anchor::End),
     };
     pen.text("met", at, anchor, &EndText(arrow.served));
-}
-
-fn name_of(picture: &Picture, arrow: &Arrow) -> ArrowText {
-    ArrowText {
-        trip: arrow.trip,
-        block: BlockText::of(picture, arrow.trip.block),
-    }
 }
 
 fn kind_of(arrow: &Arrow) -> &'static str {
@@ -194,6 +195,6 @@ fn end_of(arrow: &Arrow, row: Option<usize>) -> &'static str {
     match (row, arrow.served) {
         (Some(_), _) => "",
         (None, Some(_)) => " later",
-        (None, None) => " never",
+        (None, None) => " unserved",
     }
 }

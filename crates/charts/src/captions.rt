@@ -1,5 +1,5 @@
 use crate::lanes::Lane;
-use crate::picture::Picture;
+use crate::picture::{Arrow, Moment, Picture};
 use base::controller::Listed;
 use base::{Ask, BlockId, Outcome, Step};
 use monitor::Violation;
@@ -56,16 +56,40 @@ impl fmt::Display for LabelText {
     }
 }
 
-/// The name on an arrow.
+/// From how many rows on the name on an arrow tells which step has sent it.
+const FAR: usize = 6;
+
+/// The name on an arrow, with the number of the step that has sent it where that isn't near: `GetM (13)`.
 #[derive(Clone, Copy)]
 pub struct ArrowText {
-    pub trip: Trip,
-    pub block: BlockText,
+    trip: Trip,
+    block: BlockText,
+    is_far: bool,
+}
+
+impl ArrowText {
+    pub fn of(picture: &Picture, arrow: &Arrow) -> ArrowText {
+        let end = arrow.row_in(picture).unwrap_or(picture.rows().len());
+        let is_far = match picture.row_of(arrow.trip.sent) {
+            None => true,
+            Some(sent) => end.saturating_sub(sent) >= FAR,
+        };
+        ArrowText {
+            trip: arrow.trip,
+            block: BlockText::of(picture, arrow.trip.block),
+            is_far,
+        }
+    }
 }
 
 impl fmt::Display for ArrowText {
     fn fmt<W: fmt::Write>(&self, f: &mut fmt::Formatter<W>) -> fmt::Result {
-        write!(f, "{}{}", LabelText(self.trip.message), self.block)
+        write!(f, "{}{}", LabelText(self.trip.message), self.block)?;
+        if self.is_far {
+            write!(f, " ({})", self.trip.sent)
+        } else {
+            Ok(())
+        }
     }
 }
 
@@ -76,7 +100,7 @@ pub struct EndText(pub Option<u64>);
 impl fmt::Display for EndText {
     fn fmt<W: fmt::Write>(&self, f: &mut fmt::Formatter<W>) -> fmt::Result {
         match self.0 {
-            None => f.write_str("never served"),
+            None => f.write_str("not served by the end"),
             Some(number) => write!(f, "served by step {number}"),
         }
     }
@@ -210,13 +234,19 @@ impl fmt::Display for LaneText {
     }
 }
 
-/// What stands before the controllers at the start.
+/// What stands before the controllers at the start, and at the end.
 #[derive(Clone, Copy)]
-pub struct StartText(pub BlockText);
+pub struct MomentText {
+    pub moment: Moment,
+    pub block: BlockText,
+}
 
-impl fmt::Display for StartText {
+impl fmt::Display for MomentText {
     fn fmt<W: fmt::Write>(&self, f: &mut fmt::Formatter<W>) -> fmt::Result {
-        write!(f, "at the start{}", self.0)
+        match self.moment {
+            Moment::Start => write!(f, "at the start{}", self.block),
+            Moment::End => write!(f, "at the end{}", self.block),
+        }
     }
 }
 

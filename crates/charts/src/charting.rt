@@ -1,9 +1,9 @@
-use crate::arrows::{Layer, draw_arrows};
+use crate::arrows::draw_arrows;
 use crate::captions::TitleText;
 use crate::fault::ChartFault;
 use crate::layout::Layout;
-use crate::marks::{draw_guides, draw_rows, draw_starts};
-use crate::picture::Picture;
+use crate::marks::{Layer, draw_guides, draw_rows, draw_standings};
+use crate::picture::{Moment, Picture};
 use crate::style::STYLE;
 use crate::surroundings::{draw_bands, draw_findings, draw_legend, draw_lifelines, draw_plates};
 use crate::svg::{Pen, Point};
@@ -49,6 +49,14 @@ fn drawn(alloc: Global, picture: &Picture, layout: &Layout) -> Sheet {
     pen.end()
 }
 
+/// Draws what controllers are and do, and over that the messages between them; or the texts of all that.
+fn draw_layer(pen: &mut Pen, picture: &Picture, layout: &Layout, layer: Layer) {
+    draw_standings(pen, picture, layout, Moment::Start, layer);
+    draw_rows(pen, picture, layout, layer);
+    draw_standings(pen, picture, layout, Moment::End, layer);
+    draw_arrows(pen, picture, layout, layer);
+}
+
 fn draw(pen: &mut Pen, picture: &Picture, layout: &Layout) {
     pen.title(&TitleText {
         steps: picture.rows().len(),
@@ -57,11 +65,9 @@ fn draw(pen: &mut Pen, picture: &Picture, layout: &Layout) {
     draw_bands(pen, picture, layout);
     draw_guides(pen, picture, layout);
     draw_lifelines(pen, layout);
-    draw_arrows(pen, picture, layout, Layer::Lines);
     draw_plates(pen, picture, layout);
-    draw_starts(pen, picture, layout);
-    draw_rows(pen, picture, layout);
-    draw_arrows(pen, picture, layout, Layer::Names);
+    draw_layer(pen, picture, layout, Layer::Shapes);
+    draw_layer(pen, picture, layout, Layer::Texts);
     draw_findings(pen, picture, layout);
     draw_legend(pen, layout);
 }

@@ -2,7 +2,7 @@ use crate::captions::{
     ArrowText, AskedText, BlockText, BoxText, MarkText, StepText, ask_of, length,
 };
 use crate::lanes::{Lane, Lanes};
-use crate::picture::Picture;
+use crate::picture::{Moment, Picture};
 use crate::svg::Point;
 use base::{NoMemory, Shape};
 use std::alloc::Global;
@@ -40,8 +40,9 @@ pub struct Layout {
     rows: List<i64>,
     /// The heights of the names of the lifelines.
     plates: List<i64>,
-    /// The height of what the controllers are at the start.
+    /// The heights of what the controllers are at the start, and at the end.
     starts: i64,
+    ends: i64,
     /// The height of the first message that isn't served in the picture.
     tail: i64,
     pub legend: i64,
@@ -59,6 +60,7 @@ impl Drop for Layout {
             rows: _,
             plates: _,
             starts: _,
+            ends: _,
             tail: _,
             legend: _,
             size: _,
@@ -90,6 +92,7 @@ impl Layout {
             rows: List::new(alloc),
             plates: List::new(alloc),
             starts: 0,
+            ends: 0,
             tail: 0,
             legend: 0,
             size: Point { x: 0, y: 0 },
@@ -117,6 +120,8 @@ impl Layout {
         }
         self.tail = height.saturating_add(TAIL / 2);
         height = below(height, TAIL, tail_count(picture));
+        self.ends = height.saturating_add(ROW / 2);
+        height = below(height, ROW, picture.blocks().len());
         self.plates.push(height.saturating_add(PLATES / 2));
         self.legend = height.saturating_add(PLATES + LEGEND / 2);
         self.size.y = below(height.saturating_add(PLATES), LEGEND, 8);
@@ -144,9 +149,13 @@ impl Layout {
         self.rows.so_far().get(row).copied().unwrap_or(0)
     }
 
-    /// The height of a block's controllers at the start; the blocks are counted in the picture.
-    pub fn start_y(&self, block: usize) -> i64 {
-        below(self.starts, ROW, block)
+    /// The height of a block's controllers at a moment; the blocks are counted in the picture.
+    pub fn standing_y(&self, moment: Moment, block: usize) -> i64 {
+        let first = match moment {
+            Moment::Start => self.starts,
+            Moment::End => self.ends,
+        };
+        below(first, ROW, block)
     }
 
     /// The height at which messages of before come in.
@@ -185,15 +194,13 @@ impl Longest {
             finding: 0,
         };
         for arrow in picture.arrows() {
-            let text = ArrowText {
-                trip: arrow.trip,
-                block: BlockText::of(picture, arrow.trip.block),
-            };
+            let text = ArrowText::of(picture, arrow);
             longest.label = longest.label.max(length(&text));
         }
         for row in picture.rows() {
             longest.widen(picture, row);
         }
+        longest.step = longest.step.max(12);
         longest
     }
 

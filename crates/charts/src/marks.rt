@@ -1,17 +1,29 @@
 use crate::arrows::Heading;
 use crate::captions::{
-    AskedText, BlockText, BoxText, MarkText, StartText, StepText, ask_of, length,
+    AskedText, BlockText, BoxText, MarkText, MomentText, StepText, ask_of, length,
 };
 use crate::layout::{LETTER, Layout, changed, half_box};
-use crate::picture::Picture;
+use crate::picture::{Moment, Picture, Standing};
 use crate::svg::{Anchor, Pen, Point};
 use base::{BlockId, Outcome, Place};
+use monitor::Violation;
 use story::{Happening, Sight};
 
 /// Half of how high a box is.
 const HALF_BOX: i64 = 9;
 /// How far below the middle of a text its letters stand.
 const BASE: i64 = 4;
+/// How far outside a box the ring of a controller is that a violation names.
+const RING: i64 = 3;
+/// The tints of blocks, in turn.
+const TINTS: [&str; 6] = ["b0", "b1", "b2", "b3", "b4", "b5"];
+
+/// What is drawn of a thing: its shape, or the texts of it, which come over all shapes.
+#[derive(Clone, Copy, PartialEq, Eq)]
+pub enum Layer {
+    Shapes,
+    Texts,
+}
 
 /// Draws for each row a line from its step to where that step goes.
 pub fn draw_guides(pen: &mut Pen, picture: &Picture, layout: &Layout) {
@@ -36,33 +48,82 @@ fn center_of(layout: &Layout, number: usize, row: &Happening) -> Option<Point> {
     })
 }
 
-/// Draws what the controllers are at the start.
-pub fn draw_starts(pen: &mut Pen, picture: &Picture, layout: &Layout) {
+/// Draws what the controllers are at a moment: their boxes, or the texts of these.
+pub fn draw_standings(
+    pen: &mut Pen,
+    picture: &Picture,
+    layout: &Layout,
+    moment: Moment,
+    layer: Layer,
+) {
+    if layer == Layer::Texts {
+        name_standings(pen, picture, layout, moment);
+    }
+    for standing in picture.standings(moment) {
+        draw_standing(pen, picture, layout, moment, layer, *standing);
+    }
+}
+
+/// Writes which moment it is, once for each block.
+fn name_standings(pen: &mut Pen, picture: &Picture, layout: &Layout, moment: Moment) {
     for (number, block) in picture.blocks().iter().enumerate() {
         let at = Point {
             x: layout.steps,
-            y: layout.start_y(number).saturating_add(BASE),
+            y: layout.standing_y(moment, number).saturating_add(BASE),
         };
-        pen.text(
-            "number",
-            at,
-            Anchor::Start,
-            &StartText(BlockText::of(picture, *block)),
-        );
+        let block = BlockText::of(picture, *block);
+        pen.text("number", at, Anchor::Start, &MomentText { moment, block });
     }
-    for start in picture.starts() {
-        let number = picture
-            .blocks()
-            .iter()
-            .position(|block| *block == start.block);
-        let lane = layout.lanes.of_place(place_of(start.sight), start.block);
-        if let Some((number, lane)) = number.zip(lane) {
-            let center = Point {
-                x: layout.lane_x(lane),
-                y: layout.start_y(number),
-            };
-            draw_box(pen, picture, center, start.sight, start.block);
+}
+
+fn draw_standing(
+    pen: &mut Pen,
+    picture: &Picture,
+    layout: &Layout,
+    moment: Moment,
+    layer: Layer,
+    standing: Standing,
+) {
+    let place = place_of(standing.sight);
+    let number = picture
+        .blocks()
+        .iter()
+        .position(|block| *block == standing.block);
+    let lane = layout.lanes.of_place(place, standing.block);
+    if let Some((number, lane)) = number.zip(lane) {
+        let center = Point {
+            x: layout.lane_x(lane),
+            y: layout.standing_y(moment, number),
+        };
+        draw_box(pen, picture, center, standing, layer);
+        if is_named(picture, moment, place, standing.block) {
+            draw_ring(pen, picture, center, standing, layer);
         }
+    }
+}
+
+/// Whether the last violation in a picture names a controller, which is told at the end.
+fn is_named(picture: &Picture, moment: Moment, place: Place, block: BlockId) -> bool {
+    match (moment, picture.last_violation()) {
+        (Moment::End, Some((violation, at))) => names(violation, at, place, block),
+        _ => false,
+    }
+}
+
+fn names(violation: Violation, at: Option<Place>, place: Place, block: BlockId) -> bool {
+    match violation {
+        Violation::Blank { at, block: named } => named == block && at == place,
+        Violation::SecondWriter {
+            block: named,
+            first,
+            second,
+        } => named == block && (place == Place::Cache(first) || place == Place::Cache(second)),
+        Violation::WriterBesideReader {
+            block: named,
+            writer,
+            reader,
+        } => named == block && (place == Place::Cache(writer) || place == Place::Cache(reader)),
+        Violation::StaleLoad { block: named, .. } => named == block && at == Some(place),
     }
 }
 
@@ -73,10 +134,15 @@ fn place_of(sight: Sight) -> Place {
     }
 }
 
-fn draw_box(pen: &mut Pen, picture: &Picture, center: Point, sight: Sight, block: BlockId) {
-    let text = BoxText::of(picture, sight, block);
+/// Draws the box of a controller, or the text in it.
+fn draw_box(pen: &mut Pen, picture: &Picture, center: Point, standing: Standing, layer: Layer) {
+    let text = BoxText::of(picture, standing.sight, standing.block);
     let half = half_box(&text);
-    let class = match sight {
+    if layer == Layer::Texts {
+        pen.text("state", center.moved(0, BASE), Anchor::Middle, &text);
+        return;
+    }
+    let class = match standing.sight {
         Sight::Line(..) => "box",
         Sight::Home(..) => "box of-home",
     };
@@ -84,26 +150,75 @@ fn draw_box(pen: &mut Pen, picture: &Picture, center: Point, sight: Sight, block
         x: half.saturating_mul(2),
         y: HALF_BOX * 2,
     };
-    pen.rectangle(class, center.moved(half.saturating_neg(), -HALF_BOX), size);
-    pen.text("state", center.moved(0, BASE), Anchor::Middle, &text);
+    pen.tinted(
+        class,
+        tint_of(picture, standing.block),
+        center.moved(half.saturating_neg(), -HALF_BOX),
+        size,
+    );
 }
 
-/// Draws the rows: the step, and what its controller did.
-pub fn draw_rows(pen: &mut Pen, picture: &Picture, layout: &Layout) {
+/// The tint of a block, where there are several.
+fn tint_of(picture: &Picture, block: BlockId) -> &'static str {
+    if picture.has_blocks() {
+        TINTS[block.0 as usize % TINTS.len()]
+    } else {
+        ""
+    }
+}
+
+/// Draws a ring round the box of a controller that a violation names.
+fn draw_ring(pen: &mut Pen, picture: &Picture, center: Point, standing: Standing, layer: Layer) {
+    if layer != Layer::Shapes {
+        return;
+    }
+    let half = half_box(&BoxText::of(picture, standing.sight, standing.block)).saturating_add(RING);
+    let size = Point {
+        x: half.saturating_mul(2),
+        y: (HALF_BOX + RING) * 2,
+    };
+    let corner = center.moved(half.saturating_neg(), -HALF_BOX - RING);
+    pen.rectangle("named", corner, size);
+}
+
+/// Draws the rows: what their controllers are, or the steps and what came of them.
+pub fn draw_rows(pen: &mut Pen, picture: &Picture, layout: &Layout, layer: Layer) {
     for (number, row) in picture.rows().iter().enumerate() {
-        let at = Point {
-            x: layout.steps,
-            y: layout.row_y(number).saturating_add(BASE),
-        };
-        pen.text("number", at.moved(-8, 0), Anchor::End, &row.number);
-        pen.text("step", at, Anchor::Start, &StepText(*row));
+        if layer == Layer::Texts {
+            name_row(pen, layout, number, row);
+        }
         if let Some(center) = center_of(layout, number, row) {
-            draw_row(pen, picture, layout, number, row, center);
+            draw_controller(pen, picture, row, center, layer);
+            if layer == Layer::Texts {
+                draw_beside(pen, picture, layout, number, row, center);
+            }
         }
     }
 }
 
-fn draw_row(
+/// Writes the number of a row and its step.
+fn name_row(pen: &mut Pen, layout: &Layout, number: usize, row: &Happening) {
+    let at = Point {
+        x: layout.steps,
+        y: layout.row_y(number).saturating_add(BASE),
+    };
+    pen.text("number", at.moved(-8, 0), Anchor::End, &row.number);
+    pen.text("step", at, Anchor::Start, &StepText(*row));
+}
+
+/// Draws the box of a row's controller whose state is another one now, or the text in it; and else a dot.
+fn draw_controller(pen: &mut Pen, picture: &Picture, row: &Happening, center: Point, layer: Layer) {
+    if let Some(sight) = changed(row) {
+        let block = row.step.block();
+        draw_box(pen, picture, center, Standing { block, sight }, layer);
+    } else if layer == Layer::Shapes {
+        let class = if row.acted.is_some() { "dot" } else { "tried" };
+        pen.circle(class, center, 3);
+    }
+}
+
+/// Writes beside a row's controller what its core asks, and the outcome.
+fn draw_beside(
     pen: &mut Pen,
     picture: &Picture,
     layout: &Layout,
@@ -111,11 +226,6 @@ fn draw_row(
     row: &Happening,
     center: Point,
 ) {
-    match (changed(row), row.acted) {
-        (Some(sight), _) => draw_box(pen, picture, center, sight, row.step.block()),
-        (None, Some(_)) => pen.circle("dot", center, 3),
-        (None, None) => pen.circle("tried", center, 3),
-    }
     let half = layout.half(picture, Some(number));
     let block = BlockText::of(picture, row.step.block());
     if let Some(ask) = ask_of(row.step) {

@@ -2,6 +2,7 @@ use crate::charting::MOST_ROWS;
 use crate::fault::ChartFault;
 use base::{BlockId, CacheId, NoMemory, Place, Shape};
 use cache_table::CacheState;
+use monitor::Violation;
 use record::{Entry, Recording};
 use std::alloc::Global;
 use story::{Happening, List, Part, Shown, Sight, Story, Trip, look, seat_at};
@@ -15,8 +16,9 @@ pub struct Picture {
     /// The blocks that are looked at, and for each block whether it is one of them.
     blocks: List<BlockId>,
     looked_at: Vec<bool>,
-    /// What controllers are at the part's start, but for lines in I where there are several blocks.
-    starts: List<Start>,
+    /// What controllers are at the part's start and at its end, but for lines in I where there are several blocks.
+    starts: List<Standing>,
+    ends: List<Standing>,
 }
 
 impl Drop for Picture {
@@ -29,6 +31,7 @@ impl Drop for Picture {
             blocks: _,
             looked_at: _,
             starts: _,
+            ends: _,
         } = self;
     }
 }
@@ -47,11 +50,18 @@ impl Arrow {
     }
 }
 
-/// A controller at the part's start.
+/// A controller at a moment.
 #[derive(Clone, Copy)]
-pub struct Start {
+pub struct Standing {
     pub block: BlockId,
     pub sight: Sight,
+}
+
+/// A moment at which a picture tells what the controllers are.
+#[derive(Clone, Copy)]
+pub enum Moment {
+    Start,
+    End,
 }
 
 impl Picture {
@@ -82,6 +92,7 @@ impl Picture {
             blocks: List::new(alloc),
             looked_at,
             starts: List::new(alloc),
+            ends: List::new(alloc),
         })
     }
 
@@ -100,8 +111,9 @@ impl Picture {
         let cut = part.cut(recording.entries());
         self.list_blocks();
         story.skip(cut.before)?;
-        self.begin(story);
+        stand(story, self.blocks.so_far(), &mut self.starts);
         self.tell(story, recording, part, cut.chosen)?;
+        stand(story, self.blocks.so_far(), &mut self.ends);
         let end = story.number();
         self.look_behind(story, cut.behind, end)?;
         self.leave(story, end);
@@ -118,6 +130,7 @@ impl Picture {
             || self.arrows.is_refused()
             || self.blocks.is_refused()
             || self.starts.is_refused()
+            || self.ends.is_refused()
     }
 
     fn list_blocks(&mut self) {
@@ -142,9 +155,18 @@ impl Picture {
         self.blocks.so_far()
     }
 
-    /// What controllers are at the part's start, but for lines in I where there are several blocks.
-    pub fn starts(&self) -> &[Start] {
-        self.starts.so_far()
+    /// What controllers are at the part's start or at its end, but for lines in I where there are several blocks.
+    pub fn standings(&self, moment: Moment) -> &[Standing] {
+        match moment {
+            Moment::Start => self.starts.so_far(),
+            Moment::End => self.ends.so_far(),
+        }
+    }
+
+    /// The last violation in it, with the place of the step that shows it.
+    pub fn last_violation(&self) -> Option<(Violation, Option<Place>)> {
+        let row = self.rows().iter().rfind(|row| row.violation.is_some())?;
+        Some((row.violation?, row.place))
     }
 
     /// Whether there are several blocks, which have to be told apart.
@@ -164,20 +186,6 @@ impl Picture {
     /// The row of the step of a number, if it is in the picture.
     pub fn row_of(&self, number: u64) -> Option<usize> {
         self.numbers.so_far().binary_search(&number).ok()
-    }
-
-    /// Notes what the controllers are before the first row.
-    fn begin(&mut self, story: &Story) {
-        let shows_all = !self.has_blocks();
-        for block in self.blocks.so_far() {
-            if let Some(sight) = look(story.world(), *block, Some(Place::Dir)) {
-                self.starts.push(Start {
-                    block: *block,
-                    sight,
-                });
-            }
-            begin_lines(story, *block, shows_all, &mut self.starts);
-        }
     }
 
     /// Makes the steps of the rows.
@@ -268,7 +276,21 @@ fn was_sent_before(happening: &Happening, end: u64) -> bool {
     }
 }
 
-fn begin_lines(story: &Story, block: BlockId, shows_all: bool, starts: &mut List<Start>) {
+/// Notes what the controllers of these blocks are.
+fn stand(story: &Story, blocks: &[BlockId], standings: &mut List<Standing>) {
+    let shows_all = blocks.len() == 1;
+    for block in blocks {
+        if let Some(sight) = look(story.world(), *block, Some(Place::Dir)) {
+            standings.push(Standing {
+                block: *block,
+                sight,
+            });
+        }
+        stand_lines(story, *block, shows_all, standings);
+    }
+}
+
+fn stand_lines(story: &Story, block: BlockId, shows_all: bool, standings: &mut List<Standing>) {
     let world = story.world();
     for number in 0..world.shape().caches() {
         let cache = CacheId(number);
@@ -277,7 +299,7 @@ fn begin_lines(story: &Story, block: BlockId, shows_all: bool, starts: &mut List
         };
         if shows_all || line.state != CacheState::I {
             let sight = Sight::Line(cache, line);
-            starts.push(Start { block, sight });
+            standings.push(Standing { block, sight });
         }
     }
 }

@@ -9,19 +9,30 @@ text{font:11px monospace;fill:#1a1a1a}
 .plate{fill:#e9e9e9;stroke:#1a1a1a;stroke-width:1}
 .title{font-weight:bold}
 .wire{fill:none;stroke-width:1.4}
+.rim{fill:none;stroke:#ffffff;stroke-width:6}
 .request .wire{stroke:#1b57b3}
 .forward .wire{stroke:#a24300;stroke-dasharray:6 3}
 .response .wire{stroke:#17703a;stroke-width:3}
 .request .head{fill:#1b57b3;stroke:#1b57b3}
 .forward .head{fill:#a24300;stroke:#a24300}
 .response .head{fill:#17703a;stroke:#17703a}
-.never .head{fill:#ffffff}
+.request .tail{fill:#1b57b3}
+.forward .tail{fill:#a24300}
+.response .tail{fill:#17703a}
+.unserved .head{fill:#ffffff}
 .label,.ask,.mark,.met{paint-order:stroke;stroke:#ffffff;stroke-width:4px;stroke-linejoin:round}
 .mark{font-weight:bold}
 .ask,.met{font-style:italic}
 .box,.dot,.tried,.loaded{fill:#ffffff;stroke:#1a1a1a;stroke-width:1}
 .dot,.stored{fill:#1a1a1a}
 .of-home{fill:#e9e9e9}
+.b0 .box{fill:#dbe9ff}
+.b1 .box{fill:#ffe6cc}
+.b2 .box{fill:#d9f2dd}
+.b3 .box{fill:#f3dcf7}
+.b4 .box{fill:#fff3bf}
+.b5 .box{fill:#d5f1f5}
+.named{fill:none;stroke:#b00020;stroke-width:2}
 .band{fill:#ffd6d6;stroke:#b00020;stroke-width:1}
 .why{fill:#b00020;font-weight:bold;paint-order:stroke;stroke:#ffd6d6;stroke-width:4px;stroke-linejoin:round}
 .told-band{fill:#f0f0f0;stroke:#1a1a1a;stroke-width:1;stroke-dasharray:2 2}
@@ -39,10 +50,21 @@ text{fill:#e6e6e6}
 .request .head{fill:#7fb0ff;stroke:#7fb0ff}
 .forward .head{fill:#ffb070;stroke:#ffb070}
 .response .head{fill:#74d99a;stroke:#74d99a}
-.never .head{fill:#16181c}
+.request .tail{fill:#7fb0ff}
+.forward .tail{fill:#ffb070}
+.response .tail{fill:#74d99a}
+.rim{stroke:#16181c}
+.unserved .head{fill:#16181c}
 .label,.ask,.mark,.met{stroke:#16181c}
 .box,.tried,.loaded{fill:#16181c;stroke:#e6e6e6}
 .box.of-home{fill:#30343b}
+.b0 .box{fill:#1d3557}
+.b1 .box{fill:#52360f}
+.b2 .box{fill:#1e4429}
+.b3 .box{fill:#45254d}
+.b4 .box{fill:#4d4411}
+.b5 .box{fill:#17434a}
+.named{stroke:#ff8a95}
 .dot,.stored{fill:#e6e6e6;stroke:#e6e6e6}
 .band{fill:#5c1620;stroke:#ff8a95}
 .why{fill:#ffb3ba;stroke:#5c1620}

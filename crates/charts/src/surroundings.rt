@@ -97,7 +97,11 @@ pub fn draw_legend(pen: &mut Pen, layout: &Layout) {
         ("request", true, "a request"),
         ("forward", true, "a forward"),
         ("response", true, "a response"),
-        ("request never", true, "a message that is never served"),
+        (
+            "request unserved",
+            true,
+            "a message that is not served by the end",
+        ),
         ("request later", false, "a message that is served later"),
     ] {
         draw_sample(pen, at, kind, has_tip, meaning);

@@ -132,6 +132,15 @@ impl Pen {
         self.close();
     }
 
+    /// A rectangle with a tint, which may be none.
+    pub fn tinted(&mut self, class: &str, tint: &str, corner: Point, size: Point) {
+        self.markup("<g class=\"");
+        self.markup(tint);
+        self.markup("\">\n");
+        self.rectangle(class, corner, size);
+        self.end_group();
+    }
+
     pub fn circle(&mut self, class: &str, center: Point, radius: i64) {
         self.open("circle", class);
         self.number("cx", center.x);

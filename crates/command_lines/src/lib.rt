@@ -4,5 +4,5 @@
 mod lines;
 mod recordings;
 
-pub use lines::{OneFile, Served, run, run_over, serve_line};
+pub use lines::{OneFile, Served, run, run_over, serve_line, serve_over};
 pub use recordings::recording;

@@ -1,8 +1,12 @@
 use commands::{Files, LoadFault, serve};
 use std::alloc::{AllocError, Global};
+use std::io;
 use std::io::{Read, Write};
 use std::sync::Wait;
 use std::thread::Threads;
+
+/// The system's number of the error that there is no such file.
+const NO_SUCH_FILE: i32 = 2;
 
 /// The file `table.json`, with its text, and the file `huge.json`, for which there is no memory.
 #[derive(Drop)]
@@ -17,7 +21,7 @@ impl Files for OneFile {
             return Err(LoadFault::NoMemory);
         }
         if name != "table.json" {
-            return Err(LoadFault::Device);
+            return Err(LoadFault::Device(io::Error::from_raw_os_error(NO_SUCH_FILE)));
         }
         match String::from_str(self.alloc, self.text) {
             Ok(text) => Ok(text.into_bytes()),
@@ -85,17 +89,22 @@ pub fn serve_line<R: Threads + Wait + Sync, I: Read + Drop, O: Write + Drop>(
     input: I,
     output: O,
 ) -> Result<(u8, Vec<u8>), AllocError> {
+    let mut errors = Vec::new(alloc);
+    let status = serve_over(rt, alloc, line, text, input, output, &mut errors)?;
+    Ok((status, errors))
+}
+
+/// The exit status of a command line over this file and these streams.
+pub fn serve_over<R: Threads + Wait + Sync, I: Read + Drop, O: Write + Drop, E: Write + Drop>(
+    rt: &R,
+    alloc: Global,
+    line: &str,
+    text: &'static str,
+    input: I,
+    output: O,
+    errors: E,
+) -> Result<u8, AllocError> {
     let words = words(alloc, line)?;
     let mut files = OneFile { alloc, text };
-    let mut errors = Vec::new(alloc);
-    let status = serve(
-        rt,
-        alloc,
-        &Ok(words),
-        &mut files,
-        input,
-        output,
-        &mut errors,
-    );
-    Ok((status, errors))
+    Ok(serve(rt, alloc, &Ok(words), &mut files, input, output, errors))
 }

@@ -1,11 +1,13 @@
 use playing::Fault;
+use std::io;
 use thiserror::Error;
 
 /// Why a file's bytes couldn't be had.
-#[derive(Clone, Copy, Debug, PartialEq, Eq, Error)]
+#[derive(Clone, Copy, Debug, Error)]
 pub enum LoadFault {
-    #[error("device")]
-    Device,
+    /// It can't be read, for this reason of the system.
+    #[error("device: {0}")]
+    Device(io::Error),
     #[error("no memory")]
     NoMemory,
 }
@@ -19,7 +21,7 @@ pub trait Files {
 impl From<LoadFault> for Fault {
     fn from(fault: LoadFault) -> Fault {
         match fault {
-            LoadFault::Device => Fault::Device,
+            LoadFault::Device(_) => Fault::Device,
             LoadFault::NoMemory => Fault::NoMemory,
         }
     }

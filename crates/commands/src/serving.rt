@@ -1,10 +1,15 @@
+use crate::again::TrialWords;
+use crate::explained::{Streams, explanation};
 use crate::files::Files;
+use crate::kept::{Kept, Noted};
 use crate::tasks::Task;
 use crate::usage;
 use clap::error::ErrorKind;
 use clap::{ArgMatches, Error};
+use modelling::print_model;
 use playing::{
-    Fault, Finding, move_recording, play, print_certificate, print_recording, print_tables, replay,
+    Fault, Finding, check, move_recording, play, play_recording, print_certificate,
+    print_recording, print_tables, replay,
 };
 use std::alloc::Global;
 use std::io;
@@ -37,15 +42,98 @@ pub fn serve<R: Threads + Wait + Sync, F: Files, I: Read + Drop, O: Write + Drop
         Err(_) => return refuse(&Fault::NoMemory, &mut errors),
     };
     match read {
-        Ok(matches) => {
-            let (mut errors, found) = run(rt, alloc, &matches, files, input, output, errors);
-            match found {
-                Ok(finding) => finding.status(),
-                Err(fault) => refuse(&fault, &mut errors),
-            }
-        }
+        Ok(matches) => serve_matches(rt, alloc, words, &matches, files, input, output, errors),
         Err(said) => answer(&said, output, &mut errors),
     }
+}
+
+/// Carries out what the words ask for, and explains what is refused where that is asked for.
+fn serve_matches<
+    R: Threads + Wait + Sync,
+    F: Files,
+    I: Read + Drop,
+    O: Write + Drop,
+    E: Write + Drop,
+>(
+    rt: &R,
+    alloc: Global,
+    words: &[String],
+    matches: &ArgMatches<'_>,
+    files: &mut F,
+    input: I,
+    output: O,
+    errors: E,
+) -> u8 {
+    let mut input = Kept::new(alloc, is_kept(matches), input);
+    let mut output = Noted::new(output);
+    let (mut errors, found) = run(rt, alloc, matches, files, &mut input, &mut output, errors);
+    match found {
+        Ok(Finding::Trial(number)) => tell_again(words, matches, number, &mut errors),
+        Ok(finding) => finding.status(),
+        Err(fault) => {
+            let streams = Streams {
+                bytes: input.kept(),
+                input: input.fault(),
+                output: output.fault(),
+            };
+            let status = refuse(&fault, &mut errors);
+            explain(alloc, matches, &fault, files, streams, &mut errors);
+            status
+        }
+    }
+}
+
+/// Whether an explanation may need the input once more. Steps that are played are explained as they are read.
+fn is_kept(matches: &ArgMatches<'_>) -> bool {
+    match matches.subcommand() {
+        Some(("play", options)) => options.get_flag("explain") && options.get_flag("recording"),
+        Some((_, options)) => options.get_flag("explain"),
+        None => false,
+    }
+}
+
+/// Prints what is wrong with what is refused, and where, if that is asked for.
+fn explain<F: Files, E: Write>(
+    alloc: Global,
+    matches: &ArgMatches<'_>,
+    fault: &Fault,
+    files: &mut F,
+    streams: Streams<'_>,
+    errors: &mut E,
+) {
+    let Some((name, options)) = matches.subcommand() else {
+        return;
+    };
+    if !options.get_flag("explain") {
+        return;
+    }
+    let told = explanation(alloc, name, options, fault, files, streams);
+    if let Ok(text) = told.text() {
+        let _ = write!(errors, "{text}");
+    }
+}
+
+/// Tells how the trial that a batch ended behind is made again, and answers the exit status.
+fn tell_again<E: Write>(
+    words: &[String],
+    matches: &ArgMatches<'_>,
+    number: u32,
+    errors: &mut E,
+) -> u8 {
+    if let Some((_, options)) = matches.subcommand() {
+        let program = match words.first() {
+            Some(word) => word.as_str(),
+            None => "msi",
+        };
+        let again = TrialWords {
+            program,
+            options,
+            number,
+        };
+        // The batch is whole where nobody takes it.
+        let _ = writeln!(errors, "{again}");
+    }
+    Finding::Trial(number).status()
 }
 
 /// Prints what `clap` says in place of a task, help or an error, and answers its exit status.
@@ -97,17 +185,24 @@ fn carry_out<R: Threads + Wait + Sync, I: Read + Drop, O: Write + Drop, E: Write
 ) -> (E, Result<Finding, Fault>) {
     let mut errors = errors;
     let found = match task {
-        Task::Play(shape, tables) => play(alloc, shape, tables, input, output),
+        Task::Play(shape, tables, explains) => {
+            play(alloc, shape, tables, explains, input, output, &mut errors)
+        }
+        Task::Record(shape, tables) => {
+            play_recording(alloc, shape, tables, input, output, &mut errors)
+        }
         Task::Trial(setup, number) => one_trial(alloc, &setup, number, input, output, &mut errors),
         Task::Batch(setup, plan) => {
             return batch(rt, alloc, setup, plan, input, output, errors);
         }
         Task::Floor(setup, plan) => race(rt, alloc, &setup, plan, input, output, &mut errors),
-        Task::Replay => replay(alloc, input, output),
+        Task::Replay(format) => replay(alloc, format, input, output),
         Task::Move => move_recording(alloc, input, output),
         Task::Show(form, part) => print_recording(alloc, form, part, input, output),
         Task::Tables(tables) => print_tables(alloc, &tables, output),
-        Task::Certify(tables) => print_certificate(alloc, &tables, output),
+        Task::Certify(tables, format) => print_certificate(alloc, &tables, format, output),
+        Task::Model(tables, caches) => print_model(alloc, &tables, caches, output),
+        Task::Check(tables, bounds) => check(alloc, &tables, bounds, input, output),
     };
     (errors, found)
 }

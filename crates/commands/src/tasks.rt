@@ -3,34 +3,41 @@ use base::controller::Protocol;
 use base::{BlockId, Shape};
 use both_tables::Tables;
 use clap::ArgMatches;
-use playing::{Fault, Form};
+use playing::{Bounds, Fault, Form, Format, Layout};
 use record::MOST_ENTRIES;
 use std::alloc::Global;
 use story::Part;
 use trials::Setup;
-use trying::{BatchPlan, RacePlan};
+use trying::{BatchPlan, RacePlan, Until};
 
 /// What a command line asks for, with all that its options and their files say.
 #[derive(Drop)]
 pub enum Task {
-    /// Play the steps of the input in a world of this shape, under these tables.
-    Play(Shape, Tables),
+    /// Play the steps of the input in a world of this shape, under these tables: up to a line that is none, or past those,
+    /// which are explained.
+    Play(Shape, Tables, bool),
+    /// Play them up to a line that is none, and print the recording of them.
+    Record(Shape, Tables),
     /// Make the trial of this number.
     Trial(Setup, u32),
     /// Make a batch of trials.
     Batch(Setup, BatchPlan),
     /// Have seats race at a floor.
     Floor(Setup, RacePlan),
-    /// Replay a recording.
-    Replay,
+    /// Replay a recording, and say in this form what was found.
+    Replay(Format),
     /// Print a recording in version 2.
     Move,
     /// Show a part of a recording in this form.
     Show(Form, Part),
     /// Print the cells of these tables.
     Tables(Tables),
-    /// Print whether these tables are proved safe.
-    Certify(Tables),
+    /// Print in this form whether these tables are proved safe.
+    Certify(Tables, Format),
+    /// Print these tables as a model with so many caches.
+    Model(Tables, u32),
+    /// Print what these tables and a scenario within these bounds are.
+    Check(Tables, Bounds),
 }
 
 impl Task {
@@ -46,23 +53,64 @@ impl Task {
             return Ok(None);
         };
         Ok(match name {
-            "play" => Some(Task::Play(shape(options)?, tables(alloc, options, files)?)),
+            "play" => Some(playing(alloc, options, files)?),
             "trial" => Some(Task::Trial(trying(alloc, options, files)?, number(options, "number"))),
             "batch" => Some(Task::Batch(trying(alloc, options, files)?, plan(options))),
             "floor" => Some(racing(alloc, options, files)?),
-            "replay" => Some(Task::Replay),
+            "replay" => Some(Task::Replay(format(options))),
             "move" => Some(Task::Move),
-            "show" => Some(Task::Show(Form::Table, part(options))),
+            "show" => Some(Task::Show(Form::Table(layout(options)), part(options))),
             "chart" => Some(Task::Show(Form::Chart, part(options))),
             "tables" => Some(Task::Tables(tables(alloc, options, files)?)),
-            "certify" => Some(Task::Certify(tables(alloc, options, files)?)),
+            "certify" => Some(Task::Certify(tables(alloc, options, files)?, format(options))),
+            "model" => Some(modelling(alloc, options, files)?),
+            "check" => Some(Task::Check(tables(alloc, options, files)?, bounds(options))),
             _ => None,
         })
     }
 }
 
-fn shape(options: &ArgMatches<'_>) -> Result<Shape, Fault> {
+fn playing<F: Files>(
+    alloc: Global,
+    options: &ArgMatches<'_>,
+    files: &mut F,
+) -> Result<Task, Fault> {
+    let shape = shape(options)?;
+    let tables = tables(alloc, options, files)?;
+    if options.get_flag("recording") {
+        return Ok(Task::Record(shape, tables));
+    }
+    Ok(Task::Play(shape, tables, options.get_flag("explain")))
+}
+
+fn format(options: &ArgMatches<'_>) -> Format {
+    if options.get_flag("json") {
+        return Format::Json;
+    }
+    Format::Plain
+}
+
+fn layout(options: &ArgMatches<'_>) -> Layout {
+    if options.get_flag("json") {
+        return Layout::Objects;
+    }
+    if options.get_flag("tsv") {
+        return Layout::Tabs;
+    }
+    Layout::Columns
+}
+
+/// The shape that the options name.
+pub(crate) fn shape(options: &ArgMatches<'_>) -> Result<Shape, Fault> {
     Ok(Shape::new(number(options, "caches"), number(options, "blocks"))?)
+}
+
+/// What the options say of a scenario's shape.
+pub(crate) fn bounds(options: &ArgMatches<'_>) -> Bounds {
+    Bounds {
+        caches: options.get_one::<u32>("caches"),
+        blocks: options.get_one::<u32>("blocks"),
+    }
 }
 
 /// The part of a recording that the options choose: all of it, where they are left out.
@@ -87,6 +135,17 @@ fn plan(options: &ArgMatches<'_>) -> BatchPlan {
         trials: number(options, "trials"),
         workers: number(options, "workers"),
         progress: options.get_flag("progress"),
+        until: until(options),
+        format: format(options),
+    }
+}
+
+/// The kind of trials that is looked for, whose word `clap` has tested.
+fn until(options: &ArgMatches<'_>) -> Option<Until> {
+    match options.get_str("until")?.as_bytes() {
+        b"broke" => Some(Until::Broke),
+        b"stuck" => Some(Until::Stuck),
+        _ => None,
     }
 }
 
@@ -103,6 +162,15 @@ fn racing<F: Files>(alloc: Global, options: &ArgMatches<'_>, files: &mut F) -> R
         recording: options.get_flag("recording"),
     };
     Ok(Task::Floor(setup(alloc, options, files, 0)?, plan))
+}
+
+fn modelling<F: Files>(
+    alloc: Global,
+    options: &ArgMatches<'_>,
+    files: &mut F,
+) -> Result<Task, Fault> {
+    let caches = number(options, "caches");
+    Ok(Task::Model(tables(alloc, options, files)?, caches))
 }
 
 /// What trials and races are made under. Every block opens at 0.
@@ -133,7 +201,7 @@ fn tables<F: Files>(
 }
 
 /// The protocol that is named, whose word `clap` has tested.
-fn protocol(options: &ArgMatches<'_>) -> Protocol {
+pub(crate) fn protocol(options: &ArgMatches<'_>) -> Protocol {
     match options.get_str("protocol") {
         Some(name) => Protocol::named(name.as_bytes()).unwrap_or(Protocol::Msi),
         None => Protocol::Msi,
@@ -141,6 +209,6 @@ fn protocol(options: &ArgMatches<'_>) -> Protocol {
 }
 
 /// The number that an option was given, which `clap` has tested.
-fn number(options: &ArgMatches<'_>, name: &str) -> u32 {
+pub(crate) fn number(options: &ArgMatches<'_>, name: &str) -> u32 {
     options.get_one::<u32>(name).unwrap_or(0)
 }

@@ -1,3 +1,4 @@
+use crate::helps;
 use base::{MOST_BLOCKS, MOST_CACHES};
 use clap::builder::ValueParser;
 use clap::{Arg, ArgAction, Command, value_parser};
@@ -12,6 +13,8 @@ pub const VERSION: &str = "0.1.0";
 enum Takes {
     /// Nothing: it is there or not.
     Nothing,
+    /// Nothing, and it isn't there beside the option of this name.
+    NothingBeside(&'static str),
     /// The name of a file.
     File,
     /// A number from the first to the second.
@@ -48,6 +51,14 @@ const CACHES: Choice = Choice {
     value: "C",
     help: "How many caches the world has, 1 to 4096",
     takes: Takes::Number(1, MOST_CACHES),
+    left_out: LeftOut::Refused,
+};
+
+const MODEL_CACHES: Choice = Choice {
+    name: "caches",
+    value: "N",
+    help: "How many caches the model's block has, 1 to 8",
+    takes: Takes::Number(1, modelling::MOST_CACHES),
     left_out: LeftOut::Refused,
 };
 
@@ -118,7 +129,36 @@ const WORKERS: Choice = Choice {
 const PROGRESS: Choice = Choice {
     name: "progress",
     value: "",
-    help: "Tells on standard error how many trials are made, with how many steps, and how many broke",
+    help: "Tells on standard error how far the batch is",
+    takes: Takes::Nothing,
+    left_out: LeftOut::Nothing,
+};
+
+const UNTIL: Choice = Choice {
+    name: "until",
+    value: "KIND",
+    help: "Ends behind the first such trial, and tells how it is made again",
+    takes: Takes::Word(&["broke", "stuck"]),
+    left_out: LeftOut::Nothing,
+};
+
+const JSON: Choice = Choice {
+    name: "json",
+    value: "",
+    help: "Prints an object in JSON a line",
+    takes: Takes::Nothing,
+    left_out: LeftOut::Nothing,
+};
+
+const OBJECTS: Choice = Choice {
+    takes: Takes::NothingBeside("tsv"),
+    ..JSON
+};
+
+const TSV: Choice = Choice {
+    name: "tsv",
+    value: "",
+    help: "Prints the columns with tabs between them, behind a line of their names",
     takes: Takes::Nothing,
     left_out: LeftOut::Nothing,
 };
@@ -147,6 +187,14 @@ const RECORDING: Choice = Choice {
     left_out: LeftOut::Nothing,
 };
 
+const PLAYED: Choice = Choice {
+    name: "recording",
+    value: "",
+    help: "Prints the recording of the steps, and on standard error what was found",
+    takes: Takes::Nothing,
+    left_out: LeftOut::Nothing,
+};
+
 const BLOCK: Choice = Choice {
     name: "block",
     value: "B",
@@ -171,50 +219,79 @@ const STEPS: Choice = Choice {
     left_out: LeftOut::Nothing,
 };
 
-/// A command: its name, what help says of it, and its options in the order in which help lists them.
+const SOME_CACHES: Choice = Choice {
+    left_out: LeftOut::Nothing,
+    help: "How many caches a scenario is for: as many as it needs, if left out",
+    ..CACHES
+};
+
+const SOME_BLOCKS: Choice = Choice {
+    left_out: LeftOut::Nothing,
+    help: "How many blocks it is for: if left out 1, or as many as it needs where the caches are left out too",
+    ..BLOCKS
+};
+
+/// An option of every command.
+const EXPLAIN: Choice = Choice {
+    name: "explain",
+    value: "",
+    help: "Tells on standard error where a text is refused, and why",
+    takes: Takes::Nothing,
+    left_out: LeftOut::Nothing,
+};
+
+/// A command: its name, what help says of it, its options in the order in which help lists them, and what stands behind those.
 struct Usage {
     name: &'static str,
     about: &'static str,
     choices: &'static [Choice],
+    after: &'static str,
 }
 
-const COMMANDS: [Usage; 10] = [
+const COMMANDS: [Usage; 12] = [
     Usage {
         name: "play",
         about: "Reads steps, one a line, and prints what each of them did",
-        choices: &[CACHES, BLOCKS, PROTOCOL, TABLES],
+        choices: &[CACHES, BLOCKS, PROTOCOL, TABLES, PLAYED],
+        after: helps::PLAY,
     },
     Usage {
         name: "trial",
         about: "Reads a scenario, makes one trial of it and prints its recording",
         choices: &[CACHES, BLOCKS, PROTOCOL, TABLES, SEED, NUMBER, LIMIT],
+        after: helps::TRIAL,
     },
     Usage {
         name: "batch",
         about: "Reads a scenario, makes trials of it and prints their verdicts, one a line",
         choices: &[
-            CACHES, BLOCKS, PROTOCOL, TABLES, SEED, TRIALS, LIMIT, WORKERS, PROGRESS,
+            CACHES, BLOCKS, PROTOCOL, TABLES, SEED, TRIALS, LIMIT, WORKERS, UNTIL, PROGRESS, JSON,
         ],
+        after: helps::BATCH,
     },
     Usage {
         name: "replay",
         about: "Reads a recording, makes its steps again and compares their outcomes",
-        choices: &[],
+        choices: &[JSON],
+        after: helps::REPLAY,
     },
     Usage {
         name: "show",
         about: "Reads a recording, and prints a table of what each step did",
-        choices: &[BLOCK, FROM, STEPS],
+        choices: &[BLOCK, FROM, STEPS, TSV, OBJECTS],
+        after: helps::SHOW,
     },
     Usage {
         name: "chart",
         about: "Reads a recording, and prints it as a message sequence chart, in SVG",
         choices: &[BLOCK, FROM, STEPS],
+        after: helps::CHART,
     },
     Usage {
         name: "move",
         about: "Reads a recording of either version, and prints it in version 2",
         choices: &[],
+        after: helps::MOVE,
     },
     Usage {
         name: "floor",
@@ -222,16 +299,31 @@ const COMMANDS: [Usage; 10] = [
         choices: &[
             CACHES, BLOCKS, PROTOCOL, TABLES, SEATS, TURNS, SEED, RECORDING,
         ],
+        after: helps::FLOOR,
     },
     Usage {
         name: "tables",
         about: "Prints the cells of both controller tables, one a line",
         choices: &[PROTOCOL, TABLES],
+        after: helps::TABLES,
     },
     Usage {
         name: "certify",
         about: "Says whether tables are proved safe, and never stuck, and names the first cell that stands against it",
-        choices: &[PROTOCOL, TABLES],
+        choices: &[PROTOCOL, TABLES, JSON],
+        after: helps::CERTIFY,
+    },
+    Usage {
+        name: "model",
+        about: "Prints both controller tables as a model of one block, in Murphi, for rumur to try every schedule",
+        choices: &[MODEL_CACHES, PROTOCOL, TABLES],
+        after: helps::MODEL,
+    },
+    Usage {
+        name: "check",
+        about: "Reads tables and a scenario, and prints what they are; without input, of the tables alone",
+        choices: &[SOME_CACHES, SOME_BLOCKS, PROTOCOL, TABLES],
+        after: helps::CHECK,
     },
 ];
 
@@ -240,7 +332,8 @@ pub fn msi<'a>(alloc: Global) -> Result<Command<'a>, AllocError> {
     let mut msi = Command::new(alloc, "msi")
         .version(VERSION)
         .about("Plays, tries out and replays a directory MSI cache-coherence protocol")
-        .subcommand_required(true);
+        .subcommand_required(true)
+        .after_help(helps::MSI);
     for usage in &COMMANDS {
         msi = msi.subcommand(command(alloc, usage)?)?;
     }
@@ -248,19 +341,22 @@ pub fn msi<'a>(alloc: Global) -> Result<Command<'a>, AllocError> {
 }
 
 fn command<'a>(alloc: Global, usage: &Usage) -> Result<Command<'a>, AllocError> {
-    let mut command = Command::new(alloc, usage.name).about(usage.about);
+    let mut command = Command::new(alloc, usage.name)
+        .about(usage.about)
+        .after_help(usage.after);
     for choice in usage.choices {
-        command = command.arg(option(alloc, choice))?;
+        command = command.arg(option(alloc, choice)?)?;
     }
-    Ok(command)
+    command.arg(option(alloc, &EXPLAIN)?)
 }
 
-fn option<'a>(alloc: Global, choice: &Choice) -> Arg<'a> {
+fn option<'a>(alloc: Global, choice: &Choice) -> Result<Arg<'a>, AllocError> {
     let arg = Arg::new(alloc, choice.name)
         .long(choice.name)
         .help(choice.help);
     let arg = match choice.takes {
-        Takes::Nothing => return arg.action(ArgAction::SetTrue),
+        Takes::Nothing => return Ok(arg.action(ArgAction::SetTrue)),
+        Takes::NothingBeside(other) => return arg.action(ArgAction::SetTrue).conflicts_with(other),
         Takes::File => arg,
         Takes::Number(least, most) => arg.value_parser(value_parser!(u32).range(
             i64::from(least)..=i64::from(most),
@@ -269,9 +365,9 @@ fn option<'a>(alloc: Global, choice: &Choice) -> Arg<'a> {
         Takes::Word(words) => arg.value_parser(ValueParser::Names(words)),
     };
     let arg = arg.value_name(choice.value).action(ArgAction::Set);
-    match choice.left_out {
+    Ok(match choice.left_out {
         LeftOut::Refused => arg.required(true),
         LeftOut::Default(word) => arg.default_value(word),
         LeftOut::Nothing => arg,
-    }
+    })
 }

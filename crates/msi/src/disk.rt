@@ -19,7 +19,7 @@ impl<R: rt::Files + AllocGlobal> Files for Disk<'_, R> {
             Ok(bytes) => Ok(bytes),
             Err(error) => match error.kind() {
                 io::ErrorKind::OutOfMemory => Err(LoadFault::NoMemory),
-                _ => Err(LoadFault::Device),
+                _ => Err(LoadFault::Device(error)),
             },
         }
     }

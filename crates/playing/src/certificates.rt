@@ -1,13 +1,13 @@
+use crate::cells::text_of;
 use crate::fault::Fault;
 use crate::finding::Finding;
+use crate::format::Format;
 use crate::jamming::jam_from;
+use crate::objects::print_cell_object;
 use crate::printing::Printer;
 use crate::schedules::CACHES;
-use base::controller::Side;
 use both_tables::Tables;
-use cache_table::CacheChange;
 use certify::{CELLS, Cell, Certificate, Standing, certify, standing_of};
-use directory_table::DirectoryChange;
 use std::alloc::Global;
 use std::io::Write;
 
@@ -16,111 +16,135 @@ use std::io::Write;
 pub fn print_certificate<O: Write + Drop>(
     alloc: Global,
     tables: &Tables,
+    format: Format,
     output: O,
 ) -> Result<Finding, Fault> {
     let mut printer = Printer::new(alloc, output)?;
-    let finding = print_answer(alloc, tables, &mut printer);
+    let finding = print_answer(alloc, tables, format, &mut printer);
     printer.finish(finding)
 }
 
 fn print_answer<O: Write + Drop>(
     alloc: Global,
     tables: &Tables,
+    format: Format,
     printer: &mut Printer<O>,
 ) -> Result<Finding, Fault> {
     match certify(tables) {
         Certificate::NotProved(cell) => {
-            print_unknown(tables, cell, printer);
+            print_unknown(tables, cell, format, printer);
             return Ok(Finding::Unknown);
         }
         Certificate::NeverStuck => {
-            printer.line("safe\nnever stuck");
-            print_reasons(tables, printer);
+            print_safe("never stuck", format, printer);
+            if format == Format::Plain {
+                printer.line("never stuck");
+            }
+            print_reasons(tables, format, printer);
         }
         Certificate::AsksMayBeHeld(cell) => {
-            printer.line("safe");
-            print_cell(tables, cell, "asks may be held", printer);
-            print_reasons(tables, printer);
+            print_stalled(tables, cell, "asks may be held", format, printer);
         }
-        Certificate::MessagesMayGetStuck(cell) => {
-            let jam = jam_from(alloc, tables, cell)?;
-            print_jam(tables, cell, jam, printer);
-        }
+        Certificate::MessagesMayGetStuck(cell) => match jam_from(alloc, tables, cell)? {
+            None => print_stalled(tables, cell, "messages may get stuck", format, printer),
+            Some(steps) => {
+                print_stalled(tables, cell, "messages get stuck", format, printer);
+                print_jam(steps, format, printer);
+            }
+        },
     }
     Ok(Finding::Nothing)
 }
 
-/// Prints of tables that are proved safe that messages may get stuck; or that they do, if steps are known that show it.
-fn print_jam<O: Write + Drop>(
+/// Prints that tables are proved safe, and what is known of what may get stuck under them.
+fn print_safe<O: Write + Drop>(stuck: &str, format: Format, printer: &mut Printer<O>) {
+    match format {
+        Format::Plain => printer.line("safe"),
+        Format::Json => printer.line(format_args!("{{\"answer\":\"safe\",\"stuck\":\"{stuck}\"}}")),
+    }
+}
+
+/// Prints the same of tables under which something may get stuck, or does, with the first cell that stands for it.
+fn print_stalled<O: Write + Drop>(
     tables: &Tables,
     cell: Cell,
-    steps: Option<&str>,
+    stuck: &str,
+    format: Format,
     printer: &mut Printer<O>,
 ) {
-    printer.line("safe");
-    match steps {
-        None => {
-            print_cell(tables, cell, "messages may get stuck", printer);
-            print_reasons(tables, printer);
-        }
-        Some(steps) => {
-            print_cell(tables, cell, "messages get stuck", printer);
-            print_reasons(tables, printer);
+    print_safe(stuck, format, printer);
+    print_cell(tables, cell, stuck, format, printer);
+    print_reasons(tables, format, printer);
+}
+
+/// Prints steps after which messages are stuck.
+fn print_jam<O: Write + Drop>(steps: &str, format: Format, printer: &mut Printer<O>) {
+    match format {
+        Format::Plain => {
             printer.line(format_args!("stuck with {CACHES} caches after:"));
             printer.bytes(steps.as_bytes());
+        }
+        Format::Json => {
+            for (number, step) in steps.lines().enumerate() {
+                printer.line(format_args!(
+                    "{{\"stuck_caches\":{CACHES},\"entry\":{number},\"step\":\"{step}\"}}"
+                ));
+            }
         }
     }
 }
 
-fn print_unknown<O: Write + Drop>(tables: &Tables, cell: Cell, printer: &mut Printer<O>) {
-    printer.line("unknown");
-    print_reason(tables, cell, printer);
-    printer.line("That doesn't say unsafe: make trials, with msi batch.");
+fn print_unknown<O: Write + Drop>(
+    tables: &Tables,
+    cell: Cell,
+    format: Format,
+    printer: &mut Printer<O>,
+) {
+    match format {
+        Format::Plain => printer.line("unknown"),
+        Format::Json => printer.line("{\"answer\":\"unknown\",\"stuck\":null}"),
+    }
+    print_reason(tables, cell, format, printer);
+    if format == Format::Plain {
+        printer.line("That doesn't say unsafe: make trials, with msi batch.");
+    }
 }
 
-fn print_reasons<O: Write + Drop>(tables: &Tables, printer: &mut Printer<O>) {
+fn print_reasons<O: Write + Drop>(tables: &Tables, format: Format, printer: &mut Printer<O>) {
     for number in 0..CELLS {
         if let Some(cell) = Cell::at(number) {
-            print_reason(tables, cell, printer);
+            print_reason(tables, cell, format, printer);
         }
     }
 }
 
 /// Prints a cell and how it stands, unless it is the protocol's own.
-fn print_reason<O: Write + Drop>(tables: &Tables, cell: Cell, printer: &mut Printer<O>) {
-    match standing_of(tables, cell) {
-        Standing::Own => {}
-        Standing::Stall => print_cell(tables, cell, "stall", printer),
-        Standing::NeverMet => print_cell(tables, cell, "never met", printer),
-        Standing::Proved => print_cell(tables, cell, "proved", printer),
-        Standing::Open => print_cell(tables, cell, "not proved", printer),
-    }
+fn print_reason<O: Write + Drop>(
+    tables: &Tables,
+    cell: Cell,
+    format: Format,
+    printer: &mut Printer<O>,
+) {
+    let reason = match standing_of(tables, cell) {
+        Standing::Own => return,
+        Standing::Stall => "stall",
+        Standing::NeverMet => "never met",
+        Standing::Proved => "proved",
+        Standing::Open => "not proved",
+    };
+    print_cell(tables, cell, reason, format, printer);
 }
 
 fn print_cell<O: Write + Drop>(
     tables: &Tables,
     cell: Cell,
     reason: &str,
+    format: Format,
     printer: &mut Printer<O>,
 ) {
-    match cell {
-        Cell::Cache(state, event) => {
-            let entry = tables.cache.entry(state, event);
-            let found = CacheChange {
-                state,
-                event,
-                entry,
-            };
-            printer.line(format_args!("{reason}: {}", found.text(Side::Cache)));
-        }
-        Cell::Directory(state, event) => {
-            let entry = tables.directory.entry(state, event);
-            let found = DirectoryChange {
-                state,
-                event,
-                entry,
-            };
-            printer.line(format_args!("{reason}: {}", found.text(Side::Directory)));
-        }
+    let text = text_of(tables, cell);
+    match format {
+        Format::Plain => printer.line(format_args!("{reason}: {text}")),
+        Format::Json => print_cell_object(reason, &text, printer),
     }
 }

@@ -1,7 +1,7 @@
 use base::{NoMemory, ShapeFault};
 use both_tables::TablesFault;
 use charts::{ChartFault, MOST_ROWS};
-use record::{MoveFault, ReadFault, ReadKind, WriteFault};
+use record::{MOST_ENTRIES, MoveFault, PushFault, ReadFault, ReadKind, WriteFault};
 use scenario::ScenarioFault;
 use std::alloc::{AllocError, AllocFailed};
 use std::{fmt, io};
@@ -21,6 +21,9 @@ pub enum Fault {
     /// A line of the input, counted from 1, isn't an ask of the world's caches and blocks.
     #[error("msi: line {0}: not an ask of this shape")]
     NotAnAsk(u64),
+    /// More steps were played than a recording has room for.
+    #[error("msi: more than {MOST_ENTRIES} steps, and a recording has room for no more")]
+    TooManyEntries,
     /// All seats together would make more than 1,000,000 turns.
     #[error("msi: too many turns")]
     TooManyTurns,
@@ -65,6 +68,7 @@ impl Fault {
             Fault::BadWord
             | Fault::NotAStep(_)
             | Fault::NotAnAsk(_)
+            | Fault::TooManyEntries
             | Fault::TooManyTurns
             | Fault::Shape(_)
             | Fault::Setup(_)
@@ -82,6 +86,13 @@ impl Fault {
 pub struct Refusal<F> {
     number: u8,
     fault: F,
+}
+
+impl<F: Copy> Refusal<F> {
+    /// What is wrong.
+    pub fn fault(&self) -> F {
+        self.fault
+    }
 }
 
 impl<F: fmt::Debug> fmt::Display for Refusal<F> {
@@ -164,6 +175,15 @@ impl From<ScenarioFault> for Fault {
 impl From<WriteFault> for Fault {
     fn from(_fault: WriteFault) -> Fault {
         Fault::Device
+    }
+}
+
+impl From<PushFault> for Fault {
+    fn from(fault: PushFault) -> Fault {
+        match fault {
+            PushFault::Full => Fault::TooManyEntries,
+            PushFault::NoMemory => Fault::NoMemory,
+        }
     }
 }
 

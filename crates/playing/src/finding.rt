@@ -1,3 +1,6 @@
+use monitor::Violation;
+use std::fmt;
+
 /// What a command found, where nothing went wrong with the command itself.
 #[derive(Clone, Copy, Debug, PartialEq, Eq)]
 pub enum Finding {
@@ -7,8 +10,12 @@ pub enum Finding {
     Violation,
     /// A recording tells of another outcome than its step has, which was printed.
     Difference,
+    /// The first trial of a kind that was looked for, which has this number, was printed.
+    Trial(u32),
     /// Tables aren't proved safe, and a cell that isn't was printed.
     Unknown,
+    /// Lines of the input were refused, and told of.
+    Refused,
 }
 
 impl Finding {
@@ -16,7 +23,31 @@ impl Finding {
     pub fn status(self) -> u8 {
         match self {
             Finding::Nothing => 0,
-            Finding::Violation | Finding::Difference | Finding::Unknown => 1,
+            Finding::Violation | Finding::Difference | Finding::Trial(_) | Finding::Unknown => 1,
+            Finding::Refused => 2,
+        }
+    }
+}
+
+/// The violation of a recording that a command has made, with the number of its entry, if there is one.
+#[derive(Clone, Copy, Debug, PartialEq, Eq)]
+pub struct Found(pub Option<(u64, Violation)>);
+
+impl Found {
+    /// What the command found.
+    pub fn finding(self) -> Finding {
+        match self.0 {
+            None => Finding::Nothing,
+            Some(_) => Finding::Violation,
+        }
+    }
+}
+
+impl fmt::Display for Found {
+    fn fmt<W: fmt::Write>(&self, f: &mut fmt::Formatter<W>) -> fmt::Result {
+        match self.0 {
+            None => f.write_str("safe"),
+            Some((entry, violation)) => write!(f, "violation {entry} {violation}"),
         }
     }
 }

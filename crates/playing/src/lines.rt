@@ -71,6 +71,14 @@ impl<R: Read + Drop> Lines<R> {
         Ok(true)
     }
 
+    /// Passes what is left of a line of which only the front was read.
+    pub fn skip_rest(&mut self) -> io::Result<()> {
+        if self.held == 0 && self.line.len() > MOST_BYTES {
+            self.reader.skip_until(b'\n')?;
+        }
+        Ok(())
+    }
+
     /// The line, without its LF.
     pub fn line(&self) -> &[u8] {
         if self.held == 0 {

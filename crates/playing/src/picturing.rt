@@ -6,12 +6,14 @@ use charts::chart;
 use record::Recording;
 use std::alloc::Global;
 use std::io::{Read, Write};
-use story::{Part, Shown, show};
+use story::{Layout, Part, Shown, show};
 
 /// How a recording is shown.
 #[derive(Clone, Copy, Debug, PartialEq, Eq)]
 pub enum Form {
-    Table,
+    /// A table, with its lines laid out so.
+    Table(Layout),
+    /// A message sequence chart.
     Chart,
 }
 
@@ -49,7 +51,7 @@ fn write_part<W: Write>(
     output: &mut W,
 ) -> Result<Shown, Fault> {
     match form {
-        Form::Table => show(alloc, recording, part, output).map_err(Fault::from),
+        Form::Table(layout) => show(alloc, recording, part, layout, output).map_err(Fault::from),
         Form::Chart => chart(alloc, recording, part, output).map_err(Fault::from),
     }
 }

@@ -1,3 +1,4 @@
+use crate::complaining::Complaints;
 use crate::fault::Fault;
 use crate::finding::Finding;
 use crate::lines::{Lines, MOST_BYTES};
@@ -13,32 +14,50 @@ use world::{OpenFault, World};
 /// Plays the steps of the input in a world that has just been opened with every block at 0,
 /// under these tables, up to the first violation.
 ///
+/// A line that isn't a step is a fault; or it is told of on the errors, with what is wrong with it, and the next line is read.
 /// What was printed before a fault stands.
-pub fn play<I: Read + Drop, O: Write + Drop>(
+pub fn play<I: Read + Drop, O: Write + Drop, E: Write>(
     alloc: Global,
     shape: Shape,
     tables: Tables,
+    explains: bool,
     input: I,
     output: O,
+    errors: &mut E,
 ) -> Result<Finding, Fault> {
     let mut lines = Lines::new(alloc, input)?;
     let mut printer = Printer::new(alloc, output)?;
-    let played = play_lines(alloc, shape, tables, &mut lines, &mut printer);
+    let mut complaints = Complaints::new(alloc, explains, errors);
+    let played = play_lines(
+        alloc,
+        shape,
+        tables,
+        &mut lines,
+        &mut printer,
+        &mut complaints,
+    );
     printer.finish(played)
 }
 
-fn play_lines<I: Read + Drop, O: Write + Drop>(
+fn play_lines<I: Read + Drop, O: Write + Drop, E: Write>(
     alloc: Global,
     shape: Shape,
     tables: Tables,
     lines: &mut Lines<I>,
     printer: &mut Printer<O>,
+    complaints: &mut Complaints<'_, E>,
 ) -> Result<Finding, Fault> {
     let (mut world, mut watch) = open(alloc, shape, tables)?;
-    play_all(&mut world, &mut watch, lines, printer)
+    let found = play_all(&mut world, &mut watch, lines, printer, complaints)?;
+    Ok(complaints.or(found))
 }
 
-fn open(alloc: Global, shape: Shape, tables: Tables) -> Result<(World, Watch), NoMemory> {
+/// A world with every block at 0, and its watch.
+pub(crate) fn open(
+    alloc: Global,
+    shape: Shape,
+    tables: Tables,
+) -> Result<(World, Watch), NoMemory> {
     let opening = vec![in alloc; 0; shape.blocks() as usize]?;
     let watch = Watch::open(alloc, opening.as_slice())?;
     match World::open(alloc, shape, tables, opening) {
@@ -49,11 +68,12 @@ fn open(alloc: Global, shape: Shape, tables: Tables) -> Result<(World, Watch), N
 }
 
 /// Plays as far as there are lines, and nothing is read any more once printing has failed.
-fn play_all<I: Read + Drop, O: Write + Drop>(
+fn play_all<I: Read + Drop, O: Write + Drop, E: Write>(
     world: &mut World,
     watch: &mut Watch,
     lines: &mut Lines<I>,
     printer: &mut Printer<O>,
+    complaints: &mut Complaints<'_, E>,
 ) -> Result<Finding, Fault> {
     for _ in 0..u64::MAX {
         if lines.may_wait() {
@@ -65,7 +85,11 @@ fn play_all<I: Read + Drop, O: Write + Drop>(
         if lines.line().is_empty() {
             continue;
         }
-        let step = step_of(lines.line()).ok_or(Fault::NotAStep(lines.number()))?;
+        let Some(step) = step_of(lines.line()) else {
+            printer.flush();
+            complaints.refuse(lines)?;
+            continue;
+        };
         if play_one(world, watch, step, printer)? == Finding::Violation {
             return Ok(Finding::Violation);
         }
@@ -96,7 +120,8 @@ fn print_outcome<O: Write + Drop>(outcome: Outcome, printer: &mut Printer<O>) {
     printer.bytes(text.as_slice());
 }
 
-fn step_of(line: &[u8]) -> Option<Step> {
+/// The step that a line is.
+pub(crate) fn step_of(line: &[u8]) -> Option<Step> {
     if line.len() > MOST_BYTES {
         return None;
     }

@@ -46,6 +46,11 @@ impl Sheet {
         }
     }
 
+    /// Notes a growth that was refused elsewhere, as if one of its own was.
+    pub fn refuse(&mut self) {
+        self.is_refused = true;
+    }
+
     /// How many bytes it has so far.
     pub fn len(&self) -> usize {
         self.text.len()

@@ -1,4 +1,5 @@
 use crate::fault::ShowFault;
+use crate::objects::put_object;
 use crate::output::Output;
 use crate::part::{Part, Shown};
 use crate::sheet::Sheet;
@@ -11,21 +12,34 @@ use record::{Entry, Recording};
 use std::alloc::Global;
 use std::io::Write;
 
-/// What the columns have.
-const HEADINGS: [&str; 7] = ["", "step", "outcome", "serves", "changes", "sends", "finds"];
+/// What the columns have. The first has the numbers of the entries, and a table for the eye leaves that out.
+const HEADINGS: [&str; 6] = ["step", "outcome", "serves", "changes", "sends", "finds"];
 /// A text that is longer than this doesn't make its column wider.
 const WIDEST: usize = 100;
 
-/// Makes the steps of a recording again, and writes a part of them as a table, one line a step, behind the state at the
-/// part's start.
+/// How the lines of a table are laid out.
+#[derive(Clone, Copy, Debug, PartialEq, Eq)]
+pub enum Layout {
+    /// In columns as wide as their texts, behind the state at the part's start: for the eye.
+    Columns,
+    /// With a tab between two columns, behind a line of headings.
+    Tabs,
+    /// As an object in JSON, with a key for each column.
+    Objects,
+}
+
+/// Makes the steps of a recording again, and writes a part of them as a table, one line a step.
 pub fn show<W: Write>(
     alloc: Global,
     recording: &Recording,
     part: Part,
+    layout: Layout,
     output: &mut W,
 ) -> Result<Shown, ShowFault> {
-    let mut table = Table::open(alloc);
-    table.measure(alloc, recording, part)?;
+    let mut table = Table::open(alloc, layout);
+    if layout == Layout::Columns {
+        table.measure(alloc, recording, part)?;
+    }
     let mut output = Output::new(output);
     let shown = table.print(alloc, recording, part, &mut output)?;
     match output.fault() {
@@ -37,21 +51,26 @@ pub fn show<W: Write>(
 /// The lines of a table, of which one at a time is kept.
 #[derive(Drop)]
 struct Table {
+    layout: Layout,
     /// The texts of a line's columns, one behind the other.
     sheet: Sheet,
     /// Where those columns end that are filled.
     ends: [usize; 7],
     filled: usize,
     widths: [usize; 7],
+    /// An object's text of what a step changed.
+    changes: Sheet,
 }
 
 impl Table {
-    fn open(alloc: Global) -> Table {
+    fn open(alloc: Global, layout: Layout) -> Table {
         Table {
+            layout,
             sheet: Sheet::new(alloc),
             ends: [0; 7],
             filled: 0,
             widths: [0; 7],
+            changes: Sheet::new(alloc),
         }
     }
 
@@ -120,8 +139,14 @@ impl Table {
     ) -> Result<Shown, NoMemory> {
         let cut = part.cut(recording.entries());
         story.skip(cut.before)?;
-        self.fill_start(alloc, story, part, cut.chosen)?;
-        output.put(self.sheet.text()?.as_bytes());
+        if self.layout == Layout::Columns {
+            self.fill_start(alloc, story, part, cut.chosen)?;
+            output.put(self.sheet.text()?.as_bytes());
+        }
+        if self.layout != Layout::Objects {
+            self.fill_headings();
+            self.write_line(output);
+        }
         self.print_lines(story, recording, part, cut.chosen, output)
     }
 
@@ -148,8 +173,6 @@ impl Table {
         chosen: &[Entry],
         output: &mut Output<'_, W>,
     ) -> Result<Shown, NoMemory> {
-        self.fill_headings();
-        self.write_line(output);
         let mut shown = Shown::nothing();
         for entry in chosen {
             if output.fault().is_some() {
@@ -166,11 +189,24 @@ impl Table {
         Ok(shown)
     }
 
-    /// Writes the line that is kept, each text at its column.
+    /// Writes the line that is kept.
     fn write_line<W: Write>(&self, output: &mut Output<'_, W>) {
-        match self.sheet.text() {
-            Ok(line) => self.write_columns(line.as_bytes(), output),
-            Err(NoMemory) => output.fail(ShowFault::NoMemory),
+        match (self.layout, self.sheet.text()) {
+            (Layout::Columns, Ok(line)) => self.write_columns(line.as_bytes(), output),
+            (Layout::Tabs, Ok(line)) => self.write_tabs(line.as_bytes(), output),
+            (Layout::Objects, Ok(line)) => output.put(line.as_bytes()),
+            (_, Err(NoMemory)) => output.fail(ShowFault::NoMemory),
+        }
+        output.put(b"\n");
+    }
+
+    fn write_tabs<W: Write>(&self, line: &[u8], output: &mut Output<'_, W>) {
+        let (mut start, mut between): (usize, &[u8]) = (0, b"");
+        for end in self.ends {
+            output.put(between);
+            output.put(line.get(start..end).unwrap_or(b""));
+            between = b"\t";
+            start = end;
         }
     }
 
@@ -189,7 +225,6 @@ impl Table {
                 .saturating_add(2);
             start = *end;
         }
-        output.put(b"\n");
     }
 
     fn clear(&mut self) {
@@ -207,6 +242,10 @@ impl Table {
 
     fn fill_headings(&mut self) {
         self.clear();
+        if self.layout == Layout::Tabs {
+            self.sheet.push("entry");
+        }
+        self.end_column();
         for heading in HEADINGS {
             self.sheet.push(heading);
             self.end_column();
@@ -216,6 +255,23 @@ impl Table {
     /// Puts the texts of a step's line in place of what is kept.
     fn fill(&mut self, story: &Story, happening: &Happening) {
         self.clear();
+        if self.layout == Layout::Objects {
+            self.fill_object(story, happening);
+        } else {
+            self.fill_columns(story, happening);
+        }
+    }
+
+    fn fill_object(&mut self, story: &Story, happening: &Happening) {
+        self.changes.clear();
+        put_changes(story, happening, &mut self.changes);
+        match self.changes.text() {
+            Ok(changes) => put_object(story, happening, changes, &mut self.sheet),
+            Err(NoMemory) => self.sheet.refuse(),
+        }
+    }
+
+    fn fill_columns(&mut self, story: &Story, happening: &Happening) {
         self.sheet.put(&happening.number);
         self.end_column();
         self.sheet.put(&SeatText(happening.seat));
@@ -227,26 +283,12 @@ impl Table {
             put_message(trip.message, &mut self.sheet);
         }
         self.end_column();
-        self.put_changes(story, happening);
+        put_changes(story, happening, &mut self.sheet);
         self.end_column();
         self.put_sent(story.sent());
         self.end_column();
         self.put_finds(happening);
         self.end_column();
-    }
-
-    fn put_changes(&mut self, story: &Story, happening: &Happening) {
-        match happening.acted {
-            Some((Sight::Line(cache, before), Sight::Line(_, after))) => {
-                put_line(cache, before, after, &mut self.sheet);
-            }
-            Some((Sight::Home(before, ..), Sight::Home(after, owner, memory))) => {
-                put_home(before, after, owner, &mut self.sheet);
-                let block = happening.step.block();
-                put_holdings(story.world(), block, memory, &mut self.sheet);
-            }
-            _ => {}
-        }
     }
 
     fn put_sent(&mut self, sent: &[Trip]) {
@@ -270,6 +312,19 @@ impl Table {
             self.sheet.push("violation ");
             self.sheet.put(&violation);
         }
+    }
+}
+
+fn put_changes(story: &Story, happening: &Happening, sheet: &mut Sheet) {
+    match happening.acted {
+        Some((Sight::Line(cache, before), Sight::Line(_, after))) => {
+            put_line(cache, before, after, sheet);
+        }
+        Some((Sight::Home(before, ..), Sight::Home(after, owner, memory))) => {
+            put_home(before, after, owner, sheet);
+            put_holdings(story.world(), happening.step.block(), memory, sheet);
+        }
+        _ => {}
     }
 }
 

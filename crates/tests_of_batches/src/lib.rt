@@ -7,6 +7,8 @@ mod batches;
 #[cfg(test)]
 mod ends;
 #[cfg(test)]
+mod finding;
+#[cfg(test)]
 mod racing;
 #[cfg(test)]
 mod sharing;

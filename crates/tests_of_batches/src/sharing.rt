@@ -39,7 +39,8 @@ fn workers_find_what_one_finds(rt: HostRuntime) {
 }
 
 const TOLD: &str =
-    "msi: 1 of 3 trials, 3 steps, 0 broke\nmsi: 2 of 3 trials, 6 steps, 0 broke\nmsi: 3 of 3 trials, 9 steps, 0 broke\n";
+    "msi: 1 of 3 trials, 3 steps, 0 broke, 0 stuck\nmsi: 2 of 3 trials, 6 steps, 0 broke, 0 stuck\n\
+     msi: 3 of 3 trials, 9 steps, 0 broke, 0 stuck\n";
 
 #[test]
 fn progress_is_told_where_it_is_asked_for(rt: HostRuntime) {

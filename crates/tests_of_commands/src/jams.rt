@@ -3,7 +3,7 @@ use both_tables::Tables;
 use cache_table::CacheEntry;
 use certify::{CELLS, Cell, Certificate, certify};
 use directory_table::DirectoryEntry;
-use playing::print_certificate;
+use playing::{Format, print_certificate};
 use std::alloc::Global;
 use std::process::Abort;
 
@@ -25,7 +25,7 @@ fn stalled(protocol: Protocol, cell: Cell) -> Tables {
 /// Whether it is shown by steps that messages get stuck under these tables.
 fn is_shown(rt: &impl Abort, alloc: Global, tables: &Tables) -> bool {
     let mut output = Vec::new(alloc);
-    print_certificate(alloc, tables, &mut output).expect(rt, "printed");
+    print_certificate(alloc, tables, Format::Plain, &mut output).expect(rt, "printed");
     let text = str::from_utf8(output.as_slice()).expect(rt, "a text");
     text.starts_with("safe\nmessages get stuck: cell ")
 }

@@ -14,9 +14,13 @@ mod charted;
 #[cfg(test)]
 mod exclusive;
 #[cfg(test)]
+mod forms;
+#[cfg(test)]
 mod jams;
 #[cfg(test)]
 mod lines;
+#[cfg(test)]
+mod models;
 #[cfg(test)]
 mod moving;
 #[cfg(test)]

@@ -9,5 +9,5 @@ mod sharing;
 mod trying;
 
 pub use racing::{RacePlan, race};
-pub use reporting::BatchPlan;
+pub use reporting::{BatchPlan, Until};
 pub use trying::{batch, one_trial};

@@ -3,14 +3,11 @@ ghost use Rattle.floor.specs.FloorId.{floor_id};
 
 use crate::asks::read_asks;
 use crate::players::{Open, Player};
-use crate::trying::write_recording;
 use base::{CoreAsk, NoMemory};
 use floor::{Floor, Ground, Naming, Seat, TurnFault, crew};
-use monitor::Violation;
-use playing::{Fault, Finding, Printer};
+use playing::{Fault, Finding, Found, Printer, print_whole};
 use record::{Recording, replay};
 use std::alloc::Global;
-use std::fmt;
 use std::io::{Read, Write};
 use std::marker::Brand;
 use std::sync::Wait;
@@ -143,33 +140,12 @@ fn report<O: Write + Drop, E: Write>(
     };
     let found = Found(replayed.violation);
     if plan.recording {
-        let finding = write_recording(alloc, recording, found.finding(), output)?;
-        writeln!(errors, "{found}")?;
-        return Ok(finding);
+        print_whole(alloc, recording, output)?;
+        // What is told beside the recording doesn't undo it where nobody takes it.
+        let _ = writeln!(errors, "{found}");
+        return Ok(found.finding());
     }
     let mut printer = Printer::new(alloc, output)?;
     printer.line(found);
     printer.finish(Ok(found.finding()))
-}
-
-/// The violation that there was, if there was one.
-#[derive(Clone, Copy)]
-struct Found(Option<(u64, Violation)>);
-
-impl Found {
-    fn finding(self) -> Finding {
-        match self.0 {
-            None => Finding::Nothing,
-            Some(_) => Finding::Violation,
-        }
-    }
-}
-
-impl fmt::Display for Found {
-    fn fmt<W: fmt::Write>(&self, f: &mut fmt::Formatter<W>) -> fmt::Result {
-        match self.0 {
-            None => f.write_str("safe"),
-            Some((entry, violation)) => write!(f, "violation {entry} {violation}"),
-        }
-    }
 }

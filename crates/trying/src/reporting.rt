@@ -1,9 +1,9 @@
 use base::NoMemory;
 use indexmap::IndexMap;
-use playing::{Fault, Finding, Printer};
+use playing::{Fault, Finding, Format, Printer, ViolationObject};
 use std::alloc::Global;
-use std::io;
 use std::io::Write;
+use std::{fmt, io};
 use trials::{TrialResult, Verdict};
 
 /// In how many parts progress is told.
@@ -22,10 +22,55 @@ pub struct BatchPlan {
     pub workers: u32,
     /// Whether it is told how far the batch has come.
     pub progress: bool,
+    /// Behind the first trial of which kind no other is printed, if behind any.
+    pub until: Option<Until>,
+    /// The form of the lines.
+    pub format: Format,
+}
+
+/// A kind of trials that are looked for.
+#[derive(Clone, Copy, Debug, PartialEq, Eq)]
+pub enum Until {
+    Broke,
+    Stuck,
+}
+
+impl Until {
+    /// Whether a trial that ended so is one of them.
+    fn is_met_by(self, verdict: Verdict) -> bool {
+        match self {
+            Until::Broke => matches!(verdict, Verdict::Broke(_)),
+            Until::Stuck => verdict == Verdict::Stuck,
+        }
+    }
+}
+
+/// A trial as an object in JSON.
+#[derive(Clone, Copy)]
+struct TrialObject(TrialResult);
+
+impl fmt::Display for TrialObject {
+    fn fmt<W: fmt::Write>(&self, f: &mut fmt::Formatter<W>) -> fmt::Result {
+        let TrialResult {
+            number,
+            verdict,
+            steps,
+        } = self.0;
+        write!(
+            f,
+            "{{\"trial\":{number},\"verdict\":\"{}\",\"steps\":{steps},\"violation\":",
+            verdict.name()
+        )?;
+        match verdict {
+            Verdict::Broke(violation) => write!(f, "{}}}", ViolationObject(violation)),
+            _ => f.write_str("null}"),
+        }
+    }
 }
 
 /// What a batch prints: a line for each trial in order of their numbers, and at the end how many there were of each kind,
-/// in the order in which the kinds came first. Where progress is asked for, it is told on the errors.
+/// in the order in which the kinds came first. Where progress is asked for, it is told on the errors, as long as somebody
+/// takes it.
 ///
 /// Its first fault is noted: no trial is printed any more from then on, and the fault is told at the end.
 pub struct Report<O: Write + Drop, E: Write + Drop> {
@@ -40,6 +85,9 @@ pub struct Report<O: Write + Drop, E: Write + Drop> {
     done: u32,
     steps: u64,
     broke: u32,
+    stuck: u32,
+    // The trial that was looked for.
+    met: Option<u32>,
 }
 
 impl<O: Write + Drop, E: Write + Drop> Drop for Report<O, E> {
@@ -55,6 +103,8 @@ impl<O: Write + Drop, E: Write + Drop> Drop for Report<O, E> {
             done: _,
             steps: _,
             broke: _,
+            stuck: _,
+            met: _,
         } = self;
     }
 }
@@ -72,6 +122,8 @@ impl<O: Write + Drop, E: Write + Drop> Report<O, E> {
             done: 0,
             steps: 0,
             broke: 0,
+            stuck: 0,
+            met: None,
         }
     }
 
@@ -87,6 +139,8 @@ impl<O: Write + Drop, E: Write + Drop> Report<O, E> {
             done: _,
             steps: _,
             broke: _,
+            stuck: _,
+            met: _,
         } = self;
         errors
     }
@@ -101,8 +155,12 @@ impl<O: Write + Drop, E: Write + Drop> Report<O, E> {
         self.done
     }
 
-    /// Whether a fault was noted, so that no trial is printed any more.
-    pub fn has_failed(&self) -> bool {
+    /// Whether no trial is printed any more: a fault was noted, or the trial that was looked for is printed.
+    pub fn is_over(&self) -> bool {
+        self.has_failed() || self.met.is_some()
+    }
+
+    fn has_failed(&self) -> bool {
         self.fault.is_some() || self.printer.has_failed()
     }
 
@@ -118,7 +176,10 @@ impl<O: Write + Drop, E: Write + Drop> Report<O, E> {
     }
 
     fn print_line(&mut self, made: TrialResult) {
-        self.printer.line(format_args!("{} {made}", self.done));
+        match self.plan.format {
+            Format::Plain => self.printer.line(format_args!("{} {made}", self.done)),
+            Format::Json => self.printer.line(TrialObject(made)),
+        }
         self.waiting = self.waiting.saturating_add(u64::from(made.steps));
         if self.waiting >= STEPS_A_WRITE {
             self.waiting = 0;
@@ -134,8 +195,17 @@ impl<O: Write + Drop, E: Write + Drop> Report<O, E> {
         }
         self.done = self.done.saturating_add(1);
         self.steps = self.steps.saturating_add(u64::from(made.steps));
-        if let Verdict::Broke(_) = made.verdict {
-            self.broke = self.broke.saturating_add(1);
+        match made.verdict {
+            Verdict::Broke(_) => self.broke = self.broke.saturating_add(1),
+            Verdict::Stuck => self.stuck = self.stuck.saturating_add(1),
+            Verdict::Quiet | Verdict::Cut => {}
+        }
+        if self
+            .plan
+            .until
+            .is_some_and(|until| until.is_met_by(made.verdict))
+        {
+            self.met = Some(made.number);
         }
     }
 
@@ -146,17 +216,21 @@ impl<O: Write + Drop, E: Write + Drop> Report<O, E> {
         done * PARTS / trials != done.saturating_sub(1) * PARTS / trials
     }
 
+    /// Tells how far the batch is, behind the lines that are printed. Where nobody takes that it isn't told any more, and the
+    /// batch goes on.
     fn tell(&mut self) {
-        if let Err(error) = self.write_progress() {
-            self.fault = Some(Fault::from(error));
+        self.printer.flush();
+        self.waiting = 0;
+        if self.write_progress().is_err() {
+            self.plan.progress = false;
         }
     }
 
     fn write_progress(&mut self) -> io::Result<()> {
         writeln!(
             self.errors,
-            "msi: {} of {} trials, {} steps, {} broke",
-            self.done, self.plan.trials, self.steps, self.broke
+            "msi: {} of {} trials, {} steps, {} broke, {} stuck",
+            self.done, self.plan.trials, self.steps, self.broke, self.stuck
         )?;
         self.errors.flush()
     }
@@ -179,11 +253,18 @@ impl<O: Write + Drop, E: Write + Drop> Report<O, E> {
 
     fn print_totals(&mut self) -> Result<Finding, Fault> {
         for (kind, count) in self.tally.iter() {
-            self.printer.line(format_args!("total {kind} {count}"));
+            match self.plan.format {
+                Format::Plain => self.printer.line(format_args!("total {kind} {count}")),
+                Format::Json => self.printer.line(format_args!(
+                    "{{\"total\":\"{kind}\",\"trials\":{count}}}"
+                )),
+            }
         }
-        if self.broke > 0 {
-            return self.printer.finish(Ok(Finding::Violation));
-        }
-        self.printer.finish(Ok(Finding::Nothing))
+        let found = match self.met {
+            Some(number) => Finding::Trial(number),
+            None if self.broke > 0 => Finding::Violation,
+            None => Finding::Nothing,
+        };
+        self.printer.finish(Ok(found))
     }
 }

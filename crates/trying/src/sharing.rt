@@ -62,7 +62,7 @@ fn share_out<D: Planned + Send + Sync, R: Threads + Sync, O: Write + Drop, E: Wr
         { work_and_print(alloc, shared, own, job, report) },
     );
     let printed = match printed {
-        Ok(()) if !report.has_failed() => print_rest(desk, others, own, &mut report),
+        Ok(()) if !report.is_over() => print_rest(desk, others, own, &mut report),
         printed => printed,
     };
     (report, printed)
@@ -96,7 +96,7 @@ fn print_places<O: Write + Drop, E: Write + Drop>(
             return Err(NoMemory);
         };
         report.print(*made);
-        if report.has_failed() {
+        if report.is_over() {
             break;
         }
     }
@@ -155,7 +155,7 @@ fn work_and_print<D: Planned, O: Write + Drop, E: Write + Drop>(
     ensures { result.0.desk ≡ desk.now.id }
 {
     let printed = print_as_made(alloc, desk, &mut seat, job, &mut report);
-    if printed.is_err() || report.has_failed() {
+    if printed.is_err() || report.is_over() {
         for _ in 0..report.trials() {
             if desk.claim(&mut seat).is_none() {
                 break;
@@ -201,7 +201,7 @@ fn print_claimed<D: Planned, O: Write + Drop, E: Write + Drop>(
             return Err(NoMemory);
         }
         print_ready(desk, seat, report);
-        if report.has_failed() {
+        if report.is_over() {
             break;
         }
     }
@@ -222,7 +222,7 @@ fn print_ready<D: Planned, O: Write + Drop, E: Write + Drop>(
             break;
         };
         report.print(made);
-        if report.has_failed() {
+        if report.is_over() {
             break;
         }
     }

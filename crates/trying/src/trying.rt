@@ -1,10 +1,9 @@
 use crate::reporting::{BatchPlan, Report};
 use crate::sharing::share;
-use base::{NoMemory, Shape, ToWrite};
+use base::{NoMemory, Shape};
 use bumpalo::Bump;
 use desk::Job;
-use playing::{Fault, Finding, Printer};
-use record::Recording;
+use playing::{Fault, Finding, Printer, print_whole};
 use scenario::Scenario;
 use std::alloc::Global;
 use std::io::{Read, Write};
@@ -35,23 +34,10 @@ fn write_trial<O: Write + Drop, E: Write>(
     output: O,
     errors: &mut E,
 ) -> Result<Finding, Fault> {
-    let finding = write_recording(alloc, &made.recording, finding(made.result), output)?;
-    writeln!(errors, "verdict {}", made.result)?;
-    Ok(finding)
-}
-
-/// Writes a recording, of which this was found.
-pub(crate) fn write_recording<O: Write + Drop>(
-    alloc: Global,
-    recording: &Recording,
-    finding: Finding,
-    output: O,
-) -> Result<Finding, Fault> {
-    let mut printer = Printer::new(alloc, output)?;
-    match recording.write(&mut ToWrite::new(printer.output())) {
-        Ok(()) => printer.finish(Ok(finding)),
-        Err(fault) => Err(Fault::from(fault)),
-    }
+    print_whole(alloc, &made.recording, output)?;
+    // What is told beside the recording doesn't undo it where nobody takes it.
+    let _ = writeln!(errors, "verdict {}", made.result);
+    Ok(finding(made.result))
 }
 
 /// Makes the trials of a batch of the scenario that the input is, and prints a line for each, and then how many there were
@@ -128,7 +114,7 @@ fn print_trials<O: Write + Drop, E: Write + Drop>(
     for number in 0..report.trials() {
         let made = series.result(number)?;
         report.print(made);
-        if report.has_failed() {
+        if report.is_over() {
             break;
         }
     }

@@ -4,6 +4,7 @@ use crate::inputs::{all_asks, late_loads, racing_pair, shared_asks, some_asks};
 use crate::rerun::rerun;
 use commands::{Files, LoadFault, serve};
 use std::alloc::Global;
+use std::io;
 use std::sync::Wait;
 use std::thread::Threads;
 use story::Sheet;
@@ -110,7 +111,7 @@ struct OneFile {
 impl Files for OneFile {
     fn load(&mut self, name: &str) -> Result<Vec<u8>, LoadFault> {
         if name != "table.json" {
-            return Err(LoadFault::Device);
+            return Err(LoadFault::Device(io::Error::from(io::ErrorKind::NotFound)));
         }
         match String::from_str(self.alloc, FAULTY) {
             Ok(text) => Ok(text.into_bytes()),

@@ -1,0 +1,91 @@
+use crate::served_as;
+use command_lines::run_over;
+
+/// A command line over a table and an input, and what it prints.
+const ROWS: [(&str, &str, &str, &str); 6] = [
+    (
+        "msi check",
+        "{}",
+        "",
+        "protocol msi\ncertify safe, never stuck\n",
+    ),
+    (
+        "msi check --caches 3 --protocol msi+e",
+        "{}",
+        "",
+        "protocol msi+e\ncertify safe, never stuck\nshape 3 1\n",
+    ),
+    (
+        "msi check --tables table.json",
+        r#"{"cache":[{"state":"IS^D","event":"Inv","entry":{"next":"IS^D","do":["inv-ack"]}}]}"#,
+        r#"{"times":3,"of":{"any":[{"seq":[{"op":"load","core":0,"block":2},{"op":"replace","core":0,"block":2}]},
+            {"op":"store","core":4,"block":0,"value":1},{"op":"load","core":0,"block":1}]}}"#,
+        "protocol msi\ncell cache IS^D Inv act IS^D inv-ack\ncertify unknown\nshape 5 3\n\
+         core 0 loads 3 stores 0 replacements 3\ncore 4 loads 0 stores 3 replacements 0\n\
+         offer 0 ask 0 2 load\noffer 1 ask 4 0 store 1\noffer 2 ask 0 1 load\nlongest 6\n",
+    ),
+    (
+        "msi check --tables table.json",
+        r#"{"directory":[{"state":"S","event":"GetM","entry":"stall"}]}"#,
+        r#"{"both":[]}"#,
+        "protocol msi\ncell directory S GetM stall\ncertify safe, messages get stuck\nshape 1 1\nlongest 0\n",
+    ),
+    (
+        "msi check --caches 8 --blocks 2",
+        "{}",
+        r#"{"seq":[{"both":[{"op":"load","core":1,"block":1},{"op":"load","core":1,"block":0}]},
+            {"times":0,"of":{"op":"store","core":2,"block":0,"value":5}}]}"#,
+        "protocol msi\ncertify safe, never stuck\nshape 8 2\ncore 1 loads 2 stores 0 replacements 0\n\
+         core 2 loads 0 stores 0 replacements 0\noffer 0 ask 1 1 load\noffer 1 ask 1 0 load\nlongest 2\n",
+    ),
+    (
+        "msi check --blocks 7",
+        "{}",
+        r#"{"op":"replace","core":4095,"block":6}"#,
+        "protocol msi\ncertify safe, never stuck\nshape 4096 7\ncore 4095 loads 0 stores 0 replacements 1\n\
+         offer 0 ask 4095 6 replace\nlongest 1\n",
+    ),
+];
+
+#[test]
+fn what_is_checked(rt: HostRuntime) {
+    for (line, table, input, output) in ROWS {
+        let served = run_over(&rt, rt.alloc(), line, table, input).expect(&rt, "served");
+        served_as(&rt, &served, 0, output, "");
+    }
+}
+
+#[test]
+fn what_is_refused(rt: HostRuntime) {
+    let load = r#"{"op":"load","core":0,"block":1}"#;
+    let far = r#"{"op":"load","core":4096,"block":1}"#;
+    for (line, table, input, errors) in [
+        (
+            "msi check --caches 2",
+            "{}",
+            load,
+            "msi: scenario refused 6 OutOfShape\n",
+        ),
+        (
+            "msi check --caches 2 --explain",
+            "{}",
+            load,
+            "msi: scenario refused 6 OutOfShape\n  $.block is 1, and the blocks are 0 to 0\n",
+        ),
+        (
+            "msi check --explain",
+            "{}",
+            far,
+            "msi: scenario refused 6 OutOfShape\n  $.core is 4096, and the cores are 0 to 4095\n",
+        ),
+        (
+            "msi check --tables table.json",
+            "[]",
+            load,
+            "msi: tables refused 2 BadShape\n",
+        ),
+    ] {
+        let served = run_over(&rt, rt.alloc(), line, table, input).expect(&rt, "served");
+        served_as(&rt, &served, 2, "", errors);
+    }
+}
