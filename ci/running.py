@@ -3,6 +3,8 @@
 import os
 import resource
 import signal
+import subprocess
+import sys
 from dataclasses import dataclass
 
 SECONDS, MOST_BYTES, ADDRESSES = 20, 300 << 20, 2 << 30
@@ -63,7 +65,17 @@ class Runner:
             signal.alarm(0)
         if os.WIFSIGNALED(ended) and os.WTERMSIG(ended) != may_abort:
             raise Unbounded(f"it was stopped by signal {os.WTERMSIG(ended)}")
-        if used.ru_maxrss << 10 > MOST_BYTES:
-            raise Unbounded(f"it took {used.ru_maxrss} KiB")
+        if used.ru_maxrss << 10 > MOST_BYTES and (peak := self.peak_alone(words)) << 10 > MOST_BYTES:
+            raise Unbounded(f"it took {peak} KiB")
         told = os.stat(self.file("told")).st_size
         return Ended(os.waitstatus_to_exitcode(ended), self.content("out"), self.content("errors"), told)
+
+    def peak_alone(self, words):
+        """The peak of memory of the run, in KiB, as a small process counts it: what is counted of a child begins with what its parent has."""
+        count = (
+            "import resource, subprocess, sys; nobody = subprocess.DEVNULL\n"
+            "subprocess.run(sys.argv[1:], stdin=open('input', 'rb'), stdout=nobody, stderr=nobody)\n"
+            "print(resource.getrusage(resource.RUSAGE_CHILDREN).ru_maxrss)"
+        )
+        ran = subprocess.run([sys.executable, "-c", count, self.program, *words], cwd=self.folder, capture_output=True, check=True)
+        return int(ran.stdout)
