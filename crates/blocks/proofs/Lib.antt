@@ -11,7 +11,7 @@ pub mod MarkChanges
 pub mod CountChanges
 pub mod Writers
 pub mod Sends
-pub mod States
+pub mod Going
 pub mod Writes
 pub mod TestedMarks
 pub mod Holding

@@ -1,9 +1,9 @@
 pub mod Asking
 pub mod View
-pub mod LineStates
 pub mod Marking
 pub mod Messages
 pub mod Looks
 pub mod Passing
 pub mod Tests
+pub mod Steps
 pub mod inner

@@ -1,6 +1,5 @@
 -- What a test of a block's messages finds.
 use Rattle.std.specs.Prelude.{◌≡◌, ℕ, Option, Some, None}
-use Rattle.base.specs.declared.ids.Place.{Place}
 use Rattle.machine.specs.Block.{BlockState}
 use Rattle.both_tables.specs.Tables.{Tables}
 use Rattle.blocks.specs.Marking.{free_requests, free_heads, free_responses}
@@ -23,8 +22,3 @@ IsTested tables old new (Some t) = IsFound tables new t
 abbrev pub tested_in : Option Tested → ℕ
 tested_in None = 0
 tested_in (Some t) = t.messages
-
--- a step whose cell acted is told where it went; of another one nothing is told
-abbrev pub IsToldIf : Option Tested → Option Place → Option Place → Type 0
-IsToldIf None at place = at ≡ None
-IsToldIf (Some t) at place = at ≡ place

@@ -9,8 +9,8 @@ mod passing;
 mod testing;
 
 use access::Access;
-pub use acting::{Made, Visit};
-pub use asking::{HeldAsks, held_asks_opened};
+pub use acting::Visit;
+pub use asking::{HeldAsks, held_asks_in};
 use base::{CacheId, NoMemory};
 use control::{Home, Line};
 use counting::Counts;

@@ -4,6 +4,6 @@
 mod block;
 
 pub use block::{
-    Block, HeldAsks, Made, Tested, Visit, decide_opened, foreseen, held_asks_opened,
-    is_held_opened, opened_line, responses_pass,
+    Block, HeldAsks, Tested, Visit, decide_opened, foreseen, held_asks_in, is_held_opened,
+    opened_line, responses_pass,
 };

@@ -1,6 +1,7 @@
 pub mod Truths
 pub mod Senders
 pub mod Whole
+pub mod Making
 pub mod Fitting
 pub mod Cases
 pub mod Places

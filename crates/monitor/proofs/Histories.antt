@@ -1,5 +1,5 @@
 use Rattle.std.proofs.Common.{◌≡◌, ◌<◌, ℕ, List, [], ◌∷◌, ◌++◌, Bool, true, false, cond, refl, ap, sym, ◌∙◌, Some, None, Option, get_or, map, length}
-use Rattle.std.proofs.Common.{slice_get, append_assoc}
+use Rattle.std.proofs.Common.{slice_get, append_assoc, subst}
 use Rattle.std.specs.Prelude.{filter}
 use Rattle.std.proofs.lemmas.List.{append-nil}
 use Rattle.std.proofs.lemmas.List.Elements.{All-head, All-tail}
@@ -9,12 +9,14 @@ use Rattle.std.proofs.lemmas.Iterator.Adapters.{option_map_id}
 use Rattle.base.specs.Steps.{block_of}
 use Rattle.base.specs.declared.step.Step.{Step}
 use Rattle.base.specs.declared.step.Outcome.{Outcome}
-use Rattle.machine.specs.Completions.{Completion, HasNoStoreTo, IsStoreTo, completions, completed_by, is_store_to, stored_to, last_of, due, noted}
+use Rattle.machine.specs.Completions.{Completion, HasNoStoreTo, IsStoreTo, completions, completions_of, completed_by, is_store_to, stored_to, last_of, due, noted}
 use Rattle.both_tables.specs.Tables.{Tables}
-use Rattle.machine.specs.Machine.{State, next, opened, state_after, outcomes_of}
+use Rattle.machine.specs.Machine.{State, Next, next, opened, state_after, outcomes_of}
 use Rattle.machine.proofs.Due.{due-nothing, due-noted}
 use Rattle.world.specs.View.{View}
-use Rattle.monitor.specs.Watching.{AreDue, HasSeen, LeadTo, noted_all}
+use Rattle.monitor.specs.declared.violation.Violation.{Violation}
+use Rattle.monitor.specs.Scenes.{Answers, scene_in}
+use Rattle.monitor.specs.Watching.{AnswersHistory, AreDue, HasSeen, LeadTo, noted_all, scene_of}
 
 -- with nothing completed the opening values are due
 pub due-opening : (opening : List ℕ) → AreDue opening [] opening
@@ -113,3 +115,10 @@ pub due-last_store : (opening : List ℕ) (earlier later : List Completion) (c :
 due-last_store opening earlier later c block lt is none =
     ap (option_map (λ o. last_of o (stored_to block (earlier ++ c ∷ later)))) (slice_get-get_or opening block 0 lt)
     ∙ ap Some (last-store (get_or opening block 0) earlier later c block is none)
+
+-- what is wrong by the value that a watch has is so in each history that it has seen
+pub answers-next : (world : View) (values : List ℕ) (step : Step) (what : Outcome) (answer : Option Violation) →
+    Answers (scene_in world.state step what (slice_get values (block_of step))) answer → AnswersHistory world values step what answer
+answers-next world values step what answer here opening before seen leads =
+    subst (λ (n : Next). Answers (scene_of step n (due opening (completions_of world.shape world.tables opening before) (block_of step))) answer) (sym leads)
+    (subst (λ o. Answers (scene_in world.state step what o) answer) (seen (block_of step)) here)

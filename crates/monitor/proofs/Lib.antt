@@ -4,6 +4,7 @@ pub mod Last
 pub mod Looking
 pub mod Blanks
 pub mod Uncrowded
+pub mod Told
 pub mod Singles
 pub mod Violations
 pub mod FirstViolations

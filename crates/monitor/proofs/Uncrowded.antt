@@ -1,14 +1,14 @@
 -- What there is to see where a step's block isn't crowded.
-use Rattle.std.proofs.Common.{◌≡◌, ◌≢◌, ℕ, List, None, refl, inl, inr, arith}
+use Rattle.std.proofs.Common.{◌≡◌, ◌≢◌, ◌<◌, ◌≤◌, ℕ, List, None, refl, inl, inr, arith}
 use Rattle.base.specs.Steps.{block_of}
 use Rattle.base.specs.declared.ids.CacheId.{CacheId}
 use Rattle.base.specs.declared.step.Outcome.{Outcome}
 use Rattle.base.specs.declared.step.Outcome.TheVariants as outcome
 use Rattle.machine.specs.Completions.{noted}
-use Rattle.world.specs.Crowds.{IsUncrowded}
+use Rattle.monitor.specs.declared.violation.Violation.{Violation}
 use Rattle.monitor.specs.declared.violation.Violation.TheVariants.{Blank, SecondWriter, WriterBesideReader, StaleLoad}
-use Rattle.monitor.specs.Scenes.{IsLoadOf, Scene}
-use Rattle.monitor.specs.inner.Finding.{ShowsNone}
+use Rattle.monitor.specs.Scenes.{IsLoadOf, IsLookedAt, Scene, Shows, rank}
+use Rattle.monitor.specs.inner.Finding.{IsUncrowdedIf, ShowsNone}
 use Rattle.monitor.proofs.Findings.{none-then}
 use Rattle.monitor.proofs.Looking.{crowded-none, none-shared, none-writes}
 
@@ -18,13 +18,20 @@ none-blank scene met (SecondWriter block first second) low high s = absurd (omeg
 none-blank scene met (WriterBesideReader block writer reader) low high s = absurd (omega (arith, high))
 none-blank scene met (StaleLoad block got due) low high s = absurd (omega (arith, high))
 
+-- what is shown of a crowd is looked at
+looked : (scene : Scene) (violation : Violation) → 1 ≤ rank violation → rank violation < 3 → Shows scene violation → IsLookedAt scene.outcome
+looked scene (Blank at block) low high s = absurd (omega (arith, low))
+looked scene (SecondWriter block first second) low high s = s.1.looked_at
+looked scene (WriterBesideReader block writer reader) low high s = s.1.looked_at
+looked scene (StaleLoad block got due) low high s = absurd (omega (arith, high))
+
 -- where no cell was blank and the block isn't crowded, only a load may be wrong
-pub none-uncrowded : (scene : Scene) → scene.outcome ≢ outcome.Blank → IsUncrowded scene.state (block_of scene.step) → ShowsNone scene 0 3
+pub none-uncrowded : (scene : Scene) → scene.outcome ≢ outcome.Blank → IsUncrowdedIf scene.outcome scene.state (block_of scene.step) → ShowsNone scene 0 3
 none-uncrowded scene met uncrowded =
     none-then scene 0 1 3 (none-blank scene met)
-    (elim (crowded-none scene.state (block_of scene.step) None uncrowded) [
-      | inl few ↦ none-shared scene few
-      | inr none ↦ none-writes scene none
+    (λ violation low high shown. elim (crowded-none scene.state (block_of scene.step) None (uncrowded (looked scene violation low high shown))) [
+      | inl few ↦ none-shared scene few violation low high shown
+      | inr none ↦ none-writes scene none violation low high shown
     ])
 
 -- where nothing was loaded, no load is wrong

@@ -1,40 +1,42 @@
 //! What is wrong after a step, by what the world itself knows.
 
-ghost use Rattle.std.specs.Prelude.{◌≡◌, ◌≢◌, false};
+ghost use Rattle.std.specs.Prelude.{◌≢◌};
 ghost use Rattle.base.specs.Steps.{block_of};
-ghost use Rattle.world.specs.Crowds.{IsUncrowded};
+ghost use Rattle.machine.specs.Made.{WasTold};
 ghost use Rattle.world.specs.Looks.{latest_at};
 ghost use Rattle.monitor.specs.Scenes.{Answers, scene_in};
 ghost use Rattle.monitor.specs.Watching.{AnswersLast};
+ghost use Rattle.monitor.specs.inner.Finding.{IsUncrowdedIf};
 
-use crate::finding::{find, find_stale, meets_blank};
+use crate::finding::{find, find_stale, is_suspect};
 use crate::violation::Violation;
 use base::{Outcome, Step};
-use world::{Went, World};
+use machine::Made;
+use world::World;
 
-/// What is wrong after a step. The world is that after the step, and `went` is what [`World::go`] answered of it.
+/// What is wrong after a step. The world is that after the step, and `made` is what [`World::make`] answered of it.
 ///
 /// It is what a [`Watch`](crate::Watch) answers that has seen each step, and nothing has to be noted for it: what a load ought
 /// to have returned is the latest value of its block, which the world has, and which a load leaves as it was. It looks at the
 /// world only where the block is crowded, a cell was blank or a load completed.
 #[inline(always)]
-pub fn violation_after(world: &World, step: Step, went: &Went) -> Option<Violation>
-    requires { went.now.crowded ≡ false → IsUncrowded world.now.state (block_of step) }
-    ensures violation { Answers (scene_in world.now.state step went.now.outcome (latest_at world.now.state (block_of step))) result }
-    ensures history { AnswersLast world.now step went.now.outcome result }
+pub fn violation_after(world: &World, step: Step, made: &Made) -> Option<Violation>
+    requires { WasTold world.now.tables step made.now world.now.state }
+    ensures violation { Answers (scene_in world.now.state step made.now.outcome (latest_at world.now.state (block_of step))) result }
+    ensures history { AnswersLast world.now step made.now.outcome result }
 {
-    find_after(world, step, went)
+    find_after(world, step, made)
 }
 
 #[inline(always)]
-fn find_after(world: &World, step: Step, went: &Went) -> Option<Violation>
-    requires { went.now.crowded ≡ false → IsUncrowded world.now.state (block_of step) }
-    ensures { Answers (scene_in world.now.state step went.now.outcome (latest_at world.now.state (block_of step))) result }
+fn find_after(world: &World, step: Step, made: &Made) -> Option<Violation>
+    requires { WasTold world.now.tables step made.now world.now.state }
+    ensures { Answers (scene_in world.now.state step made.now.outcome (latest_at world.now.state (block_of step))) result }
 {
-    if went.crowded || meets_blank(went.outcome) {
-        return find_any(world, step, went.outcome);
+    if is_suspect(made) {
+        return find_any(world, step, made.outcome);
     }
-    find_loaded(world, step, went.outcome)
+    find_loaded(world, step, made.outcome)
 }
 
 /// What is wrong after a step of any outcome.
@@ -44,11 +46,11 @@ fn find_any(world: &World, step: Step, outcome: Outcome) -> Option<Violation>
     find(world, step, outcome, world.latest(step.block()))
 }
 
-/// What is wrong after a step that met no blank cell, where its block isn't crowded: only a load may be.
+/// What is wrong after a step that met no blank cell, where its block isn't crowded if it is looked at: only a load may be.
 #[inline(always)]
 fn find_loaded(world: &World, step: Step, outcome: Outcome) -> Option<Violation>
     requires met { outcome ≢ Outcome.Blank }
-    requires uncrowded { IsUncrowded world.now.state (block_of step) }
+    requires uncrowded { IsUncrowdedIf outcome world.now.state (block_of step) }
     ensures { Answers (scene_in world.now.state step outcome (latest_at world.now.state (block_of step))) result }
 {
     match outcome {

@@ -2,14 +2,15 @@ ghost use Rattle.std.specs.Prelude.{◌≡◌, ◌≢◌, ◌+◌, ◌≤◌, �
 ghost use Rattle.world.specs.Looks.{readers_of};
 ghost use Rattle.base.specs.Steps.{block_of};
 ghost use Rattle.base.specs.declared.step.Outcome.{Outcome};
-ghost use Rattle.machine.specs.Machine.{State};
+ghost use Rattle.machine.specs.Machine.{State, is_blank};
 ghost use Rattle.machine.specs.Coherence.{Reads, Writes, line_at};
 ghost use Rattle.monitor.specs.Scenes.{Answers, IsLookedAt, scene_in};
-ghost use Rattle.monitor.specs.inner.Finding.{AnswersWithin, IsLeastFrom, HoldsForNoneFrom};
+ghost use Rattle.monitor.specs.inner.Finding.{AnswersWithin, IsLeastFrom, HoldsForNoneFrom, is_suspect};
 
 use crate::violation::Violation;
 use base::{BlockId, CacheId, Outcome, Place, Step};
 use control::{may_read, may_write};
+use machine::Made;
 use world::World;
 
 /// What is wrong after a step, where a load of its block ought to have returned the value `due`.
@@ -42,9 +43,20 @@ fn is_looked_at(outcome: Outcome) -> bool
     }
 }
 
+/// Whether there may be more to see after a step than a load: it met a blank cell, or its block is crowded.
+#[inline(always)]
+pub(crate) fn is_suspect(made: &Made) -> bool
+    ensures { result ≡ is_suspect made.now }
+{
+    match made.acted {
+        Some(acted) => acted.crowded,
+        None => meets_blank(made.outcome),
+    }
+}
+
 /// Whether a step met a blank cell.
-pub(crate) fn meets_blank(outcome: Outcome) -> bool
-    ensures { IsTrue result ↔ (outcome ≡ Outcome.Blank) }
+fn meets_blank(outcome: Outcome) -> bool
+    ensures { result ≡ is_blank outcome }
 {
     match outcome {
         Outcome::Blank => true,

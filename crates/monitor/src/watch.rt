@@ -1,9 +1,10 @@
-use crate::finding::{find, find_stale, meets_blank};
+use crate::finding::{find, find_stale, is_suspect};
 use crate::violation::Violation;
 use base::{BlockId, NoMemory, Outcome, Step};
+use machine::Made;
 use std::alloc::Global;
 use std::marker::Model;
-use world::{Went, World};
+use world::World;
 
 /// The value that each block ought to have, noted from the outcomes of steps alone.
 #[derive(Drop)]
@@ -20,14 +21,15 @@ impl Model for Watch {
 }
 
 impl Watch {
-    ghost use Rattle.std.specs.Prelude.{◌≡◌, ◌≢◌, [], false, IfOk, OnOk, slice_get};
+    ghost use Rattle.std.specs.Prelude.{◌≡◌, ◌≢◌, [], IfOk, OnOk, slice_get};
     ghost use Rattle.base.specs.Steps.{block_of};
     ghost use Rattle.machine.specs.Machine.{State};
-    ghost use Rattle.world.specs.Crowds.{IsUncrowded};
+    ghost use Rattle.machine.specs.Made.{WasTold};
     ghost use Rattle.world.specs.View.{View};
     ghost use Rattle.monitor.specs.Scenes.{Answers, scene_in};
     ghost use Rattle.machine.specs.Completions.{noted};
     ghost use Rattle.monitor.specs.Watching.{AnswersHistory, HasSeen, SeesNext};
+    ghost use Rattle.monitor.specs.inner.Finding.{IsUncrowdedIf};
 
     /// A watch over blocks that have their opening values, and to which nothing has happened.
     pub fn open(alloc: Global, opening: &[u64]) -> Result<Watch, NoMemory>
@@ -55,27 +57,28 @@ impl Watch {
         find(world, step, outcome, due)
     }
 
-    /// Notes a step, and answers what is wrong after it, as [`see`](Watch::see) does. It takes what [`World::go`] answered of
-    /// the step, and doesn't look at the world where the block isn't crowded and no cell was blank.
+    /// Notes a step, and answers what is wrong after it, as [`see`](Watch::see) does. It takes what [`World::make`] answered
+    /// of the step, and doesn't look at the world where the block isn't crowded and no cell was blank.
     #[inline(always)]
-    pub fn see_went(&mut self, world: &World, step: Step, went: &Went) -> Option<Violation>
-        requires { went.now.crowded ≡ false → IsUncrowded world.now.state (block_of step) }
-        ensures noted { self.new ≡ noted self.old (block_of step) went.now.outcome }
-        ensures violation { Answers (scene_in world.now.state step went.now.outcome (slice_get self.old (block_of step))) result }
-        ensures history { AnswersHistory world.now self.old step went.now.outcome result }
-        ensures seen { SeesNext world.now self.old step went.now.outcome self.new }
+    pub fn see_made(&mut self, world: &World, step: Step, made: &Made) -> Option<Violation>
+        requires { WasTold world.now.tables step made.now world.now.state }
+        ensures noted { self.new ≡ noted self.old (block_of step) made.now.outcome }
+        ensures violation { Answers (scene_in world.now.state step made.now.outcome (slice_get self.old (block_of step))) result }
+        ensures history { AnswersHistory world.now self.old step made.now.outcome result }
+        ensures seen { SeesNext world.now self.old step made.now.outcome self.new }
     {
-        if went.crowded || meets_blank(went.outcome) {
-            return self.see(world, step, went.outcome);
+        if is_suspect(made) {
+            return self.see(world, step, made.outcome);
         }
-        self.see_value(step, went.outcome)
+        self.see_value(step, made.outcome)
     }
 
-    /// Notes a step that met no blank cell, and answers what is wrong after it where its block isn't crowded: only a load may be.
+    /// Notes a step that met no blank cell, and answers what is wrong after it where its block isn't crowded if it
+    /// is looked at: only a load may be.
     fn see_value(&mut self, step: Step, outcome: Outcome) -> Option<Violation>
         requires { outcome ≢ Outcome.Blank }
         ensures noted { self.new ≡ noted self.old (block_of step) outcome }
-        ensures violation { (state : State) → IsUncrowded state (block_of step) →
+        ensures violation { (state : State) → IsUncrowdedIf outcome state (block_of step) →
             Answers (scene_in state step outcome (slice_get self.old (block_of step))) result }
     {
         match outcome {

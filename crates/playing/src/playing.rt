@@ -104,9 +104,9 @@ fn play_one<O: Write + Drop>(
     step: Step,
     printer: &mut Printer<O>,
 ) -> Result<Finding, NoMemory> {
-    let outcome = world.step(step)?;
-    print_outcome(outcome, printer);
-    let Some(violation) = watch.see(world, step, outcome) else {
+    let made = world.make(step)?;
+    print_outcome(made.outcome, printer);
+    let Some(violation) = watch.see_made(world, step, &made) else {
         return Ok(Finding::Nothing);
     };
     printer.line(format_args!("violation {violation}"));

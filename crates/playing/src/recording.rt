@@ -124,7 +124,8 @@ fn add(
     requires { recording.old.seats ≡ 0 }
     ensures { recording.new.seats ≡ 0 }
 {
-    let outcome = world.step(step)?;
+    let made = world.make(step)?;
+    let outcome = made.outcome;
     recording.push(Entry { step, outcome })?;
-    Ok(watch.see(world, step, outcome))
+    Ok(watch.see_made(world, step, &made))
 }

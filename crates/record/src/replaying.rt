@@ -105,11 +105,12 @@ fn replay_in(
     let told = recording.entries();
     let mut violation = None;
     for (number, entry) in told.iter().enumerate() {
-        let Ok(found) = world.step(entry.step) else {
+        let Ok(made) = world.make(entry.step) else {
             return Err(ReplayFault::NoMemory);
         };
-        let seen = watch.see(world, entry.step, found);
+        let seen = watch.see_made(world, entry.step, &made);
         violation = violation.or(Some(number as u64).zip(seen));
+        let found = made.outcome;
         if found != entry.outcome {
             return Err(ReplayFault::Differs {
                 entry: number as u64,

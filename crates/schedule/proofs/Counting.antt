@@ -1,7 +1,7 @@
 -- What marking and counting lanes again makes of them.
 use Rattle.std.proofs.Common.{◌≡◌, ◌≢◌, ℕ, zero, suc, ◌+◌, ◌<◌, ◌≤◌, ◌^◌, ◌⊎◌, ◌==◌, inl, inr, Bool, true, false}
 use Rattle.std.proofs.Common.{not, ◌&&◌, if◌then◌else◌, List, [], ◌∷◌, ◌++◌, length, map}
-use Rattle.std.proofs.Common.{Option, Some, get_or, set, slice_get, refl, sym, ap, ◌∙◌, subst, arith}
+use Rattle.std.proofs.Common.{Option, Some, IfSome, get_or, set, slice_get, refl, sym, ap, ◌∙◌, subst, arith}
 use Rattle.std.specs.List.{Contains}
 use Rattle.std.proofs.lemmas.List.{length-set, get_or_default, get_or_past, get_or-set_same, get_or-set_other, set-get_or}
 use Rattle.std.proofs.lemmas.Bool.{cases_eq, cases_lt}
@@ -12,19 +12,20 @@ use Rattle.base.specs.declared.ids.Place.{Place}
 use Rattle.base.specs.declared.ids.Place.TheVariants.{Cache}
 use Rattle.base.specs.declared.step.CoreAsk.{CoreAsk}
 use Rattle.both_tables.specs.Tables.{Tables}
+use Rattle.blocks.specs.declared.block.asking.HeldAsks.{HeldAsks}
 use Rattle.machine.specs.Coherence.{line_at}
 use Rattle.machine.specs.Machine.{State}
 use Rattle.cores.specs.Cores.{Core, is_free}
 use Rattle.scenario.specs.Tree.{Seq, Nil}
 use Rattle.scenario.specs.Taking as taking
 use Rattle.schedule.specs.Choices.{can_be_put, offers_from}
-use Rattle.schedule.specs.Lanes.{Agree, AgreeBut, AreReady, IsKept, IsLevel, IsListed, Laned, lanes_of, listed_at, offers_at, puttable}
+use Rattle.schedule.specs.Lanes.{AreReady, IsKept, IsLevel, IsListed, Laned, lanes_of, listed_at, offers_at, puttable}
 use Rattle.schedule.specs.Listed.{IsMarked, Listed, is_unheld, nothing_listed}
-use Rattle.schedule.specs.inner.Marks.{all_marked, is_at, marked_at, marks_at}
-use Rattle.schedule.specs.inner.Changes.{AreCountedAt, AreMarked, ChangesCounts, IsCountedAt, IsCountedIf, IsMarkedIn, KeepsOthers, ChangesMarks}
+use Rattle.schedule.specs.inner.Marks.{AreHeldAt, all_marked, is_at, mark_by, marked_by, marks_by}
+use Rattle.schedule.specs.inner.Changes.{Agree, AgreeBut, AreCountedAt, AreMarked, ChangesCounts, IsCountedAt, IsCountedIf, IsMarkedIn, KeepsOthers, ChangesMarks}
 use Rattle.schedule.specs.inner.Changes.{WereReady, count_by, counted_at, marked_in}
 use Rattle.schedule.specs.declared.choosing.Choice.TheVariants.{Offer}
-use Rattle.schedule.proofs.Marking.{by-marks}
+use Rattle.schedule.proofs.Marking.{by-held, by-marks, held-here, marks_at}
 use Rattle.schedule.proofs.Touched.{asked, held-by-line}
 
 -- ---- what can be put of a core that two moments agree on
@@ -91,16 +92,16 @@ anew-now tables now core block (ask ∷ asks) =
     by false = refl
 
 -- making them anew twice is making them anew
-anew-twice : (tables : Tables) (now : State) (core : CacheId) (block : BlockId) (asks : List CoreAsk) (marks : List Bool) →
-    marks_at tables now core block asks (marks_at tables now core block asks marks) ≡ marks_at tables now core block asks marks
-anew-twice tables now core block [] marks = refl
-anew-twice tables now core block (ask ∷ asks) [] = refl
-anew-twice tables now core block (ask ∷ asks) (m ∷ marks) =
-    ap (λ ms. (if is_at core block ask then is_unheld tables now ask else (if is_at core block ask then is_unheld tables now ask else m)) ∷ ms)
-    (anew-twice tables now core block asks marks)
-    ∙ ap (λ x. x ∷ marks_at tables now core block asks marks) (by (is_at core block ask))
+anew-twice : (held : HeldAsks) (core : CacheId) (block : BlockId) (asks : List CoreAsk) (marks : List Bool) →
+    marks_by held core block asks (marks_by held core block asks marks) ≡ marks_by held core block asks marks
+anew-twice held core block [] marks = refl
+anew-twice held core block (ask ∷ asks) [] = refl
+anew-twice held core block (ask ∷ asks) (m ∷ marks) =
+    ap (λ ms. (if is_at core block ask then mark_by held ask else (if is_at core block ask then mark_by held ask else m)) ∷ ms)
+    (anew-twice held core block asks marks)
+    ∙ ap (λ x. x ∷ marks_by held core block asks marks) (by (is_at core block ask))
   where
-    by : (b : Bool) → (if b then is_unheld tables now ask else (if b then is_unheld tables now ask else m)) ≡ (if b then is_unheld tables now ask else m)
+    by : (b : Bool) → (if b then mark_by held ask else (if b then mark_by held ask else m)) ≡ (if b then mark_by held ask else m)
     by true = refl
     by false = refl
 
@@ -112,6 +113,20 @@ stayed tables before now [] sb sn stay = refl
 stayed tables before now (ask ∷ asks) sb sn stay =
     ap (λ m. m ∷ map (is_unheld tables before) asks) (sym (same-unheld tables before now ask sb sn (stay zero ask refl)))
     ∙ ap (λ ms. is_unheld tables now ask ∷ ms) (stayed tables before now asks sb sn (λ at d e. stay (suc at) d e))
+
+-- an ask of this core about this block is held as before
+same-held : (tables : Tables) (before now : State) (core : CacheId) (block : BlockId) (held : HeldAsks) (asks : List CoreAsk) → before.broken ≡ false →
+    now.broken ≡ false → AreHeldAt tables before core block held → AreHeldAt tables now core block held → StaysApart before now core block asks →
+    map (is_unheld tables before) asks ≡ map (is_unheld tables now) asks
+unfolding StaysApart
+same-held tables before now core block held [] sb sn was is stay = refl
+same-held tables before now core block held (ask ∷ asks) sb sn was is stay =
+    ap (λ m. m ∷ map (is_unheld tables before) asks) (by (is_at core block ask) refl)
+    ∙ ap (λ ms. is_unheld tables now ask ∷ ms) (same-held tables before now core block held asks sb sn was is (λ at d e. stay (suc at) d e))
+  where
+    by : (b : Bool) → is_at core block ask ≡ b → is_unheld tables before ask ≡ is_unheld tables now ask
+    by true e = sym (held-here tables before core block held ask was e) ∙ held-here tables now core block held ask is e
+    by false e = sym (same-unheld tables before now ask sb sn (stay zero ask refl e))
 
 other-core : (core other : CacheId) → other.0 ≢ core.0 → Some (Cache core) ≢ Some (Cache other)
 other-core core other ne e = ne (ap (λ (c : CacheId). c.0) (sym (same-cache core other e)))
@@ -125,20 +140,34 @@ is-another core block ask e = elim (cases_eq ask.core.0 core.0) [
   ]
 ]
 
--- a lane whose marks were right, of which those of a core and a block were made anew
-pub anew-right : (tables : Tables) (before now : State) (cb cn : List Core) (core : CacheId) (block : BlockId) (old : Listed) → before.broken ≡ false →
-    now.broken ≡ false →
-    AgreeBut (Some (Cache core)) block.0 before now cb cn → IsMarked tables now old ⊎ IsMarked tables before old →
-    IsMarked tables now (marked_at tables now core block old)
+stays-apart : (before now : State) (cb cn : List Core) (core : CacheId) (block : BlockId) (asks : List CoreAsk) →
+    AgreeBut (Some (Cache core)) block.0 before now cb cn → StaysApart before now core block asks
 unfolding StaysApart
-anew-right tables before now cb cn core block old sb sn agree were = elim were [
-  | inl e ↦ ap (marks_at tables now core block old.asks) e ∙ anew-now tables now core block old.asks
-  | inr e ↦
-      ap (marks_at tables now core block old.asks) e
-      ∙ anew-before tables before now core block old.asks sb sn (λ at ask is apart. elim (is-another core block ask apart) [
-        | inl ne ↦ (agree.cores ask.core (other-core core ask.core ne)).lines ask.block.0
-        | inr ne ↦ agree.blocks ask.core.0 ask.block.0 ne
-      ])
+stays-apart before now cb cn core block asks agree at ask is apart = elim (is-another core block ask apart) [
+  | inl ne ↦ (agree.cores ask.core (other-core core ask.core ne)).lines ask.block.0
+  | inr ne ↦ agree.blocks ask.core.0 ask.block.0 ne
+]
+
+-- a lane whose marks were right, of which those of a core and a block were made anew
+pub anew-right : (tables : Tables) (before now : State) (cb cn : List Core) (core : CacheId) (block : BlockId) (held : HeldAsks) (old : Listed) →
+    before.broken ≡ false → now.broken ≡ false → AreHeldAt tables now core block held → AgreeBut (Some (Cache core)) block.0 before now cb cn →
+    IsMarked tables now old ⊎ IsMarked tables before old → IsMarked tables now (marked_by held core block old)
+unfolding StaysApart
+anew-right tables before now cb cn core block held old sb sn all agree were =
+    let right : marks_at tables now core block old.asks old.unheld ≡ map (is_unheld tables now) old.asks = (elim were [
+      | inl e ↦ ap (marks_at tables now core block old.asks) e ∙ anew-now tables now core block old.asks
+      | inr e ↦ ap (marks_at tables now core block old.asks) e
+          ∙ anew-before tables before now core block old.asks sb sn (stays-apart before now cb cn core block old.asks agree)
+    ]) in
+    by-held tables now core block held all old.asks old.unheld ∙ right
+
+-- where a line holds the same as before, the marks are right still
+pub held-right : (tables : Tables) (before now : State) (cb cn : List Core) (core : CacheId) (block : BlockId) (held : HeldAsks) (old : Listed) →
+    before.broken ≡ false → now.broken ≡ false → AreHeldAt tables before core block held → AreHeldAt tables now core block held →
+    AgreeBut (Some (Cache core)) block.0 before now cb cn → IsMarked tables now old ⊎ IsMarked tables before old → IsMarked tables now old
+held-right tables before now cb cn core block held old sb sn was is agree were = elim were [
+  | inl e ↦ e
+  | inr e ↦ e ∙ same-held tables before now core block held old.asks sb sn was is (stays-apart before now cb cn core block old.asks agree)
 ]
 
 -- a lane whose marks were right, and which has no ask of the core
@@ -153,72 +182,89 @@ still-right tables before now cb cn at block old sb sn agree apart were = elim w
 
 -- ---- marking each of some lanes
 
-pub marked-more : (tables : Tables) (s : State) (core : CacheId) (block : BlockId) (now start : List Listed) (which : List ℕ) (n : ℕ) →
-    ((lane : ℕ) → lane < length now → (get_or now lane nothing_listed ≡ marked_at tables s core block (get_or start lane nothing_listed))
-    ⊎ ((get_or now lane nothing_listed ≡ get_or start lane nothing_listed) × ((k : ℕ) → k < n → get_or which k 0 ≢ lane))) →
-    get_or which n 0 < length now → (lane : ℕ) → lane < length now →
-    (get_or (set now (get_or which n 0) (marked_at tables s core block (get_or now (get_or which n 0) nothing_listed))) lane nothing_listed
-    ≡ marked_at tables s core block (get_or start lane nothing_listed))
-    ⊎ ((get_or (set now (get_or which n 0) (marked_at tables s core block (get_or now (get_or which n 0) nothing_listed))) lane nothing_listed
-    ≡ get_or start lane nothing_listed) × ((k : ℕ) → k < n + 1 → get_or which k 0 ≢ lane))
-marked-more tables s core block now start which n each within lane low =
+-- a lane is marked, or it is as it was, and is the one that was done, or isn't among the first so many
+abbrev pub IsMarkedSoFar : HeldAsks → CacheId → BlockId → List ℕ → ℕ → Option ℕ → List Listed → List Listed → ℕ → Type 0
+IsMarkedSoFar held core block which n done now start lane =
+    (get_or now lane nothing_listed ≡ marked_by held core block (get_or start lane nothing_listed))
+    ⊎ ((get_or now lane nothing_listed ≡ get_or start lane nothing_listed) × ((done ≡ Some lane) ⊎ ((k : ℕ) → k < n → get_or which k 0 ≢ lane)))
+
+pub marked-more : (held : HeldAsks) (core : CacheId) (block : BlockId) (now start : List Listed) (which : List ℕ) (n : ℕ) (done : Option ℕ) →
+    ((lane : ℕ) → lane < length now → IsMarkedSoFar held core block which n done now start lane) → get_or which n 0 < length now →
+    (lane : ℕ) → lane < length now →
+    IsMarkedSoFar held core block which (n + 1) done
+    (set now (get_or which n 0) (marked_by held core block (get_or now (get_or which n 0) nothing_listed))) start lane
+marked-more held core block now start which n done each within lane low =
     let at = get_or which n 0 in
-    let made = marked_at tables s core block (get_or now at nothing_listed) in
+    let made = marked_by held core block (get_or now at nothing_listed) in
     elim (cases_eq lane at) [
       | inl q ↦ inl (ap (λ j. get_or (set now at made) j nothing_listed) q ∙ get_or-set_same now at made nothing_listed within
-          ∙ once (each at within) ∙ ap (λ j. marked_at tables s core block (get_or start j nothing_listed)) (sym q))
+          ∙ once (each at within) ∙ ap (λ j. marked_by held core block (get_or start j nothing_listed)) (sym q))
       | inr ne ↦
           let o : get_or (set now at made) lane nothing_listed ≡ get_or now lane nothing_listed = get_or-set_other now at lane made nothing_listed ne in
           elim (each lane low) [
             | inl x ↦ inl (o ∙ x)
             | inr x ↦ inr (
               o ∙ x.0,
-              λ k h q. elim (cases_lt k n) [
-                | inl l ↦ x.1 k l q
-                | inr l ↦ (let z : k ≡ n = omega (arith, h, l) in ne (sym q ∙ ap (λ j. get_or which j 0) z))
+              elim x.1 [
+                | inl is ↦ inl is
+                | inr apart ↦ inr (λ k h q. elim (cases_lt k n) [
+                  | inl l ↦ apart k l q
+                  | inr l ↦ (let z : k ≡ n = omega (arith, h, l) in ne (sym q ∙ ap (λ j. get_or which j 0) z))
+                ])
               ],
             )
           ]
     ]
   where
-    once : (get_or now (get_or which n 0) nothing_listed ≡ marked_at tables s core block (get_or start (get_or which n 0) nothing_listed))
-        ⊎ ((get_or now (get_or which n 0) nothing_listed ≡ get_or start (get_or which n 0) nothing_listed) × ((k : ℕ) → k < n →
-        get_or which k 0 ≢ get_or which n 0)) →
-        marked_at tables s core block (get_or now (get_or which n 0) nothing_listed) ≡ marked_at tables s core block
-        (get_or start (get_or which n 0) nothing_listed)
+    once : IsMarkedSoFar held core block which n done now start (get_or which n 0) →
+        marked_by held core block (get_or now (get_or which n 0) nothing_listed) ≡ marked_by held core block (get_or start (get_or which n 0) nothing_listed)
     once h = elim h [
       | inl e ↦
           let was = get_or start (get_or which n 0) nothing_listed in
-          ap (marked_at tables s core block) e
-          ∙ ap (λ (ms : List Bool). let l : Listed = record { asks = was.asks; unheld = ms } in l) (anew-twice tables s core block was.asks was.unheld)
-      | inr x ↦ ap (marked_at tables s core block) x.0
+          ap (marked_by held core block) e
+          ∙ ap (λ (ms : List Bool). let l : Listed = record { asks = was.asks; unheld = ms } in l) (anew-twice held core block was.asks was.unheld)
+      | inr x ↦ ap (marked_by held core block) x.0
     ]
 
--- one whose marks are right may be passed over
-pub marked-past : (tables : Tables) (s : State) (core : CacheId) (block : BlockId) (now start : List Listed) (which : List ℕ) (n many : ℕ) →
-    ((lane : ℕ) → lane < many → (get_or now lane nothing_listed ≡ marked_at tables s core block (get_or start lane nothing_listed))
-    ⊎ ((get_or now lane nothing_listed ≡ get_or start lane nothing_listed) × ((k : ℕ) → k < n → get_or which k 0 ≢ lane))) →
-    IsMarked tables s (get_or start (get_or which n 0) nothing_listed) → (lane : ℕ) → lane < many →
-    (get_or now lane nothing_listed ≡ marked_at tables s core block (get_or start lane nothing_listed))
-    ⊎ ((get_or now lane nothing_listed ≡ get_or start lane nothing_listed) × ((k : ℕ) → k < n + 1 → get_or which k 0 ≢ lane))
-marked-past tables s core block now start which n many each right lane low = elim (each lane low) [
+-- the one that was done may be passed over
+pub marked-past : (held : HeldAsks) (core : CacheId) (block : BlockId) (now start : List Listed) (which : List ℕ) (n many : ℕ) (done : Option ℕ) →
+    ((lane : ℕ) → lane < many → IsMarkedSoFar held core block which n done now start lane) → done ≡ Some (get_or which n 0) → (lane : ℕ) → lane < many →
+    IsMarkedSoFar held core block which (n + 1) done now start lane
+marked-past held core block now start which n many done each is lane low = elim (each lane low) [
   | inl x ↦ inl x
   | inr x ↦ elim (cases_eq (get_or which n 0) lane) [
-    | inl q ↦ inl (x.0 ∙ still (get_or start lane nothing_listed) (subst (λ j. IsMarked tables s (get_or start j nothing_listed)) q right))
+    | inl q ↦ inr (x.0, inl (is ∙ ap Some q))
     | inr ne ↦ inr (
       x.0,
-      λ k h q. elim (cases_lt k n) [
-        | inl l ↦ x.1 k l q
-        | inr l ↦ (let z : k ≡ n = omega (arith, h, l) in ne (sym (ap (λ j. get_or which j 0) z) ∙ q))
+      elim x.1 [
+        | inl d ↦ inl d
+        | inr apart ↦ inr (λ k h q. elim (cases_lt k n) [
+          | inl l ↦ apart k l q
+          | inr l ↦ (let z : k ≡ n = omega (arith, h, l) in ne (sym (ap (λ j. get_or which j 0) z) ∙ q))
+        ])
       ],
     )
   ]
 ]
-  where
-    still : (l : Listed) → IsMarked tables s l → l ≡ marked_at tables s core block l
-    still l e =
-        let marks = ap (marks_at tables s core block l.asks) e ∙ anew-now tables s core block l.asks ∙ sym e in
-        λ i. record { asks = l.asks; unheld = (sym marks) i }
+
+-- so may one that isn't there
+pub marked-beyond : (held : HeldAsks) (core : CacheId) (block : BlockId) (now start : List Listed) (which : List ℕ) (n many : ℕ) (done : Option ℕ) →
+    ((lane : ℕ) → lane < many → IsMarkedSoFar held core block which n done now start lane) → many ≤ get_or which n 0 → (lane : ℕ) → lane < many →
+    IsMarkedSoFar held core block which (n + 1) done now start lane
+marked-beyond held core block now start which n many done each past lane low = elim (each lane low) [
+  | inl x ↦ inl x
+  | inr x ↦ inr (
+    x.0,
+    elim x.1 [
+      | inl d ↦ inl d
+      | inr apart ↦ inr (λ k h q. elim (cases_lt k n) [
+        | inl l ↦ apart k l q
+        | inr l ↦ (let z : get_or which k 0 ≡ get_or which n 0 = ap (λ j. get_or which j 0) (let y : k ≡ n = omega (arith, h, l) in y) in
+            absurd (omega (arith, z, q, past, low)))
+      ])
+    ],
+  )
+]
 
 pub left-more : (P : ℕ → Type 0) (Q : ℕ → Type 0) (which : List ℕ) (n many : ℕ) →
     ((lane : ℕ) → lane < many → P lane ⊎ (Q lane × ((k : ℕ) → k < n → get_or which k 0 ≢ lane))) → many ≤ get_or which n 0 →
@@ -263,11 +309,11 @@ kept-marks old new m kept =
           };
     }
 
-pub marks-only : (tables : Tables) (s : State) (core : CacheId) (block : BlockId) (which : List ℕ) (old new : Laned) → new.trees ≡ old.trees →
+pub marks-only : (held : HeldAsks) (core : CacheId) (block : BlockId) (which : List ℕ) (done : Option ℕ) (old new : Laned) → new.trees ≡ old.trees →
     new.stocks ≡ old.stocks → new.lengths ≡ old.lengths → new.ready ≡ old.ready → new.reached ≡ old.reached → length new.listed ≡ length old.listed →
     length old.listed ≡ length old.trees →
-    ((lane : ℕ) → lane < length old.trees → IsMarkedIn tables s core block which (listed_at old lane) (listed_at new lane) lane) → ChangesMarks old new
-marks-only tables s core block which old new trees stocks lengths ready reached long many each = record {
+    ((lane : ℕ) → lane < length old.trees → IsMarkedIn held core block which done (listed_at old lane) (listed_at new lane) lane) → ChangesMarks old new
+marks-only held core block which done old new trees stocks lengths ready reached long many each = record {
   trees = trees;
   stocks = stocks;
   lengths = lengths;
@@ -285,20 +331,31 @@ marks-only tables s core block which old new trees stocks lengths ready reached 
 }
 
 -- where the lanes of a core were marked again, all marks are right
-pub all-marked : (tables : Tables) (before now : State) (cb cn : List Core) (but : Option ℕ) (core : CacheId) (block : BlockId) (old new : Laned) → IsKept old →
-    ChangesMarks old new → before.broken ≡ false → now.broken ≡ false → WereReady tables before cb now but old →
+pub all-marked : (tables : Tables) (before now : State) (cb cn : List Core) (but done : Option ℕ) (core : CacheId) (block : BlockId) (held : HeldAsks)
+    (old new : Laned) → IsKept old → ChangesMarks old new → before.broken ≡ false → now.broken ≡ false → AreHeldAt tables now core block held →
+    IfSome done (λ lane. IsMarked tables now (listed_at old lane)) → WereReady tables before cb now but old →
     AgreeBut (Some (Cache core)) block.0 before now cb cn →
-    ((lane : ℕ) → lane < length old.trees → IsMarkedIn tables now core block (lanes_of old.reached core.0) (listed_at old lane) (listed_at new lane) lane) →
+    ((lane : ℕ) → lane < length old.trees → IsMarkedIn held core block (lanes_of old.reached core.0) done (listed_at old lane) (listed_at new lane) lane) →
     AreMarked tables now new
-all-marked tables before now cb cn but core block old new kept m sb sn were agree each lane low =
+all-marked tables before now cb cn but done core block held old new kept m sb sn all right were agree each lane low =
     let there : lane < length old.trees = subst (λ ts. lane < length ts) m.trees low in
     elim (each lane there) [
-      | inl e ↦ subst (IsMarked tables now) (sym e) (anew-right tables before now cb cn core block (listed_at old lane) sb sn agree (were.marked lane there))
-      | inr h ↦ subst (IsMarked tables now) (sym h.0)
-          (still-right tables before now cb cn (Some (Cache core)) block.0 (listed_at old lane) sb sn agree
-          (λ i ask is c. h.1 (subst (λ (of : CacheId). Contains (lanes_of old.reached of.0) lane) (sym (same-cache core ask.core c))
-          ((kept.listed lane there).reached i ask is))) (were.marked lane there))
+      | inl e ↦ subst (IsMarked tables now) (sym e)
+          (anew-right tables before now cb cn core block held (listed_at old lane) sb sn all agree (were.marked lane there))
+      | inr h ↦ subst (IsMarked tables now) (sym h.0) (elim h.1 [
+        | inl is ↦ subst (λ of. IfSome of (λ lane. IsMarked tables now (listed_at old lane))) is right
+        | inr apart ↦ still-right tables before now cb cn (Some (Cache core)) block.0 (listed_at old lane) sb sn agree
+            (λ i ask is c. apart (subst (λ (of : CacheId). Contains (lanes_of old.reached of.0) lane) (sym (same-cache core ask.core c))
+            ((kept.listed lane there).reached i ask is))) (were.marked lane there)
+      ])
     ]
+
+-- where a line holds the same as before, they stayed so
+pub all-held : (tables : Tables) (before now : State) (cb cn : List Core) (but : Option ℕ) (core : CacheId) (block : BlockId) (held : HeldAsks) (l : Laned) →
+    before.broken ≡ false → now.broken ≡ false → AreHeldAt tables before core block held → AreHeldAt tables now core block held →
+    WereReady tables before cb now but l → AgreeBut (Some (Cache core)) block.0 before now cb cn → AreMarked tables now l
+all-held tables before now cb cn but core block held l sb sn was is were agree lane low =
+    held-right tables before now cb cn core block held (listed_at l lane) sb sn was is agree (were.marked lane low)
 
 -- where nothing was done at a cache, they stayed so
 pub all-right : (tables : Tables) (before now : State) (cb cn : List Core) (but : Option ℕ) (at : Option Place) (block : ℕ) (l : Laned) →
@@ -442,6 +499,14 @@ all-counted tables before now cb cn but at block old mid once new kept sb were m
 
     there : (lane : ℕ) → lane < length new.trees → lane < length mid.trees
     there lane low = subst (λ ts. lane < length ts) (ap (λ (l : Laned). l.trees) second.same ∙ ap (λ (l : Laned). l.trees) first.same) low
+
+-- what is asked of a sound world alone
+pub where-sound : (tables : Tables) (state : State) (cores : List Core) (l : Laned) → (state.broken ≡ false → AreReady tables state cores l) →
+    AreReady tables state cores l
+where-sound tables state cores l ready = record {
+  marked = λ sound. (ready sound).marked sound;
+  counted = λ sound. (ready sound).counted sound;
+}
 
 -- ---- behind an offer that was taken
 

@@ -8,14 +8,11 @@ use Rattle.std.proofs.lemmas.Nat.Bits.{bit_at-zero, bit_at_set_other, bit_at_set
 use Rattle.base.specs.declared.ids.BlockId.{BlockId}
 use Rattle.base.specs.declared.ids.CacheId.{CacheId}
 use Rattle.base.specs.declared.step.CoreAsk.{CoreAsk}
-use Rattle.both_tables.specs.Tables.{Tables}
-use Rattle.machine.specs.Machine.{State}
 use Rattle.blocks.specs.Asking.{holds}
 use Rattle.blocks.specs.declared.block.asking.HeldAsks.{HeldAsks}
 use Rattle.rows.proofs.Lowest.{others-stay}
-use Rattle.schedule.specs.Listed.{is_unheld}
-use Rattle.schedule.specs.inner.Marks.{AreHeldAt, is_at, marks_at}
-use Rattle.schedule.proofs.Marking.{held-here, marks-at-length}
+use Rattle.schedule.specs.inner.Marks.{is_at, mark_by, marks_by}
+use Rattle.schedule.proofs.Marking.{marks-at-length}
 
 -- what stands at a place is what a look finds there
 same-there : (asks : List CoreAsk) (n : ℕ) (ask d : CoreAsk) → slice_get asks n ≡ Some ask → get_or asks n d ≡ ask
@@ -69,10 +66,10 @@ cover-more places asks number row old d small long is was before n low ask there
 
 -- ---- the marks at such places are made anew one after another
 
-module _ (tables : Tables) (s : State) (core : CacheId) (block : BlockId) where
+module _ (held : HeldAsks) (core : CacheId) (block : BlockId) where
   -- the mark of an ask once it is made anew
   abbrev pub anew : CoreAsk → Bool → Bool
-  anew ask mark = if is_at core block ask then is_unheld tables s ask else mark
+  anew ask mark = if is_at core block ask then mark_by held ask else mark
 
   -- each mark is made anew, or it is as it was and its bit is still set
   abbrev pub AreAnew : List CoreAsk → List Bool → List Bool → ℕ → Type 0
@@ -87,12 +84,12 @@ module _ (tables : Tables) (s : State) (core : CacheId) (block : BlockId) where
       by : (b : Bool) → is_at core block ask ≡ b →
           (get_or start k false ≡ anew ask (get_or start k false)) ⊎ ((get_or start k false ≡ get_or start k false) × (bit_at places k ≡ 1))
       by true is = inr (refl, there k ask e is)
-      by false is = inl (ap (λ b. if b then is_unheld tables s ask else get_or start k false) (sym is))
+      by false is = inl (ap (λ b. if b then mark_by held ask else get_or start k false) (sym is))
 
   -- a place where an ask about the block is
   pub anew-here : (asks : List CoreAsk) (start now : List Bool) (rest : ℕ) (d : CoreAsk) (mark : Bool) → 0 < rest → rest < 2 ^ 64 →
       trailing_zeros w64 rest < length now → is_at core block (get_or asks (trailing_zeros w64 rest) d) ≡ true →
-      mark ≡ is_unheld tables s (get_or asks (trailing_zeros w64 rest) d) → AreAnew asks start now rest →
+      mark ≡ mark_by held (get_or asks (trailing_zeros w64 rest) d) → AreAnew asks start now rest →
       AreAnew asks start (set now (trailing_zeros w64 rest) mark) (bit_and rest (rest - 1))
   anew-here asks start now rest d mark some fits inside here is before k ask e =
       let t = trailing_zeros w64 rest in
@@ -102,8 +99,8 @@ module _ (tables : Tables) (s : State) (core : CacheId) (block : BlockId) where
             inl (ap (λ m. get_or (set now t mark) m false) q
             ∙ get_or-set_same now t mark false inside
             ∙ is
-            ∙ ap (is_unheld tables s) same
-            ∙ ap (λ b. if b then is_unheld tables s ask else get_or start k false) (sym (ap (is_at core block) (sym same) ∙ here))))
+            ∙ ap (mark_by held) same
+            ∙ ap (λ b. if b then mark_by held ask else get_or start k false) (sym (ap (is_at core block) (sym same) ∙ here))))
         | inr ne ↦
             (let o : get_or (set now t mark) k false ≡ get_or now k false = get_or-set_other now t k mark false ne in
             elim (before k ask e) [
@@ -120,20 +117,18 @@ module _ (tables : Tables) (s : State) (core : CacheId) (block : BlockId) where
       elim (before k ask e) [
         | inl x ↦ inl x
         | inr x ↦ elim (cases_eq k (trailing_zeros w64 rest)) [
-          | inl q ↦ inl (x.0 ∙ ap (λ b. if b then is_unheld tables s ask else get_or start k false)
+          | inl q ↦ inl (x.0 ∙ ap (λ b. if b then mark_by held ask else get_or start k false)
               (sym (apart ask (subst (λ m. slice_get asks m ≡ Some ask) q e))))
           | inr ne ↦ inr (x.0, others-stay rest k some fits x.1 ne)
         ]
       ]
 
   -- the same of the ask that is looked at
-  pub anew-held : (asks : List CoreAsk) (start now : List Bool) (rest : ℕ) (d : CoreAsk) (held : HeldAsks) (is : Bool) → 0 < rest → rest < 2 ^ 64 →
-      trailing_zeros w64 rest < length now → AreHeldAt tables s core block held → is ≡ holds held (get_or asks (trailing_zeros w64 rest) d).ask →
+  pub anew-held : (asks : List CoreAsk) (start now : List Bool) (rest : ℕ) (d : CoreAsk) (is : Bool) → 0 < rest → rest < 2 ^ 64 →
+      trailing_zeros w64 rest < length now → is ≡ holds held (get_or asks (trailing_zeros w64 rest) d).ask →
       is_at core block (get_or asks (trailing_zeros w64 rest) d) ≡ true → AreAnew asks start now rest →
       AreAnew asks start (set now (trailing_zeros w64 rest) (not is)) (bit_and rest (rest - 1))
-  anew-held asks start now rest d held is some fits inside known e here before =
-      anew-here asks start now rest d (not is) some fits inside here
-      (ap not e ∙ held-here tables s core block held (get_or asks (trailing_zeros w64 rest) d) known here) before
+  anew-held asks start now rest d is some fits inside e here before = anew-here asks start now rest d (not is) some fits inside here (ap not e) before
 
   pub anew-other : (asks : List CoreAsk) (start now : List Bool) (rest : ℕ) (d : CoreAsk) → 0 < rest → rest < 2 ^ 64 →
       is_at core block (get_or asks (trailing_zeros w64 rest) d) ≡ false → AreAnew asks start now rest →
@@ -149,16 +144,16 @@ module _ (tables : Tables) (s : State) (core : CacheId) (block : BlockId) where
       (λ ask e. absurd (let low = below-length asks (trailing_zeros w64 rest) ask e in omega (arith, low, past))) before
 
   marks-get : (asks : List CoreAsk) (marks : List Bool) (k : ℕ) (ask : CoreAsk) → length marks ≡ length asks → slice_get asks k ≡ Some ask →
-      get_or (marks_at tables s core block asks marks) k false ≡ anew ask (get_or marks k false)
+      get_or (marks_by held core block asks marks) k false ≡ anew ask (get_or marks k false)
   marks-get [] marks k ask long e = absurd (cc e)
   marks-get (a ∷ asks) [] k ask long e = absurd (omega (arith, long))
   marks-get (a ∷ asks) (m ∷ marks) zero ask long e = let same : a ≡ ask = cc e in ap (λ (x : CoreAsk). anew x m) same
   marks-get (a ∷ asks) (m ∷ marks) (suc k) ask long e = marks-get asks marks k ask (omega (arith, long)) e
 
   pub anew-all : (asks : List CoreAsk) (start now : List Bool) (rest : ℕ) → length start ≡ length asks → length now ≡ length asks → rest ≡ 0 →
-      AreAnew asks start now rest → now ≡ marks_at tables s core block asks start
+      AreAnew asks start now rest → now ≡ marks_by held core block asks start
   anew-all asks start now rest long many none each =
-      ext_get_or false now (marks_at tables s core block asks start) (many ∙ sym (marks-at-length tables s core block asks start long))
+      ext_get_or false now (marks_by held core block asks start) (many ∙ sym (marks-at-length held core block asks start long))
       (λ k low.
       let at = some-there asks k (omega (arith, low, many)) in
       elim (each k at.0 at.1) [

@@ -19,7 +19,7 @@ use Rattle.world.specs.Looks.{held_at}
 use Rattle.cores.specs.Cores.{Core, is_free}
 use Rattle.schedule.specs.Choices.{can_be_put, offers_from}
 use Rattle.schedule.specs.Listed.{is_unheld}
-use Rattle.schedule.specs.inner.Marks.{AreHeldAt, is_at, marks_at, offers_by}
+use Rattle.schedule.specs.inner.Marks.{AreHeldAt, is_at, mark_by, marks_by, offers_by}
 use Rattle.schedule.specs.inner.Owned.{AreKept, AreOf}
 use Rattle.schedule.specs.declared.choosing.Choice.{Choice}
 use Rattle.schedule.specs.declared.choosing.Choice.TheVariants.{Offer}
@@ -51,33 +51,66 @@ marks-first f n asks marks d low long before =
 pub marks-long : (n : ℕ) (asks : List CoreAsk) (marks : List Bool) → length marks ≡ length asks → length asks ≤ n → length marks ≤ n
 marks-long n asks marks long past = omega (arith, long, past)
 
-marks-step : (tables : Tables) (s : State) (core : CacheId) (block : BlockId) (n : ℕ) (asks : List CoreAsk) (marks : List Bool) (d : CoreAsk) →
+marks-step : (held : HeldAsks) (core : CacheId) (block : BlockId) (n : ℕ) (asks : List CoreAsk) (marks : List Bool) (d : CoreAsk) →
     n < length asks →
-    length marks ≡ length asks → marks_at tables s core block (drop n asks) (drop n marks)
-    ≡ (if is_at core block (get_or asks n d) then is_unheld tables s (get_or asks n d) else get_or marks n false)
-    ∷ marks_at tables s core block (drop (n + 1) asks) (drop (n + 1) marks)
-marks-step tables s core block n asks marks d low long =
-    ap (λ xs. marks_at tables s core block xs (drop n marks)) (drop-cons asks n d low ∙ ap (λ m. get_or asks n d ∷ drop m asks) (sym (add-one n)))
-    ∙ ap (λ ms. marks_at tables s core block (get_or asks n d ∷ drop (n + 1) asks) ms)
+    length marks ≡ length asks → marks_by held core block (drop n asks) (drop n marks)
+    ≡ (if is_at core block (get_or asks n d) then mark_by held (get_or asks n d) else get_or marks n false)
+    ∷ marks_by held core block (drop (n + 1) asks) (drop (n + 1) marks)
+marks-step held core block n asks marks d low long =
+    ap (λ xs. marks_by held core block xs (drop n marks)) (drop-cons asks n d low ∙ ap (λ m. get_or asks n d ∷ drop m asks) (sym (add-one n)))
+    ∙ ap (λ ms. marks_by held core block (get_or asks n d ∷ drop (n + 1) asks) ms)
     (drop-cons marks n false (omega (arith, low, long)) ∙ ap (λ m. get_or marks n false ∷ drop m marks) (sym (add-one n)))
 
-pub marks-here : (tables : Tables) (s : State) (core : CacheId) (block : BlockId) (n : ℕ) (asks : List CoreAsk) (marks all : List Bool) (d : CoreAsk) →
+pub marks-here : (held : HeldAsks) (core : CacheId) (block : BlockId) (n : ℕ) (asks : List CoreAsk) (marks all : List Bool) (d : CoreAsk) →
     n < length asks →
     length marks ≡ length asks → is_at core block (get_or asks n d) ≡ true →
-    take n marks ++ marks_at tables s core block (drop n asks) (drop n marks) ≡ all →
-    take (n + 1) (set marks n (is_unheld tables s (get_or asks n d)))
-    ++ marks_at tables s core block (drop (n + 1) asks) (drop (n + 1) (set marks n (is_unheld tables s (get_or asks n d)))) ≡ all
-marks-here tables s core block n asks marks all d low long here before =
-    let mark = is_unheld tables s (get_or asks n d) in
-    let later = marks_at tables s core block (drop (n + 1) asks) (drop (n + 1) marks) in
-    let back : marks_at tables s core block (drop (n + 1) asks) (drop (n + 1) (set marks n mark)) ≡ later =
-    ap (marks_at tables s core block (drop (n + 1) asks)) (drop-set-lt (n + 1) marks n mark (omega arith)) in
-    let step = marks-step tables s core block n asks marks d low long in
+    take n marks ++ marks_by held core block (drop n asks) (drop n marks) ≡ all →
+    take (n + 1) (set marks n (mark_by held (get_or asks n d)))
+    ++ marks_by held core block (drop (n + 1) asks) (drop (n + 1) (set marks n (mark_by held (get_or asks n d)))) ≡ all
+marks-here held core block n asks marks all d low long here before =
+    let mark = mark_by held (get_or asks n d) in
+    let later = marks_by held core block (drop (n + 1) asks) (drop (n + 1) marks) in
+    let back : marks_by held core block (drop (n + 1) asks) (drop (n + 1) (set marks n mark)) ≡ later =
+    ap (marks_by held core block (drop (n + 1) asks)) (drop-set-lt (n + 1) marks n mark (omega arith)) in
+    let step = marks-step held core block n asks marks d low long in
     ap (λ b. take (n + 1) (set marks n mark) ++ b) back
     ∙ ap (λ front. front ++ later) (take_more_set marks n mark (omega (arith, low, long)))
     ∙ append_assoc (take n marks) (mark ∷ []) later
     ∙ ap (λ t. take n marks ++ ((if t then mark else get_or marks n false) ∷ later)) (sym here)
     ∙ ap (λ b. take n marks ++ b) (sym step) ∙ before
+
+pub marks-apart : (held : HeldAsks) (core : CacheId) (block : BlockId) (n : ℕ) (asks : List CoreAsk) (marks all : List Bool) (d : CoreAsk) →
+    n < length asks →
+    length marks ≡ length asks → is_at core block (get_or asks n d) ≡ false →
+    take n marks ++ marks_by held core block (drop n asks) (drop n marks) ≡ all →
+    take (n + 1) marks ++ marks_by held core block (drop (n + 1) asks) (drop (n + 1) marks) ≡ all
+marks-apart held core block n asks marks all d low long apart before =
+    let later = marks_by held core block (drop (n + 1) asks) (drop (n + 1) marks) in
+    let step = marks-step held core block n asks marks d low long in
+    ap (λ front. front ++ later) (take_more marks n false (omega (arith, low, long)))
+    ∙ append_assoc (take n marks) (get_or marks n false ∷ []) later
+    ∙ ap (λ t. take n marks ++ ((if t then mark_by held (get_or asks n d) else get_or marks n false) ∷ later)) (sym apart)
+    ∙ ap (λ b. take n marks ++ b) (sym step) ∙ before
+
+-- so marks are made anew by what is held
+pub marks-held : (held : HeldAsks) (core : CacheId) (block : BlockId) (n : ℕ) (asks : List CoreAsk) (marks all : List Bool) (d : CoreAsk) (is : Bool) →
+    n < length asks → length marks ≡ length asks → is ≡ holds held (get_or asks n d).ask → is_at core block (get_or asks n d) ≡ true →
+    take n marks ++ marks_by held core block (drop n asks) (drop n marks) ≡ all →
+    take (n + 1) (set marks n (not is)) ++ marks_by held core block (drop (n + 1) asks) (drop (n + 1) (set marks n (not is))) ≡ all
+marks-held held core block n asks marks all d is low long e here before = rw e (marks-here held core block n asks marks all d low long here before)
+
+pub marks-at-length : (held : HeldAsks) (core : CacheId) (block : BlockId) (asks : List CoreAsk) (marks : List Bool) → length marks ≡ length asks →
+    length (marks_by held core block asks marks) ≡ length asks
+marks-at-length held core block [] marks long = long
+marks-at-length held core block (ask ∷ asks) [] long = long
+marks-at-length held core block (ask ∷ asks) (m ∷ marks) long = ap suc (marks-at-length held core block asks marks (omega (arith, long)))
+
+-- the marks, with those of a core's asks about a block made anew as they are in a state
+abbrev pub marks_at : Tables → State → CacheId → BlockId → List CoreAsk → List Bool → List Bool
+marks_at tables s core block [] marks = marks
+marks_at tables s core block (ask ∷ asks) [] = []
+marks_at tables s core block (ask ∷ asks) (mark ∷ marks) =
+    (if is_at core block ask then is_unheld tables s ask else mark) ∷ marks_at tables s core block asks marks
 
 -- an ask that is there is held where it is one of those that are
 pub held-here : (tables : Tables) (s : State) (core : CacheId) (block : BlockId) (held : HeldAsks) (ask : CoreAsk) → AreHeldAt tables s core block held →
@@ -96,33 +129,18 @@ held-here tables s core block held ask all here =
     same-block : (a b : BlockId) → a.0 ≡ b.0 → a ≡ b
     same-block a b e = λ i. record { 0 = e i }
 
--- so marks are made anew by what is held
-pub marks-held : (tables : Tables) (s : State) (core : CacheId) (block : BlockId) (n : ℕ) (asks : List CoreAsk) (marks all : List Bool) (d : CoreAsk)
-    (held : HeldAsks) (is : Bool) → n < length asks → length marks ≡ length asks → AreHeldAt tables s core block held →
-    is ≡ holds held (get_or asks n d).ask → is_at core block (get_or asks n d) ≡ true →
-    take n marks ++ marks_at tables s core block (drop n asks) (drop n marks) ≡ all →
-    take (n + 1) (set marks n (not is)) ++ marks_at tables s core block (drop (n + 1) asks) (drop (n + 1) (set marks n (not is))) ≡ all
-marks-held tables s core block n asks marks all d held is low long known e here before =
-    rw (e, held-here tables s core block held (get_or asks n d) known here) (marks-here tables s core block n asks marks all d low long here before)
-
-pub marks-apart : (tables : Tables) (s : State) (core : CacheId) (block : BlockId) (n : ℕ) (asks : List CoreAsk) (marks all : List Bool) (d : CoreAsk) →
-    n < length asks →
-    length marks ≡ length asks → is_at core block (get_or asks n d) ≡ false →
-    take n marks ++ marks_at tables s core block (drop n asks) (drop n marks) ≡ all →
-    take (n + 1) marks ++ marks_at tables s core block (drop (n + 1) asks) (drop (n + 1) marks) ≡ all
-marks-apart tables s core block n asks marks all d low long apart before =
-    let later = marks_at tables s core block (drop (n + 1) asks) (drop (n + 1) marks) in
-    let step = marks-step tables s core block n asks marks d low long in
-    ap (λ front. front ++ later) (take_more marks n false (omega (arith, low, long)))
-    ∙ append_assoc (take n marks) (get_or marks n false ∷ []) later
-    ∙ ap (λ t. take n marks ++ ((if t then is_unheld tables s (get_or asks n d) else get_or marks n false) ∷ later)) (sym apart)
-    ∙ ap (λ b. take n marks ++ b) (sym step) ∙ before
-
-pub marks-at-length : (tables : Tables) (s : State) (core : CacheId) (block : BlockId) (asks : List CoreAsk) (marks : List Bool) → length marks ≡ length asks →
-    length (marks_at tables s core block asks marks) ≡ length asks
-marks-at-length tables s core block [] marks long = long
-marks-at-length tables s core block (ask ∷ asks) [] long = long
-marks-at-length tables s core block (ask ∷ asks) (m ∷ marks) long = ap suc (marks-at-length tables s core block asks marks (omega (arith, long)))
+-- by what is held the marks are right
+pub by-held : (tables : Tables) (s : State) (core : CacheId) (block : BlockId) (held : HeldAsks) → AreHeldAt tables s core block held → (asks : List CoreAsk)
+    (marks : List Bool) → marks_by held core block asks marks ≡ marks_at tables s core block asks marks
+by-held tables s core block held all [] marks = refl
+by-held tables s core block held all (ask ∷ asks) [] = refl
+by-held tables s core block held all (ask ∷ asks) (m ∷ marks) =
+    ap (λ ms. (if is_at core block ask then mark_by held ask else m) ∷ ms) (by-held tables s core block held all asks marks)
+    ∙ ap (λ x. x ∷ marks_at tables s core block asks marks) (by (is_at core block ask) refl)
+  where
+    by : (b : Bool) → is_at core block ask ≡ b → (if b then mark_by held ask else m) ≡ (if b then is_unheld tables s ask else m)
+    by true e = held-here tables s core block held ask all e
+    by false e = refl
 
 -- ---- how many can be put by their marks, and which is the k-th
 
@@ -320,10 +338,10 @@ kth-there k at asks marks kept h kth = let l = low marks at kth.set in let m = h
 
 -- ---- a core's asks about a block marked anew
 
-pub still-kept : (tables : Tables) (s : State) (core : CacheId) (block : BlockId) (asks : List CoreAsk) (marks new : List Bool) (kept : Option CacheId) →
-    new ≡ marks_at tables s core block asks marks → AreKept asks marks kept → AreKept asks new kept
-still-kept tables s core block asks marks new kept e h = record {
-  long = ap length e ∙ marks-at-length tables s core block asks marks h.long;
+pub still-kept : (held : HeldAsks) (core : CacheId) (block : BlockId) (asks : List CoreAsk) (marks new : List Bool) (kept : Option CacheId) →
+    new ≡ marks_by held core block asks marks → AreKept asks marks kept → AreKept asks new kept
+still-kept held core block asks marks new kept e h = record {
+  long = ap length e ∙ marks-at-length held core block asks marks h.long;
   short = h.short;
   owned = h.owned;
 }

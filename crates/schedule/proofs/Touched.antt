@@ -1,134 +1,107 @@
--- A step changes the lines of one cache at most, that of the controller it goes to; and whether an ask is held is a matter of its line.
-use Rattle.std.proofs.Common.{◌≡◌, ◌≢◌, ℕ, zero, suc, List, [], ◌∷◌, Option, Some, None, Bool, true, false, if◌then◌else◌, inl, inr}
+-- A step changes the line of the cache whose cell acts alone; and whether an ask is held is a matter of its line's state.
+use Rattle.std.proofs.Common.{◌≡◌, ◌≢◌, ℕ, List, Option, Some, None, Bool, true, false, ◌&&◌, if◌then◌else◌, inl, inr}
 use Rattle.std.proofs.Common.{slice_get, slice_set, refl, sym, ap, ◌∙◌, subst}
+use Rattle.std.proofs.Math.Bool.{beq}
 use Rattle.std.proofs.lemmas.Bool.{cases_eq}
-use Rattle.std.specs.Option.{option_and_then}
+use Rattle.std.proofs.lemmas.Option.{slice_get_within}
+use Rattle.std.specs.Option.{option_and_then, option_map}
 use Rattle.base.specs.Steps.{block_of}
+use Rattle.base.specs.declared.ids.BlockId.{BlockId}
 use Rattle.base.specs.declared.ids.CacheId.{CacheId}
 use Rattle.base.specs.declared.ids.Place.{Place}
-use Rattle.base.specs.declared.ids.Place.TheVariants.{Dir, Cache}
+use Rattle.base.specs.declared.ids.Place.TheVariants.{Cache, Dir}
 use Rattle.base.specs.declared.step.Ask.{Ask}
+use Rattle.base.specs.declared.step.Ask.TheVariants as ask
 use Rattle.base.specs.declared.step.CoreAsk.{CoreAsk}
 use Rattle.base.specs.declared.step.Step.{Step}
 use Rattle.base.specs.declared.step.Step.TheVariants as step
 use Rattle.base.specs.declared.step.Outcome.TheVariants as outcome
-use Rattle.network.specs.declared.message.Request.{Request}
-use Rattle.network.specs.declared.message.Forward.{Forward}
-use Rattle.network.specs.declared.message.Response.{Response}
-use Rattle.network.specs.declared.message.Response.TheVariants.{Data, InvAck, DataExcl}
-use Rattle.network.specs.Traffic.{link}
 use Rattle.cache_table.specs.Table as cache_table
-use Rattle.cache_table.specs.Table.{CacheEntry}
-use Rattle.base.specs.declared.controller.entry.Entry.TheVariants as table_entry
-use Rattle.directory_table.specs.Table as directory_table
-use Rattle.directory_table.specs.Table.{DirectoryEntry}
+use Rattle.cache_table.specs.declared.state.CacheState.{CacheState}
 use Rattle.control.specs.declared.line.Line.{Line}
+use Rattle.control.specs.declared.line.LineCompletion.{LineCompletion}
+use Rattle.control.specs.declared.line.LineCompletion.TheVariants as done
 use Rattle.control.specs.declared.line.LineInput.{LineInput}
 use Rattle.control.specs.declared.line.LineInput.TheVariants as line_input
-use Rattle.control.specs.declared.home.Home.{Home}
-use Rattle.control.specs.declared.home.HomeInput.{HomeInput}
-use Rattle.control.specs.declared.home.HomeInput.TheVariants as home_input
+use Rattle.control.specs.LineEffect.{after_settling, line_after, line_completes, moved_on}
 use Rattle.machine.specs.declared.decision.Decision.{Decision}
 use Rattle.machine.specs.declared.decision.Decision.TheVariants.{Refused, AtLine, AtHome}
-use Rattle.machine.specs.declared.decision.Origin.{Origin}
-use Rattle.machine.specs.declared.decision.Origin.TheVariants as origin
+use Rattle.machine.specs.declared.made.Acted.{Acted}
+use Rattle.machine.specs.declared.made.Actor.{Actor}
+use Rattle.machine.specs.declared.made.Actor.TheVariants as actor
+use Rattle.machine.specs.declared.made.Made.{Made}
 use Rattle.both_tables.specs.Tables.{Tables}
-use Rattle.machine.specs.Block.{BlockState}
+use Rattle.machine.specs.Block.{BlockState, opened_block}
 use Rattle.machine.specs.Coherence.{line_at}
-use Rattle.machine.specs.Transition.{by_line_entry, at_line, at_ask, by_home_entry, at_request, at_forward, at_response, is_idle}
-use Rattle.machine.specs.Transition.{carried_out, decided_outcome, decision_of, transition}
-use Rattle.machine.specs.Machine.{State, Next, IsRefusal, next, next_at}
-use Rattle.blocks.specs.Looks.{cache_place, forward_place, is_held, place_in, response_place}
-use Rattle.world.specs.Looks.{place_at}
-
--- ---- where a decision acts
-
--- a decision acts at the line of the cache that the step goes to, at the home, or not at all
-abbrev pub GoesTo : Decision → Option Place → Type 0
-GoesTo (Refused what) at = IsRefusal what
-GoesTo (AtLine cache line input next actions from) at = at ≡ Some (Cache cache)
-GoesTo (AtHome input next actions from) at = Unit {0}
-
-line-goes : (e : CacheEntry) (cache : CacheId) (line : Line) (input : LineInput) (from : Origin) →
-    GoesTo (by_line_entry e cache line input from) (Some (Cache cache))
-line-goes table_entry.Stall cache line input from = tt
-line-goes table_entry.Blank cache line input from = tt
-line-goes (table_entry.Act state actions) cache line input from = refl
-
-line-there : (cells : cache_table.Cells) (cache : CacheId) (input : LineInput) (from : Origin) (line : Option Line) →
-    GoesTo (at_line cells cache input from line) (cache_place cache line)
-line-there cells cache input from None = tt
-line-there cells cache input from (Some line) = line-goes _ cache line input from
-
-home-goes : (e : DirectoryEntry) (input : HomeInput) (from : Origin) (at : Option Place) → GoesTo (by_home_entry e input from) at
-home-goes table_entry.Stall input from at = tt
-home-goes table_entry.Blank input from at = tt
-home-goes (table_entry.Act state actions) input from at = tt
-
-ask-goes : (cells : cache_table.Cells) (cache : CacheId) (a : Ask) (line : Option Line) → GoesTo (at_ask cells cache a line) (cache_place cache line)
-ask-goes cells cache a None = tt
-ask-goes cells cache a (Some line) =
-    elim (is_idle a line.state) as
-    (λ t. GoesTo (if t then Refused outcome.Idle else at_line cells cache (line_input.Ask a) origin.Core (Some line)) (cache_place cache (Some line))) [
-      | true ↦ tt
-      | false ↦ line-there cells cache (line_input.Ask a) origin.Core (Some line)
-    ]
-
-request-goes : (cells : directory_table.Cells) (i : ℕ) (home : Home) (r : Option Request) (at : Option Place) → GoesTo (at_request cells i home r) at
-request-goes cells i home None at = tt
-request-goes cells i home (Some r) at = home-goes _ (home_input.Request r) (origin.Request i) at
-
-forward-goes : (cells : cache_table.Cells) (cache : CacheId) (lines : List Line) (f : Option Forward) →
-    GoesTo (at_forward cells cache lines f) (forward_place cache (slice_get lines cache.0) f)
-forward-goes cells cache lines None = tt
-forward-goes cells cache lines (Some f) = line-there cells cache (line_input.Forward f) (origin.Head cache) (slice_get lines cache.0)
-
-response-goes : (tables : Tables) (i : ℕ) (b : BlockState) (r : Option Response) → GoesTo (at_response tables i b r) (response_place b.lines r)
-response-goes tables i b None = tt
-response-goes tables i b (Some (Data from Dir value acks)) = home-goes _ (home_input.Data value) (origin.Response i) (Some Dir)
-response-goes tables i b (Some (Data from (Cache to) value acks)) =
-    line-there tables.cache to (line_input.Response (Data from (Cache to) value acks)) (origin.Response i) (slice_get b.lines to.0)
-response-goes tables i b (Some (InvAck from to)) =
-    line-there tables.cache to (line_input.Response (InvAck from to)) (origin.Response i) (slice_get b.lines to.0)
-response-goes tables i b (Some (DataExcl to value)) =
-    line-there tables.cache to (line_input.Response (DataExcl to value)) (origin.Response i) (slice_get b.lines to.0)
-
-pub decision-goes : (tables : Tables) (s : Step) (b : BlockState) → GoesTo (decision_of tables s b) (place_in s b)
-decision-goes tables (step.Ask cache block a) b = ask-goes tables.cache cache a (slice_get b.lines cache.0)
-decision-goes tables (step.Request block i) b = request-goes tables.directory i b.home (slice_get b.traffic.requests i) _
-decision-goes tables (step.Forward block cache) b = forward-goes tables.cache cache b.lines (slice_get (link b.traffic cache.0) 0)
-decision-goes tables (step.Response block i) b = response-goes tables i b (slice_get b.traffic.responses i)
+use Rattle.machine.specs.Made.{IsTold, acted_by, actor_place, is_crowded, made_in, made_of, place_of, refused}
+use Rattle.machine.specs.Transition.{at_ask, carried_out, decided_outcome, decision_of, transition}
+use Rattle.machine.specs.Machine.{State, Next, next, next_at}
+use Rattle.machine.proofs.Places.{slice_get-set_other, slice_get-set_same}
+use Rattle.blocks.specs.Asking.{holds, stalls_in}
+use Rattle.blocks.specs.declared.block.asking.HeldAsks.{HeldAsks}
+use Rattle.blocks.specs.Looks.{is_held, place_in}
+use Rattle.blocks.specs.Marking.{ask_stalls}
+use Rattle.blocks.proofs.Going.{Goes, decision-goes}
+use Rattle.blocks.proofs.Holding.{held-ask}
+use Rattle.cores.specs.Cores.{Core}
+use Rattle.schedule.specs.Lanes.{Follows}
+use Rattle.schedule.specs.inner.Changes.{AgreeBut}
+use Rattle.schedule.specs.inner.Marks.{AreHeldAt}
 
 -- ---- what a step leaves of the lines
-
-set-other : {X : Type 0} (xs : List X) (i j : ℕ) (x : X) → j ≢ i → slice_get (slice_set xs i x) j ≡ slice_get xs j
-set-other [] i j x ne = refl
-set-other (y ∷ ys) zero zero x ne = absurd (ne refl)
-set-other (y ∷ ys) zero (suc j) x ne = refl
-set-other (y ∷ ys) (suc i) zero x ne = refl
-set-other (y ∷ ys) (suc i) (suc j) x ne = set-other ys i j x (λ e. ne (ap suc e))
-
-set-here : {X : Type 0} (xs : List X) (i : ℕ) (x y : X) → slice_get xs i ≡ Some y → slice_get (slice_set xs i x) i ≡ Some x
-set-here [] i x y e = absurd (cc e)
-set-here (z ∷ zs) zero x y e = refl
-set-here (z ∷ zs) (suc i) x y e = set-here zs i x y e
 
 other-cache : (cache other : CacheId) → Some (Cache cache) ≢ Some (Cache other) → other.0 ≢ cache.0
 other-cache cache other ne e = ne (ap (λ n. Some (Cache (record { 0 = n }))) (sym e))
 
-lines-left : (d : Decision) (at : Option Place) (b : BlockState) (other : CacheId) → GoesTo d at → at ≢ Some (Cache other) →
+-- where a cell acted at a line, that was there and went so
+LineWent : Actor → BlockState → BlockState → Type 0
+LineWent actor.Home b new = Unit {0}
+LineWent (actor.Line cache before after) b new =
+    (old : Line) × (line : Line) × (slice_get b.lines cache.0 ≡ Some old) × (old.state ≡ before) × (slice_get new.lines cache.0 ≡ Some line) × (line.state ≡ after)
+
+WentIn : Option Acted → BlockState → BlockState → Type 0
+WentIn None b new = Unit {0}
+WentIn (Some acted) b new = LineWent acted.by b new
+
+settling-leaves : (input : LineInput) (completion : Option LineCompletion) (line : Line) → (after_settling input completion line).state ≡ line.state
+settling-leaves (line_input.Ask ask.Load) None line = refl
+settling-leaves (line_input.Ask (ask.Store value)) None line = refl
+settling-leaves (line_input.Ask ask.Replace) None line = refl
+settling-leaves (line_input.Ask a) (Some (done.Load value)) line = refl
+settling-leaves (line_input.Ask a) (Some (done.Store value)) line = refl
+settling-leaves (line_input.Forward f) None line = refl
+settling-leaves (line_input.Forward f) (Some (done.Load value)) line = refl
+settling-leaves (line_input.Forward f) (Some (done.Store value)) line = refl
+settling-leaves (line_input.Response r) None line = refl
+settling-leaves (line_input.Response r) (Some (done.Load value)) line = refl
+settling-leaves (line_input.Response r) (Some (done.Store value)) line = refl
+
+went-in : (d : Decision) (at : Option Place) (b : BlockState) (crowded : Bool) → Goes d at b.lines → WentIn (acted_by d crowded) b (carried_out d b).block
+unfolding WentIn LineWent
+went-in (Refused what) at b crowded g = tt
+went-in (AtLine cache line input next actions from) at b crowded g = (
+  line,
+  line_after input next line,
+  sym g.1,
+  refl,
+  slice_get-set_same b.lines cache.0 (line_after input next line) (slice_get_within b.lines cache.0 line (sym g.1)),
+  settling-leaves input (line_completes input next line) (moved_on input next line),
+)
+went-in (AtHome input next actions from) at b crowded g = tt
+
+lines-left : (d : Decision) (crowded : Bool) (b : BlockState) (other : CacheId) →
+    option_map (λ (acted : Acted). actor_place acted.by) (acted_by d crowded) ≢ Some (Cache other) →
     slice_get (carried_out d b).block.lines other.0 ≡ slice_get b.lines other.0
-lines-left (Refused what) at b other g ne = refl
-lines-left (AtLine cache line input state actions from) at b other g ne =
-    set-other b.lines cache.0 other.0 _ (other-cache cache other (subst (λ p. p ≢ Some (Cache other)) g ne))
-lines-left (AtHome input state actions from) at b other g ne = refl
+lines-left (Refused what) crowded b other ne = refl
+lines-left (AtLine cache line input next actions from) crowded b other ne = slice_get-set_other b.lines cache.0 other.0 _ (other-cache cache other ne)
+lines-left (AtHome input next actions from) crowded b other ne = refl
 
 abbrev line_in : ℕ → Option BlockState → Option Line
 line_in cache b = option_and_then (λ b. slice_get b.lines cache) b
 
 -- what is made of a block that is there, or of none
 lines-at : (tables : Tables) (s : State) (step : Step) (found : Option BlockState) (other : CacheId) (block : ℕ) →
-    slice_get s.blocks (block_of step) ≡ found → option_and_then (place_in step) found ≢ Some (Cache other) →
+    slice_get s.blocks (block_of step) ≡ found → place_of (made_in tables step found) ≢ Some (Cache other) →
     line_at (next_at tables s step found).state other.0 block ≡ line_at s other.0 block
 lines-at tables s step None other block there ne = refl
 lines-at tables s step (Some b) other block there ne =
@@ -136,16 +109,25 @@ lines-at tables s step (Some b) other block there ne =
     elim (cases_eq block (block_of step)) [
       | inl e ↦
           ap (λ n. line_in other.0 (slice_get (slice_set s.blocks (block_of step) new) n)) e ∙ ap (line_in other.0)
-          (set-here s.blocks (block_of step) new b there)
-          ∙ lines-left (decision_of tables step b) (place_in step b) b other (decision-goes tables step b) ne
+          (slice_get-set_same s.blocks (block_of step) new (slice_get_within s.blocks (block_of step) b there))
+          ∙ lines-left (decision_of tables step b) (is_crowded new) b other ne
           ∙ sym (ap (λ n. line_in other.0 (slice_get s.blocks n)) e ∙ ap (line_in other.0) there)
-      | inr apart ↦ ap (line_in other.0) (set-other s.blocks (block_of step) block new apart)
+      | inr apart ↦ ap (line_in other.0) (slice_get-set_other s.blocks (block_of step) block new apart)
     ]
+
+blocks-at : (tables : Tables) (s : State) (step : Step) (found : Option BlockState) (core block : ℕ) → block ≢ block_of step →
+    line_at (next_at tables s step found).state core block ≡ line_at s core block
+blocks-at tables s step None core block ne = refl
+blocks-at tables s step (Some b) core block ne = ap (line_in core) (slice_get-set_other s.blocks (block_of step) block (transition tables step b).block ne)
 
 pub next-sound : (tables : Tables) (s : State) (step : Step) → s.broken ≡ false → next tables s step ≡ next_at tables s step
     (slice_get s.blocks (block_of step))
 next-sound tables s step e =
     ap (λ t. if t then record { state = s; outcome = outcome.Broken } else next_at tables s step (slice_get s.blocks (block_of step))) e
+
+pub made-sound : (tables : Tables) (s : State) (step : Step) → s.broken ≡ false → made_of tables s step ≡ made_in tables step
+    (slice_get s.blocks (block_of step))
+made-sound tables s step e = ap (λ t. if t then refused outcome.Broken else made_in tables step (slice_get s.blocks (block_of step))) e
 
 next-broken : (tables : Tables) (s : State) (step : Step) → s.broken ≡ true → (next tables s step).state.broken ≡ true
 next-broken tables s step e =
@@ -159,24 +141,80 @@ was-sound tables s step e = by_case s.broken refl
     by_case false q = q
     by_case true q = let both = sym (next-broken tables s step q) ∙ e in absurd (cc both)
 
--- a step leaves the lines of all caches but that of the one it goes to
-pub lines-stay : (tables : Tables) (s : State) (step : Step) (other : CacheId) (block : ℕ) → s.broken ≡ false → place_at s step ≢ Some (Cache other) →
-    line_at (next tables s step).state other.0 block ≡ line_at s other.0 block
-lines-stay tables s step other block sound ne =
-    ap (λ (n : Next). line_at n.state other.0 block) (next-sound tables s step sound)
-    ∙ lines-at tables s step (slice_get s.blocks (block_of step)) other block refl ne
+-- so two moments agree on each core but that of the cache whose cell acted, and on all lines but those of the step's block
+pub agree-but : (tables : Tables) (step : Step) (made : Made) (before behind : State) (cb cn : List Core) → before.broken ≡ false →
+    Follows tables step made before behind cb cn → AgreeBut (place_of made) (block_of step) before behind cb cn
+agree-but tables step made before behind cb cn sound f =
+    let found = slice_get before.blocks (block_of step) in
+    let came : behind ≡ (next_at tables before step found).state = f.told.state ∙ ap (λ (n : Next). n.state) (next-sound tables before step sound) in
+    let told : made ≡ made_in tables step found = f.told.told ∙ made-sound tables before step sound in
+    record {
+      cores = λ core ne. record {
+        free = f.free core ne;
+        lines = λ block. ap (λ (s : State). line_at s core.0 block) came
+            ∙ lines-at tables before step found core block refl (subst (λ (m : Made). place_of m ≢ Some (Cache core)) told ne);
+      };
+      blocks = λ core other ne. ap (λ (s : State). line_at s core other) came ∙ blocks-at tables before step found core other ne;
+    }
 
-blocks-at : (tables : Tables) (s : State) (step : Step) (found : Option BlockState) (core block : ℕ) → block ≢ block_of step →
-    line_at (next_at tables s step found).state core block ≡ line_at s core block
-blocks-at tables s step None core block ne = refl
-blocks-at tables s step (Some b) core block ne = ap (line_in core) (set-other s.blocks (block_of step) block (transition tables step b).block ne)
+-- ---- where a line went
 
--- and the lines of all blocks but its own
-pub other-blocks-stay : (tables : Tables) (s : State) (step : Step) (core block : ℕ) → s.broken ≡ false → block ≢ block_of step →
-    line_at (next tables s step).state core block ≡ line_at s core block
-other-blocks-stay tables s step core block sound ne =
-    ap (λ (n : Next). line_at n.state core block) (next-sound tables s step sound)
-    ∙ blocks-at tables s step (slice_get s.blocks (block_of step)) core block ne
+went-at : (tables : Tables) (s : State) (step : Step) (found : Option BlockState) (acted : Acted) → slice_get s.blocks (block_of step) ≡ found →
+    (made_in tables step found).acted ≡ Some acted →
+    (b : BlockState) × (new : BlockState) × (slice_get s.blocks (block_of step) ≡ Some b)
+    × (slice_get (next_at tables s step found).state.blocks (block_of step) ≡ Some new) × LineWent acted.by b new
+unfolding WentIn
+went-at tables s step None acted there e = absurd (cc e)
+went-at tables s step (Some b) acted there e =
+    let new : BlockState = (transition tables step b).block in (
+      b,
+      new,
+      there,
+      slice_get-set_same s.blocks (block_of step) new (slice_get_within s.blocks (block_of step) b there),
+      in-some acted e (went-in (decision_of tables step b) (place_in step b) b (is_crowded new) (decision-goes tables step b)),
+    )
+  where
+    in-some : (acted : Acted) → (made_in tables step (Some b)).acted ≡ Some acted → WentIn (made_in tables step (Some b)).acted b (transition tables step b).block →
+        LineWent acted.by b (transition tables step b).block
+    in-some acted e w = subst (λ o. WentIn o b (transition tables step b).block) e w
+
+-- ---- whose cell acted
+
+abbrev place_in_acted : Option Acted → Option Place
+place_in_acted o = option_map (λ (acted : Acted). actor_place acted.by) o
+
+same-place : (p q : Place) → Some p ≡ Some q → p ≡ q
+same-place p q e = cc e
+
+-- where none did, or the home's, no cache's did
+pub nowhere : (made : Made) → made.acted ≡ None → (core : CacheId) → place_of made ≢ Some (Cache core)
+nowhere made is core e = absurd (let none : None ≡ Some (Cache core) = sym (ap place_in_acted is) ∙ e in cc none)
+
+pub at-home : (made : Made) (acted : Acted) → made.acted ≡ Some acted → acted.by ≡ actor.Home → (core : CacheId) → place_of made ≢ Some (Cache core)
+at-home made acted is home core e =
+    absurd (let dir : Some Dir ≡ Some (Cache core) = ap (λ (a : Actor). Some (actor_place a)) (sym home) ∙ sym (ap place_in_acted is) ∙ e in
+    cc (same-place Dir (Cache core) dir))
+
+pub at-line : (made : Made) (acted : Acted) (cache : CacheId) (from to : CacheState) → made.acted ≡ Some acted → acted.by ≡ actor.Line cache from to →
+    place_of made ≡ Some (Cache cache)
+at-line made acted cache from to is line = ap place_in_acted is ∙ ap (λ (a : Actor). Some (actor_place a)) line
+
+pub none-acted : (o : Option Acted) → ((acted : Acted) → o ≢ Some acted) → o ≡ None
+none-acted None h = refl
+none-acted (Some acted) h = absurd (h acted refl)
+
+pub home-only : (by : Actor) → ((cache : CacheId) (from to : CacheState) → by ≢ actor.Line cache from to) → by ≡ actor.Home
+home-only actor.Home h = refl
+home-only (actor.Line cache from to) h = absurd (h cache from to refl)
+
+-- where a cache's did, two moments agree but for that cache
+pub agree-line : (tables : Tables) (step : Step) (made : Made) (before behind : State) (acted : Acted) (cache : CacheId) (block : BlockId) (from to : CacheState)
+    (cb cn : List Core) → before.broken ≡ false → block.0 ≡ block_of step → Follows tables step made before behind cb cn → made.acted ≡ Some acted →
+    acted.by ≡ actor.Line cache from to → AgreeBut (Some (Cache cache)) block.0 before behind cb cn
+agree-line tables step made before behind acted cache block from to cb cn sound here f is by =
+    subst (λ n. AgreeBut (Some (Cache cache)) n before behind cb cn) (sym here)
+    (subst (λ p. AgreeBut p (block_of step) before behind cb cn) (at-line made acted cache from to is by)
+    (agree-but tables step made before behind cb cn sound f))
 
 -- ---- an ask is held where its line holds it
 
@@ -200,3 +238,66 @@ pub held-by-line : (tables : Tables) (s : State) (ask : CoreAsk) → s.broken �
     is_held (next tables s (step_of_ask ask)).outcome ≡ asked tables ask (line_at s ask.core.0 ask.block.0)
 held-by-line tables s ask sound =
     ap (λ (n : Next). is_held n.outcome) (next-sound tables s (step_of_ask ask) sound) ∙ asked-at tables s ask (slice_get s.blocks ask.block.0)
+
+-- ---- and there where the line's state does
+
+-- these of the asks of a line in a state are held
+abbrev pub HoldsIn : cache_table.Cells → HeldAsks → CacheState → Type 0
+HoldsIn cells held state = (a : Ask) → holds held a ≡ stalls_in cells a state
+
+by-state : (cells : cache_table.Cells) (a : Ask) (line : Line) → ask_stalls cells a (Some line) ≡ stalls_in cells a line.state
+by-state cells a line = refl
+
+asked-by-state : (tables : Tables) (ask : CoreAsk) (line : Line) → asked tables ask (Some line) ≡ stalls_in tables.cache ask.ask line.state
+asked-by-state tables ask line =
+    ap is_held (sym (outcome-is (at_ask tables.cache ask.core ask.ask (Some line)) (opened_block 0 0)))
+    ∙ held-ask tables.cache ask.core ask.ask (Some line) (opened_block 0 0)
+    ∙ by-state tables.cache ask.ask line
+
+held-at : (tables : Tables) (s : State) (core : CacheId) (block : BlockId) (line : Line) (state : CacheState) (held : HeldAsks) → s.broken ≡ false →
+    line_at s core.0 block.0 ≡ Some line → line.state ≡ state → HoldsIn tables.cache held state → AreHeldAt tables s core block held
+held-at tables s core block line state held sound there is all a =
+    let ask : CoreAsk = record { core = core; block = block; ask = a } in
+    all a ∙ ap (stalls_in tables.cache a) (sym is) ∙ sym (asked-by-state tables ask line) ∙ ap (asked tables ask) (sym there) ∙ sym (held-by-line tables s ask sound)
+
+both-true : (x y : Bool) → x && y ≡ true → (x ≡ true) × (y ≡ true)
+both-true true true e = (refl, refl)
+both-true true false e = absurd (cc e)
+both-true false y e = absurd (cc e)
+
+same-bool : (x y : Bool) → beq x y ≡ true → x ≡ y
+same-bool true true e = refl
+same-bool true false e = absurd (cc e)
+same-bool false true e = absurd (cc e)
+same-bool false false e = refl
+
+-- what is told to be the same holds the same
+pub same-asks : (x y : HeldAsks) → beq x.load y.load && (beq x.store y.store && beq x.replace y.replace) ≡ true → (a : Ask) → holds x a ≡ holds y a
+same-asks x y e ask.Load = same-bool x.load y.load (both-true (beq x.load y.load) _ e).0
+same-asks x y e (ask.Store value) =
+    same-bool x.store y.store (both-true (beq x.store y.store) _ (both-true (beq x.load y.load) _ e).1).0
+same-asks x y e ask.Replace =
+    same-bool x.replace y.replace (both-true (beq x.store y.store) _ (both-true (beq x.load y.load) _ e).1).1
+
+-- what is held of a line that a step was told to have changed, before it and behind it
+pub record HeldBoth (tables : Tables) (before behind : State) (cache : CacheId) (block : BlockId) (from to : CacheState) : Type 0 where
+  pub were : (held : HeldAsks) → HoldsIn tables.cache held from → AreHeldAt tables before cache block held
+  pub are : (held : HeldAsks) → HoldsIn tables.cache held to → AreHeldAt tables behind cache block held
+
+pub held-told : (tables : Tables) (step : Step) (made : Made) (before behind : State) (acted : Acted) (cache : CacheId) (block : BlockId) (from to : CacheState) →
+    before.broken ≡ false → behind.broken ≡ false → block.0 ≡ block_of step → IsTold tables before step made behind → made.acted ≡ Some acted →
+    acted.by ≡ actor.Line cache from to → HeldBoth tables before behind cache block from to
+unfolding LineWent
+held-told tables step made before behind acted cache block from to sb sn here t is by =
+    let found = slice_get before.blocks (block_of step) in
+    let came : behind ≡ (next_at tables before step found).state = t.state ∙ ap (λ (n : Next). n.state) (next-sound tables before step sb) in
+    let told : made ≡ made_in tables step found = t.told ∙ made-sound tables before step sb in
+    let w = went-at tables before step found acted refl (sym (ap (λ (m : Made). m.acted) told) ∙ is) in
+    let line : LineWent (actor.Line cache from to) w.0 w.1 = subst (λ (a : Actor). LineWent a w.0 w.1) by w.4 in
+    record {
+      were = λ held all. held-at tables before cache block line.0 from held sb
+          (ap (λ n. line_in cache.0 (slice_get before.blocks n)) here ∙ ap (line_in cache.0) w.2 ∙ line.2) line.3 all;
+      are = λ held all. held-at tables behind cache block line.1 to held sn
+          (ap (λ n. line_in cache.0 (slice_get behind.blocks n)) here ∙ ap (λ (s : State). line_in cache.0 (slice_get s.blocks (block_of step))) came
+          ∙ ap (line_in cache.0) w.3 ∙ line.4) line.5 all;
+    }

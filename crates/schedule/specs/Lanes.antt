@@ -1,13 +1,14 @@
 -- What is left of a scenario, by its lanes: the trees that go on at once at its top.
-use Rattle.std.specs.Prelude.{◌≡◌, ◌≢◌, ◌<◌, ◌≤◌, ◌^◌, ◌-◌, ℕ, min, false, List, [], Option, Some, length, map, slice_get, slice_index, slice_index_or}
+use Rattle.std.specs.Prelude.{◌≡◌, ◌≢◌, ◌<◌, ◌≤◌, ◌^◌, ◌-◌, ℕ, min, false, List, [], Some, length, map, slice_get, slice_index, slice_index_or}
 use Rattle.std.specs.List.{Contains}
 use Rattle.base.specs.declared.ids.CacheId.{CacheId}
-use Rattle.base.specs.declared.ids.Place.{Place}
 use Rattle.base.specs.declared.ids.Place.TheVariants.{Cache}
 use Rattle.base.specs.declared.step.CoreAsk.{CoreAsk}
+use Rattle.base.specs.declared.step.Step.{Step}
 use Rattle.both_tables.specs.Tables.{Tables}
+use Rattle.machine.specs.declared.made.Made.{Made}
 use Rattle.machine.specs.Machine.{State}
-use Rattle.machine.specs.Coherence.{line_at}
+use Rattle.machine.specs.Made.{IsTold, place_of}
 use Rattle.cores.specs.Cores.{Core, is_free}
 use Rattle.scenario.specs.Tree.{Tree, Seq, Both, Nil, trees_of}
 use Rattle.scenario.specs.Taking.{offers}
@@ -99,13 +100,8 @@ pub record AreReady (tables : Tables) (state : State) (cores : List Core) (l : L
   pub marked : state.broken ≡ false → (lane : ℕ) → lane < length l.trees → IsMarked tables state (listed_at l lane)
   pub counted : state.broken ≡ false → (lane : ℕ) → lane < length l.trees → slice_index l.ready lane ≡ puttable tables state cores (offers_at l lane)
 
--- two moments agree on a core: on whether it is free, and on the lines of its cache
-pub record Agree (core : ℕ) (before behind : State) (cores_before cores_behind : List Core) : Type 0 where
-  pub free : is_free cores_behind core ≡ is_free cores_before core
-  pub lines : (block : ℕ) → line_at behind core block ≡ line_at before core block
-
--- they agree on each core but that of the cache where something was done, if it was done at a cache, and on all lines but those of
--- one block
-pub record AgreeBut (at : Option Place) (block : ℕ) (before behind : State) (cores_before cores_behind : List Core) : Type 0 where
-  pub cores : (core : CacheId) → at ≢ Some (Cache core) → Agree core.0 before behind cores_before cores_behind
-  pub blocks : (core other : ℕ) → other ≢ block → line_at behind core other ≡ line_at before core other
+-- a step has led from a moment to another, and it is told what it came to; but for the core of the cache whose cell acted, if one's did, cores
+-- are free where they were
+pub record Follows (tables : Tables) (step : Step) (made : Made) (before behind : State) (cores_before cores_behind : List Core) : Type 0 where
+  pub told : IsTold tables before step made behind
+  pub free : (core : CacheId) → place_of made ≢ Some (Cache core) → is_free cores_behind core.0 ≡ is_free cores_before core.0

@@ -8,7 +8,7 @@ ghost use Rattle.scenario.specs.Cursors.{remaining};
 ghost use Rattle.scenario.specs.Taking.{offers};
 ghost use Rattle.scenario.specs.Telling.{Tells};
 ghost use Rattle.schedule.specs.Listed.{is_unheld};
-ghost use Rattle.schedule.specs.inner.Marks.{AreHeldAt, is_at, marks_at, offers_by};
+ghost use Rattle.schedule.specs.inner.Marks.{is_at, marks_by, offers_by};
 ghost use Rattle.schedule.specs.inner.Owned.{AreOf};
 ghost use Rattle.schedule.specs.declared.choosing.Choice.TheVariants.{Offer};
 
@@ -58,7 +58,7 @@ impl Asks {
     ghost use Rattle.std.specs.Option.{option_map};
     ghost use Rattle.scenario.specs.Cursors.{remaining};
     ghost use Rattle.scenario.specs.Taking.{offers};
-    ghost use Rattle.schedule.specs.inner.Marks.{all_marked, marked_at, offers_by};
+    ghost use Rattle.schedule.specs.inner.Marks.{all_marked, marked_by, offers_by};
     ghost use Rattle.schedule.specs.inner.Owned.{IsMarkedIf};
     ghost use Rattle.schedule.specs.declared.choosing.Choice.TheVariants.{Offer};
 
@@ -139,24 +139,18 @@ impl Asks {
         mark_each(world, self.asks.as_slice(), &mut self.unheld);
     }
 
-    /// Marks a core's asks about a block anew.
+    /// Marks a core's asks about a block anew, of which these are held.
     #[inline(always)]
-    pub(crate) fn mark(&mut self, world: &World, core: CacheId, block: BlockId)
-        ensures { self.new ≡ marked_at world.now.tables world.now.state core block self.old }
+    pub(crate) fn mark(&mut self, held: HeldAsks, core: CacheId, block: BlockId)
+        ensures { self.new ≡ marked_by held core block self.old }
     {
         if self.grouped {
             let places = self.places[row_of(block)];
-            mark_places(
-                world,
-                core,
-                block,
-                places,
-                self.asks.as_slice(),
-                &mut self.unheld,
-            );
+            let asks = self.asks.as_slice();
+            mark_places(held, core, block, places, asks, &mut self.unheld);
             return;
         }
-        mark_at(world, core, block, self.asks.as_slice(), &mut self.unheld);
+        mark_at(held, core, block, self.asks.as_slice(), &mut self.unheld);
     }
 
     /// How many asks can be put, by their marks.
@@ -293,36 +287,16 @@ fn mark_each(world: &World, asks: &[CoreAsk], unheld: &mut Bits)
     }
 }
 
-/// Marks a core's asks about a block anew. The world is asked where there is one, and once.
-fn mark_at(world: &World, core: CacheId, block: BlockId, asks: &[CoreAsk], unheld: &mut Bits)
+/// Marks a core's asks about a block anew, of which these are held.
+fn mark_at(held: HeldAsks, core: CacheId, block: BlockId, asks: &[CoreAsk], unheld: &mut Bits)
     requires long { length unheld.old ≡ length asks.now }
     requires short { length asks.now < 2 ^ 32 }
-    ensures { unheld.new ≡ marks_at world.now.tables world.now.state core block asks.now unheld.old }
+    ensures { unheld.new ≡ marks_by held core block asks.now unheld.old }
 {
-    let mut known = None;
     for (number, ask) in asks.iter().enumerate() {
         if is_at(core, block, *ask) {
-            let held = held_at(world, core, block, known);
-            known = Some(held);
             unheld.set(number as u32, !held.holds(ask.ask));
         }
-    }
-}
-
-/// Which of a core's asks about a block would be held, if that isn't known yet.
-#[inline(always)]
-pub(crate) fn held_at(
-    world: &World,
-    core: CacheId,
-    block: BlockId,
-    known: Option<HeldAsks>,
-) -> HeldAsks
-    requires { IfSome known (λ held. AreHeldAt world.now.tables world.now.state core block held) }
-    ensures { AreHeldAt world.now.tables world.now.state core block result }
-{
-    match known {
-        Some(held) => held,
-        None => world.held_asks(core, block),
     }
 }
 

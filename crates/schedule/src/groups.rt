@@ -4,12 +4,12 @@ ghost use Rattle.std.specs.Prelude.{◌≡◌, ◌<◌, ◌%◌, ◌^◌, ℕ, S
 ghost use Rattle.std.specs.Int.{bit_at};
 ghost use Rattle.base.specs.declared.step.CoreAsk.{CoreAsk};
 ghost use Rattle.schedule.specs.inner.Groups.{Cover};
-ghost use Rattle.schedule.specs.inner.Marks.{is_at, marks_at};
+ghost use Rattle.schedule.specs.inner.Marks.{is_at, marks_by};
 
-use crate::asks::{held_at, is_at};
+use crate::asks::is_at;
 use base::{BlockId, CacheId, CoreAsk};
+use blocks::HeldAsks;
 use rows::Bits;
-use world::World;
 
 /// Fewer asks are looked through as fast.
 const FEW: usize = 5;
@@ -39,10 +39,9 @@ pub(crate) fn group(asks: &[CoreAsk], places: &mut [u64; 16]) -> bool
     true
 }
 
-/// Marks a core's asks about a block anew, all of which are among those at these places. The world is asked where there is one, and
-/// once.
+/// Marks a core's asks about a block anew, of which these are held, and all of which are among those at these places.
 pub(crate) fn mark_places(
-    world: &World,
+    held: HeldAsks,
     core: CacheId,
     block: BlockId,
     places: u64,
@@ -52,10 +51,9 @@ pub(crate) fn mark_places(
     requires long { length unheld.old ≡ length asks.now }
     requires short { length asks.now < 2 ^ 32 }
     requires there { (n : ℕ) (ask : CoreAsk) → slice_get asks.now n ≡ Some ask → is_at core block ask ≡ true → bit_at places n ≡ 1 }
-    ensures { unheld.new ≡ marks_at world.now.tables world.now.state core block asks.now unheld.old }
+    ensures { unheld.new ≡ marks_by held core block asks.now unheld.old }
 {
     let mut rest = places;
-    let mut known = None;
     while rest != 0 {
         let number = rest.trailing_zeros();
         rest &= rest - 1;
@@ -64,8 +62,6 @@ pub(crate) fn mark_places(
         }
         let ask = asks[number as usize];
         if is_at(core, block, ask) {
-            let held = held_at(world, core, block, known);
-            known = Some(held);
             unheld.set(number, !held.holds(ask.ask));
         }
     }

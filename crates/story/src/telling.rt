@@ -86,8 +86,9 @@ impl Story {
         let (step, number) = (entry.step, self.number);
         let place = self.world.at(step);
         let before = look(&self.world, step.block(), place);
-        let outcome = self.world.step(step)?;
-        let violation = self.watch.see(&self.world, step, outcome);
+        let made = self.world.make(step)?;
+        let outcome = made.outcome;
+        let violation = self.watch.see_made(&self.world, step, &made);
         self.number = number.saturating_add(1);
         self.sent.clear();
         let mut happening = Happening {

@@ -1,11 +1,10 @@
-ghost use Rattle.std.specs.Prelude.{◌≡◌, false};
 ghost use Rattle.schedule.specs.Lanes.{AreReady, IsKept, laned};
 
 use crate::asserting::same;
 use base::{Ask, BlockId, CacheId, CoreAsk, Shape, Step};
 use both_tables::Tables;
 use cores::Cores;
-use scenario::Scenario;
+use scenario::{Cursor, Scenario};
 use schedule::{Choice, Dice, Lanes, choices};
 use std::alloc::Global;
 use std::process::Abort;
@@ -147,139 +146,84 @@ fn what_is_held_is_no_choice(rt: HostRuntime) {
     offers_no_held(&rt, rt.alloc(), &mut world, &Scenario::One(LOAD));
 }
 
-/// Takes the only choice of a world and of a scenario, which is the load's ask.
-fn take_only(
+/// Makes the first choice, which is picked.
+fn make_pick(
     rt: &impl Abort,
     alloc: Global,
-    world: &World,
-    cores: &Cores,
-    scenario: &Scenario<Global>,
-) {
-    let opened = Lanes::open(alloc, scenario, 2, world, cores);
-    let mut lanes: Lanes<'_, Global, Global> = opened.expect(rt, "memory");
-    let choice = lanes.choice(world, cores, 0);
-    same(rt, &choice, &Some(Choice::Offer(0, LOAD)));
-    let pick = lanes.pick(world, cores, 0).expect(rt, "a choice");
-    let ask = Step::read(b"ask 0 0 load").expect(rt, "a step");
-    same(rt, &pick.step(), &ask);
-    lanes
-        .follow_pick(alloc, pick, None, false, world, cores)
-        .expect(rt, "memory");
-    same(rt, &lanes.is_done(), &true);
-}
-
-#[test]
-fn what_is_picked_is_taken(rt: HostRuntime) {
-    let world = opened(&rt, rt.alloc());
-    let cores = Cores::open(rt.alloc(), 2).expect(&rt, "memory");
-    take_only(&rt, rt.alloc(), &world, &cores, &Scenario::One(LOAD));
-}
-
-/// Takes the first choice by its number, where nothing is done in the world, and answers it.
-fn take_choice(
-    rt: &impl Abort,
-    alloc: Global,
-    world: &World,
-    cores: &Cores,
-    lanes: &mut Lanes<'_, Global, Global>,
-) -> Option<Choice>
-    requires unbroken { world.now.state.broken ≡ false }
-    requires kept { IsKept (laned lanes.old) }
-    requires ready { AreReady world.now.tables world.now.state cores.now (laned lanes.old) }
-    ensures kept { IsKept (laned lanes.new) }
-    ensures ready { AreReady world.now.tables world.now.state cores.now (laned lanes.new) }
-{
-    let choice = lanes.choice(world, cores, 0)?;
-    lanes
-        .follow(alloc, choice, None, world, cores)
-        .expect(rt, "memory");
-    Some(choice)
-}
-
-/// The same by its pick, of which the step alone is answered.
-fn take_pick(
-    rt: &impl Abort,
-    alloc: Global,
-    world: &World,
+    world: &mut World,
     cores: &Cores,
     lanes: &mut Lanes<'_, Global, Global>,
 ) -> Option<Step>
-    requires unbroken { world.now.state.broken ≡ false }
     requires kept { IsKept (laned lanes.old) }
-    requires ready { AreReady world.now.tables world.now.state cores.now (laned lanes.old) }
+    requires ready { AreReady world.old.tables world.old.state cores.now (laned lanes.old) }
     ensures kept { IsKept (laned lanes.new) }
-    ensures ready { AreReady world.now.tables world.now.state cores.now (laned lanes.new) }
+    ensures ready { AreReady world.new.tables world.new.state cores.now (laned lanes.new) }
 {
     let pick = lanes.pick(world, cores, 0)?;
+    let made = world.make(pick.step()).expect(rt, "memory");
     lanes
-        .follow_pick(alloc, pick, None, true, world, cores)
+        .follow(alloc, pick, &made, world, cores)
         .expect(rt, "memory");
     Some(pick.step())
 }
 
-/// Compares all that can be seen of lanes.
-fn same_lanes(
-    rt: &impl Abort,
-    world: &World,
-    cores: &Cores,
-    found: &Lanes<'_, Global, Global>,
-    wanted: &Lanes<'_, Global, Global>,
-)
-    requires found { IsKept (laned found.now) }
-    requires found_ready { AreReady world.now.tables world.now.state cores.now (laned found.now) }
-    requires wanted { IsKept (laned wanted.now) }
-    requires wanted_ready { AreReady world.now.tables world.now.state cores.now (laned wanted.now) }
-{
-    same(rt, &found.is_done(), &wanted.is_done());
-    let count = wanted.count(world, cores);
-    same(rt, &found.count(world, cores), &count);
-    for k in 0..=count {
-        let choice = wanted.choice(world, cores, k);
-        same(rt, &found.choice(world, cores, k), &choice);
-    }
-}
-
-/// Takes the first choice again and again, by its number in some lanes and by its pick in others, until it is no offer, and answers
-/// how many were taken.
-fn take_by_both(
+/// Compares what lanes have next with the list of all choices, and answers the first of these.
+fn first_of_both(
     rt: &impl Abort,
     alloc: Global,
     world: &World,
     cores: &Cores,
-    by_number: &mut Lanes<'_, Global, Global>,
-    by_pick: &mut Lanes<'_, Global, Global>,
-) -> u32
-    requires unbroken { world.now.state.broken ≡ false }
-    requires kept { IsKept (laned by_number.old) }
-    requires ready { AreReady world.now.tables world.now.state cores.now (laned by_number.old) }
-    requires kept_too { IsKept (laned by_pick.old) }
-    requires ready_too { AreReady world.now.tables world.now.state cores.now (laned by_pick.old) }
+    lanes: &Lanes<'_, Global, Global>,
+    rest: &Cursor<'_, Global, Global>,
+) -> Option<Choice>
+    requires kept { IsKept (laned lanes.now) }
+    requires ready { AreReady world.now.tables world.now.state cores.now (laned lanes.now) }
 {
-    for taken in 0..64 {
-        same_lanes(rt, world, cores, by_pick, by_number);
-        let choice = take_choice(rt, alloc, world, cores, by_number);
-        let step = take_pick(rt, alloc, world, cores, by_pick);
-        same(rt, &step, &choice.map(|it| it.step()));
-        if !matches!(choice, Some(Choice::Offer(..))) {
-            return taken;
+    let wanted = choices(alloc, world, cores, rest).expect(rt, "memory");
+    same(rt, &lanes.count(world, cores), &(wanted.len() as u64));
+    for (k, choice) in wanted.iter().enumerate() {
+        let pick = lanes.pick(world, cores, k as u64);
+        same(rt, &pick.map(|it| it.step()), &Some(choice.step()));
+    }
+    wanted.first().copied()
+}
+
+/// Makes the first choice again and again, until there is none, with the lanes and with a cursor, and answers how many there were.
+/// (No core is busy, as none is told of its asks.)
+fn make_all(
+    rt: &impl Abort,
+    alloc: Global,
+    world: &mut World,
+    cores: &Cores,
+    lanes: &mut Lanes<'_, Global, Global>,
+    rest: &mut Cursor<'_, Global, Global>,
+) -> u32
+    requires kept { IsKept (laned lanes.old) }
+    requires ready { AreReady world.old.tables world.old.state cores.now (laned lanes.old) }
+{
+    for made in 0..64 {
+        let first = first_of_both(rt, alloc, world, cores, lanes, rest);
+        if let Some(Choice::Offer(number, _)) = first {
+            let _ask = rest.take(alloc, number).expect(rt, "memory");
+        }
+        let step = make_pick(rt, alloc, world, cores, lanes);
+        same(rt, &step, &first.map(|it| it.step()));
+        if step.is_none() {
+            same(rt, &lanes.is_done(), &true);
+            return made;
         }
     }
     64
 }
 
-/// Takes what can be taken of a scenario, where these steps were made in the world before.
-fn takes(rt: &impl Abort, alloc: Global, steps: &[&str], scenario: &Scenario<Global>, wanted: u32) {
+/// Makes what there is of a scenario.
+fn makes(rt: &impl Abort, alloc: Global, scenario: &Scenario<Global>, wanted: u32) {
     let mut world = opened(rt, alloc);
-    play(rt, &mut world, steps);
     let cores = Cores::open(alloc, 2).expect(rt, "memory");
-    if world.broken() {
-        panic!(rt; "broken");
-    }
-    let made = Lanes::open(alloc, scenario, 2, &world, &cores);
-    let mut by_number: Lanes<'_, Global, Global> = made.expect(rt, "memory");
-    let made = Lanes::open(alloc, scenario, 2, &world, &cores);
-    let mut by_pick: Lanes<'_, Global, Global> = made.expect(rt, "memory");
-    let found = take_by_both(rt, alloc, &world, &cores, &mut by_number, &mut by_pick);
+    let opened = Lanes::open(alloc, scenario, 2, &world, &cores);
+    let mut lanes: Lanes<'_, Global, Global> = opened.expect(rt, "memory");
+    let mut rest = Cursor::open(scenario);
+    let found = make_all(rt, alloc, &mut world, &cores, &mut lanes, &mut rest);
     same(rt, &found, &wanted);
 }
 
@@ -289,11 +233,10 @@ const TWO_LANES: &str = r#"{"both":[
 ]}"#;
 
 #[test]
-fn choices_are_taken_as_picks_are(rt: HostRuntime) {
+fn lanes_have_the_choices_of_a_list(rt: HostRuntime) {
     let shape = Shape::new(2, 1).expect(&rt, "a shape");
     let read = Scenario::read(rt.alloc(), rt.alloc(), TWO_LANES.as_bytes(), shape);
     let scenario = read.expect(&rt, "a scenario");
-    takes(&rt, rt.alloc(), &[], &scenario, 4);
-    // (the asks of core 1 are held)
-    takes(&rt, rt.alloc(), &["ask 1 0 store 9"], &scenario, 2);
+    makes(&rt, rt.alloc(), &Scenario::One(LOAD), 3);
+    makes(&rt, rt.alloc(), &scenario, 10);
 }

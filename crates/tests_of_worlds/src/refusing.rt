@@ -104,8 +104,8 @@ fn same_worlds(rt: &impl Abort, found: &World, wanted: &World) {
 /// Makes a step by one of the two calls that make one.
 fn outcome_of(world: &mut World, step: Step, tells: bool) -> Result<Outcome, NoMemory> {
     if tells {
-        let went = world.go(step)?;
-        return Ok(went.outcome);
+        let made = world.make(step)?;
+        return Ok(made.outcome);
     }
     world.step(step)
 }

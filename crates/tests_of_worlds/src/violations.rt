@@ -3,6 +3,7 @@ use base::{BlockId, CacheId, Outcome, Place, Shape, Step};
 use both_tables::Tables;
 use cache_table::{CacheAction, CacheActions, CacheEntry, CacheEvent, CacheState, CacheTable};
 use directory_table::DirectoryTable;
+use machine::Actor;
 use monitor::{Violation, Watch, violation_after};
 use std::alloc::Global;
 use std::process::Abort;
@@ -40,11 +41,11 @@ fn see(
     let outcome = plain.world.step(step).expect(rt, "memory");
     same_at(rt, &Some(outcome), &Outcome::read(came.as_bytes()), &made);
     let found = plain.watch.see(&plain.world, step, outcome);
-    let went = told.world.go(step).expect(rt, "memory");
-    same_at(rt, &went.outcome, &outcome, &made);
-    let seen = told.watch.see_went(&told.world, step, &went);
+    let came_to = told.world.make(step).expect(rt, "memory");
+    same_at(rt, &came_to.outcome, &outcome, &made);
+    let seen = told.watch.see_made(&told.world, step, &came_to);
     same_at(rt, &seen, &found, &made);
-    let alone = violation_after(&told.world, step, &went);
+    let alone = violation_after(&told.world, step, &came_to);
     same_at(rt, &alone, &found, &made);
     found
 }
@@ -128,21 +129,30 @@ fn nothing_is_wrong(rt: HostRuntime) {
     same(&rt, &found, &None);
 }
 
+/// The line of cache 0, which went from one state to another.
+fn went(before: CacheState, after: CacheState) -> Option<Actor> {
+    Some(Actor::Line {
+        cache: CacheId(0),
+        before,
+        after,
+    })
+}
+
 #[test]
-fn a_line_that_changes_is_told(rt: HostRuntime) {
+fn whose_cell_acted_is_told(rt: HostRuntime) {
     let mut world = opened(&rt, rt.alloc(), CacheTable::baseline());
     let rows = [
-        ("ask 0 0 load", true),
-        ("request 0 0", false),
-        ("ask 0 0 load", false),
-        ("response 0 0", true),
-        ("ask 0 0 load", false),
-        ("ask 0 0 replace", true),
+        ("ask 0 0 load", went(CacheState::I, CacheState::IsD)),
+        ("request 0 0", Some(Actor::Home)),
+        ("ask 0 0 load", None),
+        ("response 0 0", went(CacheState::IsD, CacheState::S)),
+        ("ask 0 0 load", went(CacheState::S, CacheState::S)),
+        ("ask 0 0 replace", went(CacheState::S, CacheState::SiA)),
     ];
-    for (made, changed) in &rows {
-        let step = Step::read(made.as_bytes()).expect(&rt, "a step");
-        let went = world.go(step).expect(&rt, "memory");
-        same_at(&rt, &went.changed, changed, made);
+    for (row, by) in &rows {
+        let step = Step::read(row.as_bytes()).expect(&rt, "a step");
+        let made = world.make(step).expect(&rt, "memory");
+        same_at(&rt, &made.acted.map(|it| it.by), by, row);
     }
 }
 

@@ -1,9 +1,10 @@
--- A step leaves the cores as they were, but for that of the cache that it goes to.
-use Rattle.std.proofs.Common.{◌≡◌, ◌≢◌, ℕ, List, [], ◌∷◌, Option, Some, None, false, slice_get, refl, sym, ap, ◌∙◌}
+-- A step leaves the cores as they were, but for that of the cache whose cell acted.
+use Rattle.std.proofs.Common.{◌≡◌, ◌≢◌, ℕ, List, [], ◌∷◌, Bool, true, false, if◌then◌else◌, Option, Some, None, slice_get, refl, subst, sym, ap, ◌∙◌}
 use Rattle.std.specs.Prelude.{is_none}
-use Rattle.std.specs.Option.{option_and_then}
+use Rattle.std.specs.Option.{option_map}
 use Rattle.base.specs.Steps.{block_of}
 use Rattle.base.specs.declared.ids.CacheId.{CacheId}
+use Rattle.base.specs.declared.ids.Place.{Place}
 use Rattle.base.specs.declared.ids.Place.TheVariants.{Cache}
 use Rattle.base.specs.declared.step.Ask.TheVariants.{Load, Store, Replace}
 use Rattle.base.specs.declared.step.CoreAsk.{CoreAsk}
@@ -22,12 +23,14 @@ use Rattle.machine.specs.declared.decision.Origin.{Origin}
 use Rattle.machine.specs.declared.decision.Origin.TheVariants as origin
 use Rattle.machine.specs.Block.{BlockState}
 use Rattle.machine.specs.Completions.{Completion, completed_by}
-use Rattle.machine.specs.Machine.{State, Next, next, next_at}
-use Rattle.machine.specs.Transition.{carried_out, decision_of, outcome_of}
+use Rattle.machine.specs.declared.made.Acted.{Acted}
+use Rattle.machine.specs.declared.made.Made.{Made}
+use Rattle.machine.specs.Machine.{State}
+use Rattle.machine.specs.Made.{IsTold, acted_by, actor_place, is_crowded, made_in, place_of, refused}
+use Rattle.machine.specs.Transition.{carried_out, decision_of, outcome_of, transition}
 use Rattle.blocks.specs.Looks.{cache_place, place_in}
-use Rattle.world.specs.Looks.{place_at}
 use Rattle.cores.specs.Cores.{Core, finishing, is_free, issuing, with_core}
-use Rattle.schedule.proofs.Touched.{GoesTo, decision-goes, next-sound}
+use Rattle.blocks.proofs.Going.{Goes, decision-goes}
 use Rattle.trials.specs.Moments.{cores_after, put_by, with_finished, with_issued}
 use Rattle.trials.proofs.CoreSteps.{with-other}
 use Rattle.trials.proofs.Effects.{none-done, none-put}
@@ -146,24 +149,33 @@ nothing-put : (s : Step) (what : Outcome) (cores : List Core) (core : ℕ) → p
 nothing-put s what cores core put finished =
     ap (λ cs. is_free (with_finished cs (with_issued (put_by s what) cores)) core) finished ∙ ap (λ asks. is_free (with_issued asks cores) core) put
 
-free-at : (s : Step) (b : BlockState) (d : Decision) (cores : List Core) (core : CacheId) → GoesTo d (place_in s b) → place_in s b ≢ Some (Cache core) →
-    is_free (cores_after s (carried_out d b).outcome cores) core.0 ≡ is_free cores core.0
-free-at s b (Refused what) cores core g ne = nothing-put s what cores core.0 (none-put s what g) (none-done s what g)
-free-at s b (AtLine cache line input state actions from) cores core g ne =
-    let apart : core.0 ≢ cache.0 = λ e. ne (g ∙ ap (λ n. Some (Cache (record { 0 = n }))) (sym e)) in
-    both-apart s (outcome_of cache from (line_completes input state line)) cores core.0 (asks-there s b cache core.0 g apart)
+abbrev place_by : Decision → Bool → Option Place
+place_by d crowded = option_map (λ (acted : Acted). actor_place acted.by) (acted_by d crowded)
+
+free-at : (s : Step) (b : BlockState) (d : Decision) (crowded : Bool) (cores : List Core) (core : CacheId) → Goes d (place_in s b) b.lines →
+    place_by d crowded ≢ Some (Cache core) → is_free (cores_after s (carried_out d b).outcome cores) core.0 ≡ is_free cores core.0
+free-at s b (Refused what) crowded cores core g ne = nothing-put s what cores core.0 (none-put s what g) (none-done s what g)
+free-at s b (AtLine cache line input state actions from) crowded cores core g ne =
+    let apart : core.0 ≢ cache.0 = λ e. ne (ap (λ n. Some (Cache (record { 0 = n }))) (sym e)) in
+    both-apart s (outcome_of cache from (line_completes input state line)) cores core.0 (asks-there s b cache core.0 g.0 apart)
     (outcome-apart cache from (line_completes input state line) core.0 apart)
-free-at s b (AtHome input state actions from) cores core g ne = nothing-put s outcome.Moved cores core.0 (moved-puts-none s) refl
+free-at s b (AtHome input state actions from) crowded cores core g ne = nothing-put s outcome.Moved cores core.0 (moved-puts-none s) refl
 
-free-in : (tables : Tables) (state : State) (s : Step) (found : Option BlockState) (cores : List Core) (core : CacheId) →
-    option_and_then (place_in s) found ≢ Some (Cache core) →
-    is_free (cores_after s (next_at tables state s found).outcome cores) core.0 ≡ is_free cores core.0
-free-in tables state s None cores core ne = nothing-put s outcome.Absent cores core.0 (none-put s outcome.Absent tt) (none-done s outcome.Absent tt)
-free-in tables state s (Some b) cores core ne = free-at s b (decision_of tables s b) cores core (decision-goes tables s b) ne
+free-in : (tables : Tables) (s : Step) (found : Option BlockState) (cores : List Core) (core : CacheId) → place_of (made_in tables s found) ≢ Some (Cache core) →
+    is_free (cores_after s (made_in tables s found).outcome cores) core.0 ≡ is_free cores core.0
+free-in tables s None cores core ne = nothing-put s outcome.Absent cores core.0 (none-put s outcome.Absent tt) (none-done s outcome.Absent tt)
+free-in tables s (Some b) cores core ne =
+    free-at s b (decision_of tables s b) (is_crowded (transition tables s b).block) cores core (decision-goes tables s b) ne
 
--- a step leaves it to be whether a core is free, but for that of the cache that it goes to
-pub free-stays : (tables : Tables) (state : State) (s : Step) (cores : List Core) (core : CacheId) → state.broken ≡ false →
-    place_at state s ≢ Some (Cache core) → is_free (cores_after s (next tables state s).outcome cores) core.0 ≡ is_free cores core.0
-free-stays tables state s cores core sound ne =
-    ap (λ (n : Next). is_free (cores_after s n.outcome cores) core.0) (next-sound tables state s sound)
-    ∙ free-in tables state s (slice_get state.blocks (block_of s)) cores core ne
+free-if : (tables : Tables) (s : Step) (found : Option BlockState) (broken : Bool) (cores : List Core) (core : CacheId) →
+    place_of (if broken then refused outcome.Broken else made_in tables s found) ≢ Some (Cache core) →
+    is_free (cores_after s (if broken then refused outcome.Broken else made_in tables s found).outcome cores) core.0 ≡ is_free cores core.0
+free-if tables s found true cores core ne = nothing-put s outcome.Broken cores core.0 (none-put s outcome.Broken tt) (none-done s outcome.Broken tt)
+free-if tables s found false cores core ne = free-in tables s found cores core ne
+
+-- a step leaves it to be whether a core is free, but for that of the cache whose cell acted
+pub free-stays : (tables : Tables) (before : State) (s : Step) (made : Made) (behind : State) (cores : List Core) (core : CacheId) →
+    IsTold tables before s made behind → place_of made ≢ Some (Cache core) → is_free (cores_after s made.outcome cores) core.0 ≡ is_free cores core.0
+free-stays tables before s made behind cores core told ne =
+    ap (λ (m : Made). is_free (cores_after s m.outcome cores) core.0) told.told
+    ∙ free-if tables s (slice_get before.blocks (block_of s)) before.broken cores core (subst (λ (m : Made). place_of m ≢ Some (Cache core)) told.told ne)

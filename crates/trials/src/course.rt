@@ -150,14 +150,13 @@ impl<'s, 'b, A: Allocator, N: Notes> Course<'s, 'b, A, N> {
         ensures alike { IsLike self.old.world self.new.world }
     {
         let step = pick.step();
-        let went = self.world.go(step)?;
-        let outcome = went.outcome;
+        let made = self.world.make(step)?;
+        let outcome = made.outcome;
         note(&mut self.cores, step, outcome);
         let (world, cores) = (&self.world, &self.cores);
-        self.lanes
-            .follow_pick(arena, pick, went.at, went.changed, world, cores)?;
+        self.lanes.follow(arena, pick, &made, world, cores)?;
         self.notes.add(Entry { step, outcome })?;
-        Ok(violation_after(&self.world, step, &went))
+        Ok(violation_after(&self.world, step, &made))
     }
 
     /// The verdict where there is no choice.

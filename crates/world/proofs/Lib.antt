@@ -8,8 +8,6 @@ pub mod Stepping
 pub mod Copying
 pub mod Marking
 pub mod Counted
-pub mod Crowds
-pub mod LineStates
 pub mod QuietMarks
 pub mod Spotted
 pub mod Delivering

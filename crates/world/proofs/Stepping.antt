@@ -8,6 +8,8 @@ use Rattle.base.specs.Steps.{block_of}
 use Rattle.base.specs.declared.step.Step.{Step}
 use Rattle.base.specs.declared.step.Outcome.{Outcome}
 use Rattle.machine.specs.Block.{BlockState}
+use Rattle.machine.specs.declared.made.Made.{Made}
+use Rattle.machine.specs.Made.{made_at, made_in, made_of}
 use Rattle.machine.specs.Machine.{State, is_blank, next, next_at, sent_at, sent_by}
 use Rattle.both_tables.specs.Tables.{Tables}
 use Rattle.machine.specs.Transition.{Transition, decision_of, messages_of, transition}
@@ -84,6 +86,17 @@ next-is shape tables values old new step v what e lt others made =
       outcome = t.outcome;
     }) made
     ∙ ap (λ (bs : List BlockState). stepped (record { blocks = bs; broken = is_blank what }) what) (sym changed)
+
+-- what a block came to by what it tells
+pub came-to : (tables : Tables) (step : Step) (b new : BlockState) (made : Made) → made ≡ made_at tables step b → (transition tables step b).block ≡ new →
+    transition tables step b ≡ moved_to new made.outcome
+came-to tables step b new made told state = λ i. record { block = state i; outcome = (ap (λ (m : Made). m.outcome) (sym told)) i }
+
+-- what a step comes to is what it does at its block
+pub made-is : (shape : Extent) (tables : Tables) (values : List ℕ) (ks : List (Option BlockView)) (step : Step) (v : ℕ) (made : Made) →
+    Some v ≡ slice_get values (block_of step) → made ≡ made_at tables step (state_or shape.caches v (kept_at ks (block_of step))) →
+    made ≡ made_of tables (state_of shape values ks false) step
+made-is shape tables values ks step v made e is = is ∙ ap (made_in tables step) (sym (state-there shape.caches values ks (block_of step) v e))
 
 -- the counts after the step
 counted-stepped : (tables : Tables) (shape : Extent) (values : List ℕ) (old new : List (Option BlockView)) (rows : Rows) (i v : ℕ) (t : Option Tested) →

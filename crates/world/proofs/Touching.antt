@@ -21,12 +21,13 @@ use Rattle.machine.specs.declared.decision.Decision.{Decision}
 use Rattle.machine.specs.declared.decision.Decision.TheVariants.{Refused, AtLine, AtHome}
 use Rattle.machine.specs.declared.decision.Origin.TheVariants as origin
 use Rattle.both_tables.specs.Tables.{Tables}
-use Rattle.machine.specs.Block.{opened_block}
+use Rattle.machine.specs.Block.{BlockState, opened_block}
 use Rattle.machine.specs.Transition.{at_ask, at_forward, by_line_entry, decision_of, is_idle}
 use Rattle.rows.specs.Flags.{is_set}
-use Rattle.blocks.specs.View.{BlockView, acts, acts_at_line, lines_after, wakes_line}
+use Rattle.blocks.specs.Steps.{WantsNone}
+use Rattle.blocks.specs.View.{BlockView, HasSpaceFor, Space, acts, acts_at_line, lines_after, wakes_line}
 use Rattle.world.specs.Keeping.{has_line}
-use Rattle.world.specs.View.{space_of, state_or}
+use Rattle.world.specs.View.{HasSpaceAt, space_of, state_or}
 use Rattle.blocks.specs.Marking.{marks_of}
 use Rattle.world.specs.inner.Holding.{kept_at, IsLight, OthersStay}
 use Rattle.world.specs.inner.Tests.{IsMarked}
@@ -86,6 +87,24 @@ pub light-at : (tables : Tables) (s : Step) (caches value : ℕ) (old : Option B
     (IsSome old) ⊎ (acts (decision_of tables s (state_or caches value old)) ≡ false)
 light-at tables s caches value None h = inr (opened-wakes tables s caches value h.wakes)
 light-at tables s caches value (Some k) h = inl refl
+
+-- what no cell acts on wants nothing
+pub idle-wants : (d : Decision) (b : BlockState) (space : Space) → acts d ≡ false → WantsNone d b space
+idle-wants (Refused what) b space none = inr (refl, refl)
+idle-wants (AtLine cache line input next actions from) b space none = absurd (cc)
+idle-wants (AtHome input next actions from) b space none = absurd (cc)
+
+-- where there is room at a block, kept or not, what is decided there wants nothing of the block that is kept then
+pub wants-at : (tables : Tables) (s : Step) (caches value : ℕ) (old : Option BlockView) (k : BlockView) → (IsSome old → old ≡ Some k) →
+    k.state ≡ state_or caches value old →
+    HasSpaceAt (decision_of tables s (state_or caches value old)) (state_or caches value old) (space_of old) → WantsNone (decision_of tables s k.state) k.state k.space
+wants-at tables s caches value None k kept same space = idle-wants _ _ _ (subst (λ b. acts (decision_of tables s b) ≡ false) (sym same) space)
+wants-at tables s caches value (Some old) k kept same space =
+    let here : old ≡ k = same-view old k (kept refl) in
+    inl (subst (λ (v : BlockView). HasSpaceFor (decision_of tables s v.state) v.state v.space) here space)
+  where
+    same-view : (a b : BlockView) → Some a ≡ Some b → a ≡ b
+    same-view a b e = cc e
 
 -- a block that is kept from now on has no line yet
 pub none-yet : (caches : ℕ) (k : BlockView) → k.space.lines ≡ replicate caches false → (cache : ℕ) → has_line (space_of (Some k)) cache ≡ false

@@ -2,8 +2,7 @@ pub mod View
 pub mod Runs
 pub mod Keeping
 pub mod Looks
-pub mod Crowds
-pub mod LineStates
+pub mod OneStep
 pub mod Enabled
 pub mod Messages
 pub mod Coherent

@@ -1,50 +1,21 @@
-ghost use Rattle.std.specs.Prelude.{◌≡◌, ℕ, ◌<◌, ◌≤◌, ◌↔◌, IfNone, IfOk, IfSome, IsOk, IsSome, None, OnErr, OnOk, Some, false, true, length, slice_set};
+ghost use Rattle.std.specs.Prelude.{◌≡◌, ℕ, ◌<◌, ◌≤◌, IfNone, IfOk, IfSome, IsOk, IsSome, None, OnErr, OnOk, Some, false, true, length, slice_set};
 ghost use Rattle.machine.specs.Transition.{decision_of, messages_of, transition};
 ghost use Rattle.machine.specs.declared.decision.Decision.TheVariants.{Refused};
-ghost use Rattle.blocks.specs.View.{acts, acts_at_line, moved_to};
-ghost use Rattle.blocks.specs.LineStates.{states_in};
-ghost use Rattle.blocks.specs.Looks.{place_in};
+ghost use Rattle.machine.specs.Made.{made_at};
+ghost use Rattle.blocks.specs.View.{acts, acts_at_line};
 ghost use Rattle.blocks.specs.Passing.{ResponsesPass};
-ghost use Rattle.world.specs.Crowds.{IsCrowdedIn, IsUncrowdedIn};
 ghost use Rattle.world.specs.Keeping.{has_line};
 ghost use Rattle.world.specs.View.{HasSpaceAt, space_of};
 ghost use Rattle.world.specs.inner.Holding.{kept_at, state_at, IsLight, OthersStay};
 ghost use Rattle.world.specs.inner.Tests.{IsMarked};
-ghost use Rattle.blocks.specs.Tests.{IsTested, IsToldIf, tested_in};
+ghost use Rattle.blocks.specs.Tests.{IsTested, tested_in};
 
-use base::{NoMemory, Outcome, Place, Step};
-use blocks::{Block, Made, decide_opened};
+use base::{NoMemory, Outcome, Step};
+use blocks::{Block, Visit, decide_opened};
 use both_tables::Tables;
-use machine::Decision;
+use machine::{Decision, Made};
 use rows::Sparse;
 use std::alloc::Global;
-
-/// What a step came to at one of the blocks.
-#[derive(Clone, Copy)]
-pub struct Visited {
-    pub made: Made,
-    /// The controller at which its cell acted, if one did.
-    pub at: Option<Place>,
-    /// Whether a cache may write the block after it, and another one may read it.
-    pub crowded: bool,
-    /// Whether a line is in another state than before.
-    pub changed: bool,
-}
-
-/// What a step came to that no cell acted on.
-pub fn refused(outcome: Outcome, crowded: bool) -> Visited
-    ensures { result ≡ record { made = record { outcome = outcome; tested = None }; at = None; crowded = crowded; changed = false } }
-{
-    Visited {
-        made: Made {
-            outcome,
-            tested: None,
-        },
-        at: None,
-        crowded,
-        changed: false,
-    }
-}
 
 /// Keeps a block that a step acts at, or answers the outcome of a step that no cell acts on there.
 ///
@@ -137,24 +108,19 @@ pub fn step_at(
     tables: &Tables,
     pass: bool,
     step: Step,
-) -> Result<Visited, NoMemory>
+) -> Result<Visit, NoMemory>
     requires below { number < length blocks.old.items }
     requires pass { pass ≡ true → ResponsesPass tables.now }
     requires marked { IsMarked tables.now (kept_at blocks.old.items number) }
     ensures others { OthersStay number blocks.old.items blocks.new.items }
     ensures marked { IsMarked tables.now (kept_at blocks.new.items number) }
-    ensures ok { IfOk result (λ visit. transition tables.now step (state_at caches value blocks.old.items number)
-        ≡ moved_to (state_at caches value blocks.new.items number) visit.made.outcome) }
-    ensures at { IfOk result (λ visit. IsToldIf visit.made.tested visit.at (place_in step (state_at caches value blocks.old.items number))) }
-    ensures changed { IfOk result (λ visit. (visit.changed ≡ false) ↔
-        (states_in (state_at caches value blocks.new.items number).lines
-        ≡ states_in (state_at caches value blocks.old.items number).lines)) }
-    ensures crowded { IfOk result (λ visit. visit.crowded ≡ true → IsCrowdedIn (state_at caches value blocks.new.items number)) }
-    ensures uncrowded { IfOk result (λ visit. visit.crowded ≡ false → IsUncrowdedIn (state_at caches value blocks.new.items number)) }
+    ensures made { IfOk result (λ visit. visit.made ≡ made_at tables.now step (state_at caches value blocks.old.items number)) }
+    ensures state { IfOk result (λ visit. (transition tables.now step (state_at caches value blocks.old.items number)).block
+        ≡ state_at caches value blocks.new.items number) }
     ensures tested { IfOk result (λ visit. IsTested tables.now (state_at caches value blocks.old.items number)
-        (state_at caches value blocks.new.items number) visit.made.tested) }
+        (state_at caches value blocks.new.items number) visit.tested) }
     ensures sent { IfOk result (λ visit. (length (messages_of (decision_of tables.now step (state_at caches value blocks.old.items number))
-        (state_at caches value blocks.old.items number)) ≤ tested_in visit.made.tested)) }
+        (state_at caches value blocks.old.items number)) ≤ tested_in visit.tested)) }
     ensures err { OnErr result (state_at caches value blocks.new.items number ≡ state_at caches value blocks.old.items number) }
     ensures succeeds { HasSpaceAt (decision_of tables.now step (state_at caches value blocks.old.items number))
         (state_at caches value blocks.old.items number) (space_of (kept_at blocks.old.items number)) → IsOk result }
@@ -165,18 +131,16 @@ pub fn step_at(
     ensures light { IsLight tables.now step (state_at caches value blocks.old.items number) → IsOk result }
 {
     if let Some(outcome) = touch(alloc, blocks, caches, value, number, tables, step)? {
-        return Ok(refused(outcome, false));
+        return Ok(Visit {
+            made: Made::refused(outcome),
+            tested: None,
+        });
     }
     let Some(block) = blocks.get_mut(number) else {
         unreachable!();
     };
-    let visit = block.visit(tables, pass, step)?;
-    Ok(Visited {
-        made: visit.made,
-        at: visit.at,
-        crowded: block.is_crowded(),
-        changed: visit.changed,
-    })
+    let visit = block.make(tables, pass, step)?;
+    Ok(visit)
 }
 
 /// Makes the room that a step at one of the blocks wants.

@@ -10,4 +10,4 @@ mod runs;
 mod worlds;
 
 pub use runs::RunStop;
-pub use worlds::{OpenFault, Went, World};
+pub use worlds::{OpenFault, World};

@@ -8,18 +8,12 @@ ghost use Rattle.world.specs.inner.Holding.{kept_at};
 
 use crate::worlds::{World, opening_value};
 use base::{BlockId, CacheId, Outcome, Place, Shape, Step};
-use blocks::{Block, HeldAsks, held_asks_opened, is_held_opened, opened_line};
+use blocks::{Block, HeldAsks, held_asks_in, is_held_opened, opened_line};
+use cache_table::CacheState;
 use control::Line;
 use directory_table::DirectoryState;
 use network::{Forward, Message};
 use rows::Sparse;
-
-/// No ask would be held.
-const NONE_HELD: HeldAsks = HeldAsks {
-    load: false,
-    store: false,
-    replace: false,
-};
 
 /// A block: what is kept of it, or its opening value where nothing is.
 #[derive(Clone, Copy)]
@@ -39,7 +33,7 @@ impl World {
     ghost use Rattle.machine.specs.Completions.{completions_of, due};
     ghost use Rattle.machine.specs.Coherence.{line_at};
     ghost use Rattle.world.specs.View.{home_at, shares_at};
-    ghost use Rattle.blocks.specs.Asking.{holds};
+    ghost use Rattle.blocks.specs.Asking.{holds, stalls_in};
     ghost use Rattle.world.specs.Looks.{held_at, latest_at, readers_of, writer_of, all_quiet, forward_at, message_at, place_at};
 
     /// How many caches and blocks there are.
@@ -206,26 +200,12 @@ impl World {
         }
     }
 
-    /// Which asks of a cache's core about a block would be held.
+    /// Which asks would be held at a line in this state, in a world that isn't broken.
     #[inline(always)]
-    pub fn held_asks(&self, cache: CacheId, block: BlockId) -> HeldAsks
-        ensures { (ask : Ask) → holds result ask ≡ held_at self.now.tables self.now.state (step.Ask cache block ask) }
+    pub fn held_asks(&self, state: CacheState) -> HeldAsks
+        ensures { (ask : Ask) → holds result ask ≡ stalls_in self.now.tables.cache ask state }
     {
-        if self.met_blank {
-            return NONE_HELD;
-        }
-        self.asks_held(cache, block)
-    }
-
-    /// Which asks would be held in a world that isn't broken. Where their block isn't there none would.
-    fn asks_held(&self, cache: CacheId, block: BlockId) -> HeldAsks
-        ensures { (ask : Ask) → holds result ask ≡ is_held_found self.now.tables (step.Ask cache block ask) (slice_get self.now.state.blocks block.0) }
-    {
-        match self.find(block.0) {
-            Some(Found::Kept(block)) => block.held_asks(&self.tables, cache),
-            Some(Found::Opened(_)) => held_asks_opened(&self.tables, self.shape.caches(), cache),
-            None => NONE_HELD,
-        }
+        held_asks_in(&self.tables, state)
     }
 
     /// The controller that a step goes to. There is none where cache, block or message isn't there, in a broken world too.

@@ -45,10 +45,10 @@ impl World {
             if let Err(_) = outcomes.reserve(1) {
                 return Err(RunStop { done: i });
             }
-            let Ok(outcome) = self.advance(*step) else {
+            let Ok(made) = self.make(*step) else {
                 return Err(RunStop { done: i });
             };
-            outcomes.push_reserved(outcome);
+            outcomes.push_reserved(made.outcome);
         }
         Ok(())
     }

@@ -4,11 +4,12 @@ ghost use Rattle.world.specs.Messages.{raised};
 ghost use Rattle.world.specs.inner.Tests.{counted};
 ghost use Rattle.blocks.specs.Tests.{tested_in};
 
-use crate::at_block::{Visited, ready_at, refused, step_at};
+use crate::at_block::{ready_at, step_at};
 use crate::counts::Counts;
-use base::{NoMemory, Outcome, Place, Shape, Step};
-use blocks::{Block, Made, responses_pass};
+use base::{NoMemory, Outcome, Shape, Step};
+use blocks::{Block, Tested, responses_pass};
 use both_tables::Tables;
+use machine::Made;
 use rows::{Sparse, TryClone};
 use std::alloc::Global;
 use std::marker::Model;
@@ -34,18 +35,6 @@ impl From<NoMemory> for OpenFault {
     fn from(_refused: NoMemory) -> OpenFault {
         OpenFault::NoMemory
     }
-}
-
-/// What a step came to.
-#[derive(Clone, Copy, Debug, PartialEq, Eq)]
-pub struct Went {
-    pub outcome: Outcome,
-    /// The controller that it went to. There is none where cache, block or message wasn't there.
-    pub at: Option<Place>,
-    /// Whether its block is crowded after it: a cache is in M, and another one is in S, SM^AD, SM^A or M.
-    pub crowded: bool,
-    /// Whether a line, that of the cache that it went to, is in another state than before.
-    pub changed: bool,
 }
 
 /// A world of caches and blocks, with the tables of its controllers.
@@ -108,16 +97,12 @@ impl Model for World {
 
 impl World {
     ghost use Rattle.std.specs.Prelude.{◌≡◌, ◌≢◌, ◌↔◌, ◌≤◌, ◌∷◌, [], None, false, true, IfOk, IsOk, IsErrOf, OnErr, OnOk, length, replicate};
-    ghost use Rattle.blocks.specs.Tests.{IsToldIf};
-    ghost use Rattle.base.specs.Extent.{IsWithinLimits};
     ghost use Rattle.base.specs.Steps.{block_of};
     ghost use Rattle.machine.specs.Machine.{IsHistory, next, opened, sent_by};
     ghost use Rattle.world.specs.Coherent.{HasBeenSafe, IsUnstuck};
-    ghost use Rattle.world.specs.Crowds.{IsCrowded, IsUncrowded};
     ghost use Rattle.world.specs.Keeping.{KeepsAsIs, KeepsNoOther, KeepsSameLines};
-    ghost use Rattle.world.specs.LineStates.{line_states};
-    ghost use Rattle.world.specs.Looks.{place_at};
     ghost use Rattle.world.specs.Messages.{messages_at, raised};
+    ghost use Rattle.world.specs.OneStep.{Steps, IsAsBefore, NeedsNoMemory};
     ghost use Rattle.world.specs.View.{HasRoomToStep, LeadsOn, stepped, wakes};
     ghost use Rattle.world.specs.declared.worlds.OpenFault.TheVariants as fault;
 
@@ -186,44 +171,38 @@ impl World {
         ensures succeeds { HasRoomToStep self.old step → IsOk result }
         ensures sends_nothing { sent_by self.old.tables self.old.state step ≡ [] → wakes self.old step ≡ false → IsOk result }
     {
-        let outcome = self.advance(step)?;
-        Ok(outcome)
+        // A look at a field brings in what holds of every world.
+        let _ = &self.shape;
+        let made = self.make(step)?;
+        Ok(made.outcome)
     }
 
-    /// Makes one step as [`step`](World::step) does, and answers where it went too, whether its block is crowded after it, and whether
-    /// a line's state changed.
-    /// Where memory is refused nothing has changed.
-    pub fn go(&mut self, step: Step) -> Result<Went, NoMemory>
-        ensures ok { IfOk result (λ went. next self.old.tables self.old.state step ≡ stepped self.new.state went.outcome) }
-        ensures at { IfOk result (λ went. went.at ≡ place_at self.old.state step) }
-        ensures changed { IfOk result (λ went. (went.changed ≡ false) ↔ (line_states self.new.state ≡ line_states self.old.state)) }
-        ensures crowded { IfOk result (λ went. went.crowded ≡ true → IsCrowded self.new.state (block_of step)) }
-        ensures uncrowded { IfOk result (λ went. went.crowded ≡ false → IsUncrowded self.new.state (block_of step)) }
-        ensures history { OnOk result (LeadsOn self.old (step ∷ []) self.new) }
-        ensures safe { HasBeenSafe self.new }
-        ensures unstuck { IsUnstuck self.new }
-        ensures shape { self.new.shape ≡ self.old.shape }
-        ensures tables { self.new.tables ≡ self.old.tables }
-        ensures opening { self.new.opening ≡ self.old.opening }
-        ensures err { OnErr result (self.new.state ≡ self.old.state) }
-        ensures tests_what_it_sends { OnOk result (raised self.old.tested (length (sent_by self.old.tables self.old.state step)) ≤ self.new.tested) }
-        ensures tests_its_block { OnOk result (self.new.tested ≤ raised self.old.tested (messages_at self.new.state (block_of step))) }
-        ensures err_tested { OnErr result (self.new.tested ≡ self.old.tested) }
-        ensures keeps { KeepsAsIs self.old step self.new }
-        ensures succeeds { HasRoomToStep self.old step → IsOk result }
-        ensures sends_nothing { sent_by self.old.tables self.old.state step ≡ [] → wakes self.old step ≡ false → IsOk result }
+    /// Makes one step as [`step`](World::step) does, and answers what it came to: what a cell did, if one acted, too.
+    pub fn make(&mut self, step: Step) -> Result<Made, NoMemory>
+        ensures ok { IfOk result (λ made. Steps self.old step made self.new) }
+        ensures err { OnErr result (IsAsBefore self.old step self.new) }
+        ensures succeeds { NeedsNoMemory self.old step → IsOk result }
     {
-        let visit = self.go_on(step)?;
-        let at = match visit.made.tested {
-            Some(_) => visit.at,
-            None => self.at(step),
+        if self.met_blank {
+            return Ok(Made::refused(Outcome::Broken));
+        }
+        let number = step.block().0;
+        let Some(value) = opening_value(self.opening.as_slice(), number) else {
+            return Ok(Made::refused(Outcome::Absent));
         };
-        Ok(Went {
-            outcome: visit.made.outcome,
-            at,
-            crowded: visit.crowded,
-            changed: visit.changed,
-        })
+        let visit = step_at(
+            self.alloc,
+            &mut self.blocks,
+            self.shape.caches(),
+            value,
+            number,
+            &self.tables,
+            self.pass,
+            step,
+        )?;
+        self.tested = note(&mut self.counts, self.tested, number, visit.tested);
+        self.met_blank = breaks(visit.made.outcome);
+        Ok(visit.made)
     }
 
     /// Makes the room that a step wants, changes nothing else, and answers the outcome that the step will have.
@@ -285,70 +264,6 @@ impl World {
             tested: self.tested,
         })
     }
-
-    pub(crate) fn advance(&mut self, step: Step) -> Result<Outcome, NoMemory>
-        ensures within { IsWithinLimits self.new.shape }
-        ensures ok { IfOk result (λ what. next self.old.tables self.old.state step ≡ stepped self.new.state what) }
-        ensures shape { self.new.shape ≡ self.old.shape }
-        ensures tables { self.new.tables ≡ self.old.tables }
-        ensures opening { self.new.opening ≡ self.old.opening }
-        ensures err { OnErr result (self.new.state ≡ self.old.state) }
-        ensures tests_what_it_sends { OnOk result (raised self.old.tested (length (sent_by self.old.tables self.old.state step)) ≤ self.new.tested) }
-        ensures tests_its_block { OnOk result (self.new.tested ≤ raised self.old.tested (messages_at self.new.state (block_of step))) }
-        ensures err_tested { OnErr result (self.new.tested ≡ self.old.tested) }
-        ensures keeps { KeepsAsIs self.old step self.new }
-        ensures succeeds { HasRoomToStep self.old step → IsOk result }
-        ensures sends_nothing { sent_by self.old.tables self.old.state step ≡ [] → wakes self.old step ≡ false → IsOk result }
-    {
-        if self.met_blank {
-            return Ok(Outcome::Broken);
-        }
-        let visit = self.go_on(step)?;
-        Ok(visit.made.outcome)
-    }
-
-    /// Makes one step, and answers where its cell acted, if one did. Of another step it isn't told where it goes, which few ask.
-    fn go_on(&mut self, step: Step) -> Result<Visited, NoMemory>
-        ensures within { IsWithinLimits self.new.shape }
-        ensures ok { IfOk result (λ visit. next self.old.tables self.old.state step ≡ stepped self.new.state visit.made.outcome) }
-        ensures at { IfOk result (λ visit. IsToldIf visit.made.tested visit.at (place_at self.old.state step)) }
-        ensures refused { IfOk result (λ visit. visit.made.tested ≡ None → place_at self.new.state step ≡ place_at self.old.state step) }
-        ensures changed { IfOk result (λ visit. (visit.changed ≡ false) ↔ (line_states self.new.state ≡ line_states self.old.state)) }
-        ensures crowded { IfOk result (λ visit. visit.crowded ≡ true → IsCrowded self.new.state (block_of step)) }
-        ensures uncrowded { IfOk result (λ visit. visit.crowded ≡ false → IsUncrowded self.new.state (block_of step)) }
-        ensures shape { self.new.shape ≡ self.old.shape }
-        ensures tables { self.new.tables ≡ self.old.tables }
-        ensures opening { self.new.opening ≡ self.old.opening }
-        ensures err { OnErr result (self.new.state ≡ self.old.state) }
-        ensures tests_what_it_sends { OnOk result (raised self.old.tested (length (sent_by self.old.tables self.old.state step)) ≤ self.new.tested) }
-        ensures tests_its_block { OnOk result (self.new.tested ≤ raised self.old.tested (messages_at self.new.state (block_of step))) }
-        ensures err_tested { OnErr result (self.new.tested ≡ self.old.tested) }
-        ensures keeps { KeepsAsIs self.old step self.new }
-        ensures succeeds { HasRoomToStep self.old step → IsOk result }
-        ensures sends_nothing { sent_by self.old.tables self.old.state step ≡ [] → wakes self.old step ≡ false → IsOk result }
-    {
-        if self.met_blank {
-            let is_crowded = self.crowded_writer(step.block()).is_some();
-            return Ok(refused(Outcome::Broken, is_crowded));
-        }
-        let number = step.block().0;
-        let Some(value) = opening_value(self.opening.as_slice(), number) else {
-            return Ok(refused(Outcome::Absent, false));
-        };
-        let visit = step_at(
-            self.alloc,
-            &mut self.blocks,
-            self.shape.caches(),
-            value,
-            number,
-            &self.tables,
-            self.pass,
-            step,
-        )?;
-        self.tested = note(&mut self.counts, self.tested, number, &visit.made);
-        self.met_blank = breaks(visit.made.outcome);
-        Ok(visit)
-    }
 }
 
 /// The opening value of a block, if the block is there.
@@ -367,13 +282,13 @@ fn breaks(outcome: Outcome) -> bool
     }
 }
 
-/// Notes what a step's test found, and answers how many messages were tested so far.
-fn note(counts: &mut Counts, tested: u64, number: u32, made: &Made) -> u64
+/// Notes what a step's test found, if it made one, and answers how many messages were tested so far.
+fn note(counts: &mut Counts, tested: u64, number: u32, found: Option<Tested>) -> u64
     requires { number < length counts.old.requests }
-    ensures counts { counts.new ≡ counted made.now.tested number counts.old }
-    ensures tested { result ≡ raised tested (tested_in made.now.tested) }
+    ensures counts { counts.new ≡ counted found number counts.old }
+    ensures tested { result ≡ raised tested (tested_in found) }
 {
-    match made.tested {
+    match found {
         None => tested,
         Some(found) => {
             counts.set(number, found.requests, found.heads, found.responses);

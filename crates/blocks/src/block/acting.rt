@@ -6,59 +6,38 @@ ghost use Rattle.machine.specs.Transition.{outcome_of, plain_outcome, latest_aft
 ghost use Rattle.rows.specs.Flags.{is_set};
 ghost use Rattle.blocks.specs.inner.Lined.{kept_lines, lines_of};
 ghost use Rattle.blocks.specs.inner.Linking.{IsOwn, IsRelinked};
-ghost use Rattle.blocks.specs.inner.Placed.{decided_place};
+ghost use Rattle.machine.specs.Made.{acted_by};
 ghost use Rattle.base.specs.declared.ids.CacheId.{CacheId};
 
 use crate::block::{Block, Tested, foreseen};
-use base::{CacheId, NoMemory, Outcome, Place, Step};
+use base::{CacheId, NoMemory, Outcome, Step};
 use both_tables::Tables;
 use control::{
     Line, LineCompletion, home_perform, home_reserve, line_perform, line_reserve, may_read,
     may_write,
 };
-use machine::{Decision, Origin};
+use machine::{Acted, Actor, Decision, Made, Origin};
 use network::Wires;
 use rows::Sparse;
 
 /// What a step came to at its block.
 #[derive(Clone, Copy)]
-pub struct Made {
-    pub outcome: Outcome,
+pub struct Visit {
+    pub made: Made,
     /// What the test of the block's messages found, where a cell acted.
     pub tested: Option<Tested>,
 }
 
-/// What a step came to at its block.
-#[derive(Clone, Copy)]
-pub struct Visit {
-    pub made: Made,
-    /// The controller at which its cell acted, if one did.
-    pub at: Option<Place>,
-    /// Whether a line is in another state than before.
-    pub changed: bool,
-}
-
-/// What carrying a decision out came to.
-#[derive(Clone, Copy)]
-struct Carried {
-    outcome: Outcome,
-    /// Whether the line that a cell acted at is in another state than before.
-    changed: bool,
-}
-
 impl Block {
-    ghost use Rattle.std.specs.Prelude.{◌≡◌, ◌≤◌, ◌↔◌, [], IfOk, IsOk, OnOk, OnErr, false, true, length, take};
+    ghost use Rattle.std.specs.Prelude.{◌≡◌, [], IfOk, IsOk, OnOk, OnErr, false, true, length, take};
     ghost use Rattle.base.specs.declared.ids.CacheId.{CacheId};
-    ghost use Rattle.blocks.specs.LineStates.{states_in};
-    ghost use Rattle.blocks.specs.Looks.{place_in};
-    ghost use Rattle.blocks.specs.inner.Leaving.{LeavesState};
     ghost use Rattle.blocks.specs.inner.Linking.{IsAtOwn, IsRelinked};
     ghost use Rattle.blocks.specs.Passing.{ResponsesPass};
     ghost use Rattle.machine.specs.Transition.{Fits, Transition, carried_out, decision_of, messages_of, transition};
     ghost use Rattle.blocks.specs.View.{acts, lines_after, moved_to, wakes_line, HasSpaceFor};
     ghost use Rattle.blocks.specs.Marking.{marks_of};
     ghost use Rattle.blocks.specs.inner.Named.{DecisionNames};
-    ghost use Rattle.blocks.specs.Tests.{IsTested, IsToldIf, tested_in};
+    ghost use Rattle.blocks.specs.Steps.{Visits, Stays, WantsNone};
 
     /// Makes the room that a decision wants. Where it is refused nothing has changed.
     #[inline(always)]
@@ -115,15 +94,14 @@ impl Block {
         Ok(foreseen(&decision))
     }
 
-    /// Does what was decided, where there is room for it.
+    /// Does what was decided, where there is room for it, and answers the outcome.
     #[inline(always)]
-    fn carry_out(&mut self, decision: &Decision) -> Carried
+    fn carry_out(&mut self, decision: &Decision) -> Outcome
         requires fits { Fits decision.now self.old.state }
         requires names { DecisionNames self.old.space.lines decision.now }
         requires room { HasSpaceFor decision.now self.old.state self.old.space }
-        ensures done { carried_out decision.now self.old.state ≡ moved_to self.new.state result.outcome }
+        ensures done { carried_out decision.now self.old.state ≡ moved_to self.new.state result }
         ensures lines { self.new.space.lines ≡ lines_after decision.now self.old.space.lines }
-        ensures changed { (result.changed ≡ false) ↔ LeavesState decision.now }
         ensures links { (cache : CacheId) → IsAtOwn decision.now cache →
             IsRelinked cache.0 self.old.marks.links self.old.state.traffic.links self.new.marks.links self.new.state.traffic.links }
         ensures requests { (cache : CacheId) → IsAtOwn decision.now cache →
@@ -131,10 +109,7 @@ impl Block {
     {
         self.counted = None;
         match *decision {
-            Decision::Refused(outcome) => Carried {
-                outcome,
-                changed: false,
-            },
+            Decision::Refused(outcome) => outcome,
             Decision::AtLine {
                 cache,
                 line,
@@ -150,10 +125,7 @@ impl Block {
                 self.access.readers.set(cache.0, may_read(after.state));
                 self.access.writers.set(cache.0, may_write(after.state));
                 self.latest = latest_value(done, self.latest);
-                Carried {
-                    outcome: completion_outcome(cache, origin, done),
-                    changed: after.state != line.state,
-                }
+                completion_outcome(cache, origin, done)
             }
             Decision::AtHome {
                 input,
@@ -163,91 +135,61 @@ impl Block {
             } => {
                 take(&mut self.wires, origin);
                 home_perform(&mut self.home, input, next, actions, &mut self.wires);
-                Carried {
-                    outcome: Outcome::Moved,
-                    changed: false,
-                }
+                Outcome::Moved
             }
         }
     }
 
-    /// Makes a step. Where memory is refused nothing has changed.
-    pub fn step(&mut self, tables: &Tables, step: Step) -> Result<Made, NoMemory>
-        requires { self.old.marks ≡ marks_of tables.now self.old.state }
-        ensures ok { IfOk result (λ made. transition tables.now step self.old.state ≡ moved_to self.new.state made.outcome) }
-        ensures marks { self.new.marks ≡ marks_of tables.now self.new.state }
-        ensures tested { IfOk result (λ made. IsTested tables.now self.old.state self.new.state made.tested) }
-        ensures sent { IfOk result (λ made. (length (messages_of (decision_of tables.now step self.old.state) self.old.state) ≤ tested_in made.tested)) }
-        ensures lines { OnOk result (self.new.space.lines ≡ lines_after (decision_of tables.now step self.old.state) self.old.space.lines) }
-        ensures err { OnErr result (self.new.state ≡ self.old.state) }
-        ensures err_lines { OnErr result (self.new.space.lines ≡ self.old.space.lines) }
-        ensures succeeds { HasSpaceFor (decision_of tables.now step self.old.state) self.old.state self.old.space → IsOk result }
-        ensures sends_nothing { messages_of (decision_of tables.now step self.old.state) self.old.state ≡ [] →
-            wakes_line (decision_of tables.now step self.old.state) ≡ false → IsOk result }
-    {
-        let visit = self.visit(tables, false, step)?;
-        Ok(visit.made)
-    }
-
-    /// Makes a step as [`step`](Block::step) does, under tables of which it may be known that no response is ever held, and
-    /// answers where its cell acted too, and whether a line's state changed. Where memory is refused nothing has changed.
-    pub fn visit(&mut self, tables: &Tables, pass: bool, step: Step) -> Result<Visit, NoMemory>
+    /// Makes a step, under tables of which it may be known that no response is ever held. Where memory is refused nothing has
+    /// changed.
+    pub fn make(&mut self, tables: &Tables, pass: bool, step: Step) -> Result<Visit, NoMemory>
         requires marks { self.old.marks ≡ marks_of tables.now self.old.state }
         requires pass { pass ≡ true → ResponsesPass tables.now }
-        ensures ok { IfOk result (λ visit. transition tables.now step self.old.state ≡ moved_to self.new.state visit.made.outcome) }
-        ensures at { IfOk result (λ visit. IsToldIf visit.made.tested visit.at (place_in step self.old.state)) }
-        ensures changed { IfOk result (λ visit. (visit.changed ≡ false) ↔ (states_in self.new.state.lines ≡ states_in self.old.state.lines)) }
-        ensures marks { self.new.marks ≡ marks_of tables.now self.new.state }
-        ensures tested { IfOk result (λ visit. IsTested tables.now self.old.state self.new.state visit.made.tested) }
-        ensures sent { IfOk result (λ visit. (length (messages_of (decision_of tables.now step self.old.state) self.old.state) ≤ tested_in visit.made.tested)) }
-        ensures lines { OnOk result (self.new.space.lines ≡ lines_after (decision_of tables.now step self.old.state) self.old.space.lines) }
-        ensures err { OnErr result (self.new.state ≡ self.old.state) }
-        ensures err_lines { OnErr result (self.new.space.lines ≡ self.old.space.lines) }
-        ensures idle { acts (decision_of tables.now step self.old.state) ≡ false → self.new.space ≡ self.old.space }
-        ensures succeeds { HasSpaceFor (decision_of tables.now step self.old.state) self.old.state self.old.space → IsOk result }
-        ensures sends_nothing { messages_of (decision_of tables.now step self.old.state) self.old.state ≡ [] →
-            wakes_line (decision_of tables.now step self.old.state) ≡ false → IsOk result }
+        ensures ok { IfOk result (λ visit. Visits tables.now self.old step visit self.new) }
+        ensures err { OnErr result (Stays tables.now self.old self.new) }
+        ensures succeeds { WantsNone (decision_of tables.now step self.old.state) self.old.state self.old.space → IsOk result }
     {
         let decision = self.decide(tables, step);
         if let Decision::Refused(outcome) = decision {
-            let made = Made {
-                outcome,
-                tested: None,
-            };
             return Ok(Visit {
-                made,
-                at: None,
-                changed: false,
+                made: Made::refused(outcome),
+                tested: None,
             });
         }
-        let at = decided_place(&decision);
         let others = self.others(&decision);
         if let Err(refused) = self.prepare(&decision) {
             return Err(refused);
         }
-        let carried = self.carry_out(&decision);
+        let outcome = self.carry_out(&decision);
         let tested = self.test_after(tables, pass, others);
-        let made = Made {
-            outcome: carried.outcome,
-            tested: Some(tested),
-        };
+        let acted = acted_by(&decision, self.is_crowded());
         Ok(Visit {
-            made,
-            at,
-            changed: carried.changed,
+            made: Made { outcome, acted },
+            tested: Some(tested),
         })
     }
 }
 
-/// The controller at which a cell acts.
-fn decided_place(decision: &Decision) -> Option<Place>
-    ensures { result ≡ decided_place decision.now }
+/// What a decision had a cell do, if one acted, where its block is crowded after it or isn't.
+#[inline(always)]
+fn acted_by(decision: &Decision, crowded: bool) -> Option<Acted>
+    ensures { result ≡ acted_by decision.now crowded }
 {
-    match *decision {
-        Decision::Refused(_) => None,
-        Decision::AtLine { cache, .. } => Some(Place::Cache(cache)),
-        Decision::AtHome { .. } => Some(Place::Dir),
-    }
+    let by = match *decision {
+        Decision::Refused(_) => return None,
+        Decision::AtLine {
+            cache,
+            line,
+            next,
+            ..
+        } => Actor::Line {
+            cache,
+            before: line.state,
+            after: next,
+        },
+        Decision::AtHome { .. } => Actor::Home,
+    };
+    Some(Acted { by, crowded })
 }
 
 /// Keeps the line of a cache, for which there is room.

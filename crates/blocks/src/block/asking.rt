@@ -1,23 +1,17 @@
-//! Which asks of a cache's core would be held: all kinds by one look at its line.
+//! Which asks of a cache's core would be held at a line: all kinds at once, as the state of the line tells.
 
-ghost use Rattle.std.specs.Prelude.{◌≡◌, ℕ};
-ghost use Rattle.base.specs.declared.ids.BlockId.{BlockId};
+ghost use Rattle.std.specs.Prelude.{◌≡◌};
 ghost use Rattle.base.specs.declared.step.Ask.{Ask};
-ghost use Rattle.base.specs.declared.step.Step.TheVariants as step;
-ghost use Rattle.blocks.specs.Asking.{holds};
-ghost use Rattle.blocks.specs.Looks.{held_in};
-ghost use Rattle.blocks.specs.Marking.{ask_stalls};
-ghost use Rattle.machine.specs.Block.{opened_block};
+ghost use Rattle.blocks.specs.Asking.{holds, stalls_in};
 
-use crate::block::Block;
-use crate::block::deciding::opened_line;
-use crate::block::looking::stalls_ask;
-use base::{Ask, CacheId};
+use crate::block::deciding::is_idle_ask;
+use crate::block::passing::stalls_at_line;
+use base::Ask;
 use both_tables::Tables;
-use control::Line;
+use cache_table::{CacheEvent, CacheState};
 
 /// Which asks would be held, each kind by itself. Whether a store is doesn't depend on its value.
-#[derive(Clone, Copy)]
+#[derive(Clone, Copy, PartialEq, Eq)]
 pub struct HeldAsks {
     pub load: bool,
     pub store: bool,
@@ -39,29 +33,14 @@ impl HeldAsks {
     }
 }
 
-impl Block {
-    /// Which asks of a cache's core would be held.
-    pub fn held_asks(&self, tables: &Tables, cache: CacheId) -> HeldAsks
-        ensures { (block : BlockId) (ask : Ask) → holds result ask ≡ held_in tables.now (step.Ask cache block ask) self.now.state }
-    {
-        held_by_line(tables, self.line(cache))
-    }
-}
-
-/// Which asks of a cache's core would be held at a block that nothing has happened to.
-pub fn held_asks_opened(tables: &Tables, caches: u32, cache: CacheId) -> HeldAsks
-    ensures { (value : ℕ) (block : BlockId) (ask : Ask) → holds result ask ≡ held_in tables.now (step.Ask cache block ask) (opened_block caches value) }
-{
-    held_by_line(tables, opened_line(cache, caches))
-}
-
-/// Which asks would be held at a line.
-fn held_by_line(tables: &Tables, line: Option<Line>) -> HeldAsks
-    ensures { (ask : Ask) → holds result ask ≡ ask_stalls tables.now.cache ask line }
+/// Which asks would be held at a line in this state.
+pub fn held_asks_in(tables: &Tables, state: CacheState) -> HeldAsks
+    ensures { (ask : Ask) → holds result ask ≡ stalls_in tables.now.cache ask state }
 {
     HeldAsks {
-        load: stalls_ask(tables, Ask::Load, line),
-        store: stalls_ask(tables, Ask::Store(0), line),
-        replace: stalls_ask(tables, Ask::Replace, line),
+        load: stalls_at_line(tables, state, CacheEvent::Load),
+        store: stalls_at_line(tables, state, CacheEvent::Store),
+        replace: !is_idle_ask(Ask::Replace, state)
+            && stalls_at_line(tables, state, CacheEvent::Replacement),
     }
 }

@@ -15,9 +15,10 @@ use machine::Decision;
 use network::{Forward, Message, Response};
 
 impl Block {
-    ghost use Rattle.std.specs.Prelude.{◌≡◌, ◌<◌, ◌≤◌, ◌⊎◌, IfNone, IfSome, IsSome, None, Some, count_by, false, slice_get, true};
+    ghost use Rattle.std.specs.Prelude.{◌≡◌, ◌<◌, ◌≤◌, ◌⊎◌, IfNone, IfSome, None, Some, count_by, slice_get};
     ghost use Rattle.network.specs.Traffic.{is_quiet, link};
     ghost use Rattle.control.specs.LineEffect.{is_reader, is_writer};
+    ghost use Rattle.machine.specs.Made.{is_crowded};
     ghost use Rattle.machine.specs.Transition.{transition};
     ghost use Rattle.blocks.specs.Looks.{cache_place, message_in, place_in, response_place, writer_in};
     ghost use Rattle.blocks.specs.Looks.{held_in};
@@ -66,10 +67,8 @@ impl Block {
     }
 
     /// Whether more than one cache may read the block, and one may write it. It is told by two counts.
-    pub fn is_crowded(&self) -> bool
-        ensures many { result ≡ true → 1 < count_by (λ line. is_reader line.state) self.now.state.lines }
-        ensures writer { result ≡ true → IsSome (writer_in self.now.state.lines) }
-        ensures uncrowded { result ≡ false → (count_by (λ line. is_reader line.state) self.now.state.lines ≤ 1) ⊎ (None ≡ writer_in self.now.state.lines) }
+    pub(crate) fn is_crowded(&self) -> bool
+        ensures { result ≡ is_crowded self.now.state }
     {
         self.readers() > 1 && self.writers() > 0
     }

@@ -21,7 +21,7 @@ fn stalls_at_home(tables: &Tables, state: DirectoryState, event: DirectoryEvent)
 }
 
 /// Whether a line's cell of a state and an event is a stall.
-fn stalls_at_line(tables: &Tables, state: CacheState, event: CacheEvent) -> bool
+pub(crate) fn stalls_at_line(tables: &Tables, state: CacheState, event: CacheEvent) -> bool
     ensures { result ≡ is_stall (cache_table.cell tables.now.cache state event) }
 {
     match tables.cache.entry(state, event) {

@@ -43,19 +43,6 @@ impl Block {
     ghost use Rattle.blocks.specs.Marking.{free_requests, free_heads, free_responses, marks_of};
     ghost use Rattle.blocks.specs.Messages.{message_count};
 
-    /// Tests all messages, and marks those that would be held.
-    pub fn test(&mut self, tables: &Tables) -> Tested
-        ensures state { self.new.state ≡ self.old.state }
-        ensures space { self.new.space ≡ self.old.space }
-        ensures marks { self.new.marks ≡ marks_of tables.now self.old.state }
-        ensures requests { result.requests ≡ free_requests tables.now self.old.state }
-        ensures heads { result.heads ≡ free_heads tables.now self.old.state }
-        ensures responses { result.responses ≡ free_responses tables.now self.old.state }
-        ensures messages { result.messages ≡ message_count self.old.state.traffic }
-    {
-        self.test_where(tables, false)
-    }
-
     /// Tests all messages, and marks those that would be held: where no response ever is, no response is looked at.
     pub(crate) fn test_where(&mut self, tables: &Tables, pass: bool) -> Tested
         requires { pass ≡ true → ResponsesPass tables.now }

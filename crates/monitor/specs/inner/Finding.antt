@@ -1,7 +1,13 @@
 -- What the parts of a search for a violation answer.
-use Rattle.std.specs.Prelude.{◌≤◌, ◌<◌, ℕ, Option, Some, None}
+use Rattle.std.specs.Prelude.{◌≡◌, ◌≤◌, ◌<◌, ◌⊎◌, ℕ, Bool, Option, Some, None}
+use Rattle.std.specs.Option.{option_map_or}
+use Rattle.base.specs.declared.step.Outcome.{Outcome}
+use Rattle.machine.specs.declared.made.Acted.{Acted}
+use Rattle.machine.specs.declared.made.Made.{Made}
+use Rattle.machine.specs.Machine.{State, is_blank}
+use Rattle.world.specs.Looks.{readers_of, writer_of}
 use Rattle.monitor.specs.declared.violation.Violation.{Violation}
-use Rattle.monitor.specs.Scenes.{Scene, Shows, rank}
+use Rattle.monitor.specs.Scenes.{IsLookedAt, Scene, Shows, rank}
 
 -- a fact holds for no number from this one on
 abbrev pub HoldsForNoneFrom : (ℕ → Type 0) → ℕ → Type 0
@@ -28,3 +34,15 @@ pub record IsFirst (scene : Scene) (low high : ℕ) (violation : Violation) : Ty
 abbrev pub AnswersWithin : Scene → ℕ → ℕ → Option Violation → Type 0
 AnswersWithin scene low high None = ShowsNone scene low high
 AnswersWithin scene low high (Some violation) = IsFirst scene low high violation
+
+-- whether a step met a blank cell, or its block is crowded after it
+abbrev pub is_suspect : Made → Bool
+is_suspect made = option_map_or (λ (acted : Acted). acted.crowded) made.acted (is_blank made.outcome)
+
+-- one cache at most may read the block of a number, or none may write it; where there is none it holds
+abbrev pub IsUncrowded : State → ℕ → Type 0
+IsUncrowded s block = (readers_of s block ≤ 1) ⊎ (None ≡ writer_of s block)
+
+-- so it is if a step of this outcome is looked at
+abbrev pub IsUncrowdedIf : Outcome → State → ℕ → Type 0
+IsUncrowdedIf what s block = IsLookedAt what → IsUncrowded s block

@@ -4,14 +4,16 @@ use Rattle.base.specs.declared.ids.BlockId.{BlockId}
 use Rattle.base.specs.declared.ids.CacheId.{CacheId}
 use Rattle.base.specs.declared.ids.Place.{Place}
 use Rattle.base.specs.declared.ids.Place.TheVariants.{Cache}
+use Rattle.machine.specs.Coherence.{line_at}
 use Rattle.machine.specs.Machine.{State}
 use Rattle.both_tables.specs.Tables.{Tables}
-use Rattle.cores.specs.Cores.{Core}
+use Rattle.blocks.specs.declared.block.asking.HeldAsks.{HeldAsks}
+use Rattle.cores.specs.Cores.{Core, is_free}
 use Rattle.scenario.specs.Alike.{Alike}
 use Rattle.scenario.specs.Taking.{left}
 use Rattle.schedule.specs.Lanes.{Laned, IsKept, IsListed, lanes_of, listed_at, offers_at, puttable, whole}
 use Rattle.schedule.specs.Listed.{IsMarked, Listed, nothing_listed}
-use Rattle.schedule.specs.inner.Marks.{all_marked, marked_at, offers_by}
+use Rattle.schedule.specs.inner.Marks.{all_marked, marked_by, offers_by}
 use Rattle.std.specs.List.{Contains}
 
 -- one lane was listed anew: of the others the same is kept, and they are where they were
@@ -46,10 +48,11 @@ IsCountedIn cores lanes which old new lane =
     (slice_index new lane ≡ count_by cores (slice_index_or lanes lane nothing_listed))
     ⊎ ((slice_index new lane ≡ slice_index old lane) × ¬ Contains which lane)
 
--- the marks of a lane were made anew for a core and a block; or it is as it was, and these lanes don't have it among them
-abbrev pub IsMarkedIn : Tables → State → CacheId → BlockId → List ℕ → Listed → Listed → ℕ → Type 0
-IsMarkedIn tables state core block which old new lane =
-    (new ≡ marked_at tables state core block old) ⊎ ((new ≡ old) × ¬ Contains which lane)
+-- the marks of a lane were made anew for a core and a block; or it is as it was, and is the one that was done, or these lanes don't have it among
+-- them
+abbrev pub IsMarkedIn : HeldAsks → CacheId → BlockId → List ℕ → Option ℕ → Listed → Listed → ℕ → Type 0
+IsMarkedIn held core block which done old new lane =
+    (new ≡ marked_by held core block old) ⊎ ((new ≡ old) × ((done ≡ Some lane) ⊎ (¬ Contains which lane)))
 
 -- nothing has changed but marks
 pub record ChangesMarks (old new : Laned) : Type 0 where
@@ -92,3 +95,14 @@ AreMarked tables state l = (lane : ℕ) → lane < length l.trees → IsMarked t
 pub record WereReady (tables : Tables) (before : State) (cores_before : List Core) (now : State) (but : Option ℕ) (l : Laned) : Type 0 where
   pub marked : (lane : ℕ) → lane < length l.trees → IsMarked tables now (listed_at l lane) ⊎ IsMarked tables before (listed_at l lane)
   pub counted : (lane : ℕ) → lane < length l.trees → but ≢ Some lane → slice_index l.ready lane ≡ puttable tables before cores_before (offers_at l lane)
+
+-- two moments agree on a core: on whether it is free, and on the lines of its cache
+pub record Agree (core : ℕ) (before behind : State) (cores_before cores_behind : List Core) : Type 0 where
+  pub free : is_free cores_behind core ≡ is_free cores_before core
+  pub lines : (block : ℕ) → line_at behind core block ≡ line_at before core block
+
+-- they agree on each core but that of the cache where something was done, if it was done at a cache, and on all lines but those of
+-- one block
+pub record AgreeBut (at : Option Place) (block : ℕ) (before behind : State) (cores_before cores_behind : List Core) : Type 0 where
+  pub cores : (core : CacheId) → at ≢ Some (Cache core) → Agree core.0 before behind cores_before cores_behind
+  pub blocks : (core other : ℕ) → other ≢ block → line_at behind core other ≡ line_at before core other

@@ -1,5 +1,5 @@
 -- Marks made anew, and what they say can be put.
-use Rattle.std.specs.Prelude.{◌≡◌, ℕ, ◌+◌, ◌==◌, Bool, ◌&&◌, if◌then◌else◌, List, [], ◌∷◌, ◌++◌, map}
+use Rattle.std.specs.Prelude.{◌≡◌, ℕ, ◌+◌, ◌==◌, Bool, not, ◌&&◌, if◌then◌else◌, List, [], ◌∷◌, ◌++◌, map}
 use Rattle.base.specs.declared.ids.BlockId.{BlockId}
 use Rattle.base.specs.declared.ids.CacheId.{CacheId}
 use Rattle.base.specs.declared.step.Ask.{Ask}
@@ -27,15 +27,19 @@ is_at core block ask = (ask.core.0 == core.0) && (ask.block.0 == block.0)
 abbrev pub AreHeldAt : Tables → State → CacheId → BlockId → HeldAsks → Type 0
 AreHeldAt tables state core block held = (ask : Ask) → holds held ask ≡ held_at tables state (step.Ask core block ask)
 
--- the marks, with those of a core's asks about a block made anew
-abbrev pub marks_at : Tables → State → CacheId → BlockId → List CoreAsk → List Bool → List Bool
-marks_at tables state core block [] marks = marks
-marks_at tables state core block (ask ∷ asks) [] = []
-marks_at tables state core block (ask ∷ asks) (mark ∷ marks) =
-    (if is_at core block ask then is_unheld tables state ask else mark) ∷ marks_at tables state core block asks marks
+-- the mark of an ask, where these are held
+abbrev pub mark_by : HeldAsks → CoreAsk → Bool
+mark_by held ask = not (holds held ask.ask)
 
-abbrev pub marked_at : Tables → State → CacheId → BlockId → Listed → Listed
-marked_at tables state core block l = record { asks = l.asks; unheld = marks_at tables state core block l.asks l.unheld }
+-- the marks, with those of a core's asks about a block made anew, of which these are held
+abbrev pub marks_by : HeldAsks → CacheId → BlockId → List CoreAsk → List Bool → List Bool
+marks_by held core block [] marks = marks
+marks_by held core block (ask ∷ asks) [] = []
+marks_by held core block (ask ∷ asks) (mark ∷ marks) =
+    (if is_at core block ask then mark_by held ask else mark) ∷ marks_by held core block asks marks
+
+abbrev pub marked_by : HeldAsks → CacheId → BlockId → Listed → Listed
+marked_by held core block l = record { asks = l.asks; unheld = marks_by held core block l.asks l.unheld }
 
 -- the offers whose core is free and whose mark says that they wouldn't be held, of those from a number on
 abbrev pub offers_by : List Core → ℕ → List CoreAsk → List Bool → List Choice

@@ -9,10 +9,10 @@ ghost use Rattle.schedule.specs.Lanes.{lanes_of};
 ghost use Rattle.schedule.specs.inner.Changes.{IsCountedIn};
 
 use super::{Lane, Lanes};
-use crate::choosing::Choice;
 use crate::picking::Pick;
 use base::{CacheId, CoreAsk, NoMemory, Place};
 use cores::Cores;
+use machine::Made;
 use rows::Sums;
 use std::alloc::Allocator;
 use world::World;
@@ -29,58 +29,28 @@ struct Taken {
 impl<'s, A: Allocator, B: Allocator + Clone> Lanes<'s, A, B> {
     ghost use Rattle.std.specs.Prelude.{◌≡◌, ◌<◌, ◌+◌, ℕ, List, OnOk, IfOk, IfSome, false, length, take};
     ghost use Rattle.std.specs.List.{sum};
-    ghost use Rattle.base.specs.Steps.{block_of};
     ghost use Rattle.cores.specs.Cores.{Core};
     ghost use Rattle.machine.specs.Machine.{State};
-    ghost use Rattle.world.specs.LineStates.{line_states};
     ghost use Rattle.scenario.specs.Alike.{Alike};
     ghost use Rattle.scenario.specs.Tree.{Tree};
-    ghost use Rattle.schedule.specs.Choices.{IsOffered, chosen_step, rest_after};
+    ghost use Rattle.schedule.specs.Choices.{chosen_step, rest_after};
     ghost use Rattle.schedule.specs.Fitting.{LanesFit};
-    ghost use Rattle.schedule.specs.Lanes.{AgreeBut, AreReady, IsKept, IsLevel, IsListed, laned, lanes_of, listed_at, offers_at, whole};
+    ghost use Rattle.schedule.specs.Lanes.{AreReady, Follows, IsKept, IsLevel, IsListed, laned, lanes_of, listed_at, offers_at, whole};
     ghost use Rattle.schedule.specs.Picks.{IsPicked, choice_of};
     ghost use Rattle.schedule.specs.inner.Changes.{AreCountedAt, ChangesCounts, IsCountedAt, IsCountedIf, IsCountedIn, KeepsOthers};
     ghost use Rattle.schedule.specs.inner.Changes.{TakesFrom, WereReady, counted_at};
     ghost use Rattle.schedule.specs.Listed.{IsMarked};
     ghost use Rattle.schedule.specs.inner.Owned.{IsMarkedIf};
 
-    /// Follows a choice that was made, by a step that went to a controller: an offer is taken, what is made anew for it is
-    /// `alloc`'s, and the lanes that this and the step changed are marked and counted again.
+    /// Follows a pick that was made, by a step that came to this: an offer is taken, what is made anew for it is `alloc`'s, and the
+    /// lanes that this and the step changed are marked and counted again.
     ///
     /// Where memory is refused, the lanes are of no more use.
     pub fn follow(
         &mut self,
         alloc: B,
-        choice: Choice,
-        at: Option<Place>,
-        world: &World,
-        cores: &Cores,
-    ) -> Result<(), NoMemory>
-        requires kept { IsKept (laned self.old) }
-        requires offered { IsOffered choice (whole (laned self.old)) }
-        ensures rest { OnOk result (Alike (whole (laned self.new)) (rest_after choice (whole (laned self.old)))) }
-        ensures kept { OnOk result (IsKept (laned self.new)) }
-        ensures ready { OnOk result ((before : State) (cores_before : List Core) → before.broken ≡ false →
-            AreReady world.now.tables before cores_before (laned self.old) →
-            AgreeBut at (block_of (chosen_step choice)) before world.now.state cores_before cores.now →
-            AreReady world.now.tables world.now.state cores.now (laned self.new)) }
-        ensures fits { (tree : Tree) → LanesFit self.old tree → LanesFit self.new tree }
-    {
-        let pick = self.pick_of(choice);
-        self.follow_pick(alloc, pick, at, true, world, cores)?;
-        Ok(())
-    }
-
-    /// Follows a pick that was made, as [`follow`](Lanes::follow) does a choice. The offer is taken from its lane by its place,
-    /// and nothing is marked again where the step changed no line's state.
-    ///
-    /// Where memory is refused, the lanes are of no more use.
-    pub fn follow_pick(
-        &mut self,
-        alloc: B,
         pick: Pick,
-        at: Option<Place>,
-        changed: bool,
+        made: &Made,
         world: &World,
         cores: &Cores,
     ) -> Result<(), NoMemory>
@@ -88,38 +58,17 @@ impl<'s, A: Allocator, B: Allocator + Clone> Lanes<'s, A, B> {
         requires picked { IsPicked pick (laned self.old) }
         ensures rest { OnOk result (Alike (whole (laned self.new)) (rest_after (choice_of (laned self.old) pick) (whole (laned self.old)))) }
         ensures kept { OnOk result (IsKept (laned self.new)) }
-        ensures ready { OnOk result ((before : State) (cores_before : List Core) → before.broken ≡ false →
-            AreReady world.now.tables before cores_before (laned self.old) →
-            AgreeBut at (block_of (chosen_step (choice_of (laned self.old) pick))) before world.now.state cores_before cores.now →
-            (changed ≡ false → line_states world.now.state ≡ line_states before) →
+        ensures ready { OnOk result ((before : State) (cores_before : List Core) → AreReady world.now.tables before cores_before (laned self.old) →
+            Follows world.now.tables (chosen_step (choice_of (laned self.old) pick)) made.now before world.now.state cores_before cores.now →
             AreReady world.now.tables world.now.state cores.now (laned self.new)) }
         ensures fits { (tree : Tree) → LanesFit self.old tree → LanesFit self.new tree }
     {
         let taken = self.take_picked(alloc, pick, world)?;
-        self.mark_again(taken.marked, at, pick.step().block(), changed, world);
+        self.mark_again(taken.marked, made, pick.step().block(), world);
+        let at = made.place();
         self.count_at(at, cores);
         self.count_taken(taken.lane, at, cores);
         Ok(())
-    }
-
-    /// The lane of a choice that is an offer, and its place there.
-    fn pick_of(&self, choice: Choice) -> Pick
-        requires kept { IsKept (laned self.now) }
-        requires offered { IsOffered choice (whole (laned self.now)) }
-        ensures choice { choice_of (laned self.now) result ≡ choice }
-        ensures there { IsPicked result (laned self.now) }
-    {
-        match choice {
-            Choice::Offer(number, ask) => {
-                let found = self.lengths.find(number as u64);
-                Pick::Offer {
-                    lane: found.place,
-                    place: found.rest as usize,
-                    ask,
-                }
-            }
-            Choice::Deliver(step) => Pick::Deliver(step),
-        }
     }
 
     /// Takes the offer that was picked, where the pick is one.
@@ -288,7 +237,7 @@ impl<'s, A: Allocator, B: Allocator + Clone> Lane<'s, A, B> {
 }
 
 /// The cache, where a controller is one.
-pub(super) fn cache_of(at: Option<Place>) -> Option<CacheId>
+fn cache_of(at: Option<Place>) -> Option<CacheId>
     ensures some { IfSome result (λ cache. at ≡ Some (Cache cache)) }
     ensures none { IfNone result ((cache : CacheId) → at ≢ Some (Cache cache)) }
 {

@@ -1,7 +1,6 @@
 //! How many choices there are, and which is the k-th, without a list.
 
 use super::Lanes;
-use crate::choosing::Choice;
 use crate::picking::Pick;
 use cores::Cores;
 use std::alloc::Allocator;
@@ -27,17 +26,7 @@ impl<'s, A: Allocator, B: Allocator> Lanes<'s, A, B> {
         self.ready.total() + world.enabled_count()
     }
 
-    /// The k-th choice of that list, counted from 0, if it has so many.
-    pub fn choice(&self, world: &World, cores: &Cores, k: u64) -> Option<Choice>
-        requires kept { IsKept (laned self.now) }
-        requires ready { AreReady world.now.tables world.now.state cores.now (laned self.now) }
-        ensures { result ≡ slice_get (choices_of world.now.tables world.now.state cores.now (whole (laned self.now))) k }
-    {
-        let pick = self.pick(world, cores, k)?;
-        Some(self.choice_of(pick))
-    }
-
-    /// The k-th choice of that list, counted from 0, if it has so many. Of an offer it is found where it is, and not its number.
+    /// The k-th choice of that list, counted from 0, if it has so many: of an offer the lane that has it and its place there.
     pub fn pick(&self, world: &World, cores: &Cores, k: u64) -> Option<Pick>
         requires kept { IsKept (laned self.now) }
         requires ready { AreReady world.now.tables world.now.state cores.now (laned self.now) }
@@ -57,21 +46,6 @@ impl<'s, A: Allocator, B: Allocator> Lanes<'s, A, B> {
         }
         let step = world.enabled_at(k - offers)?;
         Some(Pick::Deliver(step))
-    }
-
-    /// The choice that a pick is.
-    fn choice_of(&self, pick: Pick) -> Choice
-        requires kept { IsKept (laned self.now) }
-        requires picked { IsPicked pick (laned self.now) }
-        ensures { result ≡ choice_of (laned self.now) pick }
-    {
-        match pick {
-            Pick::Offer { lane, place, ask } => {
-                let first = self.lengths.front(lane) as usize;
-                Choice::Offer(first + place, ask)
-            }
-            Pick::Deliver(step) => Choice::Deliver(step),
-        }
     }
 
     /// Whether nothing is offered.

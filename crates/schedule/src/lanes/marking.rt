@@ -1,51 +1,64 @@
 //! Marking the asks of lanes again.
 
-ghost use Rattle.std.specs.Prelude.{◌≡◌, ◌<◌, ℕ, Some, IfSome, true, length, map, slice_index_or};
+ghost use Rattle.std.specs.Prelude.{◌≡◌, ◌<◌, ℕ, Some, true, length, map, slice_index_or};
 ghost use Rattle.scenario.specs.Cursors.{remaining};
 ghost use Rattle.schedule.specs.Lanes.{stocked};
-ghost use Rattle.schedule.specs.Listed.{IsMarked, nothing_listed};
+ghost use Rattle.schedule.specs.Listed.{nothing_listed};
 ghost use Rattle.schedule.specs.inner.Changes.{IsMarkedIn};
 
-use super::changing::{cache_of, row_of};
+use super::changing::row_of;
 use super::{Lane, Lanes};
-use base::{BlockId, CacheId, Place};
+use base::{BlockId, CacheId};
+use blocks::HeldAsks;
+use machine::{Actor, Made};
 use std::alloc::Allocator;
 use world::World;
 
 impl<'s, A: Allocator, B: Allocator + Clone> Lanes<'s, A, B> {
     ghost use Rattle.std.specs.Prelude.{◌≡◌, ◌<◌, ℕ, List, Option, IfSome, false, true, length};
+    ghost use Rattle.base.specs.Steps.{block_of};
+    ghost use Rattle.base.specs.declared.step.Step.{Step};
     ghost use Rattle.cores.specs.Cores.{Core};
     ghost use Rattle.machine.specs.Machine.{State};
-    ghost use Rattle.world.specs.LineStates.{line_states};
-    ghost use Rattle.schedule.specs.Lanes.{AgreeBut, IsKept, laned, lanes_of, listed_at};
+    ghost use Rattle.schedule.specs.Lanes.{Follows, IsKept, laned, lanes_of, listed_at};
     ghost use Rattle.schedule.specs.Listed.{IsMarked};
     ghost use Rattle.schedule.specs.inner.Changes.{AreMarked, IsMarkedIn, ChangesMarks, WereReady, marked_in};
 
-    /// Marks again what a step about a block changed, which went to a controller, but for a lane that is marked already, if there
-    /// is one. Where no line's state has changed there is nothing to mark.
+    /// Marks again what a step about a block changed, of which it is told what it came to, but for a lane that is marked already, if
+    /// there is one. Where no line holds other asks than before there is nothing to mark.
     pub(super) fn mark_again(
         &mut self,
         done: Option<usize>,
-        at: Option<Place>,
+        made: &Made,
         block: BlockId,
-        changed: bool,
         world: &World,
     )
         requires kept { IsKept (laned self.old) }
         requires done { IfSome done (λ lane. IsMarked world.now.tables world.now.state (listed_at (laned self.old) lane)) }
         ensures kept { IsKept (laned self.new) }
         ensures same { ChangesMarks (laned self.old) (laned self.new) }
-        ensures marked { (before : State) (cores_before cores_now : List Core) (but : Option ℕ) → before.broken ≡ false →
-            world.now.state.broken ≡ false → WereReady world.now.tables before cores_before world.now.state but (laned self.old) →
-            AgreeBut at block.0 before world.now.state cores_before cores_now →
-            (changed ≡ false → line_states world.now.state ≡ line_states before) → AreMarked world.now.tables world.now.state (laned self.new) }
+        ensures marked { (step : Step) (before : State) (cores_before cores_now : List Core) (but : Option ℕ) → before.broken ≡ false →
+            world.now.state.broken ≡ false → block.0 ≡ block_of step →
+            Follows world.now.tables step made.now before world.now.state cores_before cores_now →
+            WereReady world.now.tables before cores_before world.now.state but (laned self.old) →
+            AreMarked world.now.tables world.now.state (laned self.new) }
     {
-        if !changed {
+        let Some(acted) = made.acted else {
+            return;
+        };
+        let Actor::Line {
+            cache,
+            before,
+            after,
+        } = acted.by
+        else {
+            return;
+        };
+        let held = world.held_asks(after);
+        if held == world.held_asks(before) {
             return;
         }
-        if let Some(core) = cache_of(at) {
-            self.mark_core(done, core, block, world);
-        }
+        self.mark_core(done, cache, block, held);
     }
 
     /// Marks anew all that a lane offers, if it isn't marked already.
@@ -60,19 +73,18 @@ impl<'s, A: Allocator, B: Allocator + Clone> Lanes<'s, A, B> {
         self.lanes[lane].asks.mark_all(world);
     }
 
-    /// Marks anew the offers of a core about a block, but for a lane that is marked already, if there is one.
-    fn mark_core(&mut self, done: Option<usize>, core: CacheId, block: BlockId, world: &World)
-        requires kept { IsKept (laned self.old) }
-        requires done { IfSome done (λ lane. IsMarked world.now.tables world.now.state (listed_at (laned self.old) lane)) }
+    /// Marks anew the offers of a core about a block, of which these are held, but for a lane that is marked already, if there is one.
+    fn mark_core(&mut self, done: Option<usize>, core: CacheId, block: BlockId, held: HeldAsks)
+        requires { IsKept (laned self.old) }
         ensures kept { IsKept (laned self.new) }
         ensures same { ChangesMarks (laned self.old) (laned self.new) }
         ensures each { (lane : ℕ) → lane < length (laned self.old).trees →
-            IsMarkedIn world.now.tables world.now.state core block (lanes_of (laned self.old).reached core.0)
+            IsMarkedIn held core block (lanes_of (laned self.old).reached core.0) done
             (listed_at (laned self.old) lane) (listed_at (laned self.new) lane) lane }
     {
         let row = row_of(&self.reached, core);
         mark_each(
-            world,
+            held,
             core,
             block,
             done,
@@ -82,21 +94,21 @@ impl<'s, A: Allocator, B: Allocator + Clone> Lanes<'s, A, B> {
     }
 }
 
-/// Marks anew the offers of a core about a block, in each of these lanes, but for one that is marked already, if there is one.
+/// Marks anew the offers of a core about a block, of which these are held, in each of these lanes, but for one that is marked already,
+/// if there is one.
 fn mark_each<A: Allocator, B: Allocator>(
-    world: &World,
+    held: HeldAsks,
     core: CacheId,
     block: BlockId,
     done: Option<usize>,
     lanes: &mut Vec<Lane<'_, A, B>>,
     which: &[u32],
 )
-    requires { IfSome done (λ lane. IsMarked world.now.tables world.now.state (slice_index_or (map (λ l. l.asks) lanes.old.items) lane nothing_listed)) }
     ensures count { length lanes.new.items ≡ length lanes.old.items }
     ensures trees { map (λ l. remaining l.rest) lanes.new.items ≡ map (λ l. remaining l.rest) lanes.old.items }
     ensures stocks { map (λ l. stocked l.rest) lanes.new.items ≡ map (λ l. stocked l.rest) lanes.old.items }
     ensures each { (lane : ℕ) → lane < length lanes.old.items →
-        IsMarkedIn world.now.tables world.now.state core block which.now
+        IsMarkedIn held core block which.now done
         (slice_index_or (map (λ l. l.asks) lanes.old.items) lane nothing_listed)
         (slice_index_or (map (λ l. l.asks) lanes.new.items) lane nothing_listed) lane }
 {
@@ -106,7 +118,7 @@ fn mark_each<A: Allocator, B: Allocator>(
             continue;
         }
         if lane < lanes.len() {
-            lanes[lane].asks.mark(world, core, block);
+            lanes[lane].asks.mark(held, core, block);
         }
     }
 }

@@ -1,22 +1,46 @@
-use Rattle.std.proofs.Common.{Option, subst}
-use Rattle.base.specs.declared.ids.Place.{Place}
-use Rattle.schedule.specs.Lanes.{AgreeBut, laned}
-use Rattle.schedule.proofs.Counting.{all-marked, all-right}
-use Rattle.schedule.proofs.Stayed.{all-stayed}
+use Rattle.std.proofs.Common.{◌∙◌, sym}
+use Rattle.base.specs.Steps.{block_of}
+use Rattle.machine.specs.Made.{place_of}
+use Rattle.schedule.specs.Lanes.{laned}
+use Rattle.schedule.proofs.Counting.{all-held, all-marked, all-right}
+use Rattle.schedule.proofs.Touched.{agree-but, agree-line, at-home, held-told, home-only, none-acted, nowhere, same-asks}
 use Rattle.schedule.proofs.lanes.Lanes.mark_again.Goals as goal
 
-pub returns-in-Some-clause-marked : goal.returns-in-Some-clause-marked
-returns-in-Some-clause-marked g c before cb cn but sb sn were agree stay =
-    all-marked c.args.world.now.tables before c.args.world.now.state cb cn but c.in-Some.core c.args.block (laned c.args.self.now) (laned c.mark_core.new.self)
-    c.requires.kept c.mark_core.ensures.same sb sn were
-    (subst (λ (at : Option Place). AgreeBut at c.args.block.0 before c.args.world.now.state cb cn) c.in-Some.ensures.some agree) c.mark_core.ensures.each
-
 pub returns-in_default-clause-marked : goal.returns-in_default-clause-marked
-returns-in_default-clause-marked g c before cb cn but sb sn were agree stay =
-    all-right c.args.world.now.tables before c.args.world.now.state cb cn but c.args.at c.args.block.0 (laned c.args.self.now) c.in_default.ensures.none sb
-    sn were
-    agree
+returns-in_default-clause-marked g c step before cb cn but sb sn here follows were =
+    let world = c.args.world.now in
+    let made = c.args.made.now in
+    all-right world.tables before world.state cb cn but (place_of made) (block_of step) (laned c.args.self.now)
+    (nowhere made (none-acted made.acted c.in_default.not-Some)) sb sn were (agree-but world.tables step made before world.state cb cn sb follows)
 
-pub returns-then-not-changed-clause-marked : goal.returns-then-not-changed-clause-marked
-returns-then-not-changed-clause-marked g c before cb cn but sb sn were agree stay =
-    all-stayed c.args.world.now.tables before c.args.world.now.state cb but (laned c.args.self.now) sb sn (stay c.if-not-changed.true) were
+pub returns-in_default-by-clause-marked : goal.returns-in_default-by-clause-marked
+returns-in_default-by-clause-marked g c step before cb cn but sb sn here follows were =
+    let world = c.args.world.now in
+    let made = c.args.made.now in
+    all-right world.tables before world.state cb cn but (place_of made) (block_of step) (laned c.args.self.now)
+    (at-home made c.in-Some.acted c.in-Some.is (home-only c.in-Some.acted.by c.in_default-by.not-Line)) sb sn were
+    (agree-but world.tables step made before world.state cb cn sb follows)
+
+pub returns-then-eq-clause-marked : goal.returns-then-eq-clause-marked
+returns-then-eq-clause-marked g c step before cb cn but sb sn here follows were =
+    let world = c.args.world.now in
+    let made = c.args.made.now in
+    let told =
+    held-told world.tables step made before world.state c.in-Some.acted c.in-Line.cache c.args.block c.in-Line.before c.in-Line.after sb sn here follows.told
+    c.in-Some.is c.in-Line.is in
+    all-held world.tables before world.state cb cn but c.in-Line.cache c.args.block c.held_asks-held.result (laned c.args.self.now) sb sn
+    (told.were c.held_asks-held.result (λ a. same-asks c.held_asks-held.result c.held_asks.result (sym c.eq.ensures ∙ c.if-eq.true) a ∙ c.held_asks.ensures a)) (told.are c.held_asks-held.result c.held_asks-held.ensures) were
+    (agree-line world.tables step made before world.state c.in-Some.acted c.in-Line.cache c.args.block c.in-Line.before c.in-Line.after cb cn sb here follows
+    c.in-Some.is c.in-Line.is)
+
+pub returns-clause-marked : goal.returns-clause-marked
+returns-clause-marked g c step before cb cn but sb sn here follows were =
+    let world = c.args.world.now in
+    let made = c.args.made.now in
+    let told =
+    held-told world.tables step made before world.state c.in-Some.acted c.in-Line.cache c.args.block c.in-Line.before c.in-Line.after sb sn here follows.told
+    c.in-Some.is c.in-Line.is in
+    all-marked world.tables before world.state cb cn but c.args.done c.in-Line.cache c.args.block c.held_asks-held.result (laned c.args.self.now)
+    (laned c.mark_core.new.self) c.requires.kept c.mark_core.ensures.same sb sn (told.are c.held_asks-held.result c.held_asks-held.ensures) c.requires.done were
+    (agree-line world.tables step made before world.state c.in-Some.acted c.in-Line.cache c.args.block c.in-Line.before c.in-Line.after cb cn sb here follows
+    c.in-Some.is c.in-Line.is) c.mark_core.ensures.each

@@ -1,13 +1,13 @@
-use Rattle.std.proofs.Common.{◌∙◌, ◌≡◌, ◌≢◌, ◌⊎◌, ◌+◌, ◌<◌, inl, inr, ℕ, List, IfSome, Option, ap, get_or, set, sym, subst, arith, length, map}
+use Rattle.std.proofs.Common.{◌∙◌, ◌≡◌, ◌+◌, ◌<◌, inl, inr, List, ap, get_or, set, sym, subst, arith, length, map}
 use Rattle.std.proofs.lemmas.List.{length-set, length-map, map-set}
 use Rattle.std.proofs.Math.Seq.{map-set_same}
 use Rattle.scenario.specs.Cursors.{remaining}
 use Rattle.schedule.specs.Lanes.{stocked}
-use Rattle.schedule.specs.Listed.{IsMarked, Listed, nothing_listed}
-use Rattle.schedule.specs.inner.Marks.{marked_at}
+use Rattle.schedule.specs.Listed.{Listed, nothing_listed}
+use Rattle.schedule.specs.inner.Marks.{marked_by}
 use Rattle.schedule.specs.declared.lanes.Lane.{Lane}
 use Rattle.schedule.proofs.Kept.{lane-listed}
-use Rattle.schedule.proofs.Counting.{left-more, marked-more, marked-past, not-among}
+use Rattle.schedule.proofs.Counting.{IsMarkedSoFar, marked-beyond, marked-more, marked-past, not-among}
 use Rattle.schedule.proofs.lanes.marking.mark_each.Given as given
 use Rattle.schedule.proofs.lanes.marking.mark_each.Goals as goal
 use Rattle.schedule.proofs.lanes.marking.mark_each.Goals.{then-lane-len, else-lane-len}
@@ -17,15 +17,13 @@ abbrev listed_in : (g : given.Over) → List (Lane g.row.A.Denot g.row.B.Denot) 
 listed_in g lanes = map (λ (l : Lane g.row.A.Denot g.row.B.Denot). l.asks) lanes
 
 pub loop-number-preserved-then-is_lane : goal.loop-number-preserved-then-is_lane
-loop-number-preserved-then-is_lane g c =
-    let right = subst (λ (of : Option ℕ). IfSome of (λ lane. IsMarked c.args.world.now.tables c.args.world.now.state
-    (get_or (listed_in g c.args.lanes.now.items) lane nothing_listed))) (c.is_lane.ensures c.if-is_lane.true) c.requires in (
-      c.loop-number.invariant.0,
-      c.loop-number.invariant.1,
-      marked-past c.args.world.now.tables c.args.world.now.state c.args.core c.args.block (listed_in g c.loop-number.lanes.items)
-          (listed_in g c.args.lanes.now.items) c.args.which.now c.loop-number.number-index (length c.args.lanes.now.items) c.loop-number.invariant.2 right,
-      c.loop-number.invariant.3,
-    )
+loop-number-preserved-then-is_lane g c = (
+  c.loop-number.invariant.0,
+  c.loop-number.invariant.1,
+  marked-past c.args.held c.args.core c.args.block (listed_in g c.loop-number.lanes.items) (listed_in g c.args.lanes.now.items) c.args.which.now
+      c.loop-number.number-index (length c.args.lanes.now.items) c.args.done c.loop-number.invariant.2 (c.is_lane.ensures c.if-is_lane.true),
+  c.loop-number.invariant.3,
+)
 
 pub loop-number-preserved : goal.loop-number-preserved
 loop-number-preserved g c = elim c.if-lane-len.branch [
@@ -38,24 +36,21 @@ loop-number-preserved g c = elim c.if-lane-len.branch [
       let many = length-map c.loop-number.lanes.items (λ (l : Lane g.row.A.Denot g.row.B.Denot). l.asks) in
       let made : Lane g.row.A.Denot g.row.B.Denot = record { rest = w.index_mut.result.now.rest; asks = w.mark.new.self } in
       let written : listed_in g (set c.loop-number.lanes.items at made) ≡ set (listed_in g c.loop-number.lanes.items) at
-      (marked_at c.args.world.now.tables c.args.world.now.state c.args.core c.args.block (get_or (listed_in g c.loop-number.lanes.items) at nothing_listed)) =
+      (marked_by c.args.held c.args.core c.args.block (get_or (listed_in g c.loop-number.lanes.items) at nothing_listed)) =
       map-set (λ (l : Lane g.row.A.Denot g.row.B.Denot). l.asks) c.loop-number.lanes.items at made
       ∙ ap (set (listed_in g c.loop-number.lanes.items) at) (w.mark.ensures
-      ∙ ap (marked_at c.args.world.now.tables c.args.world.now.state c.args.core c.args.block)
+      ∙ ap (marked_by c.args.held c.args.core c.args.block)
       (lane-listed c.loop-number.lanes.items at w.index_mut.result.now low w.index_mut.ensures.value)) in
       rw w.lanes-is (
         length-set c.loop-number.lanes.items at made ∙ same,
         map-set_same (λ (l : Lane g.row.A.Denot g.row.B.Denot). remaining l.rest) c.loop-number.lanes.items at made w.index_mut.result.now
             (ap (λ (l : Lane g.row.A.Denot g.row.B.Denot). remaining l.rest) w.index_mut.ensures.value) ∙ c.loop-number.invariant.1,
         λ lane under. subst (λ (ls : List Listed).
-            (get_or ls lane nothing_listed
-            ≡ marked_at c.args.world.now.tables c.args.world.now.state c.args.core c.args.block
-            (get_or (listed_in g c.args.lanes.now.items) lane nothing_listed))
-            ⊎ ((get_or ls lane nothing_listed ≡ get_or (listed_in g c.args.lanes.now.items) lane nothing_listed)
-            × ((k : ℕ) → k < c.loop-number.number-index + 1 → get_or c.args.which.now k 0 ≢ lane)))
+            IsMarkedSoFar c.args.held c.args.core c.args.block c.args.which.now (c.loop-number.number-index + 1) c.args.done ls
+            (listed_in g c.args.lanes.now.items) lane)
             (sym written)
-            (marked-more c.args.world.now.tables c.args.world.now.state c.args.core c.args.block (listed_in g c.loop-number.lanes.items)
-            (listed_in g c.args.lanes.now.items) c.args.which.now c.loop-number.number-index
+            (marked-more c.args.held c.args.core c.args.block (listed_in g c.loop-number.lanes.items)
+            (listed_in g c.args.lanes.now.items) c.args.which.now c.loop-number.number-index c.args.done
             (λ other l. c.loop-number.invariant.2 other (omega (arith, l, many, same))) (omega (arith, low, many)) lane (omega (arith, under, many, same))),
         map-set_same (λ (l : Lane g.row.A.Denot g.row.B.Denot). stocked l.rest) c.loop-number.lanes.items at made w.index_mut.result.now
             (ap (λ (l : Lane g.row.A.Denot g.row.B.Denot). stocked l.rest) w.index_mut.ensures.value) ∙ c.loop-number.invariant.3,
@@ -67,11 +62,8 @@ loop-number-preserved g c = elim c.if-lane-len.branch [
       rw w.lanes-is (
         same,
         c.loop-number.invariant.1,
-        λ lane low. left-more
-            (λ n. get_or (listed_in g c.loop-number.lanes.items) n nothing_listed
-            ≡ marked_at c.args.world.now.tables c.args.world.now.state c.args.core c.args.block (get_or (listed_in g c.args.lanes.now.items) n nothing_listed))
-            (λ n. get_or (listed_in g c.loop-number.lanes.items) n nothing_listed ≡ get_or (listed_in g c.args.lanes.now.items) n nothing_listed)
-            c.args.which.now c.loop-number.number-index (length c.args.lanes.now.items) c.loop-number.invariant.2 (omega (arith, past, same, len)) lane low,
+        marked-beyond c.args.held c.args.core c.args.block (listed_in g c.loop-number.lanes.items) (listed_in g c.args.lanes.now.items) c.args.which.now
+            c.loop-number.number-index (length c.args.lanes.now.items) c.args.done c.loop-number.invariant.2 (omega (arith, past, same, len)),
         c.loop-number.invariant.3,
       )
 ]
@@ -79,5 +71,11 @@ loop-number-preserved g c = elim c.if-lane-len.branch [
 pub returns-clause-each : goal.returns-clause-each
 returns-clause-each g c lane low = elim (c.loop-number.invariant.2 lane low) [
   | inl e ↦ inl e
-  | inr h ↦ inr (h.0, not-among c.args.which.now c.loop-number.number-index lane (let end = c.loop-number-test.false in omega (arith, end)) h.1)
+  | inr h ↦ inr (
+    h.0,
+    elim h.1 [
+      | inl is ↦ inl is
+      | inr apart ↦ inr (not-among c.args.which.now c.loop-number.number-index lane (let end = c.loop-number-test.false in omega (arith, end)) apart)
+    ],
+  )
 ]

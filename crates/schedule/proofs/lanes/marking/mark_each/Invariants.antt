@@ -1,8 +1,7 @@
-use Rattle.std.proofs.Common.{◌≡◌, ◌≢◌, ◌⊎◌, ◌<◌, ℕ, length, map, get_or}
+use Rattle.std.proofs.Common.{◌≡◌, ◌<◌, ℕ, length, map}
 use Rattle.scenario.specs.Cursors.{remaining}
 use Rattle.schedule.specs.Lanes.{stocked}
-use Rattle.schedule.specs.Listed.{nothing_listed}
-use Rattle.schedule.specs.inner.Marks.{marked_at}
+use Rattle.schedule.proofs.Counting.{IsMarkedSoFar}
 use Rattle.schedule.proofs.lanes.marking.mark_each.Given as goal
 
 abbrev pub invariant-loop-number : goal.invariant-loop-number
@@ -10,8 +9,5 @@ invariant-loop-number g l =
     (length l.lanes.items ≡ length l.fn.lanes.items)
     × (map (λ x. remaining x.rest) l.lanes.items ≡ map (λ x. remaining x.rest) l.fn.lanes.items)
     × ((lane : ℕ) → lane < length l.fn.lanes.items →
-    (get_or (map (λ x. x.asks) l.lanes.items) lane nothing_listed
-    ≡ marked_at l.world.tables l.world.state l.core l.block (get_or (map (λ x. x.asks) l.fn.lanes.items) lane nothing_listed))
-    ⊎ ((get_or (map (λ x. x.asks) l.lanes.items) lane nothing_listed ≡ get_or (map (λ x. x.asks) l.fn.lanes.items) lane nothing_listed)
-    × ((k : ℕ) → k < l.number-index → get_or l.which k 0 ≢ lane)))
+    IsMarkedSoFar l.held l.core l.block l.which l.number-index l.done (map (λ x. x.asks) l.lanes.items) (map (λ x. x.asks) l.fn.lanes.items) lane)
     × (map (λ x. stocked x.rest) l.lanes.items ≡ map (λ x. stocked x.rest) l.fn.lanes.items)

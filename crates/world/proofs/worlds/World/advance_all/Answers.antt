@@ -6,19 +6,17 @@ use Rattle.world.proofs.worlds.World.advance_all.Goals as goal
 
 pub loop-i-preserved : goal.loop-i-preserved
 loop-i-preserved c = (
-  run-more c.args.self.now c.loop-i.self c.advance.new.self c.args.steps.now c.loop-i.i _ _ c.args.outcomes.now.items c.loop-i.outcomes.items
-      c.push_reserved.new.self.items c.in-Ok.outcome (omega arith) refl c.loop-i.invariant.0 c.in-Ok.ensures.ok c.in-Ok.ensures.shape c.in-Ok.ensures.tables
-      c.in-Ok.ensures.opening
-      (c.push_reserved.ensures.items ∙ ap (λ xs. xs ++ c.in-Ok.outcome ∷ []) c.reserve.ensures.items)
-      c.in-Ok.ensures.tests_what_it_sends c.in-Ok.ensures.tests_its_block,
-  keeps-more c.args.self.now c.loop-i.self c.advance.new.self c.args.steps.now c.loop-i.i _ _ (omega arith) refl
-      c.loop-i.invariant.0.state c.loop-i.invariant.0.tables c.loop-i.invariant.1 c.in-Ok.ensures.keeps,
+  run-more c.args.self.now c.loop-i.self c.make.new.self c.args.steps.now c.loop-i.i _ _ c.args.outcomes.now.items c.loop-i.outcomes.items
+      c.push_reserved.new.self.items c.in-Ok.made (omega arith) refl c.loop-i.invariant.0 c.in-Ok.ensures.ok
+      (c.push_reserved.ensures.items ∙ ap (λ xs. xs ++ c.in-Ok.made.outcome ∷ []) c.reserve.ensures.items),
+  keeps-more c.args.self.now c.loop-i.self c.make.new.self c.args.steps.now c.loop-i.i _ _ (omega arith) refl
+      c.loop-i.invariant.0.state c.loop-i.invariant.0.tables c.loop-i.invariant.1 c.in-Ok.ensures.ok.keeps,
 )
 
-pub returns-in_default-advance-clause-keeps : goal.returns-in_default-advance-clause-keeps
-returns-in_default-advance-clause-keeps c =
-    keeps-more c.args.self.now c.loop-i.self c.advance.new.self c.args.steps.now c.loop-i.i _ _ (omega arith) refl
-    c.loop-i.invariant.0.state c.loop-i.invariant.0.tables c.loop-i.invariant.1 c.in_default-advance.ensures.keeps
+pub returns-in_default-make-clause-keeps : goal.returns-in_default-make-clause-keeps
+returns-in_default-make-clause-keeps c =
+    keeps-more c.args.self.now c.loop-i.self c.make.new.self c.args.steps.now c.loop-i.i _ _ (omega arith) refl
+    c.loop-i.invariant.0.state c.loop-i.invariant.0.tables c.loop-i.invariant.1 c.in_default-make.ensures.err.keeps
 
 pub loop-i-init : goal.loop-i-init
 loop-i-init c = grind (arith, common_steps)
@@ -41,17 +39,17 @@ returns-in-Err-clause-done c = grind (arith, common_steps)
 pub returns-in-Err-clause-shape : goal.returns-in-Err-clause-shape
 returns-in-Err-clause-shape c = grind (arith, common_steps)
 
-pub returns-in_default-advance-clause-ok : goal.returns-in_default-advance-clause-ok
-returns-in_default-advance-clause-ok c = grind (arith, common_steps)
+pub returns-in_default-make-clause-ok : goal.returns-in_default-make-clause-ok
+returns-in_default-make-clause-ok c = grind (arith, common_steps)
 
-pub returns-in_default-advance-clause-err : goal.returns-in_default-advance-clause-err
-returns-in_default-advance-clause-err c = grind (arith, common_steps)
+pub returns-in_default-make-clause-err : goal.returns-in_default-make-clause-err
+returns-in_default-make-clause-err c = grind (arith, common_steps)
 
-pub returns-in_default-advance-clause-done : goal.returns-in_default-advance-clause-done
-returns-in_default-advance-clause-done c = grind (arith, common_steps)
+pub returns-in_default-make-clause-done : goal.returns-in_default-make-clause-done
+returns-in_default-make-clause-done c = grind (arith, common_steps)
 
-pub returns-in_default-advance-clause-shape : goal.returns-in_default-advance-clause-shape
-returns-in_default-advance-clause-shape c = grind (arith, common_steps)
+pub returns-in_default-make-clause-shape : goal.returns-in_default-make-clause-shape
+returns-in_default-make-clause-shape c = grind (arith, common_steps)
 
 pub loop-i-smaller : goal.loop-i-smaller
 loop-i-smaller c = grind (arith, common_steps)

@@ -1,0 +1,107 @@
+use Rattle.std.proofs.Common.{◌≡◌, ◌∙◌, ap, arith, inl, inr, refl, subst, sym, length, true≢false, ◌≤◌}
+use Rattle.std.proofs.lemmas.Grind.{common_steps}
+use Rattle.machine.specs.declared.decision.Decision.{Decision}
+use Rattle.machine.specs.declared.decision.Decision.TheVariants.{Refused}
+use Rattle.machine.specs.declared.made.Made.{Made}
+use Rattle.machine.specs.Block.{BlockState}
+use Rattle.machine.specs.Made.{acted_by, is_crowded}
+use Rattle.machine.specs.Transition.{Transition, carried_out, decision_of, messages_of}
+use Rattle.blocks.specs.Marking.{free_heads, free_requests, free_responses, marks_of}
+use Rattle.blocks.specs.Messages.{message_count}
+use Rattle.blocks.specs.View.{Space, acts, lines_after}
+use Rattle.blocks.proofs.Asked.{first-right-after}
+use Rattle.blocks.proofs.Going.{acting}
+use Rattle.blocks.proofs.Relinking.{others-after, right-after, some-both, some-map}
+use Rattle.blocks.proofs.Sends.{sends-counted}
+use Rattle.blocks.proofs.block.Block.make.Goals as goal
+
+-- what a decision is told as
+abbrev made_by : Decision → BlockState → Made
+made_by d b = record { outcome = (carried_out d b).outcome; acted = acted_by d (is_crowded (carried_out d b).block) }
+
+pub returns-in-Refused-clause-ok : goal.returns-in-Refused-clause-ok
+returns-in-Refused-clause-ok c =
+    let b = c.args.self.now.state in
+    let was : Refused c.in-Refused.outcome ≡ decision_of c.args.tables.now c.args.step b = sym c.in-Refused.is ∙ c.decide-decision.ensures.decision in
+    record {
+      made = c.refused.ensures ∙ ap (λ e. made_by e b) was;
+      state = ap (λ e. (carried_out e b).block) was;
+      marks = c.requires.marks;
+      tested = refl;
+      sent = subst (λ e. length (messages_of e b) ≤ 0) was (omega arith);
+      lines = ap (λ e. lines_after e c.args.self.now.space.lines) was;
+      idle = λ none. refl;
+    }
+
+pub returns-in-Err-clause-err : goal.returns-in-Err-clause-err
+returns-in-Err-clause-err c = record {
+  state = c.prepare.ensures.state;
+  marks = c.prepare.ensures.marks ∙ c.requires.marks ∙ ap (marks_of c.args.tables.now) (sym c.prepare.ensures.state);
+  lines = c.prepare.ensures.lines;
+}
+
+pub returns-in-Err-clause-succeeds : goal.returns-in-Err-clause-succeeds
+returns-in-Err-clause-succeeds c wants = elim wants [
+  | inl space ↦ c.in-Err.ensures.succeeds (rw c.decide-decision.ensures.decision space)
+  | inr none ↦ (let sends = none.0 in let asleep = none.1 in grind (arith, common_steps))
+]
+
+pub returns-clause-ok : goal.returns-clause-ok
+returns-clause-ok c =
+    let d = c.decide-decision.result in
+    let before = c.args.self.now.state in
+    let is = c.decide-decision.ensures.decision in
+    let tables = c.args.tables.now in
+    let after = c.test_after-tested.new.self in
+    let counted = sends-counted d before c.decide-decision.ensures.among c.decide-decision.ensures.fits in
+    let done = ap (carried_out d) (sym c.prepare.ensures.state) ∙ c.carry_out-outcome.ensures.done in
+    let same = ap (λ (t : Transition). message_count t.block.traffic) done in
+    let stays = sym c.test_after-tested.ensures.state in
+    let block : after.state ≡ (carried_out d before).block = c.test_after-tested.ensures.state ∙ sym (ap (λ (t : Transition). t.block) done) in
+    let what : c.carry_out-outcome.result ≡ (carried_out d before).outcome = sym (ap (λ (t : Transition). t.outcome) done) in
+    let acted = c.acted_by-acted.ensures ∙ ap (acted_by d) (c.is_crowded.ensures ∙ ap is_crowded block) in
+    record {
+      made = (λ i. record { outcome = what i; acted = acted i }) ∙ ap (λ e. made_by e before) is;
+      state = block ∙ ap (λ e. (carried_out e before).block) is;
+      marks = c.test_after-tested.ensures.marks ∙ ap (marks_of tables) stays;
+      tested = record {
+        requests = c.test_after-tested.ensures.requests ∙ ap (free_requests tables) stays;
+        heads = c.test_after-tested.ensures.heads ∙ ap (free_heads tables) stays;
+        responses = c.test_after-tested.ensures.responses ∙ ap (free_responses tables) stays;
+        messages = c.test_after-tested.ensures.messages ∙ ap (λ (b : BlockState). message_count b.traffic) stays;
+      };
+      sent = subst (λ e. length (messages_of e before) ≤ c.test_after-tested.result.messages) is
+          (omega (arith, counted, same, c.test_after-tested.ensures.messages));
+      lines = ap (λ (s : Space). s.lines) c.test_after-tested.ensures.space ∙ c.carry_out-outcome.ensures.lines ∙ ap (lines_after d) c.prepare.ensures.lines
+          ∙ ap (λ e. lines_after e c.args.self.now.space.lines) is;
+      idle = λ none. absurd (true≢false (sym (acting d c.in_default.not-Refused) ∙ ap acts is ∙ none));
+    }
+
+pub test_after-tested-requires : goal.test_after-tested-requires
+test_after-tested-requires c =
+    let before = c.args.self.now.state in
+    let marks = c.args.self.now.marks in
+    let after = c.carry_out-outcome.new.self in
+    let done = ap (carried_out c.decide-decision.result) (sym c.prepare.ensures.state) ∙ c.carry_out-outcome.ensures.done in
+    let known = some-both _ _ c.others-others.result c.others-others.ensures.own c.others-others.ensures.links in
+    let asked = some-both _ _ c.others-others.result c.others-others.ensures.requests c.others-others.ensures.free in
+    record {
+      pass = c.requires.pass;
+      marks =
+          some-map c.others-others.result
+          (λ o known. right-after c.args.tables.now c.decide-decision.result before after.state c.carry_out-outcome.result marks after.marks o.cache
+          c.requires.marks known.0 done
+          (rw (c.prepare.ensures.state, c.prepare.ensures.marks) at c.carry_out-outcome.ensures.links o.cache known.0))
+          known;
+      links =
+          some-map c.others-others.result
+          (λ o known. others-after c.args.tables.now before after.state marks after.marks o.cache o.links.heads o.links.forwards c.requires.marks known.1
+          (rw (c.prepare.ensures.state, c.prepare.ensures.marks) at c.carry_out-outcome.ensures.links o.cache known.0))
+          known;
+      requests =
+          some-map c.others-others.result
+          (λ o known. first-right-after c.args.tables.now c.decide-decision.result before after.state c.carry_out-outcome.result marks after.marks o.cache
+          o.requests o.free c.requires.marks known.0 done
+          (rw (c.prepare.ensures.marks) at c.carry_out-outcome.ensures.requests o.cache known.0) known.1.0 known.1.1)
+          (some-both _ _ c.others-others.result c.others-others.ensures.own asked);
+    }
