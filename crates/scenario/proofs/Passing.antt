@@ -3,7 +3,6 @@ use Rattle.std.proofs.Common.{◌≡◌, ℕ, ◌-◌, ◌<◌, List, [], ◌∷
 use Rattle.std.proofs.Common.{length, drop, map, take, slice_get, slice_set, if◌then◌else◌, le-ltb, lt-ltb, inl, inr, refl, sym, ap, ◌∙◌, subst, arith, Bor}
 use Rattle.std.proofs.lemmas.Bool.{cases_lt}
 use Rattle.scenario.specs.declared.part.Part.{Part, Fresh, Begun'}
-use Rattle.scenario.specs.declared.part.Place.{Place}
 use Rattle.scenario.specs.declared.part.Place.TheVariants as place
 use Rattle.scenario.specs.declared.tree.Scenario.{Scenario}
 use Rattle.scenario.specs.Tree as tree
@@ -100,10 +99,6 @@ turn-low : {A B : Type 0} (p : Part A B) (n : ℕ) (t : Bor (Scenario A)) (i : �
     → i < length (offers (part_left p)) → i < length (offers (tree.Times n (plain t.now)))
 turn-low p n t i at over low = subst (λ q. i < length (offers (behind q))) at (low-behind p i (turn-none p n t at over) low)
 
-pub turn-some : {A B : Type 0} (p : Part A B) (n : ℕ) (t : Bor (Scenario A)) (i : ℕ) → place_of p ≡ place.InTimes n t → first_part (parts_of p) ≡ Nothing
-    → i < length (offers (part_left p)) → 0 < n
-turn-some p n t i at over low = (turn-offered n (plain t.now) i (turn-low p n t i at over low)).0
-
 pub passes-turn : {A B : Type 0} (p : Part A B) (n : ℕ) (t : Bor (Scenario A)) (i : ℕ) (new : Progress) → place_of p ≡ place.InTimes n t
     → first_part (parts_of p) ≡ Nothing → chooses p ≡ true → i < length (offers (part_left p))
     → new ≡ progress_at (place.InTimes (n - 1) t) (parts_of p) → MovesTo (part_left p) i (wants (progress p)) new
@@ -142,24 +137,6 @@ chosen (Whole t) = false
 chosen (InSeq p ts) = false
 chosen (InTimes p n t) = is_choice t
 chosen (InBoth ps) = false
-
-chosen-at : {A : Type 0} (at : Place A) (ps : List Progress) → chosen (progress_at at ps) ≡ chooses_at at
-chosen-at place.Nothing ps = refl
-chosen-at (place.Whole t) ps = refl
-chosen-at (place.InSeq ts) ps = refl
-chosen-at (place.InTimes n t) ps = refl
-chosen-at (place.InBoth n) ps = refl
-
-chosen-is : {A B : Type 0} (p : Part A B) → chosen (progress p) ≡ chooses p
-chosen-is (Fresh at) = chosen-at at []
-chosen-is (Begun' at shape row) = chosen-at at _
-
-pub chooses-to : {A B : Type 0} (p : Part A B) (at : Place A) (ps : List Progress) → progress p ≡ progress_at at ps → chooses p ≡ chooses_at at
-chooses-to p at ps e = sym (chosen-is p) ∙ ap chosen e ∙ chosen-at at ps
-
-pub chooses-is : {A B : Type 0} (p : Part A B) (at : Place A) → place_of p ≡ at → chooses p ≡ chooses_at at
-chooses-is (Fresh at) is e = ap chooses_at e
-chooses-is (Begun' at shape row) is e = ap chooses_at e
 
 -- the first part once one is written there
 pub first-set : {A B : Type 0} (ps : List (Part A B)) (p : Part A B) → 0 < length ps → first_part (map progress (slice_set ps 0 p)) ≡ progress p

@@ -4,10 +4,9 @@ ghost use Rattle.std.specs.Prelude.{◌≡◌, true};
 ghost use Rattle.scenario.specs.inner.Turns.{chooses};
 
 use crate::part::{Part, Place, is_in_turns, part_next, part_repeats, pass_at_once, take_from};
-use crate::seeking::find_offer;
 use crate::telling::Next;
 use crate::tree::Scenario;
-use base::{CoreAsk, NoMemory};
+use base::NoMemory;
 use std::alloc::Allocator;
 
 /// What is left of a scenario, which it borrows.
@@ -48,13 +47,6 @@ impl<'t, A: Allocator, B: Allocator> Cursor<'t, A, B> {
     ghost use Rattle.scenario.specs.Telling.{Tells};
     ghost use Rattle.scenario.specs.Tree.{Tree, plain};
 
-    /// Whether the same is offered again, whichever offer is taken. It is told by a look: `false` promises nothing.
-    pub fn repeats(&self) -> bool
-        ensures { result ≡ true → Repeats (remaining self.now) }
-    {
-        part_repeats(&self.root, self.in_turns)
-    }
-
     /// What is offered next, where that is one ask at most and a look tells it.
     pub fn peek(&self) -> Next
         ensures { Tells result (offers (remaining self.now)) }
@@ -85,24 +77,8 @@ impl<'t, A: Allocator, B: Allocator + Clone> Cursor<'t, A, B> {
     ghost use Rattle.scenario.specs.Taking.{left, offers};
     ghost use Rattle.scenario.specs.Tree.{Tree};
 
-    /// Takes offer `at`, counted from 0 in the order of [`Rest::offers`](crate::Rest::offers): answers its ask, and what is
-    /// then left of the tree is left. `None` comes where there is no such offer, and then nothing has changed.
-    ///
-    /// What is made anew is `alloc`'s. Where memory is refused, nothing has changed.
-    pub fn take(&mut self, alloc: B, at: usize) -> Result<Option<CoreAsk>, NoMemory>
-        ensures ok { IfOk result (λ taken. Takes (remaining self.old) at taken (remaining self.new)) }
-        ensures err { OnErr result (remaining self.new ≡ remaining self.old) }
-        ensures fits { (tree : Tree) → FitsIn self.old tree → FitsIn self.new tree }
-        ensures used { most_used (standing self.new) ≤ most_used (standing self.old) }
-    {
-        let Some(ask) = find_offer(&self.root, at) else {
-            return Ok(None);
-        };
-        self.pass(alloc, at)?;
-        Ok(Some(ask))
-    }
-
-    /// Takes offer `at`, which there has to be, without a look at its ask.
+    /// Takes offer `at`, counted from 0 in the order of [`Rest::offers`](crate::Rest::offers), which there has to be, without a look
+    /// at its ask.
     ///
     /// What is made anew is `alloc`'s. Where memory is refused, nothing has changed.
     pub fn pass(&mut self, alloc: B, at: usize) -> Result<(), NoMemory>
@@ -120,8 +96,9 @@ impl<'t, A: Allocator, B: Allocator + Clone> Cursor<'t, A, B> {
         Ok(())
     }
 
-    /// Takes offer `at` as [`pass`](Cursor::pass) does, and answers what [`repeats`](Cursor::repeats) did before. Of turns of a
-    /// choice it keeps in mind that they are, so that in those behind this one no child is looked at.
+    /// Takes offer `at` as [`pass`](Cursor::pass) does, and answers whether the same was offered again, whichever offer was taken:
+    /// that is told by a look, and `false` promises nothing. Of turns of a choice it keeps in mind that they are, so that in those
+    /// behind this one no child is looked at.
     ///
     /// What is made anew is `alloc`'s. Where memory is refused, what is left is as before.
     pub fn pass_on(&mut self, alloc: B, at: usize) -> Result<bool, NoMemory>

@@ -43,7 +43,7 @@ pub fn alike_trees_have_the_same_words()
 
 /// A cursor that fits in a tree holds no more parts than this has nodes, in use or kept for later, nor can it come to have more
 /// in use. It fits in its tree where it is opened ([`Cursor::open`](crate::Cursor::open)) and wherever it is restarted with it
-/// ([`Cursor::restart`](crate::Cursor::restart)), and no [`Cursor::take`](crate::Cursor::take) changes that.
+/// ([`Cursor::restart`](crate::Cursor::restart)), and no [`Cursor::pass`](crate::Cursor::pass) changes that.
 pub fn cursors_stay_small<A: Allocator, B: Allocator>()
     ensures held { (c : Cursor A B) (t : Tree) → FitsIn c t → parts_held c ≤ nodes t }
     ensures used { (c : Cursor A B) (t : Tree) → FitsIn c t → most_used (standing c) ≤ nodes t }

@@ -101,6 +101,10 @@ impl<'t, A: Allocator, B: Allocator + Clone> Rest for Cursor<'t, A, B> {
     }
 
     fn take(&mut self, alloc: B, at: usize) -> Result<Option<CoreAsk>, NoMemory> {
-        Cursor::take(self, alloc, at)
+        let Some(ask) = self.offer_at(at) else {
+            return Ok(None);
+        };
+        self.pass(alloc, at)?;
+        Ok(Some(ask))
     }
 }
