@@ -1,8 +1,7 @@
 -- What a step at a line leaves of the requests: those that there were, and their marks.
-use Rattle.std.proofs.Common.{◌≡◌, ℕ, ◌+◌, List, [], ◌∷◌, Bool, not, Option, None, Some, length, map, take, drop, cond}
-use Rattle.std.proofs.Common.{refl, sym, ap, ◌∙◌, arith, zero, suc}
-use Rattle.std.proofs.lemmas.List.{length-map, take-map}
-use Rattle.std.proofs.lemmas.List.Sums.{sum_by-take-drop}
+use Rattle.std.proofs.Common.{◌≡◌, ℕ, ◌+◌, ◌++◌, List, [], ◌∷◌, Bool, Option, None, Some, length, map, take, drop}
+use Rattle.std.proofs.Common.{refl, sym, ap, ◌∙◌, zero, suc}
+use Rattle.std.proofs.lemmas.List.{drop-map, length-map, take-map}
 use Rattle.std.proofs.Math.Seq.{take-append_seam, take-length}
 use Rattle.base.specs.declared.ids.CacheId.{CacheId}
 use Rattle.base.specs.declared.step.Outcome.{Outcome}
@@ -22,11 +21,10 @@ use Rattle.machine.specs.declared.decision.Decision.TheVariants.{Refused, AtLine
 use Rattle.machine.specs.declared.decision.Origin.{Origin}
 use Rattle.machine.specs.declared.decision.Origin.TheVariants as origin
 use Rattle.blocks.specs.View.{moved_to}
-use Rattle.blocks.specs.Marking.{home_stalls, marks_of, unmarked_count}
+use Rattle.blocks.specs.Marking.{home_stalls, marks_of}
 use Rattle.blocks.specs.inner.Asked.{AreFirstRight}
 use Rattle.blocks.specs.inner.Linking.{IsAtOwn, IsOwn}
 use Rattle.blocks.specs.inner.Tested.{requests_stall}
-use Rattle.blocks.proofs.Writes.{written}
 
 -- ---- fronts of lists
 
@@ -94,11 +92,11 @@ requests-front (AtLine cache line input next actions from) b new what own at don
     ∙ before
 
 -- the marks of the requests that there were stay right
-pub first-right-after : (tables : Tables) (d : Decision) (old new : BlockState) (what : Outcome) (marks new_marks : Marks) (own : CacheId) (count free : ℕ) →
+pub first-right-after : (tables : Tables) (d : Decision) (old new : BlockState) (what : Outcome) (marks new_marks : Marks) (own : CacheId) (count : ℕ) →
     marks ≡ marks_of tables old → IsAtOwn d own → carried_out d old ≡ moved_to new what →
-    take (length marks.requests) new_marks.requests ≡ marks.requests → count ≡ length old.traffic.requests → free ≡ unmarked_count marks.requests →
-    AreFirstRight count free new_marks.requests (requests_stall tables.directory new.home new.traffic.requests)
-first-right-after tables d old new what marks new_marks own count free right at done front many few =
+    take (length marks.requests) new_marks.requests ≡ marks.requests → count ≡ length old.traffic.requests →
+    AreFirstRight count new_marks.requests (requests_stall tables.directory new.home new.traffic.requests)
+first-right-after tables d old new what marks new_marks own count right at done front many =
     let stalls = λ (r : Request). home_stalls tables.directory old.home (home_input.Request r) in
     let were : marks.requests ≡ map stalls old.traffic.requests = ap (λ (m : Marks). m.requests) right in
     let long : length marks.requests ≡ count = ap length were ∙ length-map old.traffic.requests stalls ∙ sym many in
@@ -108,20 +106,14 @@ first-right-after tables d old new what marks new_marks own count free right at 
     ∙ ap (λ n. map stalls (take n new.traffic.requests)) many
     ∙ ap (map stalls) (requests-front d old new what own at done)
     ∙ sym were in
-    record {
-      front = ap (λ n. take n new_marks.requests) (sym long) ∙ front ∙ sym now;
-      unset = few ∙ ap unmarked_count (sym now);
-    }
+    ap (λ n. take n new_marks.requests) (sym long) ∙ front ∙ sym now
 
--- ---- a test that begins behind the marks that are right
+-- and with the marks of the others they are those of all
+whole : {X : Type 0} (n : ℕ) (xs : List X) → take n xs ++ drop n xs ≡ xs
+whole zero xs = refl
+whole (suc n) [] = refl
+whole (suc n) (x ∷ xs) = ap (λ ys. x ∷ ys) (whole n xs)
 
-pub written-front : {X : Type 0} (new old : List X) (n : ℕ) → length old ≡ length new → take n old ≡ take n new → written new old n ≡ old
-written-front new old zero same e = refl
-written-front [] old (suc n) same e = refl
-written-front (x ∷ new) [] (suc n) same e = refl
-written-front (x ∷ new) (y ∷ old) (suc n) same e =
-    ap (λ z. z ∷ written new old n) (first-same y x _ _ e) ∙ ap (λ zs. y ∷ zs) (written-front new old n (omega arith) (rest-same y x _ _ e))
-
--- the first marks and the others are all
-pub count-front : (marks : List Bool) (n : ℕ) → unmarked_count (take n marks) + unmarked_count (drop n marks) ≡ unmarked_count marks
-count-front marks n = sum_by-take-drop (λ m. cond (not m) 1 0) marks n
+pub first-and-others : {X : Type 0} (f : X → Bool) (marks : List Bool) (n : ℕ) (xs : List X) → AreFirstRight n marks (map f xs) →
+    take n marks ++ map f (drop n xs) ≡ map f xs
+first-and-others f marks n xs first = (λ i. first i ++ sym (drop-map f n xs) i) ∙ whole n (map f xs)

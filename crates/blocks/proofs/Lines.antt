@@ -1,9 +1,8 @@
 -- Lines of which only some are kept.
 use Rattle.std.proofs.Common.{◌≡◌, ℕ, List, [], ◌∷◌, Option, Some, None, false, refl, ap, sym, ◌∙◌, zero, suc}
-use Rattle.std.proofs.Common.{length, get_or, replicate, slice_get, is_some, true≢false}
+use Rattle.std.proofs.Common.{length, get_or, replicate, slice_get, true≢false}
 use Rattle.control.specs.declared.line.Line.{Line}
 use Rattle.control.specs.LineEffect.{opened_line}
-use Rattle.rows.specs.Flags.{is_set}
 use Rattle.blocks.specs.View.{is_invalid, line_or}
 use Rattle.blocks.specs.inner.Lined.{lines_of, kept_lines}
 use Rattle.blocks.specs.inner.Named.{IsKept}
@@ -21,13 +20,6 @@ pub line-not_kept : (items : List (Option Line)) (i : ℕ) → get_or items i No
 line-not_kept [] i e = refl
 line-not_kept (x ∷ items) zero e = ap (λ o. Some (line_or o)) (sym e)
 line-not_kept (x ∷ items) (suc i) e = line-not_kept items i e
-
--- whether a line is kept
-pub is-kept : (items : List (Option Line)) (i : ℕ) → is_set (kept_lines items) i ≡ is_some (get_or items i None)
-is-kept [] zero = refl
-is-kept [] (suc i) = refl
-is-kept (x ∷ items) zero = refl
-is-kept (x ∷ items) (suc i) = is-kept items i
 
 -- a line that isn't in I is kept
 pub line-kept_unless : (items : List (Option Line)) (i : ℕ) (line : Line) → Some line ≡ slice_get (lines_of items) i

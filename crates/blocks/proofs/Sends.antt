@@ -24,7 +24,7 @@ use Rattle.machine.specs.declared.decision.Decision.TheVariants.{Refused, AtLine
 use Rattle.machine.specs.Block.{BlockState, IsBlockAmong}
 use Rattle.machine.specs.Transition.{carried_out, messages_of, without, Fits}
 use Rattle.machine.proofs.Whole.{links-without}
-use Rattle.blocks.specs.Messages.{message_count}
+use Rattle.network.specs.Traffic.{message_count}
 
 -- ---- each message that is sent is counted, where each forward has its link
 
@@ -61,9 +61,6 @@ count-all_sent (m ∷ ms) w linked =
     let same = links-sent m w in
     let rest = count-all_sent ms (sent m w) (λ k past. rest-linked (length w.links) m ms linked k (omega (arith, same))) in
     omega arith
-
-pub sent-counted : (ms : List Message) (w : Traffic) → AllLinked (length w.links) ms → length ms ≤ message_count (all_sent ms w)
-sent-counted ms w linked = omega (arith, count-all_sent ms w linked)
 
 -- ---- each forward has its link
 

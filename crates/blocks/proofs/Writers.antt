@@ -1,7 +1,7 @@
 -- The least cache that may write.
 use Rattle.std.proofs.Common.{◌≡◌, ℕ, ◌<◌, ◌+◌, List, [], ◌∷◌, Some, None, Bool}
 use Rattle.std.proofs.Common.{true, false, if◌then◌else◌, refl, ap, sym, ◌∙◌, zero, suc, arith}
-use Rattle.std.proofs.Common.{get_or, replicate, true≢false, ◌≤◌, IsSome, count_by, inl, inr}
+use Rattle.std.proofs.Common.{get_or, replicate, true≢false, ◌≤◌, count_by, inl, inr}
 use Rattle.std.proofs.lemmas.Bool.{cases_Bool}
 use Rattle.std.proofs.lemmas.List.Sums.{sum_by-cons}
 use Rattle.control.specs.declared.line.Line.{Line}
@@ -50,15 +50,6 @@ writing-cons : (line : Line) (lines : List Line) (writes : Bool) → is_writer l
     writing (line ∷ lines) ≡ (if writes then 1 else 0) + writing lines
 writing-cons line lines writes e =
     sum_by-cons (λ (l : Line). if is_writer l.state then 1 else 0) line lines ∙ ap (λ (b : Bool). (if b then 1 else 0) + writing lines) e
-
--- where somebody writes there is one
-pub writer-counted : (lines : List Line) (i : ℕ) → 0 < writing lines → IsSome (writer_from i lines)
-writer-counted [] i some = absurd (omega arith)
-writer-counted (line ∷ lines) i some =
-    elim (cases_Bool (is_writer line.state)) [
-      | inl writes ↦ rw writes refl
-      | inr reads ↦ rw reads (writer-counted lines (i + 1) (omega (arith, some, writing-cons line lines false reads)))
-    ]
 
 -- and where nobody does there is none
 pub writer-uncounted : (lines : List Line) (i : ℕ) → writing lines ≤ 0 → None ≡ writer_from i lines

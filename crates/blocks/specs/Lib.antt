@@ -1,7 +1,6 @@
 pub mod Asking
 pub mod View
 pub mod Marking
-pub mod Messages
 pub mod Looks
 pub mod Passing
 pub mod Tests

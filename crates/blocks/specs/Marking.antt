@@ -1,13 +1,13 @@
--- Which messages on their way are held by a stall: their marks, the places without a mark, and how many these are.
+-- Which messages on their way are held by a stall: their marks, and how many have none.
 use Rattle.std.specs.Prelude.{ℕ, ◌+◌, List, [], ◌∷◌, Option, Some, None}
-use Rattle.std.specs.Prelude.{Bool, true, false, not, if◌then◌else◌, map, slice_get, count_by}
+use Rattle.std.specs.Prelude.{Bool, true, false, if◌then◌else◌, map, slice_get}
 use Rattle.base.specs.declared.controller.entry.Entry.{Entry}
 use Rattle.base.specs.declared.controller.entry.Entry.TheVariants as table_entry
 use Rattle.base.specs.declared.ids.Place.TheVariants.{Dir, Cache}
 use Rattle.network.specs.declared.message.Forward.{Forward}
 use Rattle.network.specs.declared.message.Response.{Response}
 use Rattle.network.specs.declared.message.Response.TheVariants.{Data, InvAck, DataExcl}
-use Rattle.network.specs.Marks.{Marks}
+use Rattle.network.specs.Marks.{Marks, unmarked_count, unmarked_heads_count}
 use Rattle.cache_table.specs.Table as cache_table
 use Rattle.directory_table.specs.Table as directory_table
 use Rattle.control.specs.declared.line.Line.{Line}
@@ -65,28 +65,6 @@ marks_of tables b = record {
   links = links_stall tables.cache b.lines 0 b.traffic.links;
   responses = map (response_stalls tables b) b.traffic.responses;
 }
-
--- the places whose mark isn't set, where the marks are those of the places from a number on
-abbrev pub unmarked : ℕ → List Bool → List ℕ
-unmarked i [] = []
-unmarked i (held ∷ marks) = if held then unmarked (i + 1) marks else i ∷ unmarked (i + 1) marks
-
--- whether a link is without a message that could be taken: it has none, or the mark of its first one is set
-abbrev pub is_stopped : List Bool → Bool
-is_stopped [] = true
-is_stopped (held ∷ marks) = held
-
--- the caches whose link has a message and whose first mark isn't set, where the links are those to the caches from a number on
-abbrev pub unmarked_heads : ℕ → List (List Bool) → List ℕ
-unmarked_heads cache links = unmarked cache (map is_stopped links)
-
--- how many marks aren't set
-abbrev pub unmarked_count : List Bool → ℕ
-unmarked_count marks = count_by not marks
-
--- how many links have a message and a first mark that isn't set
-abbrev pub unmarked_heads_count : List (List Bool) → ℕ
-unmarked_heads_count links = unmarked_count (map is_stopped links)
 
 -- how many requests of a block aren't marked
 abbrev pub free_requests : Tables → BlockState → ℕ

@@ -3,7 +3,7 @@ use Rattle.std.specs.Prelude.{◌≡◌, ℕ, Option, Some, None}
 use Rattle.machine.specs.Block.{BlockState}
 use Rattle.both_tables.specs.Tables.{Tables}
 use Rattle.blocks.specs.Marking.{free_requests, free_heads, free_responses}
-use Rattle.blocks.specs.Messages.{message_count}
+use Rattle.network.specs.Traffic.{message_count}
 use Rattle.blocks.specs.declared.block.testing.Tested.{Tested}
 
 -- it found what there is

@@ -1,7 +1,6 @@
 mod access;
 mod acting;
 mod asking;
-mod counting;
 mod deciding;
 mod free;
 mod looking;
@@ -13,7 +12,6 @@ pub use acting::Visit;
 pub use asking::{HeldAsks, held_asks_in};
 use base::{CacheId, NoMemory};
 use control::{Home, Line};
-use counting::Counts;
 pub use deciding::{decide_opened, opened_line};
 use directory_table::DirectoryState;
 pub use looking::{foreseen, is_held_opened};
@@ -33,8 +31,6 @@ pub struct Block {
     wires: Wires,
     latest: u64,
     access: Access,
-    // What the last test of all messages counted, where nothing has changed since.
-    counted: Option<Counts>,
 }
 
 impl Drop for Block {
@@ -46,15 +42,11 @@ impl Drop for Block {
             wires: _,
             latest: _,
             access: _,
-            counted: _,
         } = self;
     }
 }
 
 impl Model for Block {
-    ghost use Rattle.std.specs.Prelude.{◌≡◌, IfSome};
-    ghost use Rattle.blocks.specs.Marking.{unmarked_count};
-    ghost use Rattle.blocks.specs.inner.Linking.{AreCounted};
     ghost use Rattle.blocks.specs.View.{BlockView};
     ghost use Rattle.blocks.specs.inner.Lined.{IsHeld, kept_lines, lines_of};
 
@@ -71,9 +63,7 @@ impl Model for Block {
       home = b.home;
       traffic = b.wires.traffic;
       latest = b.latest;
-    }) b.lines.items b.access.readers b.access.writers ×
-        IfSome b.counted (λ k. (k.requests ≡ unmarked_count b.wires.marks.requests) ×
-        AreCounted b.wires.marks.links b.wires.traffic.links k.links.heads k.links.forwards) };
+    }) b.lines.items b.access.readers b.access.writers };
 }
 
 impl Block {
@@ -97,7 +87,6 @@ impl Block {
             wires,
             latest: value,
             access,
-            counted: None,
         })
     }
 
@@ -112,7 +101,6 @@ impl Block {
         self.home.reset(value);
         self.wires.clear();
         self.latest = value;
-        self.counted = None;
         self.access.clear();
     }
 
@@ -162,7 +150,6 @@ impl TryClone for Block {
             wires,
             latest: self.latest,
             access,
-            counted: None,
         })
     }
 }

@@ -4,3 +4,6 @@ pub mod Listed
 pub mod Marked
 pub mod Sending
 pub mod Waits
+pub mod UnmarkedPlaces
+pub mod Written
+pub mod Parts

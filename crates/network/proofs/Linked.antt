@@ -1,4 +1,4 @@
-use Rattle.std.proofs.Common.{◌≡◌, ◌≢◌, ◌≤◌, ◌+◌, ◌∷◌, ◌++◌, ℕ, ◌<◌, List, [], Bool, true, false, ◌==◌, not, if◌then◌else◌}
+use Rattle.std.proofs.Common.{◌≡◌, ◌≢◌, ◌≤◌, ◌+◌, ◌*◌, ◌-◌, ◌^◌, ◌∷◌, ◌++◌, ℕ, ◌<◌, List, [], Bool, true, false, ◌==◌, not, remove}
 use Rattle.std.proofs.Common.{Option, None, Some, length, get_or, map, replicate, set, refl, ap, ◌∙◌, sym, zero, suc, arith}
 use Rattle.std.proofs.Common.{inl, inr, true≢false}
 use Rattle.std.specs.Option.{is_some, option_map, unwrap_or}
@@ -6,11 +6,16 @@ use Rattle.std.proofs.Math.ListN.{get_or-map}
 use Rattle.std.proofs.Math.Seq.{map-set_same}
 use Rattle.std.proofs.lemmas.Bool.{cases_eq, cases_lt, ne_eqb}
 use Rattle.std.proofs.lemmas.List.Sums.{sum_by-cons}
-use Rattle.std.proofs.lemmas.List.{map-set, length-map, get_or_past, get_or-set_same, get_or-set_other}
-use Rattle.network.specs.inner.Links.{AreMarked, KeepsRoom, UsesOneLink, Wired, on_link, marks_on, room_on, waiting_of}
-use Rattle.network.specs.Traffic.{all_nil, is_nil}
+use Rattle.std.proofs.lemmas.List.{map-set, length-append, length-map, get_or_past, get_or-set_same, get_or-set_other}
+use Rattle.std.proofs.lemmas.List.Edits.{length-remove}
+use Rattle.std.proofs.lemmas.List.Sums.{sum_by-set}
+use Rattle.std.specs.List.{sum_by}
+use Rattle.network.specs.Marks.{is_stopped}
+use Rattle.network.specs.inner.Links.{AreFew, AreLinked, KeepsRoom, UsesOneLink, Wired, free_of, marks_in, on_link, remarked, room_on, unmarked_one, waiting_of}
+use Rattle.network.specs.Traffic.{is_nil}
 use Rattle.network.specs.declared.message.Forward.{Forward}
-use Rattle.rows.specs.Flags.{set_count}
+use Rattle.network.specs.declared.wire.Marked.{Marked}
+use Rattle.rows.specs.Flags.{is_set}
 
 -- a part of links that were never used
 pub parts-none : {X : Type 0} (part : Option (Wired Forward) → X) (n : ℕ) → map part (replicate n None) ≡ replicate n (part None)
@@ -36,36 +41,16 @@ pub parts-set_same : {X : Type 0} (part : Option (Wired Forward) → X) (os : Li
     old ≡ get_or os i None → part (Some new) ≡ part old → map part (set os i (Some new)) ≡ map part os
 parts-set_same part os i old new is_old made = map-set_same part os i (Some new) None (made ∙ ap part is_old)
 
--- what a copy of a wire has of it
-abbrev pub Seen : Type 0
-Seen = record { messages : List Forward; marks : List Bool }
-
-abbrev pub seen : Wired Forward → Seen
-seen w = record { messages = w.messages; marks = w.marks }
-
-abbrev pub messages_of : Seen → List Forward
-messages_of s = s.messages
-
-abbrev pub marks_of : Seen → List Bool
-marks_of s = s.marks
-
--- the messages are seen in what a copy has
-pub messages-seen : (os : List (Option (Wired Forward))) →
-    map on_link os ≡ map (λ o. unwrap_or (option_map messages_of o) []) (map (option_map seen) os)
-messages-seen [] = refl
-messages-seen (None ∷ os) = ap (λ ms. [] ∷ ms) (messages-seen os)
-messages-seen (Some w ∷ os) = ap (λ ms. w.messages ∷ ms) (messages-seen os)
-
--- and so are the marks
-pub marks-seen : (os : List (Option (Wired Forward))) →
-    map marks_on os ≡ map (λ o. unwrap_or (option_map marks_of o) []) (map (option_map seen) os)
-marks-seen [] = refl
-marks-seen (None ∷ os) = ap (λ ms. [] ∷ ms) (marks-seen os)
-marks-seen (Some w ∷ os) = ap (λ ms. w.marks ∷ ms) (marks-seen os)
-
 -- there are as many links as lists of messages
 pub below_messages : (os : List (Option (Wired Forward))) (i : ℕ) → i < length (map on_link os) → i < length os
 below_messages os i h = omega (arith, length-map os on_link)
+
+-- the link that is replaced has as many messages as what takes its place
+pub short-set : (os : List (Option (Wired Forward))) (i : ℕ) (new : Wired Forward) → i < length os → length new.sent < 2 ^ 32 →
+    length (get_or (map on_link (set os i (Some new))) i []) < 2 ^ 32
+short-set os i new h short =
+    let now = ap length (get_or-map on_link (set os i (Some new)) i None ∙ ap on_link (get_or-set_same os i (Some new) None h)) in
+    omega (arith, now, short)
 
 -- the room of the link that is replaced
 pub room-set : (os : List (Option (Wired Forward))) (i : ℕ) (new : Wired Forward) → i < length os →
@@ -124,59 +109,11 @@ none-used os ps i same = record {
   others = λ k ne. omega (arith, ap (λ xs. get_or (map room_on xs) k 0) same);
 }
 
+-- ---- the flags and the count
+
 pub is_nil-length : {A : Type 0} (xs : List A) → is_nil xs ≡ (length xs == 0)
 is_nil-length [] = refl
 is_nil-length (x ∷ xs) = sym (ne_eqb (length (x ∷ xs)) 0 (λ e. absurd (omega arith)))
-
--- no link waits where none has a message
-pub waiting-none : (n : ℕ) → waiting_of (replicate n []) ≡ replicate n false
-waiting-none zero = refl
-waiting-none (suc n) = ap (λ ws. false ∷ ws) (waiting-none n)
-
--- whether a link waits
-pub waiting-at : (ls : List (List Forward)) (i : ℕ) → get_or (waiting_of ls) i false ≡ not (is_nil (get_or ls i []))
-waiting-at ls i = get_or-map (λ l. not (is_nil l)) ls i []
-
--- whether the link that is replaced waits
-pub waiting-set : (ls : List (List Forward)) (i : ℕ) (l : List Forward) → waiting_of (set ls i l) ≡ set (waiting_of ls) i (not (is_nil l))
-waiting-set ls i l = map-set (λ l. not (is_nil l)) ls i l
-
-pub waiting-length : (ls : List (List Forward)) → length (waiting_of ls) ≡ length ls
-waiting-length ls = length-map ls (λ l. not (is_nil l))
-
--- all links are quiet where none waits
-pub quiet-count : (ls : List (List Forward)) → (set_count (waiting_of ls) == 0) ≡ all_nil ls
-quiet-count [] = refl
-quiet-count ([] ∷ ls) = quiet-count ls
-quiet-count ((x ∷ l) ∷ ls) =
-    ne_eqb (set_count (true ∷ waiting_of ls)) 0
-    (λ e. absurd (omega (arith, sum_by-cons (λ flag. if flag then 1 else 0) true (waiting_of ls), e)))
-
-quiet-first : (l : List Forward) (ls : List (List Forward)) → all_nil (l ∷ ls) ≡ true → l ≡ []
-quiet-first [] ls h = refl
-quiet-first (x ∷ l) ls h = absurd (true≢false (sym h))
-
-quiet-rest : (l : List Forward) (ls : List (List Forward)) → all_nil (l ∷ ls) ≡ true → all_nil ls ≡ true
-quiet-rest [] ls h = h
-quiet-rest (x ∷ l) ls h = absurd (true≢false (sym h))
-
-empty : {A : Type 0} (xs : List A) → length xs ≡ 0 → xs ≡ []
-empty [] h = refl
-empty (x ∷ xs) h = absurd (omega (arith, h))
-
--- quiet links have no message
-pub no_messages : (ls : List (List Forward)) → all_nil ls ≡ true → ls ≡ replicate (length ls) []
-no_messages [] h = refl
-no_messages (l ∷ ls) h =
-    ap (λ x. x ∷ ls) (quiet-first l ls h) ∙ ap (λ xs. [] ∷ xs) (no_messages ls (quiet-rest l ls h))
-
--- and no mark
-pub no_marks : (os : List (Option (Wired Forward))) → AreMarked os → all_nil (map on_link os) ≡ true →
-    map marks_on os ≡ replicate (length (map on_link os)) []
-no_marks [] all h = refl
-no_marks (o ∷ os) all h =
-    ap (λ x. x ∷ map marks_on os) (empty (marks_on o) (all zero ∙ ap length (quiet-first (on_link o) (map on_link os) h)))
-    ∙ ap (λ xs. [] ∷ xs) (no_marks os (λ k. all (suc k)) (quiet-rest (on_link o) (map on_link os) h))
 
 -- a list that has nothing
 pub nil-is : {A : Type 0} (xs : List A) → not (is_nil xs) ≡ false → xs ≡ []
@@ -189,44 +126,143 @@ set-same [] i y d h = refl
 set-same (x ∷ xs) zero y d h = ap (λ z. z ∷ xs) (sym h)
 set-same (x ∷ xs) (suc i) y d h = ap (λ zs. x ∷ zs) (set-same xs i y d h)
 
-is_nil-push : {A : Type 0} (xs : List A) (y : A) → is_nil (xs ++ y ∷ []) ≡ false
-is_nil-push [] y = refl
-is_nil-push (x ∷ xs) y = refl
+-- the flag of a link
+pub waiting-at : (ls : List (List (Marked Forward))) (i : ℕ) → is_set (waiting_of ls) i ≡ not (is_nil (get_or ls i []))
+waiting-at ls i = get_or-map (λ l. not (is_nil l)) ls i []
 
--- a link waits once a message was put on it
-pub waiting-sent : (ls : List (List Forward)) (i : ℕ) (f : Forward) → waiting_of (set ls i (get_or ls i [] ++ f ∷ [])) ≡ set (waiting_of ls) i true
-waiting-sent ls i f = waiting-set ls i (get_or ls i [] ++ f ∷ []) ∙ ap (λ b. set (waiting_of ls) i (not b)) (is_nil-push (get_or ls i []) f)
+pub free-at : (ls : List (List (Marked Forward))) (i : ℕ) → is_set (free_of ls) i ≡ not (is_stopped (marks_in (get_or ls i [])))
+free-at ls i = get_or-map (λ l. not (is_stopped (marks_in l))) ls i []
 
--- a link waits where what is left on it has a message
-pub waiting-left : (ls : List (List Forward)) (i n : ℕ) (l : List Forward) → n ≡ length l →
-    waiting_of (set ls i l) ≡ set (waiting_of ls) i (not (n == 0))
-waiting-left ls i n l h =
-    waiting-set ls i l ∙ ap (λ b. set (waiting_of ls) i (not b)) (is_nil-length l ∙ ap (λ k. k == 0) (sym h))
+-- links that were never used hold together
+abbrev no_message : List (Marked Forward)
+no_message = []
 
--- each message has its mark on links that were never used
-pub marked-none : (n : ℕ) → AreMarked (replicate n None)
-marked-none zero zero = refl
-marked-none zero (suc k) = refl
-marked-none (suc n) zero = refl
-marked-none (suc n) (suc k) = marked-none n k
+none-few : (n k : ℕ) → length (get_or (replicate n no_message) k no_message) < 2 ^ 32
+none-few zero k = omega arith
+none-few (suc n) zero = omega arith
+none-few (suc n) (suc k) = none-few n k
 
--- and still where one link is replaced by one on which each has
-pub marked-set : (os : List (Option (Wired Forward))) (i : ℕ) (new : Wired Forward) → AreMarked os → length new.marks ≡ length new.messages →
-    AreMarked (set os i (Some new))
-marked-set [] i new all here k = all k
-marked-set (o ∷ os) zero new all here zero = here
-marked-set (o ∷ os) zero new all here (suc k) = all (suc k)
-marked-set (o ∷ os) (suc i) new all here zero = all zero
-marked-set (o ∷ os) (suc i) new all here (suc k) = marked-set os i new (λ j. all (suc j)) here k
+none-wait : (n : ℕ) → replicate n false ≡ waiting_of (replicate n [])
+none-wait zero = refl
+none-wait (suc n) = ap (λ fs. false ∷ fs) (none-wait n)
 
--- which is told by what stands on each, and its marks
-pub marked-parts : (os ps : List (Option (Wired Forward))) → map on_link os ≡ map on_link ps → map marks_on os ≡ map marks_on ps →
-    AreMarked ps → AreMarked os
-marked-parts os ps messages marks all k =
-    ap length (sym (parts-at marks_on os k) ∙ ap (λ ms. get_or ms k []) marks ∙ parts-at marks_on ps k)
-    ∙ all k
-    ∙ ap length (sym (parts-at on_link ps k) ∙ ap (λ ms. get_or ms k []) (sym messages) ∙ parts-at on_link os k)
+none-free : (n : ℕ) → replicate n false ≡ free_of (replicate n [])
+none-free zero = refl
+none-free (suc n) = ap (λ fs. false ∷ fs) (none-free n)
 
-pub marked-each : (os : List (Option (Wired Forward))) → AreMarked os → (cache : ℕ) →
-    length (get_or (map marks_on os) cache []) ≡ length (get_or (map on_link os) cache [])
-marked-each os all cache = ap length (parts-at marks_on os cache) ∙ all cache ∙ ap length (sym (parts-at on_link os cache))
+none-there : (n : ℕ) → 0 ≡ sum_by length (replicate n no_message)
+none-there zero = refl
+none-there (suc n) = let s = sum_by-cons length no_message (replicate n no_message) in let rest = none-there n in omega arith
+
+pub linked-none : (n : ℕ) → AreLinked (replicate n []) (replicate n false) (replicate n false) 0
+linked-none n = record { waiting = none-wait n; free = none-free n; few = none-few n; count = none-there n }
+
+-- what is on the links is told in another way
+pub linked-same : (ls new : List (List (Marked Forward))) (waits frees : List Bool) (all : ℕ) → new ≡ ls → AreLinked ls waits frees all →
+    AreLinked new waits frees all
+linked-same ls new waits frees all same linked = rw same linked
+
+-- one link is another
+pub linked-set : (ls : List (List (Marked Forward))) (i : ℕ) (new : List (Marked Forward)) (waits frees : List Bool) (before after : ℕ) → i < length ls →
+    AreLinked ls waits frees before → length new < 2 ^ 32 → after + length (get_or ls i []) ≡ before + length new →
+    AreLinked (set ls i new) (set waits i (not (is_nil new))) (set frees i (not (is_stopped (marks_in new)))) after
+linked-set ls i new waits frees before after there linked short count = record {
+  waiting = ap (λ fs. set fs i (not (is_nil new))) linked.waiting ∙ sym (map-set (λ l. not (is_nil l)) ls i new);
+  free = ap (λ fs. set fs i (not (is_stopped (marks_in new)))) linked.free ∙ sym (map-set (λ l. not (is_stopped (marks_in l))) ls i new);
+  few = λ k. elim (cases_eq k i) [
+    | inl e ↦ omega (arith, ap (λ n. length (get_or (set ls i new) n [])) e, ap length (get_or-set_same ls i new [] there))
+    | inr e ↦ omega (arith, linked.few k, ap length (get_or-set_other ls i k new [] e))
+  ];
+  count = omega (arith, linked.count, sum_by-set length ls i new [] there);
+}
+
+-- a link's messages are marked anew: as many wait as before
+remarked-nil : (mark : Forward → Bool) (l : List (Marked Forward)) → is_nil (remarked mark l) ≡ is_nil l
+remarked-nil mark [] = refl
+remarked-nil mark (m ∷ l) = refl
+
+pub linked-marked : (ls : List (List (Marked Forward))) (i : ℕ) (mark : Forward → Bool) (waits frees : List Bool) (all : ℕ) → i < length ls →
+    AreLinked ls waits frees all →
+    AreLinked (set ls i (remarked mark (get_or ls i []))) waits (set frees i (not (is_stopped (marks_in (remarked mark (get_or ls i [])))))) all
+linked-marked ls i mark waits frees all there linked =
+    let old = get_or ls i [] in
+    let new = remarked mark old in
+    let long : length new ≡ length old = length-map old _ in
+    let kept : set waits i (not (is_nil new)) ≡ waits =
+    set-same waits i (not (is_nil new)) false (ap (λ fs. is_set fs i) linked.waiting ∙ waiting-at ls i ∙ ap not (sym (remarked-nil mark old))) in
+    rw (← kept) (linked-set ls i new waits frees all all there linked (omega (arith, linked.few i)) (omega arith))
+
+-- a message is put on a link that has some, or on one that has none
+behind-some : (l : List (Marked Forward)) (f : Forward) → not (is_nil l) ≡ true →
+    not (is_stopped (marks_in (l ++ unmarked_one f ∷ []))) ≡ not (is_stopped (marks_in l))
+behind-some [] f some = absurd (true≢false (sym some))
+behind-some (m ∷ l) f some = refl
+
+not_nil-sent : (l : List (Marked Forward)) (f : Forward) → not (is_nil (l ++ unmarked_one f ∷ [])) ≡ true
+not_nil-sent [] f = refl
+not_nil-sent (m ∷ l) f = refl
+
+pub linked-behind : (ls : List (List (Marked Forward))) (i : ℕ) (f : Forward) (waits frees : List Bool) (all : ℕ) → i < length ls →
+    AreLinked ls waits frees all → length (get_or (set ls i (get_or ls i [] ++ unmarked_one f ∷ [])) i []) < 2 ^ 32 → is_set waits i ≡ true →
+    AreLinked (set ls i (get_or ls i [] ++ unmarked_one f ∷ [])) waits frees (all + 1)
+linked-behind ls i f waits frees all there linked short waiting =
+    let old = get_or ls i [] in
+    let new = old ++ unmarked_one f ∷ [] in
+    let long = length-append old (unmarked_one f ∷ []) in
+    let now = ap length (get_or-set_same ls i new [] there) in
+    let some : not (is_nil old) ≡ true = sym (ap (λ fs. is_set fs i) linked.waiting ∙ waiting-at ls i) ∙ waiting in
+    let kept : set waits i (not (is_nil new)) ≡ waits = set-same waits i (not (is_nil new)) false (waiting ∙ sym (not_nil-sent old f)) in
+    let free : set frees i (not (is_stopped (marks_in new))) ≡ frees =
+    set-same frees i (not (is_stopped (marks_in new))) false (ap (λ fs. is_set fs i) linked.free ∙ free-at ls i ∙ sym (behind-some old f some)) in
+    rw (← kept, ← free) (linked-set ls i new waits frees all (all + 1) there linked (omega arith) (omega arith))
+
+pub linked-first : (ls : List (List (Marked Forward))) (i : ℕ) (f : Forward) (waits frees : List Bool) (all : ℕ) → i < length ls →
+    AreLinked ls waits frees all → is_set waits i ≡ false →
+    AreLinked (set ls i (get_or ls i [] ++ unmarked_one f ∷ [])) (set waits i true) (set frees i true) (all + 1)
+linked-first ls i f waits frees all there linked waiting =
+    let none : get_or ls i [] ≡ [] = nil-is (get_or ls i []) (sym (ap (λ fs. is_set fs i) linked.waiting ∙ waiting-at ls i) ∙ waiting) in
+    let long = ap length none in
+    rw (ap (λ l. set ls i (l ++ unmarked_one f ∷ [])) none)
+    (linked-set ls i (unmarked_one f ∷ []) waits frees all (all + 1) there linked (omega arith) (omega arith))
+
+-- a first message is taken off a link that has one
+pub linked-taken : (ls : List (List (Marked Forward))) (i left : ℕ) (free : Bool) (waits frees : List Bool) (all : ℕ) → i < length ls →
+    0 < length (get_or ls i []) → AreLinked ls waits frees all → left ≡ length (remove (get_or ls i []) 0) →
+    free ≡ not (is_stopped (marks_in (remove (get_or ls i []) 0))) →
+    AreLinked (set ls i (remove (get_or ls i []) 0)) (set waits i (not (left == 0))) (set frees i free) (all - 1)
+linked-taken ls i left free waits frees all there some linked count head =
+    let old = get_or ls i [] in
+    let new = remove old 0 in
+    let long = length-remove old 0 some in
+    let among = all-there ls i there in
+    rw (ap (λ n. not (n == 0)) count ∙ ap not (sym (is_nil-length new)), head)
+    (linked-set ls i new waits frees all (all - 1) there linked (omega (arith, linked.few i)) (omega (arith, linked.count)))
+  where
+    all-there : (ls : List (List (Marked Forward))) (i : ℕ) → i < length ls → length (get_or ls i []) ≤ sum_by length ls
+    all-there ls i h = let s = sum_by-set length ls i [] [] h in omega arith
+
+-- the messages of all links are not too many to be counted
+pub few-there : (ls : List (List (Marked Forward))) → AreFew ls → sum_by length ls ≤ (2 ^ 32 - 1) * length ls
+few-there [] few = omega arith
+few-there (l ∷ ls) few =
+    let s = sum_by-cons length l ls in
+    let rest = few-there ls (λ k. few (suc k)) in
+    omega (arith, few 0)
+
+empty : {A : Type 0} (xs : List A) → length xs ≡ 0 → xs ≡ []
+empty [] h = refl
+empty (x ∷ xs) h = absurd (omega arith)
+
+-- where there is no message all links are empty
+pub no_messages : (ls : List (List (Marked Forward))) → sum_by length ls ≡ 0 → ls ≡ replicate (length ls) []
+no_messages [] h = refl
+no_messages (l ∷ ls) h =
+    let s = sum_by-cons length l ls in
+    ap (λ x. x ∷ ls) (empty l (omega arith)) ∙ ap (λ xs. [] ∷ xs) (no_messages ls (omega arith))
+
+-- ---- what a copy of links has of them
+
+pub sent-seen : (os : List (Option (Wired Forward))) → map on_link os ≡ map (λ o. unwrap_or o []) (map (option_map (λ w. w.sent)) os)
+sent-seen [] = refl
+sent-seen (None ∷ os) = ap (λ ms. [] ∷ ms) (sent-seen os)
+sent-seen (Some w ∷ os) = ap (λ ms. w.sent ∷ ms) (sent-seen os)

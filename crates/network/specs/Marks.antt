@@ -1,5 +1,5 @@
--- Marks beside messages: a mark for each message of a wire, in the same order.
-use Rattle.std.specs.Prelude.{ℕ, Bool, false, List, [], ◌∷◌, ◌++◌, map, remove, replicate, slice_index_or, slice_set}
+-- Marks beside messages: a mark for each message of a wire, in the same order; the places without a mark, and how many these are.
+use Rattle.std.specs.Prelude.{ℕ, ◌+◌, Bool, true, false, not, if◌then◌else◌, List, [], ◌∷◌, ◌++◌, map, count_by, remove, replicate, slice_index_or, slice_set}
 use Rattle.network.specs.declared.message.Message.{Message}
 use Rattle.network.specs.declared.message.Message.TheVariants as message
 
@@ -51,26 +51,24 @@ head_mark_taken cache m = record m { links = slice_set m.links cache (remove (li
 abbrev pub response_mark_taken : ℕ → Marks → Marks
 response_mark_taken i m = record m { responses = remove m.responses i }
 
--- after a request was marked
-abbrev pub request_marked : ℕ → Bool → Marks → Marks
-request_marked i held m = record m { requests = slice_set m.requests i held }
+-- the places whose mark isn't set, where the marks are those of the places from a number on
+abbrev pub unmarked : ℕ → List Bool → List ℕ
+unmarked i [] = []
+unmarked i (held ∷ marks) = if held then unmarked (i + 1) marks else i ∷ unmarked (i + 1) marks
 
--- after a message on the link to a cache was marked
-abbrev pub forward_marked : ℕ → ℕ → Bool → Marks → Marks
-forward_marked cache i held m = record m { links = slice_set m.links cache (slice_set (link_marks m cache) i held) }
+-- whether a link is without a message that could be taken: it has none, or the mark of its first one is set
+abbrev pub is_stopped : List Bool → Bool
+is_stopped [] = true
+is_stopped (held ∷ marks) = held
 
--- after a response was marked
-abbrev pub response_marked : ℕ → Bool → Marks → Marks
-response_marked i held m = record m { responses = slice_set m.responses i held }
+-- the caches whose link has a message and whose first mark isn't set, where the links are those to the caches from a number on
+abbrev pub unmarked_heads : ℕ → List (List Bool) → List ℕ
+unmarked_heads cache links = unmarked cache (map is_stopped links)
 
--- after all these marks were taken back
-abbrev pub unset : List Bool → List Bool
-unset marks = map (λ held. false) marks
+-- how many marks aren't set
+abbrev pub unmarked_count : List Bool → ℕ
+unmarked_count marks = count_by not marks
 
--- after all requests' marks were taken back
-abbrev pub requests_unmarked : Marks → Marks
-requests_unmarked m = record m { requests = unset m.requests }
-
--- after all responses' marks were
-abbrev pub responses_unmarked : Marks → Marks
-responses_unmarked m = record m { responses = unset m.responses }
+-- how many links have a message and a first mark that isn't set
+abbrev pub unmarked_heads_count : List (List Bool) → ℕ
+unmarked_heads_count links = unmarked_count (map is_stopped links)

@@ -1,4 +1,5 @@
-use Rattle.std.specs.Prelude.{◌≡◌, ℕ, ◌≤◌, ◌<◌, Bool, true, false, ◌&&◌, List, [], ◌∷◌, ◌++◌, remove, replicate, slice_index_or, slice_set}
+use Rattle.std.specs.Prelude.{◌≡◌, ℕ, ◌+◌, ◌≤◌, ◌<◌, Bool, true, false, ◌&&◌, List, [], ◌∷◌, ◌++◌, length, remove, replicate, slice_index_or, slice_set}
+use Rattle.std.specs.List.{sum_by}
 use Rattle.network.specs.declared.message.Request.{Request}
 use Rattle.network.specs.declared.message.Forward.{Forward}
 use Rattle.network.specs.declared.message.Response.{Response}
@@ -28,6 +29,10 @@ all_nil (l ∷ ls) = is_nil l && all_nil ls
 -- whether nothing is on its way
 abbrev pub is_quiet : Traffic → Bool
 is_quiet w = is_nil w.requests && all_nil w.links && is_nil w.responses
+
+-- how many messages are on their way: requests, what is on all links, and responses
+abbrev pub message_count : Traffic → ℕ
+message_count w = length w.requests + sum_by length w.links + length w.responses
 
 -- what is on the link to a cache, the first message first
 abbrev pub link : Traffic → ℕ → List Forward

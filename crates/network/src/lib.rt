@@ -5,9 +5,11 @@
 #![tactic(auto)]
 
 mod links;
+mod marker;
 mod message;
 mod wire;
 mod wires;
 
+pub use marker::Marker;
 pub use message::{Forward, ForwardKind, Message, Request, RequestKind, Response};
 pub use wires::Wires;

@@ -1,10 +1,10 @@
-ghost use Rattle.std.specs.Prelude.{◌≡◌, ◌+◌, ◌<◌, ◌≤◌, ◌^◌, ◌∷◌, ◌++◌, [], IsOk, OnOk, OnErr, IfOk, IfErr, IfNone, OnSome};
-ghost use Rattle.std.specs.Prelude.{length, remove, slice_get, slice_set, false};
-ghost use Rattle.std.specs.Prelude.{map, vec_len};
+ghost use Rattle.std.specs.Prelude.{◌≡◌, ◌+◌, ◌<◌, ◌≤◌, ◌^◌, ◌∷◌, ◌++◌, [], IsOk, OnOk, OnErr, IfOk, IfErr, false};
+ghost use Rattle.std.specs.Prelude.{length, not, remove, slice_get, vec_len};
 ghost use Rattle.std.specs.Vec.{vec_capacity};
-ghost use Rattle.network.specs.Marks.{mark_at, unset};
-ghost use Rattle.network.specs.inner.Links.{one};
+ghost use Rattle.network.specs.Marks.{is_stopped, unmarked, unmarked_count};
+ghost use Rattle.network.specs.inner.Links.{held_count, marks_in, messages_in, one, remarked, remarked_from, unmarked_one};
 
+use crate::marker::Marker;
 use base::NoMemory;
 use rows::TryClone;
 use std::alloc::Global;
@@ -15,7 +15,7 @@ const MOST: usize = u32::MAX as usize;
 
 /// A message and its mark.
 #[derive(Clone, Copy)]
-struct Marked<M> {
+pub struct Marked<M> {
     message: M,
     held: bool,
 }
@@ -29,26 +29,21 @@ pub struct Wire<M> {
 }
 
 impl<M> Model for Wire<M> {
-    ghost use Rattle.std.specs.Prelude.{◌-◌, ◌^◌, map, min, vec_len};
+    ghost use Rattle.std.specs.Prelude.{◌-◌, ◌^◌, min, vec_len};
     ghost use Rattle.std.specs.Vec.{vec_capacity};
     ghost use Rattle.network.specs.inner.Links.{IsCounted, Wired};
 
     ghost Value = { Wired M };
 
-    ghost view = { λ w. record {
-      messages = map (λ m. m.message) w.marked.items;
-      marks = map (λ m. m.held) w.marked.items;
-      room = min (vec_capacity w.marked) (2 ^ 32 - 1) - vec_len w.marked;
-    } };
+    ghost view = { λ w. record { sent = w.marked.items; room = min (vec_capacity w.marked) (2 ^ 32 - 1) - vec_len w.marked } };
 
-    ghost invariant = { λ w. IsCounted (map (λ m. m.held) w.marked.items) w.held };
+    ghost invariant = { λ w. IsCounted w.marked.items w.held };
 }
 
 impl<M: Copy> Wire<M> {
     /// A wire with no message. It takes no memory.
     pub fn open(alloc: Global) -> Wire<M>
-        ensures messages { result.messages ≡ [] }
-        ensures marks { result.marks ≡ [] }
+        ensures { result.sent ≡ [] }
     {
         Wire {
             marked: Vec::new(alloc),
@@ -58,8 +53,7 @@ impl<M: Copy> Wire<M> {
 
     /// A wire with no message and room for so many. More than a wire holds are refused.
     pub fn with_room(alloc: Global, count: usize) -> Result<Wire<M>, NoMemory>
-        ensures messages { IfOk result (λ wire. wire.messages ≡ []) }
-        ensures marks { IfOk result (λ wire. wire.marks ≡ []) }
+        ensures sent { IfOk result (λ wire. wire.sent ≡ []) }
         ensures room { IfOk result (λ wire. (count ≤ wire.room)) }
     {
         if count > MOST {
@@ -71,8 +65,7 @@ impl<M: Copy> Wire<M> {
 
     /// Takes off all messages, and keeps the memory for as many.
     pub fn clear(&mut self)
-        ensures messages { self.new.messages ≡ [] }
-        ensures marks { self.new.marks ≡ [] }
+        ensures { self.new.sent ≡ [] }
     {
         self.marked.clear();
         self.held = 0;
@@ -80,50 +73,58 @@ impl<M: Copy> Wire<M> {
 
     /// How many messages there are.
     pub fn len(&self) -> u32
-        ensures count { result ≡ length self.now.messages }
-        ensures as_many { length self.now.marks ≡ length self.now.messages }
+        ensures { result ≡ length self.now.sent }
     {
         self.marked.len() as u32
     }
 
+    /// How many messages have no mark.
+    pub fn free_count(&self) -> u32
+        ensures { result ≡ unmarked_count (marks_in self.now.sent) }
+    {
+        self.marked.len() as u32 - self.held
+    }
+
     /// The message at a place, if there is one.
     pub fn get(&self, index: u64) -> Option<M>
-        ensures { result ≡ slice_get self.now.messages index }
+        ensures { result ≡ slice_get (messages_in self.now.sent) index }
     {
         let marked = self.marked.get(index as usize)?;
         Some(marked.message)
     }
 
-    /// The mark at a place. Where there is no message it is `false`.
-    pub fn is_held(&self, index: u64) -> bool
-        ensures mark { result ≡ mark_at self.now.marks index }
-        ensures as_many { length self.now.marks ≡ length self.now.messages }
+    /// Whether there is a first message that has no mark.
+    pub fn has_free_head(&self) -> bool
+        ensures { result ≡ not (is_stopped (marks_in self.now.sent)) }
     {
-        match self.marked.get(index as usize) {
-            Some(marked) => marked.held,
+        match self.marked.first() {
+            Some(marked) => !marked.held,
             None => false,
         }
     }
 
-    /// Sets the mark at a place. Where there is no message nothing changes.
-    pub fn mark(&mut self, index: u64, held: bool)
-        ensures messages { self.new.messages ≡ self.old.messages }
-        ensures marks { self.new.marks ≡ slice_set self.old.marks index held }
-        ensures room { self.new.room ≡ self.old.room }
-        ensures as_many { length self.new.marks ≡ length self.new.messages }
+    /// The place of the k-th message without a mark, counted from 0, if there are so many.
+    pub fn free_place(&self, k: u32) -> Option<u64>
+        ensures { result ≡ slice_get (unmarked 0 (marks_in self.now.sent)) k }
     {
-        if let Some(marked) = self.marked.get_mut(index as usize) {
-            self.held = recounted(self.held, marked.held, held);
-            marked.held = held;
+        if self.held == 0 && (k as usize) < self.marked.len() {
+            return Some(k as u64);
         }
+        kth_free(self.marked.as_slice(), k)
+    }
+
+    /// Marks the messages from a place on, each as is told of it.
+    pub fn mark<K: Marker<M>>(&mut self, from: u64, marker: &K)
+        ensures sent { self.new.sent ≡ remarked_from from (K.told marker.now) self.old.sent }
+        ensures room { self.new.room ≡ self.old.room }
+    {
+        self.held = mark_from(&mut self.marked, from, marker, self.held);
     }
 
     /// Takes all marks back. Where none is set it looks at no message.
     pub fn unmark(&mut self)
-        ensures messages { self.new.messages ≡ self.old.messages }
-        ensures marks { self.new.marks ≡ unset self.old.marks }
+        ensures sent { self.new.sent ≡ remarked (λ message. false) self.old.sent }
         ensures room { self.new.room ≡ self.old.room }
-        ensures as_many { length self.new.marks ≡ length self.new.messages }
     {
         if self.held == 0 {
             return;
@@ -134,14 +135,11 @@ impl<M: Copy> Wire<M> {
 
     /// Sends a message, or gives it back where there is no memory for it or the wire is full.
     pub fn send(&mut self, message: M) -> Result<(), M>
-        ensures ok { OnOk result (self.new.messages ≡ self.old.messages ++ message ∷ []) }
-        ensures ok_marks { OnOk result (self.new.marks ≡ self.old.marks ++ false ∷ []) }
-        ensures err { OnErr result (self.new.messages ≡ self.old.messages) }
-        ensures err_marks { OnErr result (self.new.marks ≡ self.old.marks) }
+        ensures ok { OnOk result (self.new.sent ≡ self.old.sent ++ unmarked_one message ∷ []) }
+        ensures err { OnErr result (self.new.sent ≡ self.old.sent) }
         ensures back { IfErr result (λ back. back ≡ message) }
         ensures succeeds { 0 < self.old.room → IsOk result }
         ensures room { self.old.room ≤ self.new.room + 1 }
-        ensures as_many { length self.new.marks ≡ length self.new.messages }
     {
         if self.marked.len() >= MOST {
             return Err(message);
@@ -159,30 +157,24 @@ impl<M: Copy> Wire<M> {
     /// Takes the message at a place, if there is one.
     #[inline(always)]
     pub fn take(&mut self, index: u64) -> Option<M>
-        ensures taken { result ≡ slice_get self.old.messages index }
-        ensures some { OnSome result (self.new.messages ≡ remove self.old.messages index) }
-        ensures some_marks { OnSome result (self.new.marks ≡ remove self.old.marks index) }
-        ensures none { IfNone result (self.new.messages ≡ self.old.messages) }
-        ensures none_marks { IfNone result (self.new.marks ≡ self.old.marks) }
+        ensures taken { result ≡ slice_get (messages_in self.old.sent) index }
+        ensures left { self.new.sent ≡ remove self.old.sent index }
         ensures room { self.old.room ≤ self.new.room }
-        ensures as_many { length self.new.marks ≡ length self.new.messages }
     {
         if index >= self.marked.len() as u64 {
             return None;
         }
         let taken = self.marked.remove(index as usize);
-        self.held = recounted(self.held, taken.held, false);
+        self.held = self.held - u32::from(taken.held);
         Some(taken.message)
     }
 
     /// Room for so many more messages. More than the wire still holds are refused.
     pub fn reserve(&mut self, count: usize) -> Result<(), NoMemory>
-        ensures messages { self.new.messages ≡ self.old.messages }
-        ensures marks { self.new.marks ≡ self.old.marks }
+        ensures sent { self.new.sent ≡ self.old.sent }
         ensures ok { OnOk result (count ≤ self.new.room) }
         ensures succeeds { count ≤ self.old.room → IsOk result }
         ensures room { self.old.room ≤ self.new.room }
-        ensures as_many { length self.new.marks ≡ length self.new.messages }
     {
         if count > MOST - self.marked.len() {
             return Err(NoMemory);
@@ -190,6 +182,46 @@ impl<M: Copy> Wire<M> {
         self.marked.reserve(count)?;
         Ok(())
     }
+}
+
+/// The place of the k-th message without a mark, counted from 0, if there are so many.
+fn kth_free<M: Copy>(marked: &[Marked<M>], k: u32) -> Option<u64>
+    ensures { result ≡ slice_get (unmarked 0 (marks_in marked.now)) k }
+{
+    let mut left = k;
+    for index in 0..marked.len() {
+        if !marked[index].held {
+            if left == 0 {
+                return Some(index as u64);
+            }
+            left -= 1;
+        }
+    }
+    None
+}
+
+/// Marks the messages from a place on, each as is told of it, and answers how many marks are set of all, where so many were.
+fn mark_from<M: Copy, K: Marker<M>>(
+    marked: &mut Vec<Marked<M>>,
+    from: u64,
+    marker: &K,
+    before: u32,
+) -> u32
+    requires few { length marked.old.items < 2 ^ 32 }
+    requires held { before ≡ held_count marked.old.items }
+    ensures sent { marked.new.items ≡ remarked_from from (K.told marker.now) marked.old.items }
+    ensures held { result ≡ held_count marked.new.items }
+    ensures room { vec_capacity marked.new ≡ vec_capacity marked.old }
+{
+    let mut held = before;
+    for index in from..marked.len() as u64 {
+        if let Some(found) = marked.get_mut(index as usize) {
+            let told = marker.mark(found.message);
+            held = recounted(held, found.held, told);
+            found.held = told;
+        }
+    }
+    held
 }
 
 /// How many marks are set once one of them was made another.
@@ -203,22 +235,21 @@ fn recounted(held: u32, before: bool, after: bool) -> u32
 
 /// Takes these marks back.
 fn unmark_each<M: Copy>(marked: &mut Vec<Marked<M>>)
-    ensures messages { map (λ m. m.message) marked.new.items ≡ map (λ m. m.message) marked.old.items }
-    ensures marks { map (λ m. m.held) marked.new.items ≡ unset (map (λ m. m.held) marked.old.items) }
+    ensures sent { marked.new.items ≡ remarked (λ message. false) marked.old.items }
     ensures room { vec_capacity marked.new ≡ vec_capacity marked.old }
-    ensures count { vec_len marked.new ≡ vec_len marked.old }
 {
-    for one in marked.iter_mut() {
-        one.held = false;
+    for found in marked.iter_mut() {
+        found.held = false;
     }
 }
 
 impl<M: Copy> TryClone for Wire<M> {
-    ghost use Rattle.std.specs.Prelude.{Bool, List};
+    ghost use Rattle.std.specs.Prelude.{List};
+    ghost use Rattle.network.specs.declared.wire.Marked.{Marked};
 
-    ghost Seen = { record { messages : List M; marks : List Bool } };
+    ghost Seen = { List (Marked M) };
 
-    ghost seen = { λ wire. record { messages = wire.messages; marks = wire.marks } };
+    ghost seen = { λ wire. wire.sent };
 
     /// The same messages, with the same marks.
     fn try_clone(&self, alloc: Global) -> Result<Wire<M>, NoMemory> {

@@ -1,11 +1,13 @@
-ghost use Rattle.std.specs.Prelude.{◌≡◌, ◌<◌, ◌≤◌, ◌↔◌, ◌∷◌, [], IsOk, IfOk, OnOk, OnErr, IfErr, IfNone, IfSome, OnSome};
-ghost use Rattle.std.specs.Prelude.{ℕ, length, slice_get, slice_index, true};
-ghost use Rattle.network.specs.Marks.{no_marks, link_marks, mark_at, mark_added, request_mark_added, forward_mark_added, response_mark_added};
+mod marking;
+mod space;
+
+ghost use Rattle.std.specs.Prelude.{◌≡◌, ◌+◌, ◌*◌, ◌-◌, ◌^◌, ◌<◌, ◌≤◌, ◌↔◌, ◌∷◌, [], IsOk, IfOk, OnOk, OnErr, IfErr, IfNone, IfSome, OnSome};
+ghost use Rattle.std.specs.Prelude.{ℕ, length, slice_get, true};
+ghost use Rattle.network.specs.Marks.{no_marks, link_marks, mark_added, request_mark_added, forward_mark_added, response_mark_added};
 ghost use Rattle.network.specs.Marks.{request_mark_taken, head_mark_taken, response_mark_taken};
-ghost use Rattle.network.specs.Marks.{request_marked, forward_marked, response_marked, requests_unmarked, responses_unmarked};
 ghost use Rattle.network.specs.Traffic.{IsNextWaiting, NoneWaits};
-ghost use Rattle.network.specs.Traffic.{quiet, is_quiet, link, sent, request_sent, forward_sent, response_sent, request_taken, head_taken, response_taken};
-ghost use Rattle.network.specs.Room.{HasRoomFor, UsesRoomFor, HasPlaces, AllBelow, times, HasLinkFor};
+ghost use Rattle.network.specs.Traffic.{quiet, is_quiet, link, message_count, sent, request_sent, forward_sent, response_sent, request_taken, head_taken, response_taken};
+ghost use Rattle.network.specs.Room.{HasRoomFor, UsesRoomFor, HasLinkFor};
 ghost use Rattle.network.specs.declared.message.Message.TheVariants as message;
 
 use crate::links::Links;
@@ -42,15 +44,17 @@ impl Drop for Wires {
 }
 
 impl Model for Wires {
+    ghost use Rattle.std.specs.Prelude.{map};
     ghost use Rattle.network.specs.Room.{Wiring};
+    ghost use Rattle.network.specs.inner.Links.{marks_in, messages_in};
 
     ghost Value = { Wiring };
 
     ghost view = { λ w. record {
       traffic = record {
-        requests = w.requests.messages;
-        links = w.links.messages;
-        responses = w.responses.messages;
+        requests = messages_in w.requests.sent;
+        links = map messages_in w.links.sent;
+        responses = messages_in w.responses.sent;
       };
       room = record {
         requests = w.requests.room;
@@ -58,9 +62,9 @@ impl Model for Wires {
         responses = w.responses.room;
       };
       marks = record {
-        requests = w.requests.marks;
-        links = w.links.marks;
-        responses = w.responses.marks;
+        requests = marks_in w.requests.sent;
+        links = map marks_in w.links.sent;
+        responses = marks_in w.responses.sent;
       };
     } };
 }
@@ -108,7 +112,7 @@ impl Wires {
     pub fn is_quiet(&self) -> bool
         ensures { result ≡ is_quiet self.now.traffic }
     {
-        self.requests.len() == 0 && self.links.is_quiet() && self.responses.len() == 0
+        self.message_count() == 0
     }
 
     /// How many links there are.
@@ -122,26 +126,31 @@ impl Wires {
 
     /// How many requests wait.
     pub fn request_count(&self) -> u32
-        ensures count { result ≡ length self.now.traffic.requests }
-        ensures as_many { length self.now.marks.requests ≡ length self.now.traffic.requests }
+        ensures { result ≡ length self.now.traffic.requests }
     {
         self.requests.len()
     }
 
     /// How many messages are on the link to a cache.
     pub fn forward_count(&self, cache: CacheId) -> u32
-        ensures count { result ≡ length (link self.now.traffic cache.0) }
-        ensures as_many { length (link_marks self.now.marks cache.0) ≡ length (link self.now.traffic cache.0) }
+        ensures { result ≡ length (link self.now.traffic cache.0) }
     {
         self.links.count(cache)
     }
 
     /// How many responses are on their way.
     pub fn response_count(&self) -> u32
-        ensures count { result ≡ length self.now.traffic.responses }
-        ensures as_many { length self.now.marks.responses ≡ length self.now.traffic.responses }
+        ensures { result ≡ length self.now.traffic.responses }
     {
         self.responses.len()
+    }
+
+    /// How many messages are on their way.
+    pub fn message_count(&self) -> u64
+        ensures { result ≡ message_count self.now.traffic }
+    {
+        let ends = u64::from(self.requests.len()) + u64::from(self.responses.len());
+        ends + self.links.message_count()
     }
 
     /// The least cache from a number on whose link has a message, if there is one.
@@ -155,8 +164,7 @@ impl Wires {
     /// Whether there is a message on the link to a cache. It is told by a bit, and quicker than their count.
     #[inline(always)]
     pub fn is_waiting(&self, cache: CacheId) -> bool
-        ensures there { (result ≡ true) ↔ (0 < length (link self.now.traffic cache.0)) }
-        ensures as_many { length (link_marks self.now.marks cache.0) ≡ length (link self.now.traffic cache.0) }
+        ensures { (result ≡ true) ↔ (0 < length (link self.now.traffic cache.0)) }
     {
         self.links.is_waiting(cache)
     }
@@ -298,141 +306,4 @@ impl Wires {
             }
         }
     }
-}
-
-impl Wires {
-    /// The mark of the request at a place. Where there is none it is `false`.
-    pub fn is_request_held(&self, index: u64) -> bool
-        ensures mark { result ≡ mark_at self.now.marks.requests index }
-        ensures as_many { length self.now.marks.requests ≡ length self.now.traffic.requests }
-    {
-        self.requests.is_held(index)
-    }
-
-    /// The mark of the first message on the link to a cache. Where there is none it is `false`.
-    pub fn is_head_held(&self, cache: CacheId) -> bool
-        ensures mark { result ≡ mark_at (link_marks self.now.marks cache.0) 0 }
-        ensures as_many { length (link_marks self.now.marks cache.0) ≡ length (link self.now.traffic cache.0) }
-    {
-        self.links.is_head_held(cache)
-    }
-
-    /// The mark of the response at a place. Where there is none it is `false`.
-    pub fn is_response_held(&self, index: u64) -> bool
-        ensures mark { result ≡ mark_at self.now.marks.responses index }
-        ensures as_many { length self.now.marks.responses ≡ length self.now.traffic.responses }
-    {
-        self.responses.is_held(index)
-    }
-
-    /// Marks the request at a place. Where there is none nothing changes.
-    pub fn mark_request(&mut self, index: u64, held: bool)
-        ensures marks { self.new.marks ≡ request_marked index held self.old.marks }
-        ensures traffic { self.new.traffic ≡ self.old.traffic }
-        ensures room { self.new.room ≡ self.old.room }
-    {
-        self.requests.mark(index, held);
-    }
-
-    /// Marks the message at a place of the link to a cache. Where there is none nothing changes.
-    pub fn mark_forward(&mut self, cache: CacheId, index: u64, held: bool)
-        ensures marks { self.new.marks ≡ forward_marked cache.0 index held self.old.marks }
-        ensures traffic { self.new.traffic ≡ self.old.traffic }
-        ensures room { self.new.room ≡ self.old.room }
-    {
-        self.links.mark(cache, index, held);
-    }
-
-    /// Marks the response at a place. Where there is none nothing changes.
-    pub fn mark_response(&mut self, index: u64, held: bool)
-        ensures marks { self.new.marks ≡ response_marked index held self.old.marks }
-        ensures traffic { self.new.traffic ≡ self.old.traffic }
-        ensures room { self.new.room ≡ self.old.room }
-    {
-        self.responses.mark(index, held);
-    }
-
-    /// Takes the marks of all requests back. Where none is set it looks at no message.
-    pub fn unmark_requests(&mut self)
-        ensures marks { self.new.marks ≡ requests_unmarked self.old.marks }
-        ensures traffic { self.new.traffic ≡ self.old.traffic }
-        ensures room { self.new.room ≡ self.old.room }
-    {
-        self.requests.unmark();
-    }
-
-    /// Takes the marks of all responses back. Where none is set it looks at no message.
-    pub fn unmark_responses(&mut self)
-        ensures marks { self.new.marks ≡ responses_unmarked self.old.marks }
-        ensures traffic { self.new.traffic ≡ self.old.traffic }
-        ensures room { self.new.room ≡ self.old.room }
-    {
-        self.responses.unmark();
-    }
-}
-
-impl Wires {
-    /// Room for so many more requests and responses, and on each link for as many messages as it is listed.
-    ///
-    /// After it so many sends can't fail. Where it is refused no list has changed.
-    pub fn reserve(
-        &mut self,
-        requests: usize,
-        links: &[CacheId],
-        responses: usize,
-    ) -> Result<(), NoMemory>
-        requires { AllBelow (length self.old.traffic.links) links.now }
-        ensures traffic { self.new.traffic ≡ self.old.traffic }
-        ensures marks { self.new.marks ≡ self.old.marks }
-        ensures ok { OnOk result (HasPlaces requests links.now responses self.new.room) }
-        ensures succeeds { HasPlaces requests links.now responses self.old.room → IsOk result }
-        ensures room { UsesRoomFor [] self.old.room self.new.room }
-    {
-        self.reserve_ends(requests, responses)?;
-        for link in links {
-            self.reserve_link(*link, times_listed(links, *link))?;
-        }
-        Ok(())
-    }
-
-    /// Room for so many more requests and responses. Where it is refused no list has changed.
-    #[inline(always)]
-    pub fn reserve_ends(&mut self, requests: usize, responses: usize) -> Result<(), NoMemory>
-        ensures traffic { self.new.traffic ≡ self.old.traffic }
-        ensures marks { self.new.marks ≡ self.old.marks }
-        ensures ok { OnOk result ((requests ≤ self.new.room.requests) × (responses ≤ self.new.room.responses)) }
-        ensures succeeds { requests ≤ self.old.room.requests → responses ≤ self.old.room.responses → IsOk result }
-        ensures room { UsesRoomFor [] self.old.room self.new.room }
-    {
-        self.requests.reserve(requests)?;
-        self.responses.reserve(responses)?;
-        Ok(())
-    }
-
-    /// Room for so many more messages on the link to a cache. Where it is refused no list has changed.
-    #[inline(always)]
-    pub fn reserve_link(&mut self, cache: CacheId, count: usize) -> Result<(), NoMemory>
-        requires { cache.0 < length self.old.traffic.links }
-        ensures traffic { self.new.traffic ≡ self.old.traffic }
-        ensures marks { self.new.marks ≡ self.old.marks }
-        ensures ok { OnOk result (count ≤ slice_index self.new.room.links cache.0) }
-        ensures succeeds { count ≤ slice_index self.old.room.links cache.0 → IsOk result }
-        ensures room { UsesRoomFor [] self.old.room self.new.room }
-    {
-        self.links.reserve(cache, count)
-    }
-}
-
-/// How often a cache is listed.
-fn times_listed(links: &[CacheId], cache: CacheId) -> usize
-    ensures count { result ≡ times cache.0 links.now }
-    ensures few { result ≤ length links.now }
-{
-    let mut count: usize = 0;
-    for link in links {
-        if *link == cache {
-            count += 1;
-        }
-    }
-    count
 }

@@ -1,14 +1,13 @@
 -- Rows of the counts of blocks say how many deliveries there are, and where the k-th is.
 use Rattle.std.proofs.Common.{◌≡◌, ℕ, ◌+◌, ◌<◌, ◌≤◌, List, [], ◌∷◌, ◌++◌, Some, None}
-use Rattle.std.proofs.Common.{length, map, take, get_or, slice_get, slice_set, slice_index, true, false, if◌then◌else◌}
+use Rattle.std.proofs.Common.{length, map, take, get_or, slice_get, slice_set, false, if◌then◌else◌}
 use Rattle.std.proofs.Common.{refl, sym, ap, ◌∙◌, zero, suc, arith, inl, inr, add-zero, zero-add}
 use Rattle.std.specs.List.{sum}
 use Rattle.std.specs.Option.{option_map}
 use Rattle.std.proofs.lemmas.List.{length-append, length-map, get_or-map, get_or_past, map-set}
 use Rattle.std.proofs.lemmas.List.Sums.{sum_by-cons}
-use Rattle.std.proofs.Math.Seq.{map-set_same}
 use Rattle.std.proofs.lemmas.Bool.{cases_lt}
-use Rattle.std.proofs.lemmas.Option.{slice_get-get_or, slice_get_past, slice_get_within, get_or_from_slice_get}
+use Rattle.std.proofs.lemmas.Option.{slice_get_past, get_or_from_slice_get}
 use Rattle.rows.specs.Counts.{Finds}
 use Rattle.rows.proofs.Bridge.{get_front, get_behind}
 use Rattle.base.specs.declared.ids.BlockId.{BlockId}
@@ -19,7 +18,8 @@ use Rattle.machine.specs.Block.{BlockState}
 use Rattle.machine.specs.Machine.{State}
 use Rattle.world.specs.Enabled.{requests_enabled, heads_in, responses_enabled, of_each, all_enabled, enabled_steps}
 use Rattle.world.specs.inner.Counts.{AreCounted}
-use Rattle.blocks.specs.Marking.{marks_of, unmarked, unmarked_heads, free_requests, free_heads, free_responses}
+use Rattle.blocks.specs.Marking.{marks_of, free_requests, free_heads, free_responses}
+use Rattle.network.specs.Marks.{unmarked, unmarked_heads}
 use Rattle.world.proofs.Marking.{requests-count, heads-count, responses-count, requests-kth, heads-kth, responses-kth}
 
 -- ---- one kind of delivery, whose count is right for each block
@@ -78,10 +78,6 @@ found-rest count bs numbers k place rest b e found there =
     let here : get_or numbers place 0 ≡ count b =
     ap (λ ns. get_or ns place 0) e ∙ get_or-map count bs place b 0 within ∙ ap count (get_or_from_slice_get bs place b b there) in
     omega (arith, found.within)
-
-pub found-block : (count : BlockState → ℕ) (bs : List BlockState) (numbers : List ℕ) (k place rest : ℕ) (d : BlockState) →
-    numbers ≡ map count bs → Finds numbers k place rest → slice_get bs place ≡ Some (get_or bs place d)
-found-block count bs numbers k place rest d e found = slice_get-get_or bs place d (found-within count bs numbers k place rest e found)
 
 block-there : (bs : List BlockState) (i : ℕ) → i < length bs → (b : BlockState) × (slice_get bs i ≡ Some b)
 block-there [] i h = absurd (omega arith)
@@ -190,12 +186,6 @@ pub row-set : (count : BlockState → ℕ) (bs : List BlockState) (numbers : Lis
     slice_set numbers n (count b) ≡ map count (slice_set bs n b)
 row-set count bs numbers n b e = ap (λ ns. slice_set ns n (count b)) e ∙ sym (map-set count bs n b)
 
--- by one with the same count
-pub row-kept : (count : BlockState → ℕ) (bs : List BlockState) (numbers : List ℕ) (n : ℕ) (old b : BlockState) → numbers ≡ map count bs →
-    slice_get bs n ≡ Some old → count b ≡ count old → numbers ≡ map count (slice_set bs n b)
-row-kept count bs numbers n old b e there same =
-    e ∙ sym (map-set_same count bs n b old (same ∙ ap count (sym (get_or_from_slice_get bs n old old there))))
-
 pub requests-set : (tables : Tables) (bs : List BlockState) (numbers : List ℕ) (n : ℕ) (b : BlockState) → numbers ≡ map (free_requests tables) bs →
     slice_set numbers n (free_requests tables b) ≡ map (free_requests tables) (slice_set bs n b)
 requests-set tables = row-set (free_requests tables)
@@ -218,35 +208,7 @@ counted-set tables bs requests heads responses n b counted = record {
   of_responses = responses-set tables bs responses n b counted.of_responses;
 }
 
--- ---- rows, place by place
-
-rest_of_each : (count : BlockState → ℕ) (x : BlockState) (bs : List BlockState) (n : ℕ) (numbers : List ℕ) →
-    ((i : ℕ) (b : BlockState) → slice_get (x ∷ bs) i ≡ Some b → get_or (n ∷ numbers) i 0 ≡ count b) →
-    (i : ℕ) (b : BlockState) → slice_get bs i ≡ Some b → get_or numbers i 0 ≡ count b
-rest_of_each count x bs n numbers h i b there = h (suc i) b there
-
--- a row has the counts where each of its numbers is that of its block
-pub row-of-each : (count : BlockState → ℕ) (bs : List BlockState) (numbers : List ℕ) → length numbers ≡ length bs →
-    ((i : ℕ) (b : BlockState) → slice_get bs i ≡ Some b → slice_index numbers i ≡ count b) → numbers ≡ map count bs
-row-of-each count [] [] l h = refl
-row-of-each count [] (n ∷ numbers) l h = absurd (omega arith)
-row-of-each count (x ∷ bs) [] l h = absurd (omega arith)
-row-of-each count (x ∷ bs) (n ∷ numbers) l h =
-    ap (λ m. m ∷ numbers) (h 0 x refl)
-    ∙ ap (λ ns. count x ∷ ns) (row-of-each count bs numbers (omega arith) (rest_of_each count x bs n numbers h))
-
--- and then each of its numbers is that of its block
-pub row-at : (count : BlockState → ℕ) (bs : List BlockState) (numbers : List ℕ) (i : ℕ) (b : BlockState) → numbers ≡ map count bs →
-    slice_get bs i ≡ Some b → slice_index numbers i ≡ count b
-row-at count bs numbers i b e there =
-    ap (λ ns. get_or ns i 0) e
-    ∙ get_or-map count bs i b 0 (slice_get_within bs i b there)
-    ∙ ap count (get_or_from_slice_get bs i b b there)
-
 -- ---- a broken world, and one that goes on
-
-pub enabled-broken : (tables : Tables) (s : State) → s.broken ≡ true → enabled_steps tables s ≡ []
-enabled-broken tables s broken = ap (λ h. if h then [] else all_enabled tables s.blocks) broken
 
 pub enabled-going : (tables : Tables) (s : State) → s.broken ≡ false → enabled_steps tables s ≡ all_enabled tables s.blocks
 enabled-going tables s going = ap (λ h. if h then [] else all_enabled tables s.blocks) going

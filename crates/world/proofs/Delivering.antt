@@ -11,7 +11,8 @@ use Rattle.machine.specs.Block.{BlockState, opened_block}
 use Rattle.machine.specs.Machine.{State}
 use Rattle.world.specs.Enabled.{all_enabled}
 use Rattle.blocks.specs.View.{BlockView}
-use Rattle.blocks.specs.Marking.{is_stopped, marks_of, unmarked}
+use Rattle.blocks.specs.Marking.{marks_of}
+use Rattle.network.specs.Marks.{is_stopped, unmarked}
 use Rattle.world.specs.View.{state_or, states}
 use Rattle.world.specs.declared.counts.Kind.{Kind}
 use Rattle.world.specs.declared.counts.Kind.TheVariants.{Request, Head, Response}

@@ -37,9 +37,10 @@ use Rattle.machine.specs.Transition.{at_line, at_home, at_request, at_forward, a
 use Rattle.blocks.specs.Looks.{is_held}
 use Rattle.blocks.specs.Looks.{held_in}
 use Rattle.world.specs.Enabled.{requests_from, heads_from, responses_from, requests_enabled, heads_in, responses_enabled}
-use Rattle.blocks.specs.Marking.{is_stall, home_stalls, line_stalls, response_stalls, links_stall, marks_of, unmarked, unmarked_heads}
+use Rattle.blocks.specs.Marking.{is_stall, home_stalls, line_stalls, response_stalls, links_stall, marks_of}
+use Rattle.network.specs.Marks.{unmarked, unmarked_heads}
 use Rattle.blocks.specs.Marking.{free_requests, free_heads, free_responses}
-use Rattle.blocks.proofs.UnmarkedPlaces.{unmarked-length, unmarked_heads-length}
+use Rattle.network.proofs.UnmarkedPlaces.{unmarked-length, unmarked_heads-length}
 
 -- ---- a step is held exactly where its cell is a stall
 

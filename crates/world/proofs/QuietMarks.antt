@@ -9,9 +9,10 @@ use Rattle.control.specs.declared.home.HomeInput.TheVariants as home_input
 use Rattle.both_tables.specs.Tables.{Tables}
 use Rattle.machine.specs.Block.{BlockState, opened_block}
 use Rattle.world.specs.inner.Counts.{AreCounted}
-use Rattle.blocks.specs.Marking.{home_stalls, response_stalls, links_stall, marks_of, unmarked_heads, unmarked_count, unmarked_heads_count}
+use Rattle.blocks.specs.Marking.{home_stalls, response_stalls, links_stall, marks_of}
+use Rattle.network.specs.Marks.{unmarked_heads, unmarked_count, unmarked_heads_count}
 use Rattle.blocks.specs.Marking.{free_requests, free_heads, free_responses}
-use Rattle.blocks.proofs.UnmarkedPlaces.{unmarked_heads-length}
+use Rattle.network.proofs.UnmarkedPlaces.{unmarked_heads-length}
 
 links_stall-quiet : (cells : cache_table.Cells) (lines : List Line) (cache n : ℕ) → links_stall cells lines cache (replicate n []) ≡ replicate n []
 links_stall-quiet cells lines cache zero = refl

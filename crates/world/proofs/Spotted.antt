@@ -1,14 +1,12 @@
 -- Where rows of counts say that the k-th delivery is, there it is.
 use Rattle.std.proofs.Common.{◌≡◌, ℕ, ◌-◌, ◌≤◌, List, Some, None, length, slice_get}
-use Rattle.std.proofs.Common.{◌∙◌, ap, arith, subst}
-use Rattle.std.specs.Option.{option_map}
+use Rattle.std.proofs.Common.{arith, subst}
 use Rattle.rows.specs.Counts.{Finds}
-use Rattle.base.specs.declared.step.Step.TheVariants as step
 use Rattle.both_tables.specs.Tables.{Tables}
 use Rattle.machine.specs.Block.{BlockState}
 use Rattle.world.specs.Enabled.{all_enabled}
 use Rattle.world.specs.inner.Counts.{AreCounted}
-use Rattle.blocks.specs.Marking.{marks_of, unmarked, unmarked_heads, free_requests, free_heads, free_responses}
+use Rattle.blocks.specs.Marking.{marks_of, free_requests, free_heads, free_responses}
 use Rattle.world.specs.declared.counts.Kind.{Kind}
 use Rattle.world.specs.declared.counts.Kind.TheVariants.{Request, Head, Response}
 use Rattle.world.specs.declared.counts.Spot.{Spot}
@@ -47,25 +45,6 @@ module _ (tables : Tables) (bs : List BlockState) (rows : Rows) (counted : AreCo
   pub spot-step : (k : ℕ) (spot : Spot) (b : BlockState) → FallsAt rows k spot → slice_get bs spot.block ≡ Some b →
       slice_get (all_enabled tables bs) k ≡ step_at (marks_of tables b) spot
   spot-step k spot b falls there = kind-step k spot.kind spot.block spot.rest b falls there
-
-  -- the same, kind by kind
-  pub request-spot : (k : ℕ) (spot : Spot) (b : BlockState) → FallsAt rows k spot → slice_get bs spot.block ≡ Some b → spot.kind ≡ Request →
-      slice_get (all_enabled tables bs) k ≡
-      option_map (λ i. step.Request (record { 0 = spot.block }) i) (slice_get (unmarked 0 (marks_of tables b).requests) spot.rest)
-  request-spot k spot b falls there kind =
-      spot-step k spot b falls there ∙ ap (λ d. step_of_kind (marks_of tables b) d spot.block spot.rest) kind
-
-  pub head-spot : (k : ℕ) (spot : Spot) (b : BlockState) → FallsAt rows k spot → slice_get bs spot.block ≡ Some b → spot.kind ≡ Head →
-      slice_get (all_enabled tables bs) k ≡
-      option_map (λ cache. step.Forward (record { 0 = spot.block }) (record { 0 = cache })) (slice_get (unmarked_heads 0 (marks_of tables b).links) spot.rest)
-  head-spot k spot b falls there kind =
-      spot-step k spot b falls there ∙ ap (λ d. step_of_kind (marks_of tables b) d spot.block spot.rest) kind
-
-  pub response-spot : (k : ℕ) (spot : Spot) (b : BlockState) → FallsAt rows k spot → slice_get bs spot.block ≡ Some b → spot.kind ≡ Response →
-      slice_get (all_enabled tables bs) k ≡
-      option_map (λ i. step.Response (record { 0 = spot.block }) i) (slice_get (unmarked 0 (marks_of tables b).responses) spot.rest)
-  response-spot k spot b falls there kind =
-      spot-step k spot b falls there ∙ ap (λ d. step_of_kind (marks_of tables b) d spot.block spot.rest) kind
 
   -- beyond them all there is none
   pub spot-none : (k : ℕ) → all_in rows ≤ k → slice_get (all_enabled tables bs) k ≡ None

@@ -15,7 +15,7 @@ use Rattle.both_tables.specs.Tables.{Tables}
 use Rattle.machine.specs.Transition.{Transition, decision_of, messages_of, transition}
 use Rattle.std.proofs.Math.Nat.{le-min, min-le_left, min-le_right}
 use Rattle.std.specs.Option.{option_map_or}
-use Rattle.blocks.specs.Messages.{message_count}
+use Rattle.network.specs.Traffic.{message_count}
 use Rattle.world.specs.Messages.{messages_at, raised}
 use Rattle.blocks.specs.View.{BlockView, moved_to}
 use Rattle.world.specs.View.{View, IsShaped, HasRoomToStep, HasSpaceAt, HasSpaceIn, space_of, spaces_of, state_or, states, stepped, wakes, wakes_at}

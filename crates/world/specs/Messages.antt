@@ -2,7 +2,7 @@
 use Rattle.std.specs.Prelude.{ℕ, ◌+◌, ◌-◌, ◌^◌, min, slice_get}
 use Rattle.std.specs.Option.{option_map_or}
 use Rattle.machine.specs.Machine.{State}
-use Rattle.blocks.specs.Messages.{message_count}
+use Rattle.network.specs.Traffic.{message_count}
 
 -- how many of a block are, if the block is there
 abbrev pub messages_at : State → ℕ → ℕ

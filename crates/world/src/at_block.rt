@@ -99,6 +99,8 @@ fn keep<T: Drop>(row: &mut Sparse<T>, number: u32, item: T) -> Result<(), NoMemo
 }
 
 /// Makes a step at one of the blocks.
+// (It hands on nine words and a long result, and has one caller.)
+#[inline(always)]
 pub fn step_at(
     alloc: Global,
     blocks: &mut Sparse<Block>,

@@ -1,6 +1,5 @@
--- What is known of the links of a block, and of all of them but one.
-use Rattle.std.specs.Prelude.{◌≡◌, ℕ, ◌+◌, ◌-◌, ◌*◌, ◌^◌, ◌≤◌, List, [], Bool, if◌then◌else◌, not, length, slice_index_or, slice_set}
-use Rattle.std.specs.List.{sum_by}
+-- What a step at a line leaves of the links of a block: all but one.
+use Rattle.std.specs.Prelude.{◌≡◌, ℕ, List, [], Bool, slice_index_or, slice_set}
 use Rattle.base.specs.declared.ids.CacheId.{CacheId}
 use Rattle.network.specs.declared.message.Forward.{Forward}
 use Rattle.machine.specs.declared.decision.Origin.{Origin}
@@ -9,23 +8,7 @@ use Rattle.machine.specs.declared.decision.Decision.{Decision}
 use Rattle.machine.specs.declared.decision.Decision.TheVariants.{Refused, AtLine, AtHome}
 use Rattle.control.specs.declared.line.Line.{Line}
 use Rattle.both_tables.specs.Tables.{Tables}
-use Rattle.blocks.specs.Marking.{is_stopped, link_stalls, links_stall, unmarked_heads_count}
-
--- how many heads with no mark a link has, by its marks: one at most
-abbrev pub free_in : List Bool → ℕ
-free_in marks = if not (is_stopped marks) then 1 else 0
-
--- so many heads of links have no mark, and so many messages are on links
-pub record AreCounted (marks : List (List Bool)) (links : List (List Forward)) (free there : ℕ) : Type 0 where
-  pub heads : free ≡ unmarked_heads_count marks
-  pub forwards : there ≡ sum_by length links
-  pub few : sum_by length links ≤ (2 ^ 32 - 1) * (2 ^ 32 - 1)
-
--- the same of all links but that to a cache
-pub record AreOthers (marks : List (List Bool)) (links : List (List Forward)) (cache free there : ℕ) : Type 0 where
-  pub heads : free + free_in (slice_index_or marks cache []) ≡ unmarked_heads_count marks
-  pub forwards : there + length (slice_index_or links cache []) ≡ sum_by length links
-  pub few : sum_by length links ≤ (2 ^ 32 - 1) * (2 ^ 32 - 1)
+use Rattle.blocks.specs.Marking.{link_stalls, links_stall}
 
 -- an input at the line of a cache comes from no other cache's link, and is no request
 abbrev pub IsOwn : Origin → CacheId → Type 0
@@ -39,12 +22,11 @@ IsAtOwn (AtLine cache line input next actions from) own = (cache.0 ≡ own.0) ×
 IsAtOwn (Refused what) own = ⊥
 IsAtOwn (AtHome input next actions from) own = ⊥
 
--- of all links only that to a cache may be another, with no more messages than before
+-- of all links only that to a cache may be another
 pub record IsRelinked (cache : ℕ) (old_marks : List (List Bool)) (old_links : List (List Forward)) (new_marks : List (List Bool))
     (new_links : List (List Forward)) : Type 0 where
   pub marks : new_marks ≡ slice_set old_marks cache (slice_index_or new_marks cache [])
   pub links : new_links ≡ slice_set old_links cache (slice_index_or new_links cache [])
-  pub less : length (slice_index_or new_links cache []) ≤ length (slice_index_or old_links cache [])
 
 -- the marks of all links but that to a cache are right, for these lines and what is on the links
 abbrev pub AreRight : Tables → List Line → List (List Forward) → ℕ → List (List Bool) → Type 0

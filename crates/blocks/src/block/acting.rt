@@ -4,6 +4,7 @@ ghost use Rattle.network.specs.Room.{HasRoomFor, UsesRoomFor};
 ghost use Rattle.control.specs.LineEffect.{line_after, line_completes, line_sends};
 ghost use Rattle.machine.specs.Transition.{outcome_of, plain_outcome, latest_after, without, IsThere};
 ghost use Rattle.rows.specs.Flags.{is_set};
+ghost use Rattle.blocks.specs.View.{wakes_line};
 ghost use Rattle.blocks.specs.inner.Lined.{kept_lines, lines_of};
 ghost use Rattle.blocks.specs.inner.Linking.{IsOwn, IsRelinked};
 ghost use Rattle.machine.specs.Made.{acted_by};
@@ -12,6 +13,7 @@ ghost use Rattle.base.specs.declared.ids.CacheId.{CacheId};
 use crate::block::{Block, Tested, foreseen};
 use base::{CacheId, NoMemory, Outcome, Step};
 use both_tables::Tables;
+use cache_table::CacheState;
 use control::{
     Line, LineCompletion, home_perform, home_reserve, line_perform, line_reserve, may_read,
     may_write,
@@ -42,7 +44,8 @@ impl Block {
     /// Makes the room that a decision wants. Where it is refused nothing has changed.
     #[inline(always)]
     fn prepare(&mut self, decision: &Decision) -> Result<(), NoMemory>
-        requires { Fits decision.now self.old.state }
+        requires fits { Fits decision.now self.old.state }
+        requires names { DecisionNames self.old.space.lines decision.now }
         ensures state { self.new.state ≡ self.old.state }
         ensures marks { self.new.marks ≡ self.old.marks }
         ensures lines { self.new.space.lines ≡ self.old.space.lines }
@@ -60,7 +63,7 @@ impl Block {
                 actions,
                 origin: _,
             } => {
-                if let None = self.lines.get(cache.0) {
+                if wakes(decision) && self.lines.get(cache.0).is_none() {
                     self.lines.reserve(1)?;
                 }
                 line_reserve(input, actions, &mut self.wires)?;
@@ -107,7 +110,6 @@ impl Block {
         ensures requests { (cache : CacheId) → IsAtOwn decision.now cache →
             take (length self.old.marks.requests) self.new.marks.requests ≡ self.old.marks.requests }
     {
-        self.counted = None;
         match *decision {
             Decision::Refused(outcome) => outcome,
             Decision::AtLine {
@@ -190,6 +192,21 @@ fn acted_by(decision: &Decision, crowded: bool) -> Option<Acted>
         Decision::AtHome { .. } => Actor::Home,
     };
     Some(Acted { by, crowded })
+}
+
+/// Whether an ask acts at a line in I. Every other line at which a cell acts is kept.
+#[inline(always)]
+fn wakes(decision: &Decision) -> bool
+    ensures { result ≡ wakes_line decision.now }
+{
+    match *decision {
+        Decision::AtLine {
+            line,
+            origin: Origin::Core,
+            ..
+        } => line.state == CacheState::I,
+        _ => false,
+    }
 }
 
 /// Keeps the line of a cache, for which there is room.

@@ -1,16 +1,13 @@
 //! Tests of messages. A message is tested when it is asked whether the cell that it goes to is a stall. It counts as tested too
 //! where its mark is made right, or known to be right still, without that question.
-ghost use Rattle.std.specs.Prelude.{◌≡◌, ◌≤◌, ◌<◌, ◌+◌, ◌*◌, ◌-◌, ◌^◌, true, length, slice_get, slice_set};
+ghost use Rattle.std.specs.Prelude.{◌≡◌, true, length, slice_get};
+ghost use Rattle.network.specs.Traffic.{Traffic};
 ghost use Rattle.blocks.specs.Passing.{ResponsesPass};
-ghost use Rattle.std.specs.List.{sum_by};
-ghost use Rattle.network.specs.Traffic.{Traffic, link};
-ghost use Rattle.blocks.specs.Marking.{home_stalls, line_stalls, response_stalls, links_stall, marks_of, free_responses, unmarked_count, unmarked_heads_count};
-ghost use Rattle.blocks.specs.inner.Asked.{AreFirstRight};
+ghost use Rattle.blocks.specs.Marking.{home_stalls, line_stalls, response_stalls, links_stall, marks_of};
 ghost use Rattle.blocks.specs.inner.Lined.{lines_of};
-ghost use Rattle.blocks.specs.inner.Linking.{AreCounted, AreOthers};
-ghost use Rattle.blocks.specs.inner.Tested.{block_with, forwards_stall, requests_stall};
+ghost use Rattle.blocks.specs.inner.Linking.{IsOwn};
+ghost use Rattle.blocks.specs.inner.Tested.{block_with, requests_stall};
 
-use crate::block::counting::{Counts, LinkCounts, Others, with_link};
 use crate::block::passing::is_clear;
 use crate::block::{Block, opened_line};
 use base::{CacheId, Place};
@@ -18,7 +15,8 @@ use both_tables::Tables;
 use cache_table::CacheEntry;
 use control::{Home, HomeInput, Line, LineInput, home_event, line_event};
 use directory_table::DirectoryEntry;
-use network::{Response, Wires};
+use machine::{Decision, Origin};
+use network::{Forward, Marker, Request, Response, Wires};
 use rows::Sparse;
 
 /// What a test of all messages of a block finds.
@@ -34,79 +32,73 @@ pub struct Tested {
     pub messages: u64,
 }
 
+/// What a step at the line of a cache leaves as it is: all links but that to the cache, and the requests that there were.
+#[derive(Clone, Copy)]
+pub(crate) struct Others {
+    pub(crate) cache: CacheId,
+    pub(crate) requests: u32,
+}
+
 impl Block {
-    ghost use Rattle.std.specs.Prelude.{◌≡◌, true, IfSome};
+    ghost use Rattle.std.specs.Prelude.{◌≡◌, true, IfSome, length};
     ghost use Rattle.blocks.specs.inner.Asked.{AreFirstRight};
-    ghost use Rattle.blocks.specs.inner.Linking.{AreOthers, AreRight};
+    ghost use Rattle.blocks.specs.inner.Linking.{AreRight, IsAtOwn};
     ghost use Rattle.blocks.specs.inner.Tested.{requests_stall};
     ghost use Rattle.blocks.specs.Passing.{ResponsesPass};
-    ghost use Rattle.blocks.specs.Marking.{free_requests, free_heads, free_responses, marks_of};
-    ghost use Rattle.blocks.specs.Messages.{message_count};
+    ghost use Rattle.blocks.specs.Marking.{marks_of};
+    ghost use Rattle.blocks.specs.Tests.{IsFound};
 
-    /// Tests all messages, and marks those that would be held: where no response ever is, no response is looked at.
-    pub(crate) fn test_where(&mut self, tables: &Tables, pass: bool) -> Tested
+    /// What a decision leaves as it is: it has a cell act at a line, on an input that is no request and is from no link but the
+    /// line's own. `None` where that isn't so.
+    #[inline(always)]
+    pub(crate) fn others(&self, decision: &Decision) -> Option<Others>
+        ensures own { IfSome result (λ o. IsAtOwn decision.now o.cache) }
+        ensures requests { IfSome result (λ o. o.requests ≡ length self.now.state.traffic.requests) }
+    {
+        match *decision {
+            Decision::AtLine { cache, origin, .. } if is_own(origin, cache) => Some(Others {
+                cache,
+                requests: self.wires.request_count(),
+            }),
+            _ => None,
+        }
+    }
+
+    /// Marks all messages that would be held: where no response ever is, no response is looked at.
+    fn mark_all(&mut self, tables: &Tables, pass: bool)
         requires { pass ≡ true → ResponsesPass tables.now }
         ensures state { self.new.state ≡ self.old.state }
         ensures space { self.new.space ≡ self.old.space }
         ensures marks { self.new.marks ≡ marks_of tables.now self.old.state }
-        ensures requests { result.requests ≡ free_requests tables.now self.old.state }
-        ensures heads { result.heads ≡ free_heads tables.now self.old.state }
-        ensures responses { result.responses ≡ free_responses tables.now self.old.state }
-        ensures messages { result.messages ≡ message_count self.old.state.traffic }
     {
-        let requests = mark_requests(tables, &self.home, &mut self.wires);
-        let (heads, forwards) = test_links(tables, &self.lines, &mut self.wires);
-        let responses = mark_responses(tables, pass, &self.home, &self.lines, &mut self.wires);
-        self.counted = Some(Counts {
-            requests,
-            links: LinkCounts { heads, forwards },
-        });
-        Tested {
-            requests,
-            heads,
-            responses,
-            messages: ends_of(&self.wires) + forwards,
-        }
+        mark_requests(tables, &self.home, &mut self.wires);
+        mark_links(tables, &self.lines, &mut self.wires);
+        mark_responses(tables, pass, &self.home, &self.lines, &mut self.wires);
     }
 
-    /// Tests all messages but those of which this is known, and whose marks are right: the requests that there were before
-    /// a step at the line of a cache, and what is on the links to other caches. It marks those that would be held.
-    fn test_line(&mut self, tables: &Tables, pass: bool, others: Others) -> Tested
+    /// Marks all messages but those of which this is known, and whose marks are right.
+    fn mark_but(&mut self, tables: &Tables, pass: bool, others: Others)
         requires pass { pass ≡ true → ResponsesPass tables.now }
-        requires marks { AreRight tables.now self.old.state.lines self.old.state.traffic.links others.cache.0 self.old.marks.links }
-        requires links { AreOthers self.old.marks.links self.old.state.traffic.links others.cache.0 others.links.heads others.links.forwards }
-        requires requests { AreFirstRight others.requests others.free self.old.marks.requests
+        requires links { AreRight tables.now self.old.state.lines self.old.state.traffic.links others.cache.0 self.old.marks.links }
+        requires requests { AreFirstRight others.requests self.old.marks.requests
             (requests_stall tables.now.directory self.old.state.home self.old.state.traffic.requests) }
         ensures state { self.new.state ≡ self.old.state }
         ensures space { self.new.space ≡ self.old.space }
         ensures marks { self.new.marks ≡ marks_of tables.now self.old.state }
-        ensures requests { result.requests ≡ free_requests tables.now self.old.state }
-        ensures heads { result.heads ≡ free_heads tables.now self.old.state }
-        ensures responses { result.responses ≡ free_responses tables.now self.old.state }
-        ensures messages { result.messages ≡ message_count self.old.state.traffic }
     {
-        let requests = test_requests(
-            tables,
-            &self.home,
-            others.requests,
-            others.free,
-            &mut self.wires,
+        let home = &self.home;
+        self.wires
+            .mark_requests(u64::from(others.requests), &AtHome { tables, home });
+        let (lines, cache) = (&self.lines, others.cache);
+        self.wires.mark_link(
+            cache,
+            &OnLink {
+                tables,
+                lines,
+                cache,
+            },
         );
-        let links = test_own_link(
-            tables,
-            &self.lines,
-            others.cache,
-            others.links,
-            &mut self.wires,
-        );
-        let responses = mark_responses(tables, pass, &self.home, &self.lines, &mut self.wires);
-        self.counted = Some(Counts { requests, links });
-        Tested {
-            requests,
-            heads: links.heads,
-            responses,
-            messages: ends_of(&self.wires) + links.forwards,
-        }
+        mark_responses(tables, pass, &self.home, &self.lines, &mut self.wires);
     }
 
     /// Tests all messages, or only those that a step at a line may have changed, where the rest is known.
@@ -117,23 +109,95 @@ impl Block {
         others: Option<Others>,
     ) -> Tested
         requires pass { pass ≡ true → ResponsesPass tables.now }
-        requires marks { IfSome others (λ o. AreRight tables.now self.old.state.lines self.old.state.traffic.links o.cache.0 self.old.marks.links) }
-        requires links { IfSome others (λ o.
-            AreOthers self.old.marks.links self.old.state.traffic.links o.cache.0 o.links.heads o.links.forwards) }
-        requires requests { IfSome others (λ o. AreFirstRight o.requests o.free self.old.marks.requests
+        requires links { IfSome others (λ o. AreRight tables.now self.old.state.lines self.old.state.traffic.links o.cache.0 self.old.marks.links) }
+        requires requests { IfSome others (λ o. AreFirstRight o.requests self.old.marks.requests
             (requests_stall tables.now.directory self.old.state.home self.old.state.traffic.requests)) }
         ensures state { self.new.state ≡ self.old.state }
         ensures space { self.new.space ≡ self.old.space }
         ensures marks { self.new.marks ≡ marks_of tables.now self.old.state }
-        ensures requests { result.requests ≡ free_requests tables.now self.old.state }
-        ensures heads { result.heads ≡ free_heads tables.now self.old.state }
-        ensures responses { result.responses ≡ free_responses tables.now self.old.state }
-        ensures messages { result.messages ≡ message_count self.old.state.traffic }
+        ensures found { IsFound tables.now self.old.state result }
     {
         match others {
-            Some(others) => self.test_line(tables, pass, others),
-            None => self.test_where(tables, pass),
+            Some(others) => self.mark_but(tables, pass, others),
+            None => self.mark_all(tables, pass),
         }
+        Tested {
+            requests: self.wires.free_requests(),
+            heads: self.wires.free_heads(),
+            responses: self.wires.free_responses(),
+            messages: self.wires.message_count(),
+        }
+    }
+}
+
+/// Whether an input at the line of a cache comes from no other cache's link, and is no request.
+fn is_own(origin: Origin, cache: CacheId) -> bool
+    ensures { result ≡ true → IsOwn origin cache }
+{
+    match origin {
+        Origin::Head(link) => link.0 == cache.0,
+        Origin::Core | Origin::Response(_) => true,
+        Origin::Request(_) => false,
+    }
+}
+
+/// The home that requests go to.
+#[derive(Drop)]
+struct AtHome<'a> {
+    tables: &'a Tables,
+    home: &'a Home,
+}
+
+impl Marker<Request> for AtHome<'_> {
+    ghost use Rattle.blocks.specs.Marking.{home_stalls};
+    ghost use Rattle.control.specs.declared.home.HomeInput.TheVariants as home_input;
+
+    ghost told = { λ at request. home_stalls at.tables.now.directory at.home.now (home_input.Request request) };
+
+    fn mark(&self, request: Request) -> bool {
+        stalls_home(self.tables, self.home, HomeInput::Request(request))
+    }
+}
+
+/// The link to a cache, whose line is looked for where a message is on it.
+#[derive(Drop)]
+struct OnLink<'a> {
+    tables: &'a Tables,
+    lines: &'a Sparse<Line>,
+    cache: CacheId,
+}
+
+impl Marker<Forward> for OnLink<'_> {
+    ghost use Rattle.std.specs.Prelude.{slice_get};
+    ghost use Rattle.blocks.specs.Marking.{line_stalls};
+    ghost use Rattle.blocks.specs.inner.Lined.{lines_of};
+    ghost use Rattle.control.specs.declared.line.LineInput.TheVariants as line_input;
+
+    ghost told = { λ on forward. line_stalls on.tables.now.cache (slice_get (lines_of on.lines.now.items) on.cache.0) (line_input.Forward forward) };
+
+    fn mark(&self, forward: Forward) -> bool {
+        let line = line_of(self.lines, self.cache);
+        stalls_line(self.tables, line, LineInput::Forward(forward))
+    }
+}
+
+/// The home and the lines that responses go to.
+#[derive(Drop)]
+struct AtPlaces<'a> {
+    tables: &'a Tables,
+    home: &'a Home,
+    lines: &'a Sparse<Line>,
+}
+
+impl Marker<Response> for AtPlaces<'_> {
+    ghost use Rattle.network.specs.Traffic.{quiet};
+    ghost use Rattle.blocks.specs.Marking.{response_stalls};
+    ghost use Rattle.blocks.specs.inner.Tested.{block_with};
+
+    ghost told = { λ at response. response_stalls at.tables.now (block_with at.lines.now.items at.home.now (quiet 0)) response };
+
+    fn mark(&self, response: Response) -> bool {
+        stalls_response(self.tables, self.home, self.lines, response)
     }
 }
 
@@ -196,168 +260,64 @@ fn stalls_response(tables: &Tables, home: &Home, lines: &Sparse<Line>, response:
     }
 }
 
-/// Marks all requests, and answers how many wouldn't be held. Where none would be, they aren't looked at one by one.
-fn mark_requests(tables: &Tables, home: &Home, wires: &mut Wires) -> u32
+/// Marks all requests. Where none would be held, they aren't looked at one by one.
+fn mark_requests(tables: &Tables, home: &Home, wires: &mut Wires)
     ensures traffic { wires.new.traffic ≡ wires.old.traffic }
     ensures room { wires.new.room ≡ wires.old.room }
     ensures marks { wires.new.marks ≡ record wires.old.marks {
       requests = requests_stall tables.now.directory home.now wires.old.traffic.requests;
     } }
-    ensures count { result ≡ unmarked_count (requests_stall tables.now.directory home.now wires.old.traffic.requests) }
 {
     if wires.request_count() > 1 && is_clear(tables, home.state) {
         wires.unmark_requests();
-        return wires.request_count();
+    } else {
+        wires.mark_requests(0, &AtHome { tables, home });
     }
-    test_requests(tables, home, 0, 0, wires)
 }
 
-/// Marks all responses, and answers how many wouldn't be held. Where none ever is, they aren't looked at.
+/// Marks what is on all links.
+fn mark_links(tables: &Tables, lines: &Sparse<Line>, wires: &mut Wires)
+    ensures traffic { wires.new.traffic ≡ wires.old.traffic }
+    ensures room { wires.new.room ≡ wires.old.room }
+    ensures marks { wires.new.marks ≡ record wires.old.marks {
+      links = links_stall tables.now.cache (lines_of lines.now.items) 0 wires.old.traffic.links;
+    } }
+{
+    let mut from = 0;
+    let links = wires.link_count();
+    while from < links {
+        let Some(cache) = wires.next_waiting(from) else {
+            return;
+        };
+        wires.mark_link(
+            cache,
+            &OnLink {
+                tables,
+                lines,
+                cache,
+            },
+        );
+        from = cache.0 + 1;
+    }
+}
+
+/// Marks all responses. Where none ever would be held, they aren't looked at.
 #[inline(always)]
-fn mark_responses(
-    tables: &Tables,
-    pass: bool,
-    home: &Home,
-    lines: &Sparse<Line>,
-    wires: &mut Wires,
-) -> u32
+fn mark_responses(tables: &Tables, pass: bool, home: &Home, lines: &Sparse<Line>, wires: &mut Wires)
     requires { pass ≡ true → ResponsesPass tables.now }
     ensures traffic { wires.new.traffic ≡ wires.old.traffic }
     ensures room { wires.new.room ≡ wires.old.room }
     ensures marks { wires.new.marks ≡ record wires.old.marks {
       responses = (marks_of tables.now (block_with lines.now.items home.now wires.old.traffic)).responses;
     } }
-    ensures count { result ≡ free_responses tables.now (block_with lines.now.items home.now wires.old.traffic) }
 {
     if pass {
         wires.unmark_responses();
-        return wires.response_count();
+    } else {
+        wires.mark_responses(&AtPlaces {
+            tables,
+            home,
+            lines,
+        });
     }
-    test_responses(tables, home, lines, wires)
-}
-
-/// Tests all requests but the first so many, whose marks are right and of which so many wouldn't be held, and answers how many of
-/// all wouldn't be.
-fn test_requests(tables: &Tables, home: &Home, right: u32, free_ones: u32, wires: &mut Wires) -> u32
-    requires { AreFirstRight right free_ones wires.old.marks.requests (requests_stall tables.now.directory home.now wires.old.traffic.requests) }
-    ensures traffic { wires.new.traffic ≡ wires.old.traffic }
-    ensures room { wires.new.room ≡ wires.old.room }
-    ensures marks { wires.new.marks ≡ record wires.old.marks {
-      requests = requests_stall tables.now.directory home.now wires.old.traffic.requests;
-    } }
-    ensures count { result ≡ unmarked_count (requests_stall tables.now.directory home.now wires.old.traffic.requests) }
-{
-    let mut free = free_ones;
-    for index in u64::from(right)..wires.request_count() as u64 {
-        if let Some(request) = wires.request(index) {
-            let held = stalls_home(tables, home, HomeInput::Request(request));
-            wires.mark_request(index, held);
-            if !held {
-                free += 1;
-            }
-        }
-    }
-    free
-}
-
-/// Tests what is on the link to a cache, whose line is this one.
-#[inline(always)]
-fn test_link(tables: &Tables, line: Option<Line>, cache: CacheId, wires: &mut Wires)
-    ensures traffic { wires.new.traffic ≡ wires.old.traffic }
-    ensures room { wires.new.room ≡ wires.old.room }
-    ensures marks { wires.new.marks ≡ record wires.old.marks {
-      links = slice_set wires.old.marks.links cache.0 (forwards_stall tables.now.cache line (link wires.old.traffic cache.0));
-    } }
-{
-    for index in 0..wires.forward_count(cache) as u64 {
-        if let Some(forward) = wires.forward(cache, index) {
-            let held = stalls_line(tables, line, LineInput::Forward(forward));
-            wires.mark_forward(cache, index, held);
-        }
-    }
-}
-
-/// Tests what is on all links, and answers how many heads wouldn't be held, and how many messages there are.
-fn test_links(tables: &Tables, lines: &Sparse<Line>, wires: &mut Wires) -> (u32, u64)
-    ensures traffic { wires.new.traffic ≡ wires.old.traffic }
-    ensures room { wires.new.room ≡ wires.old.room }
-    ensures marks { wires.new.marks ≡ record wires.old.marks {
-      links = links_stall tables.now.cache (lines_of lines.now.items) 0 wires.old.traffic.links;
-    } }
-    ensures heads { result.0 ≡ unmarked_heads_count (links_stall tables.now.cache (lines_of lines.now.items) 0 wires.old.traffic.links) }
-    ensures messages { result.1 ≡ sum_by length wires.old.traffic.links }
-    ensures few { result.1 ≤ (2 ^ 32 - 1) * (2 ^ 32 - 1) }
-{
-    let mut heads = 0;
-    let mut messages = 0;
-    let mut from = 0;
-    let links = wires.link_count();
-    while from < links {
-        let Some(cache) = wires.next_waiting(from) else {
-            return (heads, messages);
-        };
-        test_link(tables, line_of(lines, cache), cache, wires);
-        if !wires.is_head_held(cache) {
-            heads += 1;
-        }
-        messages += wires.forward_count(cache) as u64;
-        from = cache.0 + 1;
-    }
-    (heads, messages)
-}
-
-/// Tests what is on the link to a cache, where this is known of the others, and answers what is known of all.
-fn test_own_link(
-    tables: &Tables,
-    lines: &Sparse<Line>,
-    cache: CacheId,
-    others: LinkCounts,
-    wires: &mut Wires,
-) -> LinkCounts
-    requires { AreOthers wires.old.marks.links wires.old.traffic.links cache.0 others.heads others.forwards }
-    ensures traffic { wires.new.traffic ≡ wires.old.traffic }
-    ensures room { wires.new.room ≡ wires.old.room }
-    ensures marks { wires.new.marks ≡ record wires.old.marks {
-      links = slice_set wires.old.marks.links cache.0
-          (forwards_stall tables.now.cache (slice_get (lines_of lines.now.items) cache.0) (link wires.old.traffic cache.0));
-    } }
-    ensures counted { AreCounted wires.new.marks.links wires.old.traffic.links result.heads result.forwards }
-{
-    // Called for its contract: there are as many rows of marks as links.
-    let _links = wires.link_count();
-    if !wires.is_waiting(cache) {
-        return others;
-    }
-    test_link(tables, line_of(lines, cache), cache, wires);
-    with_link(others, cache, wires)
-}
-
-/// How many requests and responses there are.
-fn ends_of(wires: &Wires) -> u64
-    ensures count { result ≡ length wires.now.traffic.requests + length wires.now.traffic.responses }
-    ensures few { result ≤ 2 * (2 ^ 32 - 1) }
-{
-    u64::from(wires.request_count()) + u64::from(wires.response_count())
-}
-
-/// Tests all responses, and answers how many wouldn't be held.
-fn test_responses(tables: &Tables, home: &Home, lines: &Sparse<Line>, wires: &mut Wires) -> u32
-    ensures traffic { wires.new.traffic ≡ wires.old.traffic }
-    ensures room { wires.new.room ≡ wires.old.room }
-    ensures marks { wires.new.marks ≡ record wires.old.marks {
-      responses = (marks_of tables.now (block_with lines.now.items home.now wires.old.traffic)).responses;
-    } }
-    ensures count { result ≡ free_responses tables.now (block_with lines.now.items home.now wires.old.traffic) }
-{
-    let mut free = 0;
-    for index in 0..wires.response_count() as u64 {
-        if let Some(response) = wires.response(index) {
-            let held = stalls_response(tables, home, lines, response);
-            wires.mark_response(index, held);
-            if !held {
-                free += 1;
-            }
-        }
-    }
-    free
 }

@@ -1,38 +1,57 @@
-use Rattle.std.specs.Prelude.{◌≡◌, ◌≢◌, ℕ, ◌+◌, ◌^◌, ◌<◌, ◌≤◌, List, [], Option, None, Some, Bool, if◌then◌else◌, not, length, map, slice_index, slice_index_or}
+use Rattle.std.specs.Prelude.{◌≡◌, ◌≢◌, ℕ, ◌+◌, ◌^◌, ◌<◌, ◌≤◌, ◌++◌, List, [], Option, None, Some, Bool, if◌then◌else◌, not, drop, false, length, map, slice_index, slice_index_or, take}
+use Rattle.std.specs.List.{sum_by}
 use Rattle.network.specs.declared.message.Forward.{Forward}
+use Rattle.network.specs.declared.wire.Marked.{Marked}
+use Rattle.network.specs.Marks.{is_stopped}
 use Rattle.network.specs.Traffic.{is_nil}
-use Rattle.rows.specs.Flags.{set_count}
 
 -- a wire, as contracts see it: its messages with their marks, and how many more it takes without asking for memory
 pub record Wired (M : Type 0) : Type 0 where
-  pub messages : List M
-  pub marks : List Bool
+  pub sent : List (Marked M)
   pub room : ℕ
 
--- a `u32` counts the messages of a wire, and so many of their marks are set
-pub record IsCounted (marks : List Bool) (held : ℕ) : Type 0 where
-  pub few : length marks < 2 ^ 32
-  pub count : held ≡ set_count marks
+-- the messages alone
+abbrev pub messages_in : {M : Type 0} → List (Marked M) → List M
+messages_in sent = map (λ m. m.message) sent
+
+-- their marks alone
+abbrev pub marks_in : {M : Type 0} → List (Marked M) → List Bool
+marks_in sent = map (λ m. m.held) sent
+
+-- a message that was sent just now
+abbrev pub unmarked_one : {M : Type 0} → M → Marked M
+unmarked_one message = record { message = message; held = false }
+
+-- each has the mark that is told of its message
+abbrev pub remarked : {M : Type 0} → (M → Bool) → List (Marked M) → List (Marked M)
+remarked mark sent = map (λ m. record { message = m.message; held = mark m.message }) sent
+
+-- those from a place on have
+abbrev pub remarked_from : {M : Type 0} → ℕ → (M → Bool) → List (Marked M) → List (Marked M)
+remarked_from from mark sent = take from sent ++ remarked mark (drop from sent)
 
 -- a mark as a number: 1 where it is set
 abbrev pub one : Bool → ℕ
 one held = if held then 1 else 0
 
+-- how many marks are set
+abbrev pub held_count : {M : Type 0} → List (Marked M) → ℕ
+held_count sent = sum_by (λ m. one m.held) sent
+
+-- a `u32` counts the messages of a wire, and so many of their marks are set
+pub record IsCounted {M : Type 0} (sent : List (Marked M)) (held : ℕ) : Type 0 where
+  pub few : length sent < 2 ^ 32
+  pub count : held ≡ held_count sent
+
 -- the links of a block, as contracts see them: what is on each, and how many more it takes without asking for memory
 pub record Linked : Type 0 where
-  pub messages : List (List Forward)
-  pub marks : List (List Bool)
+  pub sent : List (List (Marked Forward))
   pub room : List ℕ
 
--- the messages on a link; one that was never used has none
-abbrev pub on_link : Option (Wired Forward) → List Forward
+-- what is on a link; one that was never used has nothing
+abbrev pub on_link : Option (Wired Forward) → List (Marked Forward)
 on_link None = []
-on_link (Some w) = w.messages
-
--- their marks
-abbrev pub marks_on : Option (Wired Forward) → List Bool
-marks_on None = []
-marks_on (Some w) = w.marks
+on_link (Some w) = w.sent
 
 -- the room of a link
 abbrev pub room_on : Option (Wired Forward) → ℕ
@@ -40,17 +59,23 @@ room_on None = 0
 room_on (Some w) = w.room
 
 -- for each link whether it has a message
-abbrev pub waiting_of : List (List Forward) → List Bool
+abbrev pub waiting_of : List (List (Marked Forward)) → List Bool
 waiting_of links = map (λ l. not (is_nil l)) links
 
--- on each link there are as many marks as messages
-abbrev pub AreMarked : List (Option (Wired Forward)) → Type 0
-AreMarked links = (cache : ℕ) → length (marks_on (slice_index_or links cache None)) ≡ length (on_link (slice_index_or links cache None))
+-- for each link whether it has a first message whose mark isn't set
+abbrev pub free_of : List (List (Marked Forward)) → List Bool
+free_of links = map (λ l. not (is_stopped (marks_in l))) links
 
--- links hold together: the flags say which has a message, and each message has its mark
-pub record AreLinked (links : List (Option (Wired Forward))) (flags : List Bool) : Type 0 where
-  pub waiting : flags ≡ waiting_of (map on_link links)
-  pub marked : AreMarked links
+-- a `u32` counts the messages of each link
+abbrev pub AreFew : List (List (Marked Forward)) → Type 0
+AreFew links = (cache : ℕ) → length (slice_index_or links cache []) < 2 ^ 32
+
+-- links hold together: the flags say which has a message and which a free one, and the count is that of all messages
+pub record AreLinked (links : List (List (Marked Forward))) (waits frees : List Bool) (all : ℕ) : Type 0 where
+  pub waiting : waits ≡ waiting_of links
+  pub free : frees ≡ free_of links
+  pub few : AreFew links
+  pub count : all ≡ sum_by length links
 
 -- no link has less room
 pub record KeepsRoom (old new : List ℕ) : Type 0 where

@@ -12,7 +12,8 @@ use Rattle.world.specs.declared.counts.Spot.{Spot}
 use Rattle.blocks.specs.View.{BlockView}
 use Rattle.machine.specs.Block.{BlockState}
 use Rattle.both_tables.specs.Tables.{Tables}
-use Rattle.blocks.specs.Marking.{free_requests, free_heads, free_responses, unmarked, unmarked_heads}
+use Rattle.blocks.specs.Marking.{free_requests, free_heads, free_responses}
+use Rattle.network.specs.Marks.{unmarked, unmarked_heads}
 
 -- a row for each kind, with a number for each block
 pub record Rows : Type 0 where

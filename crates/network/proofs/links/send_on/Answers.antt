@@ -1,6 +1,6 @@
-use Rattle.std.proofs.Common.{◌++◌, ◌∷◌, [], None, Some, ap, arith, false, ◌∙◌}
-use Rattle.network.specs.inner.Links.{marks_on, on_link}
-use Rattle.network.proofs.Linked.{none-used, one_place-used, parts-set, parts-set_same}
+use Rattle.std.proofs.Common.{◌++◌, ◌∷◌, [], None, Some, ap, arith, length, ◌∙◌}
+use Rattle.network.specs.inner.Links.{on_link, unmarked_one}
+use Rattle.network.proofs.Linked.{none-used, one_place-used, parts-set, parts-set_same, short-set}
 use Rattle.network.proofs.Waits.{on_err}
 use Rattle.network.proofs.links.send_on.Goals.{in-Ok, in-Err}
 use Rattle.network.proofs.links.send_on.Goals as goal
@@ -10,11 +10,6 @@ returns-in_err-send-clause-err c =
     on_err c.from_residual.result (parts-set_same on_link c.args.links.now.items c.args.cache.0 (Some c.in-Some.link.now) c.send.new.self
     c.in-Some.ensures.item c.in_err-send.ensures.err)
 
-pub returns-in_err-send-clause-err_marks : goal.returns-in_err-send-clause-err_marks
-returns-in_err-send-clause-err_marks c =
-    on_err c.from_residual.result (parts-set_same marks_on c.args.links.now.items c.args.cache.0 (Some c.in-Some.link.now) c.send.new.self
-    c.in-Some.ensures.item c.in_err-send.ensures.err_marks)
-
 pub returns-in_err-send-clause-room : goal.returns-in_err-send-clause-room
 returns-in_err-send-clause-room c =
     one_place-used c.args.links.now.items c.args.cache.0 (Some c.in-Some.link.now) c.send.new.self c.requires c.in-Some.ensures.item
@@ -23,36 +18,25 @@ returns-in_err-send-clause-room c =
 pub returns-in-Some-clause-ok : goal.returns-in-Some-clause-ok
 returns-in-Some-clause-ok c =
     parts-set on_link c.args.links.now.items c.args.cache.0 (Some c.in-Some.link.now) c.send.new.self
-    (λ xs. xs ++ c.args.forward ∷ []) c.in-Some.ensures.item
+    (λ xs. xs ++ unmarked_one c.args.forward ∷ []) c.in-Some.ensures.item
     c.in_ok-send.ensures.ok
-
-pub returns-in-Some-clause-ok_marks : goal.returns-in-Some-clause-ok_marks
-returns-in-Some-clause-ok_marks c =
-    parts-set marks_on c.args.links.now.items c.args.cache.0 (Some c.in-Some.link.now) c.send.new.self (λ xs. xs ++ false ∷ []) c.in-Some.ensures.item
-    c.in_ok-send.ensures.ok_marks
 
 pub returns-in-Some-clause-room : goal.returns-in-Some-clause-room
 returns-in-Some-clause-room c =
     one_place-used c.args.links.now.items c.args.cache.0 (Some c.in-Some.link.now) c.send.new.self c.requires c.in-Some.ensures.item
     (omega (arith, c.send.ensures.room))
 
+pub returns-in-Some-clause-short : goal.returns-in-Some-clause-short
+returns-in-Some-clause-short c =
+    short-set c.args.links.now.items c.args.cache.0 c.send.new.self c.requires (omega (arith, c.len-count.ensures, c.len-count.type_inv))
+
 pub returns-clause-ok : goal.returns-clause-ok
 returns-clause-ok c =
     elim c.match-put.branch [
       | in-Ok w ↦
           rw (w.result-is, w.in-Ok.ensures.ok)
-          (parts-set on_link c.args.links.now.items c.args.cache.0 None c.send-2.new.self (λ xs. xs ++ c.args.forward ∷ []) c.in_default.ensures.item
-          (c.in_ok-send-2.ensures.ok ∙ ap (λ xs. xs ++ c.args.forward ∷ []) c.open-link.ensures.messages))
-      | in-Err w ↦ rw w.result-is tt
-    ]
-
-pub returns-clause-ok_marks : goal.returns-clause-ok_marks
-returns-clause-ok_marks c =
-    elim c.match-put.branch [
-      | in-Ok w ↦
-          rw (w.result-is, w.in-Ok.ensures.ok)
-          (parts-set marks_on c.args.links.now.items c.args.cache.0 None c.send-2.new.self (λ xs. xs ++ false ∷ []) c.in_default.ensures.item
-          (c.in_ok-send-2.ensures.ok_marks ∙ ap (λ xs. xs ++ false ∷ []) c.open-link.ensures.marks))
+          (parts-set on_link c.args.links.now.items c.args.cache.0 None c.send-2.new.self (λ xs. xs ++ unmarked_one c.args.forward ∷ []) c.in_default.ensures.item
+          (c.in_ok-send-2.ensures.ok ∙ ap (λ xs. xs ++ unmarked_one c.args.forward ∷ []) c.open-link.ensures))
       | in-Err w ↦ rw w.result-is tt
     ]
 
@@ -63,4 +47,12 @@ returns-clause-room c =
           rw w.in-Ok.ensures.ok
           (one_place-used c.args.links.now.items c.args.cache.0 None c.send-2.new.self c.requires c.in_default.ensures.item (omega arith))
       | in-Err w ↦ none-used c.args.links.now.items c.put.new.self.items c.args.cache.0 w.in-Err.ensures.err
+    ]
+
+pub returns-clause-short : goal.returns-clause-short
+returns-clause-short c =
+    let one = ap length (c.in_ok-send-2.ensures.ok ∙ ap (λ xs. xs ++ unmarked_one c.args.forward ∷ []) c.open-link.ensures) in
+    elim c.match-put.branch [
+      | in-Ok w ↦ rw (w.result-is, w.in-Ok.ensures.ok) (short-set c.args.links.now.items c.args.cache.0 c.send-2.new.self c.requires (omega arith))
+      | in-Err w ↦ rw w.result-is tt
     ]

@@ -1,9 +1,11 @@
-use Rattle.std.proofs.Common.{◌≡◌, ◌<◌, ℕ, false, true, get_or, length, map}
+use Rattle.std.proofs.Common.{◌≡◌, false}
+use Rattle.std.specs.Prelude.{length}
+use Rattle.network.specs.inner.Links.{remarked}
+use Rattle.network.proofs.Written.{written}
 use Rattle.network.proofs.wire.unmark_each.Given as goal
 
-abbrev pub invariant-loop-one : goal.invariant-loop-one
-invariant-loop-one g l = record {
-  count : length l.one-items ≡ length l.fn.marked.items;
-  messages : map (λ m. m.message) l.one-items ≡ map (λ m. m.message) l.fn.marked.items;
-  done : (i : ℕ) → i < l.one-index → get_or (map (λ m. m.held) l.one-items) i true ≡ false;
+abbrev pub invariant-loop-found : goal.invariant-loop-found
+invariant-loop-found g l = record {
+  sent : l.found-items ≡ written (remarked (λ message. false) l.fn.marked.items) l.fn.marked.items l.found-index;
+  count : length l.found-items ≡ length l.fn.marked.items;
 }

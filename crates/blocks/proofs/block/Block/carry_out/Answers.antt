@@ -11,10 +11,7 @@ use Rattle.blocks.proofs.Acting.{held-at_line, held-at_home}
 use Rattle.blocks.proofs.block.Block.carry_out.Goals as goal
 
 pub invariant_of-self : goal.invariant_of-self
-invariant_of-self c = (c.self.invariant.0, tt)
-
-pub invariant_of-self-in-AtLine : goal.invariant_of-self-in-AtLine
-invariant_of-self-in-AtLine c =
+invariant_of-self c =
     let old : BlockState =
     record { lines = lines_of c.self.inside.lines.items; home = c.self.inside.home; traffic = c.self.inside.wires.traffic; latest = c.self.inside.latest } in
     let new : BlockState =
@@ -29,17 +26,15 @@ invariant_of-self-in-AtLine c =
     let named : IsKeptIf c.args.self.now.space.lines (requestor_of c.in-AtLine.input) = (rw c.in-AtLine.is at c.requires.names).0 in
     let requestor : IsKeptIf (kept_lines c.self.inside.lines.items) (requestor_of c.in-AtLine.input) =
     subst (λ (k : BlockView). IsKeptIf k.space.lines (requestor_of c.in-AtLine.input)) (sym c.self.view_is) named in
-    let after = c.line_perform-done.new.line in (
-      rw (c.set.ensures, c.set-in-AtLine.ensures, c.may_read.ensures, c.may_write.ensures)
-          (subst (λ is. IsHeld new is (set c.self.inside.access.readers c.in-AtLine.cache.0 (is_reader after.state))
-          (set c.self.inside.access.writers c.in-AtLine.cache.0 (is_writer after.state)))
-          (sym c.put_line.ensures.items)
-          (held-at_line c.self.inside.lines.items c.in-AtLine.cache c.in-AtLine.line after c.in-AtLine.input c.in-AtLine.actions
-          c.in-AtLine.origin old new c.self.inside.access.readers c.self.inside.access.writers c.self.invariant.0 there requestor (ap lines_of c.put_line.ensures.items) refl
-          (c.line_perform-done.ensures.traffic ∙ ap
-          (all_sent (line_sends c.in-AtLine.cache c.in-AtLine.input c.in-AtLine.actions c.in-AtLine.line)) c.take.ensures.traffic))),
-      tt,
-    )
+    let after = c.line_perform-done.new.line in
+    rw (c.set.ensures, c.set-in-AtLine.ensures, c.may_read.ensures, c.may_write.ensures)
+    (subst (λ is. IsHeld new is (set c.self.inside.access.readers c.in-AtLine.cache.0 (is_reader after.state))
+    (set c.self.inside.access.writers c.in-AtLine.cache.0 (is_writer after.state)))
+    (sym c.put_line.ensures.items)
+    (held-at_line c.self.inside.lines.items c.in-AtLine.cache c.in-AtLine.line after c.in-AtLine.input c.in-AtLine.actions
+    c.in-AtLine.origin old new c.self.inside.access.readers c.self.inside.access.writers c.self.invariant there requestor (ap lines_of c.put_line.ensures.items) refl
+    (c.line_perform-done.ensures.traffic ∙ ap
+    (all_sent (line_sends c.in-AtLine.cache c.in-AtLine.input c.in-AtLine.actions c.in-AtLine.line)) c.take.ensures.traffic)))
 
 pub invariant_of-self-in-AtHome : goal.invariant_of-self-in-AtHome
 invariant_of-self-in-AtHome c =
@@ -57,12 +52,10 @@ invariant_of-self-in-AtHome c =
     subst (λ (k : BlockView). IsBelow (sender_of c.in-AtHome.input) (length k.state.lines)) (sym c.self.view_is) fits in
     let named : IsKeptIf c.args.self.now.space.lines (sender_of c.in-AtHome.input) = rw c.in-AtHome.is at c.requires.names in
     let sender : IsKeptIf (kept_lines c.self.inside.lines.items) (sender_of c.in-AtHome.input) =
-    subst (λ (k : BlockView). IsKeptIf k.space.lines (sender_of c.in-AtHome.input)) (sym c.self.view_is) named in (
-      held-at_home c.self.inside.lines.items c.in-AtHome.input c.in-AtHome.next c.in-AtHome.actions c.in-AtHome.origin old new
-          c.self.inside.access.readers c.self.inside.access.writers c.self.invariant.0 below sender refl c.home_perform.ensures.home
-          (c.home_perform.ensures.traffic ∙ ap (all_sent (home_sends c.in-AtHome.input c.in-AtHome.actions c.self.inside.home)) c.take-in-AtHome.ensures.traffic),
-      tt,
-    )
+    subst (λ (k : BlockView). IsKeptIf k.space.lines (sender_of c.in-AtHome.input)) (sym c.self.view_is) named in
+    held-at_home c.self.inside.lines.items c.in-AtHome.input c.in-AtHome.next c.in-AtHome.actions c.in-AtHome.origin old new
+    c.self.inside.access.readers c.self.inside.access.writers c.self.invariant below sender refl c.home_perform.ensures.home
+    (c.home_perform.ensures.traffic ∙ ap (all_sent (home_sends c.in-AtHome.input c.in-AtHome.actions c.self.inside.home)) c.take-in-AtHome.ensures.traffic)
 
 pub returns-in-AtLine-clause-links : goal.returns-in-AtLine-clause-links
 returns-in-AtLine-clause-links c own at =

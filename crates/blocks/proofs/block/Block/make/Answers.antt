@@ -6,12 +6,13 @@ use Rattle.machine.specs.declared.made.Made.{Made}
 use Rattle.machine.specs.Block.{BlockState}
 use Rattle.machine.specs.Made.{acted_by, is_crowded}
 use Rattle.machine.specs.Transition.{Transition, carried_out, decision_of, messages_of}
-use Rattle.blocks.specs.Marking.{free_heads, free_requests, free_responses, marks_of}
-use Rattle.blocks.specs.Messages.{message_count}
+use Rattle.blocks.specs.Marking.{marks_of}
+use Rattle.network.specs.Traffic.{message_count}
+use Rattle.blocks.specs.Tests.{IsFound}
 use Rattle.blocks.specs.View.{Space, acts, lines_after}
 use Rattle.blocks.proofs.Asked.{first-right-after}
 use Rattle.blocks.proofs.Going.{acting}
-use Rattle.blocks.proofs.Relinking.{others-after, right-after, some-both, some-map}
+use Rattle.blocks.proofs.Relinking.{right-after, some-both, some-map}
 use Rattle.blocks.proofs.Sends.{sends-counted}
 use Rattle.blocks.proofs.block.Block.make.Goals as goal
 
@@ -64,14 +65,9 @@ returns-clause-ok c =
       made = (λ i. record { outcome = what i; acted = acted i }) ∙ ap (λ e. made_by e before) is;
       state = block ∙ ap (λ e. (carried_out e before).block) is;
       marks = c.test_after-tested.ensures.marks ∙ ap (marks_of tables) stays;
-      tested = record {
-        requests = c.test_after-tested.ensures.requests ∙ ap (free_requests tables) stays;
-        heads = c.test_after-tested.ensures.heads ∙ ap (free_heads tables) stays;
-        responses = c.test_after-tested.ensures.responses ∙ ap (free_responses tables) stays;
-        messages = c.test_after-tested.ensures.messages ∙ ap (λ (b : BlockState). message_count b.traffic) stays;
-      };
+      tested = subst (λ b. IsFound tables b c.test_after-tested.result) stays c.test_after-tested.ensures.found;
       sent = subst (λ e. length (messages_of e before) ≤ c.test_after-tested.result.messages) is
-          (omega (arith, counted, same, c.test_after-tested.ensures.messages));
+          (omega (arith, counted, same, c.test_after-tested.ensures.found.messages));
       lines = ap (λ (s : Space). s.lines) c.test_after-tested.ensures.space ∙ c.carry_out-outcome.ensures.lines ∙ ap (lines_after d) c.prepare.ensures.lines
           ∙ ap (λ e. lines_after e c.args.self.now.space.lines) is;
       idle = λ none. absurd (true≢false (sym (acting d c.in_default.not-Refused) ∙ ap acts is ∙ none));
@@ -83,25 +79,18 @@ test_after-tested-requires c =
     let marks = c.args.self.now.marks in
     let after = c.carry_out-outcome.new.self in
     let done = ap (carried_out c.decide-decision.result) (sym c.prepare.ensures.state) ∙ c.carry_out-outcome.ensures.done in
-    let known = some-both _ _ c.others-others.result c.others-others.ensures.own c.others-others.ensures.links in
-    let asked = some-both _ _ c.others-others.result c.others-others.ensures.requests c.others-others.ensures.free in
     record {
       pass = c.requires.pass;
-      marks =
-          some-map c.others-others.result
-          (λ o known. right-after c.args.tables.now c.decide-decision.result before after.state c.carry_out-outcome.result marks after.marks o.cache
-          c.requires.marks known.0 done
-          (rw (c.prepare.ensures.state, c.prepare.ensures.marks) at c.carry_out-outcome.ensures.links o.cache known.0))
-          known;
       links =
           some-map c.others-others.result
-          (λ o known. others-after c.args.tables.now before after.state marks after.marks o.cache o.links.heads o.links.forwards c.requires.marks known.1
-          (rw (c.prepare.ensures.state, c.prepare.ensures.marks) at c.carry_out-outcome.ensures.links o.cache known.0))
-          known;
+          (λ o own. right-after c.args.tables.now c.decide-decision.result before after.state c.carry_out-outcome.result marks after.marks o.cache
+          c.requires.marks own done
+          (rw (c.prepare.ensures.state, c.prepare.ensures.marks) at c.carry_out-outcome.ensures.links o.cache own))
+          c.others-others.ensures.own;
       requests =
           some-map c.others-others.result
           (λ o known. first-right-after c.args.tables.now c.decide-decision.result before after.state c.carry_out-outcome.result marks after.marks o.cache
-          o.requests o.free c.requires.marks known.0 done
-          (rw (c.prepare.ensures.marks) at c.carry_out-outcome.ensures.requests o.cache known.0) known.1.0 known.1.1)
-          (some-both _ _ c.others-others.result c.others-others.ensures.own asked);
+          o.requests c.requires.marks known.0 done
+          (rw (c.prepare.ensures.marks) at c.carry_out-outcome.ensures.requests o.cache known.0) known.1)
+          (some-both _ _ c.others-others.result c.others-others.ensures.own c.others-others.ensures.requests);
     }

@@ -6,7 +6,7 @@ pub invariant_of-result : goal.invariant_of-result
 invariant_of-result c =
     let lines = lines-opened c.args.caches in
     rw (c.open-4.ensures.items, c.in_ok-home.ensures.home, c.in_ok-wires.ensures.traffic, c.in_ok-access.ensures.readers, c.in_ok-access.ensures.writers, lines)
-    (held-opened c.args.caches c.args.value, tt)
+    (held-opened c.args.caches c.args.value)
 
 pub returns-clause-state : goal.returns-clause-state
 returns-clause-state c = rw (c.open-4.ensures.items, c.in_ok-home.ensures.home, c.in_ok-wires.ensures.traffic, lines-opened c.args.caches) refl

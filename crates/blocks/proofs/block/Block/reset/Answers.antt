@@ -14,25 +14,25 @@ lines : (c : After-clear-3) → c.clear.new.self.items ≡ replicate (length (li
 lines c = c.clear.ensures.items ∙ ap (λ n. replicate n None) (count c)
 
 home : (c : After-clear-3) → c.reset.new.self ≡ opened_home (length (lines_of c.self.inside.lines.items)) c.args.value
-home c = c.reset.ensures ∙ ap (λ n. opened_home n c.args.value) c.self.invariant.0.among.home.sharers
+home c = c.reset.ensures ∙ ap (λ n. opened_home n c.args.value) c.self.invariant.among.home.sharers
 
 traffic : (c : After-clear-3) → c.clear-2.new.self.traffic ≡ quiet (length (lines_of c.self.inside.lines.items))
-traffic c = c.clear-2.ensures.traffic ∙ ap quiet c.self.invariant.0.among.links
+traffic c = c.clear-2.ensures.traffic ∙ ap quiet c.self.invariant.among.links
 
 readers : (c : After-clear-3) → c.clear-3.new.self.readers ≡ replicate (length (lines_of c.self.inside.lines.items)) false
 readers c =
     c.clear-3.ensures.readers
-    ∙ ap (λ n. replicate n false) (ap length c.self.invariant.0.readers ∙ length-map (lines_of c.self.inside.lines.items) _)
+    ∙ ap (λ n. replicate n false) (ap length c.self.invariant.readers ∙ length-map (lines_of c.self.inside.lines.items) _)
 
 writers : (c : After-clear-3) → c.clear-3.new.self.writers ≡ replicate (length (lines_of c.self.inside.lines.items)) false
 writers c =
     c.clear-3.ensures.writers
-    ∙ ap (λ n. replicate n false) (ap length c.self.invariant.0.writers ∙ length-map (lines_of c.self.inside.lines.items) _)
+    ∙ ap (λ n. replicate n false) (ap length c.self.invariant.writers ∙ length-map (lines_of c.self.inside.lines.items) _)
 
 pub invariant_of-self : goal.invariant_of-self
 invariant_of-self c =
     rw (lines c, home c, traffic c, readers c, writers c, lines-opened (length (lines_of c.self.inside.lines.items)))
-    (held-opened (length (lines_of c.self.inside.lines.items)) c.args.value, tt)
+    (held-opened (length (lines_of c.self.inside.lines.items)) c.args.value)
 
 pub returns-clause-state : goal.returns-clause-state
 returns-clause-state c =

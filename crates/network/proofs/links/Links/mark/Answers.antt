@@ -1,56 +1,41 @@
-use Rattle.std.proofs.Common.{◌≡◌, [], Some, ap, get_or, map, set, sym, ◌∙◌}
-use Rattle.network.specs.inner.Links.{marks_on, on_link, room_on, waiting_of}
-use Rattle.network.proofs.Linked.{marked-set, parts-at, parts-set, parts-set_same, set-same}
-use Rattle.network.proofs.links.Links.mark.Goals.{in-Some, in_default}
+use Rattle.std.proofs.Common.{[], ◌≡◌, Some, ap, arith, get_or, map, not, set, sym, ◌∙◌}
+use Rattle.std.proofs.lemmas.List.{length-map}
+use Rattle.network.specs.inner.Links.{marks_in, on_link, remarked, room_on}
+use Rattle.network.specs.Marks.{is_stopped}
+use Rattle.network.proofs.Linked.{linked-marked, linked-same, nil-is, parts-at, parts-set, parts-set_same, set-same, used-below, waiting-at}
+use Rattle.rows.specs.Flags.{is_set}
 use Rattle.network.proofs.links.Links.mark.Goals as goal
 
 pub invariant_of-self : goal.invariant_of-self
-invariant_of-self c =
-    elim c.match-get_mut.branch [
-      | in-Some w ↦
-          rw w.self-inside-is
-          (record {
-            waiting =
-                c.self.invariant.waiting ∙ ap waiting_of (sym (parts-set_same on_link c.self.inside.links.items c.args.cache.0
-                (Some w.in-Some.link.now) w.mark.new.self w.in-Some.ensures.item
-                w.mark.ensures.messages));
-            marked = marked-set c.self.inside.links.items c.args.cache.0 w.mark.new.self c.self.invariant.marked w.mark.ensures.as_many;
-          })
-      | in_default w ↦ rw w.self-inside-is c.self.invariant
-    ]
+invariant_of-self g c =
+    let items = c.self.inside.links.items in
+    let i = c.args.cache.0 in
+    let ls = map on_link items in
+    let told = g.K.Marker.told c.args.marker.now in
+    let here : get_or ls i [] ≡ c.in-Some.link.now.sent = parts-at on_link items i ∙ ap on_link (sym c.in-Some.ensures.item) in
+    let made : c.mark.new.self.sent ≡ remarked told (get_or ls i []) = c.mark.ensures.sent ∙ ap (remarked told) (sym here) in
+    let within = used-below items i c.in-Some.link.now c.in-Some.ensures.item in
+    rw (c.set.ensures ∙ ap (set c.self.inside.free i) (c.has_free_head.ensures ∙ ap (λ xs. not (is_stopped (marks_in xs))) made))
+    (linked-same _ _ _ _ _
+    (parts-set on_link items i (Some c.in-Some.link.now) c.mark.new.self (remarked told) c.in-Some.ensures.item c.mark.ensures.sent)
+    (linked-marked ls i told c.self.inside.waiting c.self.inside.free c.self.inside.count (omega (arith, length-map items on_link)) c.self.invariant))
 
-pub returns-clause-messages : goal.returns-clause-messages
-returns-clause-messages c =
+pub returns-in-Some-clause-sent : goal.returns-in-Some-clause-sent
+returns-in-Some-clause-sent g c =
     rw (← c.self.view_is)
-    (elim c.match-get_mut.branch [
-      | in-Some w ↦
-          rw w.self-inside-is
-          (parts-set_same on_link c.self.inside.links.items c.args.cache.0 (Some w.in-Some.link.now) w.mark.new.self w.in-Some.ensures.item
-          w.mark.ensures.messages)
-      | in_default w ↦ ap (λ i. map on_link i.links.items) w.self-inside-is
-    ])
+    (parts-set on_link c.self.inside.links.items c.args.cache.0 (Some c.in-Some.link.now) c.mark.new.self (remarked (g.K.Marker.told c.args.marker.now))
+    c.in-Some.ensures.item c.mark.ensures.sent)
 
-pub returns-clause-room : goal.returns-clause-room
-returns-clause-room c =
+pub returns-in-Some-clause-room : goal.returns-in-Some-clause-room
+returns-in-Some-clause-room g c =
     rw (← c.self.view_is)
-    (elim c.match-get_mut.branch [
-      | in-Some w ↦
-          rw w.self-inside-is
-          (parts-set_same room_on c.self.inside.links.items c.args.cache.0 (Some w.in-Some.link.now) w.mark.new.self w.in-Some.ensures.item w.mark.ensures.room)
-      | in_default w ↦ ap (λ i. map room_on i.links.items) w.self-inside-is
-    ])
+    (parts-set_same room_on c.self.inside.links.items c.args.cache.0 (Some c.in-Some.link.now) c.mark.new.self c.in-Some.ensures.item c.mark.ensures.room)
 
-pub returns-clause-marks : goal.returns-clause-marks
-returns-clause-marks c =
+pub returns-then-not-contains-clause-sent : goal.returns-then-not-contains-clause-sent
+returns-then-not-contains-clause-sent g c =
+    let ls = map on_link c.self.inside.links.items in
+    let none = nil-is (get_or ls c.args.cache.0 []) (sym (ap (λ fs. is_set fs c.args.cache.0) c.self.invariant.waiting ∙ waiting-at ls c.args.cache.0)
+    ∙ sym c.contains.ensures ∙ c.if-not-contains.true) in
     rw (← c.self.view_is)
-    (elim c.match-get_mut.branch [
-      | in-Some w ↦
-          rw w.self-inside-is
-          (parts-set marks_on c.self.inside.links.items c.args.cache.0 (Some w.in-Some.link.now) w.mark.new.self
-          (λ xs. set xs c.args.index c.args.held) w.in-Some.ensures.item w.mark.ensures.marks)
-      | in_default w ↦
-          let none : get_or (map marks_on c.self.inside.links.items) c.args.cache.0 [] ≡ [] =
-          parts-at marks_on c.self.inside.links.items c.args.cache.0 ∙ ap marks_on (sym w.in_default.ensures.item) in
-          ap (λ i. map marks_on i.links.items) w.self-inside-is
-          ∙ sym (set-same (map marks_on c.self.inside.links.items) c.args.cache.0 _ [] (none ∙ sym (ap (λ xs. set xs c.args.index c.args.held) none)))
-    ])
+    (sym (set-same ls c.args.cache.0 (remarked (g.K.Marker.told c.args.marker.now) (get_or ls c.args.cache.0 [])) []
+    (none ∙ ap (remarked (g.K.Marker.told c.args.marker.now)) (sym none))))

@@ -1,0 +1,74 @@
+//! Room for messages that are still to be sent.
+
+ghost use Rattle.std.specs.Prelude.{◌≡◌, ◌<◌, ◌≤◌, [], IsOk, OnOk};
+ghost use Rattle.std.specs.Prelude.{length, slice_index};
+ghost use Rattle.network.specs.Room.{AllBelow, HasPlaces, UsesRoomFor, times};
+
+use crate::wires::Wires;
+use base::{CacheId, NoMemory};
+
+impl Wires {
+    /// Room for so many more requests and responses, and on each link for as many messages as it is listed.
+    ///
+    /// After it so many sends can't fail. Where it is refused no list has changed.
+    pub fn reserve(
+        &mut self,
+        requests: usize,
+        links: &[CacheId],
+        responses: usize,
+    ) -> Result<(), NoMemory>
+        requires { AllBelow (length self.old.traffic.links) links.now }
+        ensures traffic { self.new.traffic ≡ self.old.traffic }
+        ensures marks { self.new.marks ≡ self.old.marks }
+        ensures ok { OnOk result (HasPlaces requests links.now responses self.new.room) }
+        ensures succeeds { HasPlaces requests links.now responses self.old.room → IsOk result }
+        ensures room { UsesRoomFor [] self.old.room self.new.room }
+    {
+        self.reserve_ends(requests, responses)?;
+        for link in links {
+            self.reserve_link(*link, times_listed(links, *link))?;
+        }
+        Ok(())
+    }
+
+    /// Room for so many more requests and responses. Where it is refused no list has changed.
+    #[inline(always)]
+    pub fn reserve_ends(&mut self, requests: usize, responses: usize) -> Result<(), NoMemory>
+        ensures traffic { self.new.traffic ≡ self.old.traffic }
+        ensures marks { self.new.marks ≡ self.old.marks }
+        ensures ok { OnOk result ((requests ≤ self.new.room.requests) × (responses ≤ self.new.room.responses)) }
+        ensures succeeds { requests ≤ self.old.room.requests → responses ≤ self.old.room.responses → IsOk result }
+        ensures room { UsesRoomFor [] self.old.room self.new.room }
+    {
+        self.requests.reserve(requests)?;
+        self.responses.reserve(responses)?;
+        Ok(())
+    }
+
+    /// Room for so many more messages on the link to a cache. Where it is refused no list has changed.
+    #[inline(always)]
+    pub fn reserve_link(&mut self, cache: CacheId, count: usize) -> Result<(), NoMemory>
+        requires { cache.0 < length self.old.traffic.links }
+        ensures traffic { self.new.traffic ≡ self.old.traffic }
+        ensures marks { self.new.marks ≡ self.old.marks }
+        ensures ok { OnOk result (count ≤ slice_index self.new.room.links cache.0) }
+        ensures succeeds { count ≤ slice_index self.old.room.links cache.0 → IsOk result }
+        ensures room { UsesRoomFor [] self.old.room self.new.room }
+    {
+        self.links.reserve(cache, count)
+    }
+}
+
+/// How often a cache is listed.
+fn times_listed(links: &[CacheId], cache: CacheId) -> usize
+    ensures count { result ≡ times cache.0 links.now }
+    ensures few { result ≤ length links.now }
+{
+    let mut count: usize = 0;
+    for link in links {
+        if *link == cache {
+            count += 1;
+        }
+    }
+    count
+}
