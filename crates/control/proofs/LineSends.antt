@@ -1,6 +1,6 @@
-use Rattle.std.proofs.Common.{◌≡◌, ◌≤◌, ℕ, ◌+◌, ◌<◌, List, [], ◌∷◌, ◌++◌, length, get_or, drop, refl, zero, suc, arith, Option, Some, None}
+use Rattle.std.proofs.Common.{◌≡◌, ℕ, ◌+◌, ◌<◌, List, [], ◌∷◌, ◌++◌, length, get_or, drop, refl, zero, suc, arith, Option, Some, None}
 use Rattle.base.specs.declared.ids.CacheId.{CacheId}
-use Rattle.network.specs.Room.{Room, HasRoomFor, requests_in, responses_in, forwards_in}
+use Rattle.network.specs.Room.{requests_in, responses_in, forwards_in}
 use Rattle.network.proofs.Sending.{requests_in-append, responses_in-append, forwards_in-append}
 use Rattle.cache_table.specs.declared.actions.CacheAction.{CacheAction}
 use Rattle.cache_table.specs.declared.actions.CacheAction.TheVariants as action
@@ -87,12 +87,3 @@ forwards-by k cache value to (a ∷ actions) =
       forwards-of k cache value to a,
       forwards-by k cache value to actions,
     )
-
--- room for as many requests and responses is room for what the actions of a line send
-pub room-by : (cache : CacheId) (value : ℕ) (to : Option CacheId) (actions : List CacheAction) (room : Room) → requests_by actions ≤ room.requests
-    → responses_by to actions ≤ room.responses → HasRoomFor (line_messages cache value to actions) room
-room-by cache value to actions room requests responses = record {
-  requests = omega (arith, requests-by cache value to actions, requests);
-  links = λ k. omega (arith, forwards-by k cache value to actions);
-  responses = omega (arith, responses-by cache value to actions, responses);
-}

@@ -34,32 +34,6 @@ idle-opened n = record {
   rest = λ number e. idle-at n number;
 }
 
--- a core becomes another, and its flag is set
-pub idle-touched : (flags : List Bool) (cores : List Core) (at : ℕ) (core : Core) → AreIdleBut flags cores → at < length cores →
-    AreIdleBut (set flags at true) (set cores at core)
-idle-touched flags cores at core h low = record {
-  many = length-set flags at true ∙ h.many ∙ sym (length-set cores at core);
-  rest = λ number e. elim (cases_eq number at) [
-    | inl same ↦
-        let unset = subst (λ i. is_set (set flags at true) i ≡ false) same e in
-        absurd (true≢false (sym (get_or-set_same flags at true false (omega (arith, low, h.many))) ∙ unset))
-    | inr other ↦ get_or-set_other cores at number core idle other ∙ h.rest number (sym (get_or-set_other flags at number true false other) ∙ e)
-  ];
-}
-
--- the flag of a core that isn't free is set, so it may become another
-pub idle-busy : (flags : List Bool) (cores : List Core) (at : ℕ) (core : Core) → AreIdleBut flags cores → is_free cores at ≡ false →
-    AreIdleBut flags (set cores at core)
-idle-busy flags cores at core h busy = record {
-  many = h.many ∙ sym (length-set cores at core);
-  rest = λ number e. elim (cases_eq number at) [
-    | inl same ↦
-        let unset = subst (λ i. is_set flags i ≡ false) same e in
-        absurd (true≢false (sym (ap (λ (c : Core). is_none c.outstanding) (h.rest at unset)) ∙ busy))
-    | inr other ↦ get_or-set_other cores at number core idle other ∙ h.rest number e
-  ];
-}
-
 -- all cores below a number are idle, and above it those without a flag
 pub record AreIdleBelow (touched : List Bool) (from : ℕ) (cores : List Core) : Type 0 where
   pub many : length touched ≡ length cores
@@ -122,17 +96,6 @@ free-idle cores number e = ap (λ (c : Core). is_none c.outstanding) e
 -- all cores below a number are free
 abbrev pub AreFreeBelow : ℕ → List Core → Type 0
 AreFreeBelow from cores = (number : ℕ) → number < from → is_free cores number ≡ true
-
-pub free-more : (touched : List Bool) (from at : ℕ) (cores : List Core) → AreIdleBut touched cores → AreFreeBelow from cores → IsFirstFrom touched from at →
-    is_free cores at ≡ true → AreFreeBelow (at + 1) cores
-free-more touched from at cores h below found free number low =
-    elim (cases_eq number at) [
-      | inl same ↦ subst (λ i. is_free cores i ≡ true) (sym same) free
-      | inr other ↦ elim (cases_lt number from) [
-        | inl done ↦ below number done
-        | inr left ↦ free-idle cores number (h.rest number (found.first number left (omega (arith, low, other))))
-      ]
-    ]
 
 pub free-all : (touched : List Bool) (from : ℕ) (cores : List Core) → AreIdleBut touched cores → AreFreeBelow from cores → NoneFrom touched from →
     (number : ℕ) → is_free cores number ≡ true

@@ -1,17 +1,13 @@
 -- What the close puts together.
-use Rattle.std.proofs.Common.{◌≡◌, ◌≢◌, inl, inr, ℕ, ◌+◌, ◌<◌, ◌≤◌, List, [], ◌∷◌, ◌++◌, length, get_or, slice_get, Bool, true, false, ◌||◌, Option, Some, None, refl, sym, ap, ◌∙◌, subst, arith}
+use Rattle.std.proofs.Common.{◌≡◌, inl, inr, ℕ, ◌+◌, ◌≤◌, List, [], ◌∷◌, ◌++◌, length, get_or, slice_get, Bool, true, false, ◌||◌, Option, Some, None, refl, sym, ap, ◌∙◌, subst, arith}
 use Rattle.std.proofs.lemmas.Option.{slice_get_within}
 use Rattle.trials.specs.Terms.{Plan}
-use Rattle.desk.specs.Plans.{IsResultOf}
 use Rattle.trials.specs.declared.verdict.TrialResult.{TrialResult}
 use Rattle.desk.specs.Counting.{times}
-use Rattle.desk.specs.Seats.{SeatView, HasPosted, Knows}
+use Rattle.desk.specs.Seats.{SeatView}
 use Rattle.desk.specs.Closing.{IsPlace, claims_of, any_told}
 use Rattle.desk.specs.inner.Keeping.{IsPlaceUpTo, Collects}
 use Rattle.desk.proofs.Seating.{at_cases}
-
-pub place_none : (plan : Plan) (ss : List SeatView) (k : ℕ) → IsPlaceUpTo plan ss 0 k None
-place_none plan ss k i s lt at posted = absurd (omega (arith, lt))
 
 -- one seat more
 pub place_more : (plan : Plan) (ss : List SeatView) (m k : ℕ) (s : SeatView) (o new : Option TrialResult) → slice_get ss m ≡ Some s
@@ -34,25 +30,6 @@ place_more plan ss m k s o new at h c = by_case (get_or s.posted k false) refl
 pub place_all : (plan : Plan) (ss : List SeatView) (m k : ℕ) (o : Option TrialResult) → length ss ≤ m → IsPlaceUpTo plan ss m k o → IsPlace plan ss k o
 place_all plan ss m k None long h = λ q. let lt = slice_get_within ss q.0 q.1 q.2 in h q.0 q.1 (omega (arith, lt, long)) q.2 q.3
 place_all plan ss m k (Some r) long h = h
-
--- the places below the next one, once it was written or not
-pub collects_more : (plan : Plan) (s : SeatView) (n place : ℕ) (olds news after : List (Option TrialResult)) → length news ≡ n → place < n
-    → ((k : ℕ) → k < place → Collects plan s k (get_or olds k None) (get_or news k None))
-    → ((k : ℕ) → k ≢ place → get_or after k None ≡ get_or news k None)
-    → Collects plan s place (get_or olds place None) (get_or after place None)
-    → (k : ℕ) → k < place + 1 → Collects plan s k (get_or olds k None) (get_or after k None)
-collects_more plan s n place olds news after long lt below others here k lt_k = elim (at_cases k place) [
-  | inl e ↦ subst (λ j. Collects plan s j (get_or olds j None) (get_or after j None)) (sym e) here
-  | inr ne ↦ subst (λ o. Collects plan s k (get_or olds k None) o) (sym (others k ne)) (below k (omega (arith, lt_k, ne)))
-]
-
--- of a seat that posted, and of one that didn't
-pub collects_yes : (plan : Plan) (s : SeatView) (k : ℕ) (o new : Option TrialResult) → HasPosted s k
-    → ((r : TrialResult) × (new ≡ Some r) × Knows s k r × IsResultOf plan k r) → Collects plan s k o new
-collects_yes plan s k o new did q = ((λ isnt. absurd (isnt did)), (λ _. q))
-
-pub collects_no : (plan : Plan) (s : SeatView) (k : ℕ) (o new : Option TrialResult) → get_or s.posted k false ≡ false → new ≡ o → Collects plan s k o new
-collects_no plan s k o new isnt e = ((λ _. e), (λ did. absurd (cc (sym isnt ∙ did))))
 
 pub claims_of-push : (x : ℕ) (ss : List SeatView) (s : SeatView) → claims_of x (ss ++ s ∷ []) ≡ claims_of x ss + times x s.claimed
 claims_of-push x [] s = omega arith

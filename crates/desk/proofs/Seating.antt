@@ -189,23 +189,6 @@ pub new_seen : (table : TableId) (cells mine : List ℕ) (drawn : List ℕ) (sta
     (record { table = table; cells = cells })
 new_seen table cells mine drawn stages known d c s n = rw (d, c, n, ap (λ l. map is_posted l) s ∙ free_posts (length cells)) refl
 
-pub told_kept : (me me' : Me (Unit {0}) TokenView) (count : ℕ) (told : Bool) (claims posts : List Bool) (known : List (Option TrialResult))
-    → IsSeat me count told claims posts known → me' ≡ (record { parts = me.0.parts; count = me.0.count; drawn = me.0.drawn; over = true }, [])
-    → IsSeat me' count true claims posts known
-told_kept me me' count told claims posts known h e' =
-    let e : me' ≡ (record { parts = 1; count = count; drawn = me.0.drawn; over = true }, []) =
-    e' ∙ same_view me.0.parts 1 me.0.count count me.0.drawn true true (ap (λ m. m.0.parts) h.me_is) (ap (λ m. m.0.count) h.me_is) refl in
-    let d : me'.0.drawn ≡ me.0.drawn = ap (λ m. m.0.drawn) e in record {
-      me_is = e ∙ ap (λ l. (record { parts = 1; count = count; drawn = l; over = true }, [])) (sym d);
-      rises = subst IsStrictlyIncreasing (sym d) h.rises;
-      below = rw d h.below;
-      claims_length = h.claims_length;
-      posts_length = h.posts_length;
-      known_length = h.known_length;
-      claims_are = rw d h.claims_are;
-      posts_are = rw d h.posts_are;
-    }
-
 pub post_kept : (me : Me (Unit {0}) TokenView) (count : ℕ) (told : Bool) (claims posts : List Bool) (known known' : List (Option TrialResult)) (k : ℕ)
     (r : TrialResult)
     → IsSeat me count told claims posts known → k < count → get_or claims k false ≡ true → r.number ≡ k → known' ≡ slice_set known k (Some r)

@@ -1,6 +1,6 @@
 -- What `work` has done so far.
 use Rattle.std.proofs.Common.{◌≡◌, ◌≢◌, inl, inr, ℕ, zero, suc, ◌+◌, ◌<◌, ◌≤◌, List, [], ◌∷◌, ◌++◌, length, get_or, set, true, false, Some, None, refl, sym, ap, ◌∙◌, subst, arith, append_assoc}
-use Rattle.std.proofs.lemmas.List.{get_or-set_other, append-nil}
+use Rattle.std.proofs.lemmas.List.{get_or-set_other}
 use Rattle.std.specs.List.Sorted.{IsStrictlyIncreasing}
 use Rattle.trials.specs.declared.verdict.TrialResult.{TrialResult}
 use Rattle.desk.specs.Counting.{times}
@@ -8,16 +8,6 @@ use Rattle.desk.specs.Seats.{SeatView, HasPosted, Knows, with_claim, with_post, 
 use Rattle.desk.specs.Working.{Works}
 use Rattle.desk.proofs.Drawing.{times-append}
 use Rattle.desk.proofs.Seating.{at_cases, times_here, times_one, times_other}
-
-pub works_none : (s : SeatView) → Works s s []
-works_none s = record {
-  desk = refl;
-  claimed = sym (append-nil s.claimed);
-  posted = λ x p. absurd (omega (arith, p));
-  stands = λ x p. p;
-  others = λ x p. inl p;
-  known = λ x r p. p;
-}
 
 -- one number more was claimed and posted
 pub works_more : (old s new : SeatView) (mine : List ℕ) (k : ℕ) (r : TrialResult) → Works old s mine → new ≡ with_post (with_claim s k) k r → HasPosted new k

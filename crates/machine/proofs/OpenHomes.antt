@@ -1,9 +1,9 @@
 -- What a request on its way to a home says of its cache, by state.
-use Rattle.std.proofs.Common.{◌≡◌, ◌<◌, false, [], ◌⊎◌, arith}
+use Rattle.std.proofs.Common.{◌≡◌, ◌<◌, false, arith}
 use Rattle.cache_table.specs.declared.state.CacheState.{CacheState}
 use Rattle.cache_table.specs.declared.state.CacheState.TheVariants.{I, IsD, ImAd, ImA, S, SmAd, SmA, M, MiA, SiA, IiA, E}
 use Rattle.machine.proofs.Truths.{Never}
-use Rattle.machine.proofs.Views.{View, Local, HasFwdGetS, HasInv}
+use Rattle.machine.proofs.Views.{View, Local, HasFwdGetS}
 
 pub open_shares : (s : CacheState) (v : View) → 0 < v.getm → Local s v → (v.owns ≡ false) × (v.fwd_gets ≡ 0) × (HasFwdGetS v.link → Never)
 open_shares I v p h = grind (arith)
@@ -32,17 +32,3 @@ open_gets MiA v p h = grind (arith)
 open_gets SiA v p h = grind (arith)
 open_gets IiA v p h = grind (arith)
 open_gets E v p h = grind (arith)
-
-pub with_inv : (s : CacheState) (v : View) → v.shares ≡ false → 0 < v.getm → Local s v → (v.link ≡ []) ⊎ HasInv v.link
-with_inv I v p q h = grind (arith)
-with_inv IsD v p q h = grind (arith)
-with_inv ImAd v p q h = grind (arith)
-with_inv ImA v p q h = grind (arith)
-with_inv S v p q h = grind (arith)
-with_inv SmAd v p q h = grind (arith)
-with_inv SmA v p q h = grind (arith)
-with_inv M v p q h = grind (arith)
-with_inv MiA v p q h = grind (arith)
-with_inv SiA v p q h = grind (arith)
-with_inv IiA v p q h = grind (arith)
-with_inv E v p q h = grind (arith)

@@ -42,7 +42,7 @@ use Rattle.control.specs.Events.{event_at_line, event_at_home, owns}
 use Rattle.machine.proofs.Truths.{Never}
 use Rattle.machine.proofs.Invitations.{invs_from, invs-link, invited}
 use Rattle.machine.specs.Block.{BlockState}
-use Rattle.machine.specs.Transition.{Transition, carried_out, by_line_entry, by_home_entry, at_line, at_ask, at_request, at_forward, at_response}
+use Rattle.machine.specs.Transition.{carried_out, by_line_entry, by_home_entry, at_line, at_ask, at_request, at_forward, at_response}
 use Rattle.machine.specs.Transition.{is_idle, transition, without}
 use Rattle.machine.specs.declared.decision.Origin.{Origin}
 use Rattle.machine.specs.declared.decision.Origin.TheVariants as origin
@@ -145,10 +145,6 @@ at-line-ranked : (b : BlockState) (cache : CacheId) (input : LineInput) (from : 
 at-line-ranked b cache input from None h f = h
 at-line-ranked b cache input from (Some line) h f =
     line-ranked b cache line input from (cache_table_cells.cell exclusive.cache line.state (event_at_line line.acks input)) h f
-
-if-ranked : (t : Bool) (x y : Transition) → Ranked x.block → Ranked y.block → Ranked (if t then x else y).block
-if-ranked true x y p q = p
-if-ranked false x y p q = q
 
 not-fwd_getm : (k : ForwardKind) (t : Bool) → (k ≡ FwdGetM → Never) → only t (is_fwd_getm k) ≡ 0
 not-fwd_getm FwdGetS t h = only-nothing t

@@ -124,11 +124,6 @@ get-set-other (y ∷ ys) zero (suc j) x ne = refl
 get-set-other (y ∷ ys) (suc i) zero x ne = refl
 get-set-other (y ∷ ys) (suc i) (suc j) x ne = get-set-other ys i j x (λ e. ne (ap suc e))
 
-get-set-here : {X : Type 0} (xs : List X) (i : ℕ) (x y : X) → slice_get xs i ≡ Some y → slice_get (slice_set xs i x) i ≡ Some x
-get-set-here [] i x y e = absurd (cc e)
-get-set-here (z ∷ zs) zero x y e = refl
-get-set-here (z ∷ zs) (suc i) x y e = get-set-here zs i x y e
-
 pub length-set : {X : Type 0} (xs : List X) (i : ℕ) (x : X) → length (slice_set xs i x) ≡ length xs
 length-set [] i x = refl
 length-set (y ∷ ys) zero x = refl

@@ -1,9 +1,9 @@
 -- A recording that is read grows line by line.
-use Rattle.std.proofs.Common.{◌≡◌, ◌≢◌, ◌≤◌, ◌<◌, ◌+◌, ◌-◌, ℕ, zero, suc, List, [], ◌∷◌, ◌++◌, length, map, refl, ap, sym, subst, ◌∙◌, arith}
+use Rattle.std.proofs.Common.{◌≡◌, ◌≢◌, ◌≤◌, ◌+◌, ◌-◌, ℕ, zero, suc, List, [], ◌∷◌, ◌++◌, length, map, refl, ap, sym, subst, ◌∙◌, arith}
 use Rattle.std.proofs.Common.{append_assoc}
 use Rattle.std.specs.List.{All}
 use Rattle.std.proofs.lemmas.List.{length_push, map-append}
-use Rattle.std.proofs.lemmas.List.Elements.{All-from_recursion, All-push}
+use Rattle.std.proofs.lemmas.List.Elements.{All-push}
 use Rattle.base.specs.Extent.{Extent, IsWithinLimits}
 use Rattle.base.specs.declared.controller.protocol.Protocol.{Protocol}
 use Rattle.record.specs.declared.due.Form.{Form}
@@ -11,21 +11,21 @@ use Rattle.record.specs.declared.told.Told.{Told}
 use Rattle.record.specs.declared.version.Version.{Version}
 use Rattle.record.specs.declared.version.Version.TheVariants.{One, Two}
 use Rattle.record.specs.Refused.{limit}
-use Rattle.record.specs.Versions.{form, header_leads, shape_leads_in, protocol_lines, protocol_words, seats_lines, seats_words, CanTell, IsShapeIn}
+use Rattle.record.specs.Versions.{form, shape_leads_in, protocol_lines, protocol_words, seats_lines, CanTell, IsShapeIn}
 use Rattle.record.proofs.Owners.{more-owners, told-more}
 use Rattle.both_tables.specs.Tables.{Tables, baseline_of}
 use Rattle.record.specs.declared.cells.Spot.{Spot}
 use Rattle.record.specs.declared.cells.Cell.{Cell}
 use Rattle.record.specs.declared.draft.Draft.{Draft}
 use Rattle.record.specs.declared.due.Due.{Due}
-use Rattle.record.specs.declared.due.Due.TheVariants.{Header, ProtocolLine, ShapeLine, SeatsLine, OpeningLine, CellCount, CellLine, EntryCount, EntryLine, Nothing}
+use Rattle.record.specs.declared.due.Due.TheVariants.{ProtocolLine, ShapeLine, SeatsLine, OpeningLine, CellCount, CellLine, EntryCount, EntryLine, Nothing}
 use Rattle.record.specs.declared.reader.Reader.{Reader}
 use Rattle.record.specs.declared.recording.Entry.{Entry}
 use Rattle.record.specs.Cells.{cell_at, cell_words, spot_of, spot_number}
 use Rattle.record.specs.Grammar.{cells_due, entries_due, AreValues, FitsEntry, FitsTold, IsListed, IsOwner, Leads}
 use Rattle.record.specs.View.{owner_list, AreOwners}
 use Rattle.record.specs.Recordable.{AreWhole}
-use Rattle.record.specs.Text.{head_lines, header_words, shape_words, opening_words, changed_cells, cells_words, entries_words, told, told_words}
+use Rattle.record.specs.Text.{head_lines, header_words, shape_words, changed_cells, cells_words, entries_words, told, told_words}
 use Rattle.record.specs.inner.Drafts.{kept, recorded, Kept, lines_to_cells, lines_to_entries, lines_before, lines_left, IsBaselineFrom, IsHeadedAs, IsReadTo, IsTaken}
 use Rattle.record.specs.inner.Drafts.{HasRoom}
 use Rattle.record.specs.inner.Readers.{IsReady}
@@ -80,15 +80,6 @@ entries-read f (suc n) r shape tables opening few fits owners head = record {
 
 baseline-changed : (p : Protocol) → changed_cells (baseline_of p) ≡ []
 baseline-changed p = sym (listed-all (baseline_of p) 0 (omega arith) (λ s high. refl))
-
--- nobody owns an entry where there is none
-pub no-owners : (seats : ℕ) (owners : List ℕ) (entries : List Entry) → AreOwners seats owners entries → entries ≡ [] → owners ≡ []
-no-owners zero owners entries h none = h.none refl
-no-owners (suc n) owners entries h none = by-length owners (h.each (λ e. absurd (omega (arith, e))) ∙ ap length none)
-  where
-    by-length : (owners : List ℕ) → length owners ≡ 0 → owners ≡ []
-    by-length [] e = refl
-    by-length (k ∷ ks) e = absurd (omega (arith, e))
 
 -- ---- lines that leave the recording as it is
 
@@ -232,17 +223,6 @@ entry-taken f r entries owners left t line next h fits spelled is same due =
 
 -- ---- the lines of the head
 
-abbrev pub with_version : Kept → Version → Kept
-with_version r version = record {
-  version = version;
-  seats = r.seats;
-  shape = r.shape;
-  tables = r.tables;
-  opening = r.opening;
-  entries = r.entries;
-  owners = r.owners;
-}
-
 abbrev pub with_shape : Kept → Extent → Kept
 with_shape r shape = record {
   version = r.version;
@@ -250,28 +230,6 @@ with_shape r shape = record {
   shape = shape;
   tables = r.tables;
   opening = r.opening;
-  entries = r.entries;
-  owners = r.owners;
-}
-
-abbrev pub with_seats : Kept → ℕ → Kept
-with_seats r seats = record {
-  version = r.version;
-  seats = seats;
-  shape = r.shape;
-  tables = r.tables;
-  opening = r.opening;
-  entries = r.entries;
-  owners = r.owners;
-}
-
-abbrev pub with_opening : Kept → List ℕ → Kept
-with_opening r opening = record {
-  version = r.version;
-  seats = r.seats;
-  shape = r.shape;
-  tables = r.tables;
-  opening = opening;
   entries = r.entries;
   owners = r.owners;
 }
@@ -344,91 +302,6 @@ shape-taken f r line shape next h within spelled due =
             head = (h.head, second, here);
           };
         })
-
-pub seats-taken : (f : Form) (shape : Extent) (r : Kept) (line : List (List ℕ)) (n : ℕ) (next : Due) → IsReadTo (SeatsLine f shape) r → n ≤ 64 →
-    line ≡ seats_words n → next ≡ OpeningLine (form f.version f.protocol n) shape → IsTaken (SeatsLine f shape) r line next (with_seats r n)
-seats-taken f shape r line n next h few spelled due =
-    subst (λ d. IsTaken (SeatsLine f shape) r line d (with_seats r n)) (sym due) (record {
-      leads = (n, few, spelled, refl);
-      before =
-          ap (λ ls. header_words r.version ∷ protocol_lines r.version r.tables.protocol ++ (shape_words shape ∷ ls))
-          (ap (λ v. seats_lines v n) h.head.1 ∙ ap (λ l. l ∷ []) (sym spelled))
-          ∙ ap (λ l. header_words r.version ∷ l) (sym (append_assoc (protocol_lines r.version r.tables.protocol) (shape_words shape ∷ []) (line ∷ [])));
-      read = record {
-        shape = h.shape;
-        tables = h.tables;
-        fits = h.fits;
-        opening = h.opening;
-        cells = h.cells;
-        entries = h.entries;
-        owners = record {
-          few = few;
-          none = λ z. no-owners r.seats r.owners r.entries h.owners h.entries;
-          each = λ some. ap length (no-owners r.seats r.owners r.entries h.owners h.entries) ∙ sym (ap length h.entries);
-          within = subst (All (λ k. k < n)) (sym (no-owners r.seats r.owners r.entries h.owners h.entries)) (All-from_recursion (λ k. k < n) [] tt);
-        };
-        head = ((h.head.0.0, h.head.0.1, refl, can-second r.version r.tables.protocol n h.head.1), h.head.2);
-      };
-    })
-
-pub opening-taken : (f : Form) (shape : Extent) (r : Kept) (line : List (List ℕ)) (values : List ℕ) (next : Due) → IsReadTo (OpeningLine f shape) r →
-    AreValues shape values → line ≡ opening_words values → next ≡ CellCount f → IsTaken (OpeningLine f shape) r line next (with_opening r values)
-opening-taken f shape r line values next h are spelled due =
-    subst (λ d. IsTaken (OpeningLine f shape) r line d (with_opening r values)) (sym due) (record {
-      leads = (values, are, spelled, refl);
-      before =
-          ap (λ x. header_words r.version ∷ protocol_lines r.version r.tables.protocol ++
-          (shape_words x ∷ seats_lines r.version r.seats ++ opening_words values ∷ []))
-          h.opening
-          ∙ ap (λ l. header_words r.version ∷ protocol_lines r.version r.tables.protocol ++ (shape_words shape ∷ seats_lines r.version r.seats ++ l ∷ []))
-          (sym spelled)
-          ∙ ap (λ l. header_words r.version ∷ l)
-          (sym (append_assoc (protocol_lines r.version r.tables.protocol) (shape_words shape ∷ seats_lines r.version r.seats) (line ∷ [])));
-      read = record {
-        shape = h.shape;
-        tables = h.tables;
-        fits = h.fits;
-        opening = subst (λ x. AreValues x values) (sym h.opening) are;
-        cells = h.cells;
-        entries = h.entries;
-        owners = h.owners;
-        head = (h.head.0, subst (IsShapeIn r.version) (sym h.opening) h.head.1);
-      };
-    })
-
-pub header-taken : (r : Kept) (line : List (List ℕ)) (v : Version) (next : Due) → IsReadTo Header r → line ≡ header_words v → next ≡ header_leads v →
-    IsTaken Header r line next (with_version r v)
-header-taken r line v next h spelled due = subst (λ d. IsTaken Header r line d (with_version r v)) (sym due) (by-version v spelled)
-  where
-    by-version : (v : Version) → line ≡ header_words v → IsTaken Header r line (header_leads v) (with_version r v)
-    by-version One spelled = record {
-      leads = (One, spelled, refl);
-      before = ap (λ l. l ∷ []) (sym spelled);
-      read = record {
-        shape = h.shape;
-        tables = h.tables;
-        fits = h.fits;
-        opening = tt;
-        cells = h.cells;
-        entries = h.entries;
-        owners = h.owners;
-        head = (refl, sym h.head.0, sym h.head.1, h.head);
-      };
-    }
-    by-version Two spelled = record {
-      leads = (Two, spelled, refl);
-      before = ap (λ l. l ∷ []) (sym spelled);
-      read = record {
-        shape = h.shape;
-        tables = h.tables;
-        fits = h.fits;
-        opening = tt;
-        cells = h.cells;
-        entries = h.entries;
-        owners = h.owners;
-        head = (refl, h.head.1);
-      };
-    }
 
 -- ---- what a reader keeps
 

@@ -66,10 +66,6 @@ pub same-halves : (s t : Step) (us vs : List (List ℕ)) → FitsStep s → Fits
     (step_words s ≡ step_words t) × (us ≡ vs)
 same-halves s t us vs f g e = behind-sign (step_words s) (step_words t) us vs (step-no_sign s f) (step-no_sign t g) e
 
--- an entry has more than one word
-pub two-words : (s : Step) (us : List (List ℕ)) → FitsStep s → step_words s ++ codes "=" ∷ us ≢ end_words
-two-words s us f e = let some = step-line s f in absurd (omega (arith, ap length e, length-append (step_words s) (codes "=" ∷ us), some.1))
-
 -- with or without an owner
 pub owned-two : (o : Option ℕ) (s : Step) (us : List (List ℕ)) → FitsStep s → by_words o ++ (step_words s ++ codes "=" ∷ us) ≢ end_words
 owned-two o s us f e =

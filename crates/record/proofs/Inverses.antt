@@ -290,7 +290,3 @@ pub refused-outside : (before end : Option (List ℕ)) (line : ℕ) (kind : Read
     before ≡ Some (text v r) → IsRefused before end 0 Header line kind → IsOutside kind
 refused-outside before end line kind v r h t is refused =
     whole-refused (text v r) (Some []) end line kind (text-whole v r h t) (subst (λ b. IsRefused b end 0 Header line kind) is refused)
-
--- version 2 tells each recording
-pub second-tells : (r : RecordingView) → IsRecordable r → HasTextIn Two r
-second-tells r h = record { shape = record { within = h.shape; few_caches = h.shape.few_caches; few_blocks = h.shape.few_blocks }; told = tt }

@@ -1,19 +1,14 @@
 -- Lines of opening values.
 use Rattle.std.proofs.Common.{◌≡◌, ◌≢◌, ◌<◌, ◌^◌, ◌+◌, suc, ℕ, List, [], ◌∷◌, ◌++◌, length, map, get_or, ap, sym, ◌∙◌, arith, eqb}
-use Rattle.std.proofs.Common.{length-append, append_assoc, codes}
+use Rattle.std.proofs.Common.{length-append}
 use Rattle.std.specs.Fmt.{decimal}
-use Rattle.std.proofs.lemmas.List.{length-map, get_or-map, get_or_at, map_push}
+use Rattle.std.proofs.lemmas.List.{length-map, get_or-map, get_or_at}
 use Rattle.std.proofs.lemmas.List.Elements.{All-get_or}
 use Rattle.std.proofs.lemmas.List.Splits.{length-slice_split}
 use Rattle.base.specs.Spelling.{words}
 use Rattle.record.specs.Text.{opening_words}
 use Rattle.record.specs.declared.fault.ReadKind.TheVariants.{BadLine}
 use Rattle.record.specs.inner.Reading.{IsBadOpening}
-
--- too few values
-pub few-values : (blocks : ℕ) (line : List (List ℕ)) (values : List ℕ) → line ≡ opening_words values → length values < blocks → IsBadOpening blocks line BadLine
-few-values blocks line values is low others count small spelled =
-    omega (arith, ap length (sym is ∙ spelled), length-map values decimal, length-map others decimal, count, low)
 
 -- too many values
 pub many-values : (blocks : ℕ) (line : List (List ℕ)) (values rest : List ℕ) → line ≡ opening_words values ++ words rest → length values ≡ blocks →
@@ -44,11 +39,3 @@ no-value blocks line values word behind is low none others count small spelled =
     ∙ get_or-map decimal others k 0 [] (omega (arith, count, low)) in
     none (get_or others k 0) (All-get_or (λ value. value < 2 ^ 64) others k 0 (omega (arith, count, low)) small)
     (here ∙ ap (λ l. get_or l (k + 1) []) (sym is ∙ spelled) ∙ there)
-
--- one value more
-pub value-more : (line : List (List ℕ)) (values : List ℕ) (value : ℕ) (word : List ℕ) (rest : List (List ℕ)) →
-    line ≡ opening_words values ++ word ∷ rest → word ≡ decimal value → line ≡ opening_words (values ++ value ∷ []) ++ rest
-value-more line values value word rest is spelled =
-    is ∙ ap (λ w. opening_words values ++ w ∷ rest) spelled
-    ∙ ap (λ l. (codes "opening" ∷ []) ++ l)
-    (sym (append_assoc (map decimal values) (decimal value ∷ []) rest) ∙ ap (λ l. l ++ rest) (sym (map_push decimal values value)))

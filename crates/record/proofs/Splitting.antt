@@ -1,10 +1,8 @@
 -- Lines of a step, an equals sign and what follows.
-use Rattle.std.proofs.Common.{◌≡◌, ◌≢◌, ◌<◌, ◌≤◌, ◌-◌, get_or, ℕ, List, [], ◌∷◌, ◌++◌, eqb, Option, Some, None, length, take, drop, refl, ap, sym, ◌∙◌, arith, codes}
-use Rattle.std.proofs.lemmas.List.{take_rest}
+use Rattle.std.proofs.Common.{◌≡◌, ◌≢◌, ◌<◌, ◌-◌, ℕ, List, [], ◌∷◌, ◌++◌, eqb, None, length, refl, ap, sym, ◌∙◌, arith, codes}
 use Rattle.std.proofs.lemmas.List.Splits.{length-slice_split}
 use Rattle.base.specs.Spelling.{words, spaced, step_words, outcome_words, FitsStep, IsNoOutcome}
 use Rattle.base.specs.declared.step.Step.{Step}
-use Rattle.base.specs.declared.step.Step.TheVariants as step
 use Rattle.base.specs.declared.step.Outcome.{Outcome}
 use Rattle.base.specs.declared.step.Outcome.TheVariants as outcome
 use Rattle.record.specs.declared.due.Due.TheVariants.{EntryLine}
@@ -12,21 +10,12 @@ use Rattle.record.specs.declared.due.Form.{Form}
 use Rattle.record.specs.declared.told.Told.{Told}
 use Rattle.base.proofs.Spellings.{behind_step}
 use Rattle.record.specs.Refused.{HasNoOutcome, IsFaultOfLine}
-use Rattle.record.specs.inner.Reading.{IsBadEntry, IsBadTold, IsFaultOfTold, HasNoBy, HasNoOwned, HasNoSeat, HasNoStep}
+use Rattle.record.specs.inner.Reading.{IsFaultOfTold, HasNoOwned, HasNoStep}
 use Rattle.record.specs.declared.fault.ReadKind.{ReadKind}
 use Rattle.record.specs.declared.fault.ReadKind.TheVariants.{BadHeader, BadLine, Truncated, CountDiffers, BadOutcome, OverLimit, NoMemory, Device, UnknownProtocol}
-use Rattle.record.specs.Grammar.{IsOwner, FitsTold}
+use Rattle.record.specs.Grammar.{FitsTold}
 use Rattle.record.specs.Text.{by_words, told_words}
-use Rattle.record.proofs.Faulting.{by-same}
 use Rattle.record.proofs.Words.{spelled-text}
-
--- an equals sign and a blank in front
-pub equals-first : (rest : List ℕ) → 2 ≤ length rest → get_or rest 0 0 ≡ 61 → get_or rest 1 0 ≡ 32 →
-    words rest ≡ codes "=" ∷ words (take (length rest - 2) (drop 2 rest))
-equals-first [] some first second = absurd (omega (arith, some))
-equals-first (x ∷ []) some first second = absurd (omega (arith, some))
-equals-first (x ∷ y ∷ rest) some first second =
-    ap (λ z. words (z ∷ y ∷ rest)) first ∙ ap (λ z. words (61 ∷ z ∷ rest)) second ∙ ap (λ l. codes "=" ∷ words l) (sym (take_rest (x ∷ y ∷ rest) 2))
 
 -- behind a step no equals sign stands in front
 pub no-sign : (line : List (List ℕ)) (s : Step) (rest : List ℕ) → line ≡ step_words s ++ words rest → ((behind : List ℕ) → rest ≢ 61 ∷ 32 ∷ behind) → HasNoStep line
@@ -56,59 +45,6 @@ bad-outcome line s rest fits is none =
       spelled = is ∙ ap (λ l. step_words s ++ codes "=" ∷ l) parts.2;
       none = λ o small e. none o small (parts.2 ∙ e);
     }
-
--- ---- with an owner in front
-
--- a line with an owner in front of what has no step
-pub no-told : (seats : ℕ) (line rest : List (List ℕ)) (o : Option ℕ) → seats ≤ 64 → IsOwner seats o → line ≡ by_words o ++ rest → HasNoStep rest →
-    HasNoOwned seats line
-no-told seats line rest o few is spelled none p s first others owned fits e =
-    none s first others fits (by-same seats o p rest (step_words s ++ codes "=" ∷ first ∷ others) few is owned (sym spelled ∙ e)).1
-
--- a line with no owner in front
-pub no-owned : (seats : ℕ) (line : List (List ℕ)) → HasNoBy seats line → HasNoOwned seats line
-no-owned seats line none o s first others owned fits e = by-step s first others e
-  where
-    by-step : (s : Step) (first : List ℕ) (others : List (List ℕ)) → line ≡ by_words o ++ (step_words s ++ codes "=" ∷ first ∷ others) → ⊥
-    by-step (step.Ask c b a) first others e = none o _ _ owned e
-    by-step (step.Request b i) first others e = none o _ _ owned e
-    by-step (step.Forward b c) first others e = none o _ _ owned e
-    by-step (step.Response b i) first others e = none o _ _ owned e
-
--- what follows the step is no outcome
-pub bad-told : (seats : ℕ) (line rest : List (List ℕ)) (o : Option ℕ) → IsOwner seats o → line ≡ by_words o ++ rest → HasNoOutcome 0 rest →
-    HasNoOutcome seats line
-bad-told seats line rest o is spelled h = by-owner h.owner h.owned h.spelled
-  where
-    by-owner : (p : Option ℕ) → IsOwner 0 p → rest ≡ by_words p ++ (step_words h.step ++ codes "=" ∷ h.first ∷ h.others) → HasNoOutcome seats line
-    by-owner None z e = record {
-      owner = o;
-      owned = is;
-      step = h.step;
-      first = h.first;
-      others = h.others;
-      fits = h.fits;
-      spelled = spelled ∙ ap (λ l. by_words o ++ l) e;
-      none = h.none;
-    }
-    by-owner (Some k) z e = absurd (omega (arith, z))
-
--- where there are seats, no seat in front is no owner
-pub no-seat : (seats : ℕ) (line : List (List ℕ)) → seats ≢ 0 → HasNoSeat seats line → HasNoBy seats line
-no-seat seats line some none None first others owned e = absurd (some owned)
-no-seat seats line some none (Some k) first others owned e = none k first others owned e
-
-pub bad-entry : (seats : ℕ) (line rest : List (List ℕ)) (o : Option ℕ) (kind : ReadKind) → seats ≤ 64 → IsOwner seats o → line ≡ by_words o ++ rest →
-    IsBadEntry rest kind → IsBadTold seats line kind
-bad-entry seats line rest o BadOutcome few is spelled h = bad-told seats line rest o is spelled h
-bad-entry seats line rest o BadLine few is spelled h = no-told seats line rest o few is spelled h
-bad-entry seats line rest o OverLimit few is spelled h = absurd h
-bad-entry seats line rest o BadHeader few is spelled h = absurd h
-bad-entry seats line rest o CountDiffers few is spelled h = absurd h
-bad-entry seats line rest o Truncated few is spelled h = absurd h
-bad-entry seats line rest o NoMemory few is spelled h = absurd h
-bad-entry seats line rest o Device few is spelled h = absurd h
-bad-entry seats line rest o UnknownProtocol few is spelled h = absurd h
 
 -- ---- where an entry is due
 

@@ -47,9 +47,6 @@ first-held buffer at end low fits =
     taken : (n x : ℕ) (xs : List ℕ) → take (n + 1) (x ∷ xs) ≡ x ∷ take n xs
     taken n x xs = let e : n + 1 ≡ suc n = omega arith in rw e refl
 
-pub some-held : (buffer : List ℕ) (at end : ℕ) → at < end → end ≤ length buffer → take (end - at) (drop at buffer) ≢ []
-some-held buffer at end low fits e = let held = first-held buffer at end low fits in cc
-
 pub none-held_between : (buffer : List ℕ) (at end : ℕ) → end ≤ at → take (end - at) (drop at buffer) ≡ []
 none-held_between buffer at end high = let none : end - at ≡ 0 = omega arith in ap (λ n. take n (drop at buffer)) none
 

@@ -391,59 +391,6 @@ counted-more cores lanes ready start which n count each within e lane low =
           ]
     ]
 
--- nothing but counts has changed
-pub kept-counts : (old new : Laned) → ChangesCounts old new → IsKept old → IsKept new
-kept-counts old new c kept =
-    let trees : new.trees ≡ old.trees = ap (λ (l : Laned). l.trees) c.same in
-    let listed : new.listed ≡ old.listed = ap (λ (l : Laned). l.listed) c.same in
-    let lengths : new.lengths ≡ old.lengths = ap (λ (l : Laned). l.lengths) c.same in
-    let reached : new.reached ≡ old.reached = ap (λ (l : Laned). l.reached) c.same in
-    let level = kept.level in
-    record {
-      level = record {
-        listed = ap length listed ∙ level.listed ∙ sym (ap length trees);
-        lengths = ap length lengths ∙ level.lengths ∙ sym (ap length trees);
-        ready = c.long ∙ level.ready ∙ sym (ap length trees);
-        few = subst (λ n. n ≤ 2 ^ 31) (sym (ap length trees)) level.few;
-        rows = subst (λ n. 1 ≤ n) (sym (ap length reached)) level.rows;
-      };
-      listed = λ lane low.
-          let h = kept.listed lane (subst (λ ts. lane < length ts) trees low) in
-          let same : offers_at new lane ≡ offers_at old lane = ap (λ xs. (get_or xs lane nothing_listed).asks) listed in
-          record {
-            offered = same ∙ h.offered ∙ ap (λ ts. taking.offers (get_or ts lane (Seq Nil))) (sym trees);
-            count = ap (λ ns. get_or ns lane 0) lengths ∙ h.count ∙ ap length (sym same);
-            short = subst (λ xs. length xs < 2 ^ 32) (sym same) h.short;
-            reached = λ at ask e. subst (λ rs. Contains (lanes_of rs ask.core.0) lane) (sym reached)
-                (h.reached at ask (ap (λ xs. slice_get xs at) (sym same) ∙ e));
-          };
-    }
-
--- one lane was counted
-pub counts-at : (cores : List Core) (lane : ℕ) (old new : Laned) → new ≡ counted_at cores lane old → ChangesCounts old new
-counts-at cores lane old new e = record {
-  same = e ∙ ap (λ (ns : List ℕ). record old { ready = ns }) (sym (ap (λ (x : Laned). x.ready) e));
-  long = ap (λ (x : Laned). length x.ready) e ∙ length-set old.ready lane (count_by cores (listed_at old lane));
-}
-
-pub counted-if : (cores : List Core) (lane at : ℕ) (taken : Option ℕ) (old new : Laned) → taken ≡ Some lane → IsLevel old → lane < length old.trees →
-    new ≡ counted_at cores lane old → IsCountedIf cores taken old new at
-counted-if cores lane at taken old new is level low e =
-    let count = count_by cores (listed_at old lane) in
-    let here : get_or new.ready at 0 ≡ get_or (set old.ready lane count) at 0 = ap (λ (x : Laned). get_or x.ready at 0) e in
-    let long = level.ready in
-    elim (cases_eq at lane) [
-      | inl q ↦ inl (here ∙ ap (λ n. get_or (set old.ready lane count) n 0) q ∙ get_or-set_same old.ready lane count 0 (omega (arith, low, long))
-          ∙ ap (λ n. count_by cores (listed_at old n)) (sym q))
-      | inr ne ↦ inr (
-        here ∙ get_or-set_other old.ready lane at count 0 ne,
-        λ some. ne (same-number at lane (sym (sym is ∙ some))),
-      )
-    ]
-  where
-    same-number : (a b : ℕ) → Some a ≡ Some b → a ≡ b
-    same-number a b e = cc e
-
 -- behind the counting of the lanes of a core these are counted
 pub counted-at-all : (cores : List Core) (at : Option Place) (old new : Laned) → ChangesCounts old new →
     ((lane : ℕ) → lane < length old.trees → IsCountedAt cores at old new lane) → AreCountedAt cores at new
@@ -506,15 +453,6 @@ pub where-sound : (tables : Tables) (state : State) (cores : List Core) (l : Lan
 where-sound tables state cores l ready = record {
   marked = λ sound. (ready sound).marked sound;
   counted = λ sound. (ready sound).counted sound;
-}
-
--- ---- behind an offer that was taken
-
-pub ready-were : (tables : Tables) (before now : State) (cb : List Core) (but : Option ℕ) (l : Laned) → before.broken ≡ false → AreReady tables before cb l →
-    WereReady tables before cb now but l
-ready-were tables before now cb but l sb ready = record {
-  marked = λ lane low. inr (ready.marked sb lane low);
-  counted = λ lane low apart. ready.counted sb lane low;
 }
 
 -- ---- opening lanes one by one

@@ -76,16 +76,6 @@ module _ (held : HeldAsks) (core : CacheId) (block : BlockId) where
   AreAnew asks start now rest = (k : ℕ) (ask : CoreAsk) → slice_get asks k ≡ Some ask →
       (get_or now k false ≡ anew ask (get_or start k false)) ⊎ ((get_or now k false ≡ get_or start k false) × (bit_at rest k ≡ 1))
 
-  pub anew-start : (asks : List CoreAsk) (start : List Bool) (places : ℕ) →
-      ((n : ℕ) (ask : CoreAsk) → slice_get asks n ≡ Some ask → is_at core block ask ≡ true → bit_at places n ≡ 1) →
-      AreAnew asks start start places
-  anew-start asks start places there k ask e = by (is_at core block ask) refl
-    where
-      by : (b : Bool) → is_at core block ask ≡ b →
-          (get_or start k false ≡ anew ask (get_or start k false)) ⊎ ((get_or start k false ≡ get_or start k false) × (bit_at places k ≡ 1))
-      by true is = inr (refl, there k ask e is)
-      by false is = inl (ap (λ b. if b then mark_by held ask else get_or start k false) (sym is))
-
   -- a place where an ask about the block is
   pub anew-here : (asks : List CoreAsk) (start now : List Bool) (rest : ℕ) (d : CoreAsk) (mark : Bool) → 0 < rest → rest < 2 ^ 64 →
       trailing_zeros w64 rest < length now → is_at core block (get_or asks (trailing_zeros w64 rest) d) ≡ true →

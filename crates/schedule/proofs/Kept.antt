@@ -50,10 +50,6 @@ pub choices-sound : (tables : Tables) (s : State) (cores : List Core) (t : Tree)
 choices-sound tables s cores t e =
     ap (λ b. if b then [] else (offers_from tables s cores 0 (offers t) ++ map Deliver (enabled_steps tables s))) e
 
-pub choices-broken : (tables : Tables) (s : State) (cores : List Core) (t : Tree) → s.broken ≡ true → choices_of tables s cores t ≡ []
-choices-broken tables s cores t e =
-    ap (λ b. if b then [] else (offers_from tables s cores 0 (offers t) ++ map Deliver (enabled_steps tables s))) e
-
 pub offers-count : (tables : Tables) (s : State) (cores : List Core) (l : Laned) → IsKept l → AreReady tables s cores l → s.broken ≡ false →
     length (offers_from tables s cores 0 (offers (whole l))) ≡ sum l.ready
 offers-count tables s cores l kept ready sound =

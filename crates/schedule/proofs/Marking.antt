@@ -38,19 +38,6 @@ by-marks tables s cores i asks marks e = ap (offers_by cores i asks) e ∙ right
 
 -- ---- marking one after another
 
-pub marks-first : (f : CoreAsk → Bool) (n : ℕ) (asks : List CoreAsk) (marks : List Bool) (d : CoreAsk) → n < length asks → length marks ≡ length asks →
-    take n marks ++ map f (drop n asks) ≡ map f asks →
-    take (n + 1) (set marks n (f (get_or asks n d))) ++ map f (drop (n + 1) asks) ≡ map f asks
-marks-first f n asks marks d low long before =
-    let later = map f (drop (n + 1) asks) in
-    let step : map f (drop n asks) ≡ f (get_or asks n d) ∷ later = ap (map f) (drop-cons asks n d low) ∙ ap (λ m. f (get_or asks n d) ∷ map f (drop m asks))
-    (sym (add-one n)) in
-    ap (λ front. front ++ later) (take_more_set marks n (f (get_or asks n d)) (omega (arith, low, long)))
-    ∙ append_assoc (take n marks) (f (get_or asks n d) ∷ []) later ∙ ap (λ back. take n marks ++ back) (sym step) ∙ before
-
-pub marks-long : (n : ℕ) (asks : List CoreAsk) (marks : List Bool) → length marks ≡ length asks → length asks ≤ n → length marks ≤ n
-marks-long n asks marks long past = omega (arith, long, past)
-
 marks-step : (held : HeldAsks) (core : CacheId) (block : BlockId) (n : ℕ) (asks : List CoreAsk) (marks : List Bool) (d : CoreAsk) →
     n < length asks →
     length marks ≡ length asks → marks_by held core block (drop n asks) (drop n marks)
@@ -164,20 +151,6 @@ by-few cores i (ask ∷ asks) (m ∷ marks) =
       | false ↦ omega (arith, r)
     ]
 
--- how many there are is the same from any number on
-pub by-length : (cores : List Core) (i j : ℕ) (asks : List CoreAsk) (marks : List Bool) → length (offers_by cores i asks marks) ≡ length
-    (offers_by cores j asks marks)
-by-length cores i j [] marks = refl
-by-length cores i j (ask ∷ asks) [] = refl
-by-length cores i j (ask ∷ asks) (m ∷ marks) =
-    let r = by-length cores (i + 1) (j + 1) asks marks in
-    elim (is_free cores ask.core.0 && m) as
-    (λ b. length ((if b then Offer i ask ∷ [] else []) ++ offers_by cores (i + 1) asks marks)
-    ≡ length ((if b then Offer j ask ∷ [] else []) ++ offers_by cores (j + 1) asks marks)) [
-      | true ↦ ap suc r
-      | false ↦ r
-    ]
-
 one-first : (c : Choice) (cs : List Choice) (b : Bool) → b ≡ true → length ((if b then c ∷ [] else []) ++ cs) ≡ suc (length cs)
 one-first c cs true e = refl
 one-first c cs false e = absurd (cc e)
@@ -224,14 +197,6 @@ passed-not cores first n k asks marks d low long not =
     sym (ap (λ cs. slice_get cs k) (by-step cores (first + n) n asks marks d low long)
     ∙ ap (λ b. slice_get ((if b then Offer (first + n) (get_or asks n d) ∷ [] else []) ++ later) k) not
     ∙ ap (λ m. slice_get (offers_by cores m (drop (n + 1) asks) (drop (n + 1) marks)) k) (let z : first + n + 1 ≡ first + (n + 1) = omega arith in z))
-
-pub found-put : (cores : List Core) (first n : ℕ) (asks : List CoreAsk) (marks : List Bool) (d : CoreAsk) → n < length asks → length marks ≡ length asks →
-    (is_free cores (get_or asks n d).core.0 && get_or marks n false) ≡ true →
-    slice_get (offers_by cores (first + n) (drop n asks) (drop n marks)) 0 ≡ Some (Offer (first + n) (get_or asks n d))
-found-put cores first n asks marks d low long put =
-    let later = offers_by cores (first + n + 1) (drop (n + 1) asks) (drop (n + 1) marks) in
-    ap (λ cs. slice_get cs 0) (by-step cores (first + n) n asks marks d low long)
-    ∙ ap (λ b. slice_get ((if b then Offer (first + n) (get_or asks n d) ∷ [] else []) ++ later) 0) put
 
 -- ---- where all asks are one core's
 
@@ -326,15 +291,6 @@ past-free cores core kept i k asks marks h is free past =
     let all = all-free cores i asks marks (as-its-core cores core true asks (subst (λ (c : Option CacheId). IfSome c (λ of. AreOf of asks)) is h.owned)
     free) h.long in
     sym (past-end (offers_by cores i asks marks) k (omega (arith, all, past)))
-
--- a place that is set is one of the asks
-pub kth-there : (k at : ℕ) (asks : List CoreAsk) (marks : List Bool) (kept : Option CacheId) → AreKept asks marks kept → IsKth marks k at → at < length asks
-kth-there k at asks marks kept h kth = let l = low marks at kth.set in let m = h.long in omega (arith, l, m)
-  where
-    low : (marks : List Bool) (at : ℕ) → get_or marks at false ≡ true → at < length marks
-    low [] at e = absurd (cc e)
-    low (m ∷ marks) zero e = omega arith
-    low (m ∷ marks) (suc at) e = let r = low marks at e in omega (arith, r)
 
 -- ---- a core's asks about a block marked anew
 

@@ -1,14 +1,13 @@
 -- The lanes of each core.
-use Rattle.std.proofs.Common.{◌≡◌, ℕ, ◌+◌, ◌-◌, ◌<◌, ◌≤◌, inl, inr, min, true, nat_eq, List, [], ◌∷◌, ◌++◌, length, map}
-use Rattle.std.proofs.Common.{Option, None, Some, IfSome, true≢false, is_some, get_or, set, slice_get, refl, sym, ap, ◌∙◌, subst, arith, Vec, Global}
+use Rattle.std.proofs.Common.{◌≡◌, ℕ, ◌+◌, ◌-◌, ◌<◌, inl, inr, min, true, nat_eq, List, [], ◌∷◌, ◌++◌, length, map}
+use Rattle.std.proofs.Common.{Some, get_or, set, slice_get, refl, sym, ap, ◌∙◌, subst, arith, Vec, Global}
 use Rattle.std.specs.List.{Contains, list_any}
 use Rattle.std.proofs.lemmas.List.{length-set, length-map, map-set, get_or-map, get_or-set_same, get_or-set_other}
-use Rattle.std.proofs.lemmas.List.Elements.{Contains-append_left, Contains-append_right}
+use Rattle.std.proofs.lemmas.List.Elements.{Contains-append_right}
 use Rattle.std.proofs.lemmas.Bool.{cases_eq, cases_lt}
 use Rattle.std.proofs.lemmas.Bool.Decides.{nat_tests}
 use Rattle.std.proofs.lemmas.Map.Views.{Contains-from_any}
 use Rattle.std.proofs.lemmas.Option.{slice_get-get_or}
-use Rattle.base.specs.declared.ids.CacheId.{CacheId}
 use Rattle.base.specs.declared.step.CoreAsk.{CoreAsk}
 use Rattle.schedule.specs.Lanes.{lanes_of, row_of_core}
 
@@ -23,15 +22,9 @@ pub added : (old new : List ℕ) (lane : ℕ) → new ≡ old ++ lane ∷ [] →
 added old new lane e =
     subst (λ xs. Contains xs lane) (sym e) (Contains-append_right old (lane ∷ []) lane (0, omega arith, refl))
 
-pub still-there : (old new : List ℕ) (lane other : ℕ) → new ≡ old ++ lane ∷ [] → Contains old other → Contains new other
-still-there old new lane other e h = subst (λ xs. Contains xs other) (sym e) (Contains-append_left old (lane ∷ []) other h)
-
 -- a row that got more
 row-set : (rows : List (List ℕ)) (row core : ℕ) (v : List ℕ) → row_of_core (set rows row v) core ≡ row_of_core rows core
 row-set rows row core v = ap (λ n. min core (n - 1)) (length-set rows row v)
-
-pub row-low : (rows : List (List ℕ)) (core : ℕ) → 1 ≤ length rows → row_of_core rows core < length rows
-row-low rows core some = grind arith
 
 pub grown : (rows : List (List ℕ)) (row core other : ℕ) (v : List ℕ) → row < length rows → ((o : ℕ) → Contains (get_or rows row []) o → Contains v o) →
     Contains (lanes_of rows core) other → Contains (lanes_of (set rows row v) core) other
@@ -101,11 +94,3 @@ one-more offers n lane rows d before there here at ask low e = elim (cases_lt at
       let q : Some (get_or offers n d) ≡ Some ask = sym (slice_get-get_or offers n d there) ∙ ap (slice_get offers) (sym z) ∙ e in
       subst (λ (o : CoreAsk). Contains (lanes_of rows o.core.0) lane) (same-some (get_or offers n d) ask q) here
 ]
-
--- the lane is among those of the core that was last, and it is that core
-pub is-there : (last : Option CacheId) (core : CacheId) (rows : List (List ℕ)) (lane : ℕ) → last ≡ Some core →
-    IfSome last (λ c. Contains (lanes_of rows c.0) lane) → Contains (lanes_of rows core.0) lane
-is-there None core rows lane e there = absurd (true≢false (sym (ap is_some e)))
-is-there (Some c) core rows lane e there =
-    let same : c ≡ core = cc in
-    subst (λ (o : CacheId). Contains (lanes_of rows o.0) lane) same there

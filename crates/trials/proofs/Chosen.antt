@@ -86,15 +86,6 @@ deliver-enabled tables state = elim state.broken as (λ t. AllDeliver (if t then
   | false ↦ deliver-blocks tables state.blocks
 ]
 
-deliver-at : (xs : List Step) (k : ℕ) (s : Step) → AllDeliver xs → slice_get xs k ≡ Some s → IsDelivery s
-deliver-at [] k s h e = absurd (cc e)
-deliver-at (x ∷ xs) zero s h e = subst IsDelivery (same-some x s e) h.0
-deliver-at (x ∷ xs) (suc k) s h e = deliver-at xs k s h.1 e
-
--- the enabled steps are deliveries
-pub enabled-deliver : (tables : Tables) (state : State) (k : ℕ) (s : Step) → slice_get (enabled_steps tables state) k ≡ Some s → IsDelivery s
-enabled-deliver tables state k s = deliver-at (enabled_steps tables state) k s (deliver-enabled tables state)
-
 -- ---- choices
 
 -- an offer that can be put, or a delivery

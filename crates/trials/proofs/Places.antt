@@ -13,11 +13,6 @@ set-here [] i x y e = absurd (cc e)
 set-here (z ∷ zs) zero x y e = refl
 set-here (z ∷ zs) (suc i) x y e = set-here zs i x y e
 
-pub set-length : {X : Type 0} (xs : List X) (i : ℕ) (x : X) → length (slice_set xs i x) ≡ length xs
-set-length [] i x = refl
-set-length (y ∷ ys) zero x = refl
-set-length (y ∷ ys) (suc i) x = ap suc (set-length ys i x)
-
 pub get-low : {X : Type 0} (xs : List X) (y : X) (k : ℕ) → slice_get xs k ≡ Some y → k < length xs
 get-low [] y k e = absurd (cc e)
 get-low (z ∷ xs) y zero e = omega arith

@@ -3,21 +3,18 @@ use Rattle.std.proofs.Common.{◌≡◌, ◌≢◌, ◌<◌, inl, inr, ℕ, zero
 use Rattle.std.proofs.Common.{slice_get, refl, sym, ap, ◌∙◌, subst, arith}
 use Rattle.std.proofs.lemmas.Bool.{cases_eq}
 use Rattle.std.specs.Option.{option_map, option_and_then}
-use Rattle.base.specs.declared.ids.CacheId.{CacheId}
 use Rattle.base.specs.declared.step.Ask.{Ask}
-use Rattle.base.specs.declared.step.Ask.TheVariants.{Replace}
 use Rattle.base.specs.declared.step.CoreAsk.{CoreAsk}
 use Rattle.base.specs.declared.step.Step.{Step}
-use Rattle.base.specs.declared.step.Outcome.TheVariants as outcome
 use Rattle.control.specs.LineEffect.{opened_line}
 use Rattle.machine.specs.Block.{opened_block}
 use Rattle.both_tables.specs.Tables.{Tables}
 use Rattle.machine.specs.Machine.{State, Next, next, opened}
-use Rattle.machine.specs.Completions.{Access, load, store, Completion, completed_by}
+use Rattle.machine.specs.Completions.{Completion, completed_by}
 use Rattle.machine.specs.Unstuck.{IsDelivery}
 use Rattle.cores.specs.Cores.{Core, idle, issuing, finishing, with_core, is_free, Completes}
 use Rattle.schedule.specs.Choices.{step_of}
-use Rattle.trials.specs.Answering.{answered, ask_of}
+use Rattle.trials.specs.Answering.{answered}
 use Rattle.trials.specs.Moments.{put_by, cores_after}
 use Rattle.trials.proofs.Places.{same-some, same-head}
 use Rattle.trials.proofs.Pending.{Same, Sets, pending_at}
@@ -210,67 +207,8 @@ delivered-to-waiting tables state s cores c tracked delivery is = of (effect tab
         subst (λ (x : Completion). (is_free cores x.cache.0 ≡ false) × (x.cache.0 < length cores)) e
         (waits-tells cores n a here.0, tracked.few n h.completion.block (Some a) h.sets.there)
 
-pub load-delivered : (tables : Tables) (state : State) (s : Step) (cores : List Core) (cache : CacheId) (value : ℕ) → IsTracked state cores →
-    IsDelivery s → (next tables state s).outcome ≡ outcome.Load cache value
-    → (is_free cores cache.0 ≡ false) × (cache.0 < length cores)
-load-delivered tables state s cores cache value tracked delivery is = delivered-to-waiting tables state s cores _ tracked delivery (ap (completed_by s) is)
-
-pub store-delivered : (tables : Tables) (state : State) (s : Step) (cores : List Core) (cache : CacheId) (value : ℕ) → IsTracked state cores →
-    IsDelivery s → (next tables state s).outcome ≡ outcome.Store cache value
-    → (is_free cores cache.0 ≡ false) × (cache.0 < length cores)
-store-delivered tables state s cores cache value tracked delivery is = delivered-to-waiting tables state s cores _ tracked delivery (ap (completed_by s) is)
-
--- whoever puts something is there
-pub put-is-there : (tables : Tables) (state : State) (s : Step) (cores : List Core) (a : CoreAsk) → IsTracked state cores →
-    put_by s (next tables state s).outcome ≡ a ∷ [] → a.core.0 < length cores
-put-is-there tables state s cores a tracked is = of (effect tables state s)
-  where
-    of : Effect state s (next tables state s) → a.core.0 < length cores
-    of (inl h) = let e = sym is ∙ h.put in absurd (cc e)
-    of (inr (inl h)) =
-        subst (λ (x : CoreAsk). x.core.0 < length cores) (same-head h.ask a [] [] (sym h.put ∙ is)) (tracked.few h.ask.core.0 h.ask.block.0 h.was h.sets.there)
-    of (inr (inr (inl h))) =
-        subst (λ (x : CoreAsk). x.core.0 < length cores) (same-head h.ask a [] [] (sym h.put ∙ is)) (tracked.few h.ask.core.0 h.ask.block.0 h.was h.there)
-    of (inr (inr (inr h))) = let e = sym is ∙ h.put in absurd (cc e)
-
-asks-complete : (access : Access) (value : ℕ) → Completes (ask_of access value)
-asks-complete load value = tt
-asks-complete store value = tt
-
 same-core : (a b : CoreAsk) → step_of a ≡ step_of b → a.core ≡ b.core
 same-core a b e = cc e
-
-same-ask : (a b : CoreAsk) → step_of a ≡ step_of b → a.ask ≡ b.ask
-same-ask a b e = cc e
-
--- an ask that completes at once is a load or a store, of its own core
-pub put-done : (tables : Tables) (state : State) (cores : List Core) (ask : CoreAsk) (c : Completion) → IsTracked state cores →
-    completed_by (step_of ask) (next tables state (step_of ask)).outcome ≡ c ∷ []
-    → (c.cache ≡ ask.core) × (ask.ask ≢ Replace) × (ask.core.0 < length cores)
-put-done tables state cores ask c tracked is = of (effect tables state (step_of ask))
-  where
-    of : Effect state (step_of ask) (next tables state (step_of ask)) → (c.cache ≡ ask.core) × (ask.ask ≢ Replace) × (ask.core.0 < length cores)
-    of (inl h) = let e = sym is ∙ h.done in absurd (cc e)
-    of (inr (inl h)) = let e = sym is ∙ h.done in absurd (cc e)
-    of (inr (inr (inl h))) =
-        let e : h.completion ≡ c = same-head h.completion c [] [] (sym h.done ∙ is) in
-        let core : h.ask.core ≡ ask.core = sym (same-core ask h.ask h.is) in (
-          ap (λ (x : Completion). x.cache) (sym e) ∙ ap (λ (x : CoreAsk). x.core) h.answers ∙ core,
-          λ f. subst Completes (ap (λ (x : CoreAsk). x.ask) h.answers ∙ sym (same-ask ask h.ask h.is) ∙ f)
-              (asks-complete h.completion.access h.completion.value),
-          subst (λ (x : CacheId). x.0 < length cores) core (tracked.few h.ask.core.0 h.ask.block.0 h.was h.there),
-        )
-    of (inr (inr (inr h))) = absurd h.delivery
-
-pub load-put : (tables : Tables) (state : State) (cores : List Core) (ask : CoreAsk) (at : CacheId) (value : ℕ) → IsTracked state cores →
-    (next tables state (step_of ask)).outcome ≡ outcome.Load at value
-    → (at ≡ ask.core) × (ask.ask ≢ Replace) × (ask.core.0 < length cores)
-load-put tables state cores ask at value tracked is = put-done tables state cores ask _ tracked (ap (completed_by (step_of ask)) is)
-
-pub store-put : (tables : Tables) (state : State) (cores : List Core) (ask : CoreAsk) (at : CacheId) (value : ℕ) → IsTracked state cores →
-    (next tables state (step_of ask)).outcome ≡ outcome.Store at value
-    → (at ≡ ask.core) × (ask.ask ≢ Replace) × (ask.core.0 < length cores)
-store-put tables state cores ask at value tracked is = put-done tables state cores ask _ tracked (ap (completed_by (step_of ask)) is)
 
 -- the core of an ask is the one that puts it
 pub put-by-core : (tables : Tables) (state : State) (ask a : CoreAsk) → put_by (step_of ask) (next tables state (step_of ask)).outcome ≡ a ∷ [] →
