@@ -1,5 +1,35 @@
+//! Tables of one wrong cell each, and steps that show what is wrong with it.
+
+use crate::cases::{same_line, same_number, serve, text_of};
+use std::alloc::Global;
+use std::process::Abort;
+use std::sync::Wait;
+use std::thread::Threads;
+
+/// What the command lines and the recordings of a number of caches are.
+pub struct Lines {
+    pub own: &'static str,
+    pub changed: &'static str,
+    pub changed_with_e: &'static str,
+    /// How a recording begins, up to the one cell that differs.
+    pub head: &'static str,
+}
+
+const TWO: Lines = Lines {
+    own: "msi play --caches 2",
+    changed: "msi play --caches 2 --tables table.json",
+    changed_with_e: "msi play --protocol msi+e --caches 2 --tables table.json",
+    head: "msi-recording 1\nshape 2 1\nopening 0\ncells 1\n",
+};
+
+const THREE: Lines = Lines {
+    own: "msi play --caches 3",
+    changed: "msi play --caches 3 --tables table.json",
+    changed_with_e: "msi play --protocol msi+e --caches 3 --tables table.json",
+    head: "msi-recording 1\nshape 3 1\nopening 0\ncells 1\n",
+};
+
 /// A table of one wrong cell, steps that show what is wrong with it, and the violation that the last of them makes.
-#[derive(Clone, Copy)]
 pub struct Broken {
     pub caches: u32,
     pub table: &'static str,
@@ -7,7 +37,34 @@ pub struct Broken {
     pub violation: &'static str,
 }
 
-pub const BROKEN: [Broken; 16] = [
+/// Holds that under this table the last of these steps makes this violation.
+pub fn is_shown<R: Threads + Wait + Abort + Sync>(
+    rt: &R,
+    alloc: Global,
+    line: &str,
+    table: &'static str,
+    steps: &str,
+    violation: &str,
+) {
+    let served = serve(rt, alloc, line, table, steps);
+    let text = text_of(rt, &served.output);
+    same_line(rt, table, text.lines().last(), Some(violation));
+    let count = steps.lines().count() + 1;
+    same_number(rt, table, text.lines().count(), count);
+    same_number(rt, table, served.status as usize, 1);
+}
+
+/// The lines of a broken table's number of caches.
+pub fn lines_of(broken: &Broken) -> &'static Lines {
+    if broken.caches == 3 { &THREE } else { &TWO }
+}
+
+/// The broken tables. Who needs them calls this: what names a long constant is proved with all that stands in it.
+pub fn broken_tables() -> &'static [Broken] {
+    BROKEN
+}
+
+const BROKEN: &[Broken] = &[
     // load-without-asking
     Broken {
         caches: 2,

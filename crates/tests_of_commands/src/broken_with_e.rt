@@ -1,7 +1,7 @@
 //! The wrong tables of MSI, under MSI+E.
 
-use crate::broken::{BROKEN, Broken};
-use command_lines::run_over;
+use crate::broken::{Broken, broken_tables, is_shown, lines_of};
+use crate::cases::joined;
 use std::alloc::Global;
 use std::process::Abort;
 use std::sync::Wait;
@@ -12,10 +12,10 @@ const SHARED: &str =
     "ask 0 0 load\nrequest 0 0\nresponse 0 0\nask 1 0 load\nrequest 0 0\nforward 0 0\nresponse 0 0\nresponse 0 0\n";
 
 /// The wrong tables that the steps show which show them under MSI.
-const AS_UNDER_MSI: [usize; 7] = [0, 1, 2, 4, 5, 6, 8];
+const AS_UNDER_MSI: &[usize] = &[0, 1, 2, 4, 5, 6, 8];
 
 /// The other ones, with steps that show them behind those by which the block is shared, and the violation.
-const OTHERWISE: [(usize, &str, &str); 5] = [
+const OTHERWISE: &[(usize, &str, &str)] = &[
     (
         3,
         "ask 1 0 store 5\nrequest 0 0\nresponse 0 0\n",
@@ -43,48 +43,41 @@ const OTHERWISE: [(usize, &str, &str); 5] = [
     ),
 ];
 
-/// The wrong table of this number.
-fn wrong(rt: &impl Abort, number: usize) -> Broken {
-    *BROKEN.get(number).expect(rt, "a table")
-}
-
-/// Holds that the last of these steps makes this violation under a wrong table.
-fn is_shown<R: Threads + Wait + Abort + Sync>(
+/// Holds that the last of these steps makes this violation under the wrong table of this number.
+fn is_shown_with_e<R: Threads + Wait + Abort + Sync>(
     rt: &R,
     alloc: Global,
-    broken: Broken,
+    broken: &Broken,
     steps: &str,
     violation: &str,
 ) {
-    let line = format!(in alloc;
-        "msi play --protocol msi+e --caches {} --tables table.json",
-        broken.caches
-    )
-    .expect(rt, "memory");
-    let served = run_over(rt, alloc, line.as_str(), broken.table, steps).expect(rt, "served");
-    let text = str::from_utf8(served.output.as_slice()).expect(rt, "a text");
-    assert_eq!(rt;
-        (served.status, text.lines().last()),
-        (1, Some(violation)),
-        "at {}",
-        broken.table
+    is_shown(
+        rt,
+        alloc,
+        lines_of(broken).changed_with_e,
+        broken.table,
+        steps,
+        violation,
     );
-    assert_eq!(rt;
-        text.lines().count(),
-        steps.lines().count() + 1,
-        "at {}",
-        broken.table
-    );
+}
+
+fn are_shown_as_under_msi<R: Threads + Wait + Abort + Sync>(rt: &R, alloc: Global) {
+    for number in AS_UNDER_MSI {
+        let broken = broken_tables().get(*number).expect(rt, "a table");
+        is_shown_with_e(rt, alloc, broken, broken.steps, broken.violation);
+    }
+}
+
+fn are_shown_otherwise<R: Threads + Wait + Abort + Sync>(rt: &R, alloc: Global) {
+    for (number, steps, violation) in OTHERWISE {
+        let broken = broken_tables().get(*number).expect(rt, "a table");
+        let all = joined(rt, alloc, &[SHARED, steps]);
+        is_shown_with_e(rt, alloc, broken, all.as_str(), violation);
+    }
 }
 
 #[test]
 fn broken_tables_are_found_out_under_msi_e(rt: HostRuntime) {
-    for number in AS_UNDER_MSI {
-        let broken = wrong(&rt, number);
-        is_shown(&rt, rt.alloc(), broken, broken.steps, broken.violation);
-    }
-    for (number, steps, violation) in OTHERWISE {
-        let all = format!(in rt.alloc(); "{SHARED}{steps}").expect(&rt, "memory");
-        is_shown(&rt, rt.alloc(), wrong(&rt, number), all.as_str(), violation);
-    }
+    are_shown_as_under_msi(&rt, rt.alloc());
+    are_shown_otherwise(&rt, rt.alloc());
 }

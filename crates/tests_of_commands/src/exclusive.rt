@@ -1,9 +1,15 @@
+//! MSI+E: steps, tables, cells and trials.
+
+use crate::cases::{Case, PLAIN, are_printed, are_served, same_line, same_number, serve, text_of};
 use crate::cells::CELLS;
-use crate::served_as;
-use command_lines::{run, run_over};
+use std::process::Abort;
+
+/// An owner in E that stays there when another one reads.
+const KEPT: &str =
+    r#"{"cache":[{"state":"E","event":"Fwd-GetS","entry":{"next":"E","do":["data-req","data-dir"]}}]}"#;
 
 /// Steps under MSI+E with two caches, and the outcomes that were worked out by hand for them.
-const ROWS: [(&str, &str); 3] = [
+const PLAYED: &[(&str, &str)] = &[
     // store-in-e
     (
         "ask 0 0 load\nrequest 0 0\nresponse 0 0\nask 0 0 store 7\nask 1 0 load\nrequest 0 0\nforward 0 0\nresponse 0 0\nresponse 0 0\n",
@@ -21,107 +27,112 @@ const ROWS: [(&str, &str); 3] = [
     ),
 ];
 
-#[test]
-fn rows_of_msi_e_are_played(rt: HostRuntime) {
-    for (steps, outcomes) in &ROWS {
-        let line = "msi play --protocol msi+e --caches 2";
-        let served = run(&rt, rt.alloc(), line, steps).expect(&rt, "served");
-        served_as(&rt, &served, 0, outcomes, "");
-    }
-}
-
-#[test]
-fn an_owner_that_keeps_e_is_found_out(rt: HostRuntime) {
-    let table =
-        r#"{"cache":[{"state":"E","event":"Fwd-GetS","entry":{"next":"E","do":["data-req","data-dir"]}}]}"#;
-    let steps =
-        "ask 0 0 load\nrequest 0 0\nresponse 0 0\nask 1 0 load\nrequest 0 0\nforward 0 0\nresponse 0 0\n";
-    let outcomes =
-        "sent\nmoved\nload 0 0\nsent\nmoved\nmoved\nload 1 0\nviolation writer 0 beside reader 1 block 0\n";
-    let line = "msi play --protocol msi+e --caches 2 --tables table.json";
-    let served = run_over(&rt, rt.alloc(), line, table, steps).expect(&rt, "served");
-    served_as(&rt, &served, 1, outcomes, "");
-    let line = "msi play --caches 2 --tables table.json";
-    let served = run_over(&rt, rt.alloc(), line, table, steps).expect(&rt, "served");
-    served_as(&rt, &served, 2, "", "msi: tables refused 3 UnknownState\n");
-}
-
-/// Cells in which MSI+E differs from MSI, among those that MSI has.
-const CHANGED: [(&str, &str); 3] = [
-    (
-        "cell cache IS^D Fwd-GetS blank",
-        "cell cache IS^D Fwd-GetS stall",
-    ),
-    (
-        "cell cache IS^D Fwd-GetM blank",
-        "cell cache IS^D Fwd-GetM stall",
-    ),
-    (
-        "cell directory I GetS act S data-req add-req",
-        "cell directory I GetS act M data-excl set-owner",
-    ),
+/// An owner that keeps E is found out; under MSI there is no E.
+const OVER_KEPT: &[Case] = &[
+    Case {
+        lines: &["msi play --protocol msi+e --caches 2 --tables table.json"],
+        file: KEPT,
+        input: KEEPING,
+        status: 1,
+        output: "sent\nmoved\nload 0 0\nsent\nmoved\nmoved\nload 1 0\nviolation writer 0 beside reader 1 block 0\n",
+        ..PLAIN
+    },
+    Case {
+        lines: &["msi play --caches 2 --tables table.json"],
+        file: KEPT,
+        input: KEEPING,
+        status: 2,
+        errors: "msi: tables refused 3 UnknownState\n",
+        ..PLAIN
+    },
 ];
+
+const KEEPING: &str =
+    "ask 0 0 load\nrequest 0 0\nresponse 0 0\nask 1 0 load\nrequest 0 0\nforward 0 0\nresponse 0 0\n";
+
+#[test]
+fn steps_of_msi_e_are_played(rt: HostRuntime) {
+    are_printed(
+        &rt,
+        rt.alloc(),
+        "msi play --protocol msi+e --caches 2",
+        PLAYED,
+    );
+    are_served(&rt, rt.alloc(), OVER_KEPT);
+}
 
 /// The cells of MSI+E that MSI hasn't got, but for those that are blank.
-const NEW: [&str; 6] = [
-    "cell cache IS^D Data-Dir-Excl act E",
-    "cell cache E Load act E",
-    "cell cache E Store act M",
-    "cell cache E Replacement act MI^A putm",
-    "cell cache E Fwd-GetS act S data-req data-dir",
-    "cell cache E Fwd-GetM act I data-req",
-];
+const NEW: &str = "cell cache IS^D Data-Dir-Excl act E
+cell cache E Load act E
+cell cache E Store act M
+cell cache E Replacement act MI^A putm
+cell cache E Fwd-GetS act S data-req data-dir
+cell cache E Fwd-GetM act I data-req
+";
 
 /// The cell of MSI in place of one of MSI+E. `None` where MSI hasn't got it.
 fn of_msi(line: &str) -> Option<&str> {
-    if line.starts_with("cell cache E ") || line.contains(" Data-Dir-Excl ") {
-        return None;
+    match line {
+        "cell cache IS^D Fwd-GetS stall" => Some("cell cache IS^D Fwd-GetS blank"),
+        "cell cache IS^D Fwd-GetM stall" => Some("cell cache IS^D Fwd-GetM blank"),
+        "cell directory I GetS act M data-excl set-owner" => {
+            Some("cell directory I GetS act S data-req add-req")
+        }
+        _ if line.starts_with("cell cache E ") || line.contains(" Data-Dir-Excl ") => None,
+        _ => Some(line),
     }
-    for (msi, msi_e) in &CHANGED {
-        if line == *msi_e {
-            return Some(msi);
+}
+
+/// The cells that MSI has are its own but for those that differ.
+fn has_cells_of_msi(rt: &impl Abort, text: &str) {
+    let mut own = CELLS.lines();
+    for line in text.lines() {
+        if let Some(cell) = of_msi(line) {
+            same_line(rt, line, Some(cell), own.next());
         }
     }
-    Some(line)
+    same_line(rt, "the end", own.next(), None);
+}
+
+/// The cells that MSI hasn't got are blank, or these.
+fn has_new_cells(rt: &impl Abort, text: &str) {
+    let mut new = NEW.lines();
+    for line in text.lines() {
+        if of_msi(line).is_none() && !line.ends_with(" blank") {
+            same_line(rt, line, Some(line), new.next());
+        }
+    }
+    same_line(rt, "the end", new.next(), None);
 }
 
 #[test]
 fn cells_of_msi_e(rt: HostRuntime) {
-    let served = run(&rt, rt.alloc(), "msi tables --protocol msi+e", "").expect(&rt, "served");
-    let text = str::from_utf8(served.output.as_slice()).expect(&rt, "a text");
-    assert_eq!(rt; text.lines().count(), 184);
-    let mut own = CELLS.lines();
-    let mut new = NEW.iter();
-    for line in text.lines() {
-        match of_msi(line) {
-            Some(cell) => assert_eq!(rt; Some(cell), own.next()),
-            None if line.ends_with(" blank") => {}
-            None => assert_eq!(rt; Some(&line), new.next()),
-        }
-    }
-    assert_eq!(rt; (own.next(), new.next()), (None, None));
+    let served = serve(&rt, rt.alloc(), "msi tables --protocol msi+e", "{}", "");
+    let text = text_of(&rt, &served.output);
+    same_number(&rt, "cells", text.lines().count(), 184);
+    has_cells_of_msi(&rt, text);
+    has_new_cells(&rt, text);
 }
+
+const SCENARIO: &str =
+    r#"{"both":[{"op":"load","core":0,"block":0},{"op":"store","core":1,"block":0,"value":5}]}"#;
+
+const TRIAL: &str = "msi trial --protocol msi+e --caches 2 --seed 1 --number 0 --limit 99";
+
+const BATCH: &str = "msi batch --protocol msi+e --caches 2 --seed 1 --trials 50 --limit 99";
 
 #[test]
 fn a_trial_of_msi_e_replays(rt: HostRuntime) {
-    let scenario =
-        r#"{"both":[{"op":"load","core":0,"block":0},{"op":"store","core":1,"block":0,"value":5}]}"#;
-    let line = "msi trial --protocol msi+e --caches 2 --seed 1 --number 0 --limit 99";
-    let served = run(&rt, rt.alloc(), line, scenario).expect(&rt, "served");
-    let text = str::from_utf8(served.output.as_slice()).expect(&rt, "a text");
-    assert_eq!(rt; text.lines().nth(1), Some("protocol msi+e"));
-    let replayed = run(&rt, rt.alloc(), "msi replay", text).expect(&rt, "served");
-    assert_eq!(rt; replayed.status, 0);
-    let batch = "msi batch --protocol msi+e --caches 2 --seed 1 --trials 50 --limit 99";
-    let served = run(&rt, rt.alloc(), batch, scenario).expect(&rt, "served");
-    let text = str::from_utf8(served.output.as_slice()).expect(&rt, "a text");
-    assert_eq!(rt; text.lines().last(), Some("total quiet 50"));
+    let served = serve(&rt, rt.alloc(), TRIAL, "{}", SCENARIO);
+    let text = text_of(&rt, &served.output);
+    same_line(&rt, TRIAL, text.lines().nth(1), Some("protocol msi+e"));
+    let replayed = serve(&rt, rt.alloc(), "msi replay", "{}", text);
+    same_number(&rt, TRIAL, replayed.status as usize, 0);
 }
 
 #[test]
-fn a_protocol_of_another_name(rt: HostRuntime) {
-    for line in ["msi tables --protocol mesi", "msi tables --protocol"] {
-        let served = run(&rt, rt.alloc(), line, "").expect(&rt, "served");
-        assert_eq!(rt; served.status, 2);
-    }
+fn a_batch_of_msi_e_ends(rt: HostRuntime) {
+    let served = serve(&rt, rt.alloc(), BATCH, "{}", SCENARIO);
+    let last = text_of(&rt, &served.output).lines().last();
+    same_line(&rt, BATCH, last, Some("total quiet 50"));
 }

@@ -1,3 +1,4 @@
+use crate::cases::{same_number, text_of};
 use base::controller::Protocol;
 use both_tables::Tables;
 use cache_table::CacheEntry;
@@ -26,22 +27,28 @@ fn stalled(protocol: Protocol, cell: Cell) -> Tables {
 fn is_shown(rt: &impl Abort, alloc: Global, tables: &Tables) -> bool {
     let mut output = Vec::new(alloc);
     print_certificate(alloc, tables, Format::Plain, &mut output).expect(rt, "printed");
-    let text = str::from_utf8(output.as_slice()).expect(rt, "a text");
-    text.starts_with("safe\nmessages get stuck: cell ")
+    text_of(rt, &output).starts_with("safe\nmessages get stuck: cell ")
+}
+
+/// Whether a stall in this cell jams. It has to be shown then, and not otherwise.
+fn jams(rt: &impl Abort, alloc: Global, protocol: Protocol, cell: Cell) -> bool {
+    let tables = stalled(protocol, cell);
+    let jams = matches!(certify(&tables), Certificate::MessagesMayGetStuck(_));
+    assert_eq!(rt; is_shown(rt, alloc, &tables), jams, "at {cell:?}");
+    jams
 }
 
 /// Holds that each stall over a cell that jams is shown, and how many do.
-fn are_shown(rt: &impl Abort, alloc: Global, protocol: Protocol, wanted: u32) {
-    let mut count = 0u32;
+fn are_shown(rt: &impl Abort, alloc: Global, protocol: Protocol, wanted: usize) {
+    let mut count = 0usize;
     for number in 0..CELLS {
-        if let Some(cell) = Cell::at(number) {
-            let tables = stalled(protocol, cell);
-            let jams = matches!(certify(&tables), Certificate::MessagesMayGetStuck(_));
-            assert_eq!(rt; is_shown(rt, alloc, &tables), jams, "at {cell:?}");
-            count = count.saturating_add(u32::from(jams));
+        if let Some(cell) = Cell::at(number)
+            && jams(rt, alloc, protocol, cell)
+        {
+            count = count.saturating_add(1);
         }
     }
-    assert_eq!(rt; count, wanted);
+    same_number(rt, "stalls that jam", count, wanted);
 }
 
 #[test]

@@ -1,10 +1,13 @@
-//! Tests of what `msi` prints and of how it ends where it plays, replays, shows and certifies, over streams and files of their own.
+//! Tests of what `msi` prints and of how it ends where it plays, replays, shows, checks and certifies, and of what it tells of what
+//! it refuses, over streams and files of their own.
 #![tactic(auto)]
 
 #[cfg(test)]
 mod broken;
 #[cfg(test)]
 mod broken_with_e;
+#[cfg(test)]
+mod cases;
 #[cfg(test)]
 mod cells;
 #[cfg(test)]
@@ -13,6 +16,8 @@ mod certificates;
 mod charted;
 #[cfg(test)]
 mod exclusive;
+#[cfg(test)]
+mod explanations;
 #[cfg(test)]
 mod forms;
 #[cfg(test)]
@@ -32,18 +37,6 @@ mod replaying;
 #[cfg(test)]
 mod serving;
 #[cfg(test)]
+mod spelled;
+#[cfg(test)]
 mod worked;
-
-#[cfg(test)]
-use command_lines::Served;
-#[cfg(test)]
-use std::process::Abort;
-
-/// What a command line came to has to be this.
-#[cfg(test)]
-fn served_as(rt: &impl Abort, served: &Served, status: u8, output: &str, errors: &str) {
-    assert_eq!(rt;
-        served.all(),
-        (status, output.as_bytes(), errors.as_bytes())
-    );
-}

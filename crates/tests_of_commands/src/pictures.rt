@@ -1,6 +1,9 @@
+//! Recordings that are shown and drawn.
+
+use crate::cases::{
+    Case, PLAIN, Parts, are_served, have_parts, push, same_number, serve, served_as,
+};
 use crate::charted::FROM_OWNER_CHART;
-use crate::served_as;
-use command_lines::run;
 use std::alloc::Global;
 use std::process::Abort;
 
@@ -122,72 +125,106 @@ block 0 home: I, owner none, sharers none, memory 0
 2  response 0 0  load 1 0  Data 0 to cache 1 from home, exclusive  cache 1: IS^D > E, value 0
 "#;
 
+const SHOW: &[&str] = &["msi show"];
+
+const SHOWN: &[Case] = &[
+    Case {
+        lines: SHOW,
+        input: FROM_OWNER,
+        output: FROM_OWNER_TABLE,
+        ..PLAIN
+    },
+    Case {
+        lines: &["msi show --block 0 --from 6 --steps 1"],
+        input: FROM_OWNER,
+        output: LOAD_TABLE,
+        ..PLAIN
+    },
+    Case {
+        lines: SHOW,
+        input: STALE,
+        status: 1,
+        output: STALE_TABLE,
+        ..PLAIN
+    },
+    Case {
+        lines: SHOW,
+        input: SEATS,
+        output: SEATS_TABLE,
+        ..PLAIN
+    },
+    Case {
+        lines: SHOW,
+        input: EXCLUSIVE,
+        output: EXCLUSIVE_TABLE,
+        ..PLAIN
+    },
+    Case {
+        lines: &["msi chart", "msi show"],
+        input: "msi-recording 9\n",
+        status: 2,
+        errors: "msi: recording line 1 refused 1 BadHeader\n",
+        ..PLAIN
+    },
+];
+
 #[test]
 fn recordings_are_shown(rt: HostRuntime) {
-    let alloc = rt.alloc();
-    for (line, recording, status, output) in [
-        ("msi show", FROM_OWNER, 0, FROM_OWNER_TABLE),
-        (
-            "msi show --block 0 --from 6 --steps 1",
-            FROM_OWNER,
-            0,
-            LOAD_TABLE,
-        ),
-        ("msi show", STALE, 1, STALE_TABLE),
-        ("msi show", SEATS, 0, SEATS_TABLE),
-        ("msi show", EXCLUSIVE, 0, EXCLUSIVE_TABLE),
-        ("msi chart", FROM_OWNER, 0, FROM_OWNER_CHART),
-    ] {
-        let served = run(&rt, alloc, line, recording).expect(&rt, "served");
-        served_as(&rt, &served, status, output, "");
-    }
+    are_served(&rt, rt.alloc(), SHOWN);
 }
 
 #[test]
-fn a_picture_names_the_seats(rt: HostRuntime) {
-    let served = run(&rt, rt.alloc(), "msi chart", SEATS).expect(&rt, "served");
-    let text = str::from_utf8(served.output.as_slice()).expect(&rt, "a text");
-    for step in ["by 1 ask 1 0 load", "by 2 request 0 0", "by 0 response 0 0"] {
-        assert_eq!(rt; text.split_once(step).is_some(), true, "at {step}");
-    }
+fn a_recording_is_drawn(rt: HostRuntime) {
+    let line = "msi chart";
+    let served = serve(&rt, rt.alloc(), line, "{}", FROM_OWNER);
+    served_as(&rt, line, &served, 0, FROM_OWNER_CHART, "");
 }
+
+const NAMED: &[Parts] = &[
+    Parts {
+        line: "msi chart",
+        file: "{}",
+        input: SEATS,
+        head: "",
+        parts: &["by 1 ask 1 0 load", "by 2 request 0 0", "by 0 response 0 0"],
+        tail: "",
+    },
+    Parts {
+        line: "msi chart",
+        file: "{}",
+        input: EXCLUSIVE,
+        head: "",
+        parts: &[">Data 0, exclusive<"],
+        tail: "",
+    },
+];
 
 #[test]
-fn a_picture_names_exclusive_data(rt: HostRuntime) {
-    let served = run(&rt, rt.alloc(), "msi chart", EXCLUSIVE).expect(&rt, "served");
-    let text = str::from_utf8(served.output.as_slice()).expect(&rt, "a text");
-    assert!(rt; text.split_once(">Data 0, exclusive<").is_some());
+fn pictures_name_seats_and_exclusive_data(rt: HostRuntime) {
+    have_parts(&rt, rt.alloc(), NAMED);
 }
 
-/// A recording of so many steps that do nothing.
-fn idle(rt: &impl Abort, alloc: Global, steps: u32) -> String {
-    let mut text = format!(in alloc;
-        "msi-recording 1\nshape 1 1\nopening 0\ncells 0\nentries {steps}\n"
-    ).expect(rt, "memory");
-    for _ in 0..steps {
-        text.push_str("ask 0 0 replace = idle\n")
-            .expect(rt, "memory");
+/// A recording of 2001 steps that do nothing.
+fn idle(rt: &impl Abort, alloc: Global) -> String {
+    let mut text = String::new(alloc);
+    let head = "msi-recording 1\nshape 1 1\nopening 0\ncells 0\nentries 2001\n";
+    push(rt, &mut text, &[head]);
+    for _ in 0..2001 {
+        push(rt, &mut text, &["ask 0 0 replace = idle\n"]);
     }
-    text.push_str("end\n").expect(rt, "memory");
+    push(rt, &mut text, &["end\n"]);
     text
 }
 
 #[test]
-fn refused_pictures(rt: HostRuntime) {
-    let alloc = rt.alloc();
-    let recording = idle(&rt, alloc, 2001);
+fn a_picture_of_too_many_steps(rt: HostRuntime) {
+    let recording = idle(&rt, rt.alloc());
+    let line = "msi chart";
     let many =
         "msi: 2001 steps, and a picture has room for 2000: choose fewer, by --from and --steps or by --block\n";
-    let header = "msi: recording line 1 refused 1 BadHeader\n";
-    for (line, text, errors) in [
-        ("msi chart", recording.as_str(), many),
-        ("msi chart", "msi-recording 9\n", header),
-        ("msi show", "msi-recording 9\n", header),
-    ] {
-        let served = run(&rt, alloc, line, text).expect(&rt, "served");
-        served_as(&rt, &served, 2, "", errors);
-    }
+    let served = serve(&rt, rt.alloc(), line, "{}", recording.as_str());
+    served_as(&rt, line, &served, 2, "", many);
     let line = "msi chart --steps 2000";
-    let served = run(&rt, alloc, line, recording.as_str()).expect(&rt, "served");
-    assert_eq!(rt; served.status, 0);
+    let served = serve(&rt, rt.alloc(), line, "{}", recording.as_str());
+    same_number(&rt, line, served.status as usize, 0);
 }

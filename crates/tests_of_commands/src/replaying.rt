@@ -1,119 +1,109 @@
-use crate::broken::{BROKEN, Broken};
+//! The steps that show a wrong table, as a recording of version 1 that is made here, and as `msi move` writes it.
+
+use crate::broken::{Broken, broken_tables, lines_of};
+use crate::cases::{holds, joined, push, serve, served_as, text_of};
 use crate::cells::CELLS;
-use command_lines::{run, run_over};
 use std::alloc::Global;
 use std::process::Abort;
 use std::sync::Wait;
 use std::thread::Threads;
 
 /// Adds the cells in which tables differ from the protocol's own, as a recording has them.
-fn add_cells<R: Threads + Wait + Abort + Sync>(
-    rt: &R,
-    alloc: Global,
-    tables: &'static str,
-    text: &mut String,
-) {
-    let line = "msi tables --tables table.json";
-    let served = run_over(rt, alloc, line, tables, "").expect(rt, "served");
-    let cells = str::from_utf8(served.output.as_slice()).expect(rt, "a text");
-    let mut count = 0u32;
+fn push_cells(rt: &impl Abort, text: &mut String, cells: &str) {
     for (found, own) in cells.lines().zip(CELLS.lines()) {
         if found != own {
-            count = count.saturating_add(1);
-        }
-    }
-    let head = format!(in alloc; "cells {count}\n").expect(rt, "memory");
-    text.push_str(head.as_str()).expect(rt, "memory");
-    for (found, own) in cells.lines().zip(CELLS.lines()) {
-        if found != own {
-            text.push_str(found).expect(rt, "memory");
-            text.push_str("\n").expect(rt, "memory");
+            push(rt, text, &[found, "\n"]);
         }
     }
 }
 
-/// Adds the steps of a broken table, each with the outcome that `msi play` prints.
-fn add_entries<R: Threads + Wait + Abort + Sync>(
-    rt: &R,
-    alloc: Global,
-    broken: &Broken,
-    text: &mut String,
-) {
-    let line = format!(in alloc; "msi play --caches {} --tables table.json", broken.caches).expect(
-        rt, "memory",
-    );
-    let served = run_over(rt, alloc, line.as_str(), broken.table, broken.steps).expect(
-        rt, "served",
-    );
-    let outcomes = str::from_utf8(served.output.as_slice()).expect(rt, "a text");
-    let count = broken.steps.lines().count();
-    let head = format!(in alloc; "entries {count}\n").expect(rt, "memory");
-    text.push_str(head.as_str()).expect(rt, "memory");
-    for (step, outcome) in broken.steps.lines().zip(outcomes.lines()) {
-        text.push_str(step).expect(rt, "memory");
-        text.push_str(" = ").expect(rt, "memory");
-        text.push_str(outcome).expect(rt, "memory");
-        text.push_str("\n").expect(rt, "memory");
+/// Adds the steps, each with the outcome that `msi play` prints.
+fn push_entries(rt: &impl Abort, text: &mut String, steps: &str, outcomes: &str) {
+    for (step, outcome) in steps.lines().zip(outcomes.lines()) {
+        push(rt, text, &[step, " = ", outcome, "\n"]);
     }
-    text.push_str("end\n").expect(rt, "memory");
+    push(rt, text, &["end\n"]);
+}
+
+fn counted(rt: &impl Abort, alloc: Global, count: usize) -> String {
+    format!(in alloc; "{count}").expect(rt, "memory")
 }
 
 fn recording_of<R: Threads + Wait + Abort + Sync>(
     rt: &R,
     alloc: Global,
     broken: &Broken,
+    count: &str,
 ) -> String {
-    let mut text = format!(in alloc;
-        "msi-recording 1\nshape {} 1\nopening 0\n",
-        broken.caches
-    ).expect(rt, "memory");
-    add_cells(rt, alloc, broken.table, &mut text);
-    add_entries(rt, alloc, broken, &mut text);
+    let changed = serve(
+        rt,
+        alloc,
+        "msi tables --tables table.json",
+        broken.table,
+        "",
+    );
+    let played = serve(
+        rt,
+        alloc,
+        lines_of(broken).changed,
+        broken.table,
+        broken.steps,
+    );
+    let mut text = joined(rt, alloc, &[lines_of(broken).head]);
+    push_cells(rt, &mut text, text_of(rt, &changed.output));
+    push(rt, &mut text, &["entries ", count, "\n"]);
+    push_entries(rt, &mut text, broken.steps, text_of(rt, &played.output));
     text
 }
 
-/// Compares what is printed of a recording with the violation at its last entry.
-fn compare<R: Threads + Wait + Abort + Sync>(
+/// What is printed of the recording: its last entry makes the violation.
+fn answer_of(rt: &impl Abort, alloc: Global, broken: &Broken, count: &str) -> String {
+    let last = counted(rt, alloc, broken.steps.lines().count().saturating_sub(1));
+    let mut text = joined(
+        rt,
+        alloc,
+        &["same ", count, "\nviolation ", last.as_str(), " "],
+    );
+    let found = broken.violation.strip_prefix("violation ");
+    push(rt, &mut text, &[found.expect(rt, "a violation"), "\n"]);
+    text
+}
+
+fn is_replayed<R: Threads + Wait + Abort + Sync>(
     rt: &R,
     alloc: Global,
-    broken: &Broken,
     recording: &str,
+    answer: &str,
 ) {
-    let served = run(rt, alloc, "msi replay", recording).expect(rt, "served");
-    let count = broken.steps.lines().count();
-    let last = count.saturating_sub(1);
-    let wanted = broken
-        .violation
-        .strip_prefix("violation ")
-        .expect(rt, "a violation");
-    let text = format!(in alloc; "same {count}\nviolation {last} {wanted}\n").expect(rt, "memory");
-    assert_eq!(rt;
-        served.output.as_slice(),
-        text.as_str().as_bytes(),
-        "at {}",
-        broken.table
-    );
-    assert_eq!(rt; served.status, 1);
+    let line = "msi replay";
+    let served = serve(rt, alloc, line, "{}", recording);
+    served_as(rt, line, &served, 1, answer, "");
 }
 
 /// The same in version 2.
-fn compare_moved<R: Threads + Wait + Abort + Sync>(
+fn is_replayed_moved<R: Threads + Wait + Abort + Sync>(
     rt: &R,
     alloc: Global,
-    broken: &Broken,
     recording: &str,
+    answer: &str,
 ) {
-    let moved = run(rt, alloc, "msi move", recording).expect(rt, "served");
-    let text = str::from_utf8(moved.output.as_slice()).expect(rt, "a text");
-    assert!(rt; text.starts_with("msi-recording 2\n"));
-    compare(rt, alloc, broken, text);
+    let moved = serve(rt, alloc, "msi move", "{}", recording);
+    let text = text_of(rt, &moved.output);
+    holds(rt, text, text.starts_with("msi-recording 2\n"));
+    is_replayed(rt, alloc, text, answer);
+}
+
+fn are_replayed<R: Threads + Wait + Abort + Sync>(rt: &R, alloc: Global) {
+    for broken in broken_tables() {
+        let count = counted(rt, alloc, broken.steps.lines().count());
+        let recording = recording_of(rt, alloc, broken, count.as_str());
+        let answer = answer_of(rt, alloc, broken, count.as_str());
+        is_replayed(rt, alloc, recording.as_str(), answer.as_str());
+        is_replayed_moved(rt, alloc, recording.as_str(), answer.as_str());
+    }
 }
 
 #[test]
 fn broken_tables_are_replayed(rt: HostRuntime) {
-    for broken in BROKEN {
-        let recording = recording_of(&rt, rt.alloc(), &broken);
-        compare(&rt, rt.alloc(), &broken, recording.as_str());
-        compare_moved(&rt, rt.alloc(), &broken, recording.as_str());
-    }
+    are_replayed(&rt, rt.alloc());
 }

@@ -1,253 +1,261 @@
-use crate::broken::BROKEN;
+//! Commands over words, steps and tables, and what they refuse.
+
+use crate::broken::{broken_tables, is_shown, lines_of};
+use crate::cases::{
+    Case, PLAIN, are_printed, are_served, holds, joined, same_number, same_text, serve, served_as,
+    text_of,
+};
 use crate::cells::CELLS;
-use crate::served_as;
-use crate::worked::ROWS;
-use command_lines::{recording, run, run_over};
+use crate::worked::{OF_THREE, OF_TWO, OTHERS};
 use commands::VERSION;
+use std::alloc::Global;
+use std::process::Abort;
+use std::sync::Wait;
+use std::thread::Threads;
 
 #[test]
-fn rows_are_played(rt: HostRuntime) {
-    let alloc = rt.alloc();
-    for row in ROWS {
-        let line = format!(in alloc; "msi play --caches {}", row.caches).expect(&rt, "memory");
-        let served = run(&rt, alloc, line.as_str(), row.steps).expect(&rt, "served");
-        served_as(&rt, &served, 0, row.outcomes, "");
-    }
+fn steps_are_played(rt: HostRuntime) {
+    are_printed(&rt, rt.alloc(), "msi play --caches 2", OF_TWO);
+    are_printed(&rt, rt.alloc(), "msi play --caches 3", OF_THREE);
+    are_served(&rt, rt.alloc(), OTHERS);
 }
 
-#[test]
-fn empty_lines_are_skipped(rt: HostRuntime) {
-    let steps = "\n\nask 0 0 replace\n\nask 0 0 store 1";
-    let served = run(&rt, rt.alloc(), "msi play --caches 2", steps).expect(&rt, "served");
-    served_as(&rt, &served, 0, "idle\nsent\n", "");
-}
-
-#[test]
-fn blocks_of_a_world(rt: HostRuntime) {
-    let steps =
-        "ask 4095 65535 store 3\nask 4096 65535 load\nask 0 65536 load\nrequest 65535 0\nresponse 65535 0\nask 4095 65535 load\n";
-    let line = "msi play --caches 4096 --blocks 65536";
-    let served = run(&rt, rt.alloc(), line, steps).expect(&rt, "served");
-    served_as(
-        &rt,
-        &served,
-        0,
-        "sent\nabsent\nabsent\nmoved\nstore 4095 3\nload 4095 3\n",
-        "",
-    );
+/// All cells but one are the protocol's own.
+fn one_cell_differs(rt: &impl Abort, cells: &str, found: &str, own: &str) {
+    let (front, rest) = cells.split_once(found).expect(rt, "a cell");
+    let (own_front, own_rest) = CELLS.split_once(own).expect(rt, "a cell");
+    same_text(rt, found, front, own_front);
+    same_text(rt, found, rest, own_rest);
 }
 
 #[test]
 fn cells_of_the_tables(rt: HostRuntime) {
-    let alloc = rt.alloc();
-    assert_eq!(rt; CELLS.lines().count(), 160);
+    same_number(&rt, "cells", CELLS.lines().count(), 160);
     for line in ["msi tables", "msi tables --tables table.json"] {
-        let served = run(&rt, alloc, line, "").expect(&rt, "served");
-        served_as(&rt, &served, 0, CELLS, "");
+        let served = serve(&rt, rt.alloc(), line, "{}", "");
+        served_as(&rt, line, &served, 0, CELLS, "");
     }
-    let served = run_over(
+    let line = "msi tables --tables table.json";
+    let table = r#"{"cache":[{"state":"M","event":"Fwd-GetS","entry":"blank"}]}"#;
+    let served = serve(&rt, rt.alloc(), line, table, "");
+    one_cell_differs(
         &rt,
-        alloc,
-        "msi tables --tables table.json",
-        r#"{"cache":[{"state":"M","event":"Fwd-GetS","entry":"blank"}]}"#,
-        "",
-    )
-    .expect(&rt, "served");
-    let text = str::from_utf8(served.output.as_slice()).expect(&rt, "a text");
-    for (found, own) in text.lines().zip(CELLS.lines()) {
-        let cell = "cell cache M Fwd-GetS ";
-        if own.starts_with(cell) {
-            assert_eq!(rt; found, "cell cache M Fwd-GetS blank");
-        } else {
-            assert_eq!(rt; found, own);
-        }
+        text_of(&rt, &served.output),
+        "\ncell cache M Fwd-GetS blank\n",
+        "\ncell cache M Fwd-GetS act S data-req data-dir\n",
+    );
+}
+
+fn are_found_out<R: Threads + Wait + Abort + Sync>(rt: &R, alloc: Global) {
+    for broken in broken_tables() {
+        let line = lines_of(broken).changed;
+        is_shown(
+            rt,
+            alloc,
+            line,
+            broken.table,
+            broken.steps,
+            broken.violation,
+        );
     }
-    assert_eq!(rt; text.lines().count(), 160);
 }
 
 #[test]
 fn broken_tables_are_found_out(rt: HostRuntime) {
-    let alloc = rt.alloc();
-    for broken in BROKEN {
-        let line = format!(in alloc;
-            "msi play --caches {} --tables table.json",
-            broken.caches
-        ).expect(&rt, "memory");
-        let served = run_over(&rt, alloc, line.as_str(), broken.table, broken.steps).expect(
-            &rt, "served",
-        );
-        assert_eq!(rt; served.status, 1, "at {}", broken.table);
-        let text = str::from_utf8(served.output.as_slice()).expect(&rt, "a text");
-        assert_eq!(rt; text.lines().last(), Some(broken.violation));
-        assert_eq!(rt; text.lines().count(), broken.steps.lines().count() + 1);
-        let own = format!(in alloc; "msi play --caches {}", broken.caches).expect(&rt, "memory");
-        let served = run(&rt, alloc, own.as_str(), broken.steps).expect(&rt, "served");
-        assert_eq!(rt; served.status, 0, "at {}", broken.table);
+    are_found_out(&rt, rt.alloc());
+}
+
+fn are_safe_under_own_tables<R: Threads + Wait + Abort + Sync>(rt: &R, alloc: Global) {
+    for broken in broken_tables() {
+        let served = serve(rt, alloc, lines_of(broken).own, "{}", broken.steps);
+        same_number(rt, broken.steps, served.status as usize, 0);
     }
 }
 
 #[test]
-fn what_follows_a_violation_is_not_read(rt: HostRuntime) {
-    let served = run_over(
-        &rt,
-        rt.alloc(),
-        "msi play --caches 1 --tables table.json",
-        r#"{"cache":[{"state":"I","event":"Load","entry":"blank"}]}"#,
-        "ask 0 0 load\nask 0 0 load\nno step\n",
-    )
-    .expect(&rt, "served");
-    let outcomes = "blank\nviolation blank cache 0 block 0\n";
-    served_as(&rt, &served, 1, outcomes, "");
+fn the_same_steps_are_safe_under_own_tables(rt: HostRuntime) {
+    are_safe_under_own_tables(&rt, rt.alloc());
 }
+
+const OVER_TABLES: &[&str] = &[
+    "msi play --caches 2 --tables table.json",
+    "msi tables --tables table.json",
+];
+
+const REFUSED_TABLES: &[Case] = &[
+    Case {
+        lines: OVER_TABLES,
+        file: "{",
+        input: "no step\n",
+        status: 2,
+        errors: "msi: tables refused 1 NotJson\n",
+        ..PLAIN
+    },
+    Case {
+        lines: OVER_TABLES,
+        file: "[]",
+        input: "no step\n",
+        status: 2,
+        errors: "msi: tables refused 2 BadShape\n",
+        ..PLAIN
+    },
+    Case {
+        lines: OVER_TABLES,
+        file: r#"{"cache":[{"state":"X","event":"Inv","entry":"stall"}]}"#,
+        input: "no step\n",
+        status: 2,
+        errors: "msi: tables refused 3 UnknownState\n",
+        ..PLAIN
+    },
+    Case {
+        lines: OVER_TABLES,
+        file: r#"{"cache":[{"state":"S","event":"GetS","entry":"stall"}]}"#,
+        input: "no step\n",
+        status: 2,
+        errors: "msi: tables refused 4 UnknownEvent\n",
+        ..PLAIN
+    },
+    Case {
+        lines: OVER_TABLES,
+        file: r#"{"directory":[{"state":"I","event":"GetS","entry":{"next":"S","do":["putm"]}}]}"#,
+        input: "no step\n",
+        status: 2,
+        errors: "msi: tables refused 5 UnknownAction\n",
+        ..PLAIN
+    },
+    Case {
+        lines: OVER_TABLES,
+        file: r#"{"cache":[{"state":"S","event":"Inv","entry":"stall"},{"state":"S","event":"Inv","entry":"stall"}]}"#,
+        input: "no step\n",
+        status: 2,
+        errors: "msi: tables refused 6 SameCellTwice\n",
+        ..PLAIN
+    },
+    Case {
+        lines: &[
+            "msi play --caches 2 --tables missing.json",
+            "msi tables --tables missing.json",
+        ],
+        input: "no step\n",
+        status: 3,
+        errors: "msi: device\n",
+        ..PLAIN
+    },
+];
 
 #[test]
 fn refused_tables(rt: HostRuntime) {
-    let alloc = rt.alloc();
-    let twice =
-        r#"{"cache":[{"state":"S","event":"Inv","entry":"stall"},{"state":"S","event":"Inv","entry":"stall"}]}"#;
-    for (file, text, status, errors) in [
-        ("table.json", "{", 2, "msi: tables refused 1 NotJson\n"),
-        ("table.json", "[]", 2, "msi: tables refused 2 BadShape\n"),
-        (
-            "table.json",
-            r#"{"cache":[{"state":"X","event":"Inv","entry":"stall"}]}"#,
-            2,
-            "msi: tables refused 3 UnknownState\n",
-        ),
-        (
-            "table.json",
-            r#"{"cache":[{"state":"S","event":"GetS","entry":"stall"}]}"#,
-            2,
-            "msi: tables refused 4 UnknownEvent\n",
-        ),
-        (
-            "table.json",
-            r#"{"directory":[{"state":"I","event":"GetS","entry":{"next":"S","do":["putm"]}}]}"#,
-            2,
-            "msi: tables refused 5 UnknownAction\n",
-        ),
-        (
-            "table.json",
-            twice,
-            2,
-            "msi: tables refused 6 SameCellTwice\n",
-        ),
-        ("missing.json", "{}", 3, "msi: device\n"),
-    ] {
-        for command in ["msi play --caches 2", "msi tables"] {
-            let line = format!(in alloc; "{command} --tables {file}").expect(&rt, "memory");
-            let served = run_over(&rt, alloc, line.as_str(), text, "no step\n").expect(
-                &rt, "served",
-            );
-            served_as(&rt, &served, status, "", errors);
-        }
-    }
+    are_served(&rt, rt.alloc(), REFUSED_TABLES);
 }
 
-#[test]
-fn what_is_not_a_step(rt: HostRuntime) {
-    let alloc = rt.alloc();
-    let line = "msi play --caches 2";
-    let first = run(&rt, alloc, line, "asc 0 0 load\n").expect(&rt, "served");
-    served_as(&rt, &first, 2, "", "msi: line 1: not a step\n");
-    let third = run(&rt, alloc, line, "ask 0 0 load\n\nrequest 0\n").expect(&rt, "served");
-    served_as(&rt, &third, 2, "sent\n", "msi: line 3: not a step\n");
-    let mut long = String::from_str(alloc, "request 0 0\n").expect(&rt, "memory");
-    for _ in 0..201 {
-        long.push_str("1").expect(&rt, "memory");
+/// Command lines that are refused.
+const REFUSED: &str = "msi
+msi dance
+msi play
+msi play --caches 0
+msi play --caches 4097
+msi play --caches two
+msi play --caches 2 --blocks 0
+msi play --caches 2 --blocks 65537
+msi play --caches 2 --colour
+msi replay --caches 2
+msi move --caches 2
+msi tables --protocol mesi
+msi tables --protocol
+";
+
+const HELPS: &str = "msi --help
+msi play --help
+";
+
+/// Each of these ends so, and prints something, or says something on the errors: one of both.
+fn are_answered<R: Threads + Wait + Abort + Sync>(
+    rt: &R,
+    alloc: Global,
+    lines: &str,
+    status: usize,
+    is_printed: bool,
+) {
+    for line in lines.lines() {
+        let served = serve(rt, alloc, line, "{}", "");
+        holds(rt, line, served.output.is_empty() != is_printed);
+        holds(rt, line, served.errors.is_empty() == is_printed);
+        same_number(rt, line, served.status as usize, status);
     }
-    let second = run(&rt, alloc, line, long.as_str()).expect(&rt, "served");
-    served_as(&rt, &second, 2, "absent\n", "msi: line 2: not a step\n");
 }
 
 #[test]
 fn bad_words_and_help(rt: HostRuntime) {
-    let alloc = rt.alloc();
-    for line in [
-        "msi",
-        "msi dance",
-        "msi play",
-        "msi play --caches 0",
-        "msi play --caches 4097",
-        "msi play --caches two",
-        "msi play --caches 2 --blocks 0",
-        "msi play --caches 2 --blocks 65537",
-        "msi play --caches 2 --colour",
-    ] {
-        let served = run(&rt, alloc, line, "").expect(&rt, "served");
-        assert_eq!(rt; served.status, 2, "at {line}");
-        assert!(rt; served.output.is_empty());
-        assert!(rt; !served.errors.is_empty());
-    }
-    for line in ["msi --help", "msi play --help"] {
-        let served = run(&rt, alloc, line, "").expect(&rt, "served");
-        assert_eq!(rt; served.status, 0, "at {line}");
-        assert!(rt; !served.output.is_empty());
-        assert!(rt; served.errors.is_empty());
-    }
-    let version = format!(in alloc; "msi {VERSION}\n").expect(&rt, "memory");
-    let served = run(&rt, alloc, "msi --version", "").expect(&rt, "served");
-    served_as(&rt, &served, 0, version.as_str(), "");
+    are_answered(&rt, rt.alloc(), REFUSED, 2, false);
+    are_answered(&rt, rt.alloc(), HELPS, 0, true);
+    let version = joined(&rt, rt.alloc(), &["msi ", VERSION, "\n"]);
+    let line = "msi --version";
+    let served = serve(&rt, rt.alloc(), line, "{}", "");
+    served_as(&rt, line, &served, 0, version.as_str(), "");
 }
 
-#[test]
-fn recordings_are_replayed(rt: HostRuntime) {
-    let alloc = rt.alloc();
-    let same = recording(alloc, "load 1 7").expect(&rt, "memory");
-    let served = run(&rt, alloc, "msi replay", same.as_str()).expect(&rt, "served");
-    served_as(&rt, &served, 0, "same 8\n", "");
-    let other = recording(alloc, "load 1 6").expect(&rt, "memory");
-    let differs = "differs 6 told load 1 6 found load 1 7\n";
-    let served = run(&rt, alloc, "msi replay", other.as_str()).expect(&rt, "served");
-    served_as(&rt, &served, 1, differs, "");
-    let broken =
-        "msi-recording 1\nshape 2 1\nopening 0\ncells 1\ncell cache I Load act S\nentries 4\nask 0 0 store 7 = sent\nrequest 0 0 = moved\nresponse 0 0 = store 0 7\nask 1 0 load = load 1 0\nend\n";
-    let violation = "same 4\nviolation 3 writer 0 beside reader 1 block 0\n";
-    let served = run(&rt, alloc, "msi replay", broken).expect(&rt, "served");
-    served_as(&rt, &served, 1, violation, "");
-}
+const READERS: &[&str] = &["msi replay", "msi move"];
+
+const REFUSED_RECORDINGS: &[Case] = &[
+    Case {
+        lines: READERS,
+        input: "",
+        status: 2,
+        errors: "msi: recording line 1 refused 3 Truncated\n",
+        ..PLAIN
+    },
+    Case {
+        lines: READERS,
+        input: "msi-recording 9\n",
+        status: 2,
+        errors: "msi: recording line 1 refused 1 BadHeader\n",
+        ..PLAIN
+    },
+    Case {
+        lines: READERS,
+        input: "msi-recording 1\nshape 01 1\n",
+        status: 2,
+        errors: "msi: recording line 2 refused 2 BadLine\n",
+        ..PLAIN
+    },
+    Case {
+        lines: READERS,
+        input: "msi-recording 1\nshape 0 1\n",
+        status: 2,
+        errors: "msi: recording line 2 refused 6 OverLimit\n",
+        ..PLAIN
+    },
+    Case {
+        lines: READERS,
+        input: "msi-recording 1\nshape 1 1\nopening 0\ncells 0\nentries 1\nend\n",
+        status: 2,
+        errors: "msi: recording line 6 refused 4 CountDiffers\n",
+        ..PLAIN
+    },
+    Case {
+        lines: READERS,
+        input: "msi-recording 1\nshape 1 1\nopening 0\ncells 0\nentries 1\nrequest 0 0 = lost\n",
+        status: 2,
+        errors: "msi: recording line 6 refused 5 BadOutcome\n",
+        ..PLAIN
+    },
+    Case {
+        lines: READERS,
+        input: "msi-recording 2\nprotocol mesi\n",
+        status: 2,
+        errors: "msi: recording line 2 refused 9 UnknownProtocol\n",
+        ..PLAIN
+    },
+    Case {
+        lines: READERS,
+        input: "msi-recording 2\nprotocol msi\nshape 1 1\nseats 65\n",
+        status: 2,
+        errors: "msi: recording line 4 refused 6 OverLimit\n",
+        ..PLAIN
+    },
+];
 
 #[test]
 fn refused_recordings(rt: HostRuntime) {
-    let alloc = rt.alloc();
-    for (text, errors) in [
-        ("", "msi: recording line 1 refused 3 Truncated\n"),
-        (
-            "msi-recording 9\n",
-            "msi: recording line 1 refused 1 BadHeader\n",
-        ),
-        (
-            "msi-recording 1\nshape 01 1\n",
-            "msi: recording line 2 refused 2 BadLine\n",
-        ),
-        (
-            "msi-recording 1\nshape 0 1\n",
-            "msi: recording line 2 refused 6 OverLimit\n",
-        ),
-        (
-            "msi-recording 1\nshape 1 1\nopening 0\ncells 0\nentries 1\nend\n",
-            "msi: recording line 6 refused 4 CountDiffers\n",
-        ),
-        (
-            "msi-recording 1\nshape 1 1\nopening 0\ncells 0\nentries 1\nrequest 0 0 = lost\n",
-            "msi: recording line 6 refused 5 BadOutcome\n",
-        ),
-        (
-            "msi-recording 2\nprotocol mesi\n",
-            "msi: recording line 2 refused 9 UnknownProtocol\n",
-        ),
-        (
-            "msi-recording 2\nprotocol msi\nshape 1 1\nseats 65\n",
-            "msi: recording line 4 refused 6 OverLimit\n",
-        ),
-    ] {
-        for line in ["msi replay", "msi move"] {
-            let served = run(&rt, alloc, line, text).expect(&rt, "served");
-            served_as(&rt, &served, 2, "", errors);
-        }
-    }
-    for line in ["msi replay --caches 2", "msi move --caches 2"] {
-        let served = run(&rt, alloc, line, "").expect(&rt, "served");
-        assert_eq!(rt; served.status, 2);
-    }
+    are_served(&rt, rt.alloc(), REFUSED_RECORDINGS);
 }

@@ -4,7 +4,9 @@ ghost use Rattle.floor.specs.FloorId.{floor_id};
 use crate::asserting::same;
 use crate::setups::setup;
 use base::{Ask, BlockId, CacheId, NoMemory, Step};
-use floor::{Chooser, Closed, Floor, Gate, Ground, Naming, Receipt, Seat, TurnFault, Wish, crew};
+use floor::{
+    Chooser, Closed, CrewFault, Floor, Gate, Ground, Naming, Receipt, Seat, TurnFault, Wish, crew,
+};
 use record::replay;
 use std::alloc::Global;
 use std::marker::Brand;
@@ -62,7 +64,10 @@ impl<'a, F: Naming> Chooser<F> for Script<'a> {
     fn next(&mut self, last: Option<&Receipt<F>>) -> Option<Wish> {
         let call = self.calls;
         self.calls = call.saturating_add(1);
-        let told = last.map(|receipt| receipt.entry().step);
+        let told = match last {
+            Some(receipt) => Some(receipt.entry().step),
+            None => None,
+        };
         if call == 0 && told.is_some() {
             self.meeting.note_mistake();
         }
@@ -183,10 +188,8 @@ fn compare<F: Naming, R: Abort>(rt: &R, seat: &Seat<F>, ended: &Option<TurnFault
     same(rt, ended, &None);
     let receipts = seat.receipts();
     for call in 0..STEPS {
-        let found = receipts
-            .get(call as usize)
-            .map(|receipt| receipt.entry().step);
-        same(rt, &found, &Some(wished(seat.number(), call)));
+        let receipt = receipts.get(call as usize).expect(rt, "a receipt");
+        same(rt, &receipt.entry().step, &wished(seat.number(), call));
     }
     receipts.len()
 }
@@ -199,8 +202,19 @@ fn compare_closed<F: Naming, R: Abort>(rt: &R, alloc: Global, closed: &Closed<F>
     same(rt, &closed.violation, &replayed.violation);
 }
 
-/// Has the seats play their scripts, once so many have come, and hands them back.
-fn played<F: Naming + Send + Sync, R: Threads + Wait + Abort + Sync>(
+/// Has the seats play their scripts.
+pub fn played<'a, F: Naming + Send + Sync, R: Threads + Wait + Sync>(
+    rt: &R,
+    alloc: Global,
+    floor: &Floor<F>,
+    gate: &Meeting,
+    members: Vec<(Seat<F>, Script<'a>)>,
+) -> Result<Vec<(Seat<F>, Option<TurnFault>)>, (CrewFault, Vec<(Seat<F>, Script<'a>)>)> {
+    crew(rt, alloc, floor, gate, members)
+}
+
+/// The same once so many have come.
+fn come_and_play<F: Naming + Send + Sync, R: Threads + Wait + Abort + Sync>(
     rt: &R,
     alloc: Global,
     floor: &Floor<F>,
@@ -209,11 +223,9 @@ fn played<F: Naming + Send + Sync, R: Threads + Wait + Abort + Sync>(
 ) -> Vec<(Seat<F>, Option<TurnFault>)> {
     let gate = Meeting::of(awaited);
     let members = cast(alloc, seats, &gate).expect(rt, "memory");
-    let back = crew(rt, alloc, floor, &gate, members)
-        .ok()
-        .expect(rt, "a crew");
+    let back = played(rt, alloc, floor, &gate, members).ok();
     same(rt, &gate.is_right(), &true);
-    back
+    back.expect(rt, "a crew")
 }
 
 /// Compares the seats that came back with what they wished, and answers how many receipts they have.
@@ -252,23 +264,18 @@ fn race<F: Naming + Send + Sync, R: Threads + Wait + Abort + Sync>(
     requires { F.floor ≡ floor_id ground setup.now count 600 }
 {
     let (floor, seats) = Floor::<F>::open(ground, alloc, setup, count, 600).expect(rt, "a floor");
-    let back = played(rt, alloc, &floor, seats, count);
+    let back = come_and_play(rt, alloc, &floor, seats, count);
     let (seats, made) = compare_all(rt, alloc, back);
     closes(rt, alloc, floor, seats, made)
 }
 
 #[test]
-fn three_seats_over_two_caches(rt: HostRuntime) {
+fn seats_that_meet_over_two_caches(rt: HostRuntime) {
     let setup = setup(&rt, rt.alloc(), 2);
-    let ground = Ground::new(rt.alloc()).expect(&rt, "memory");
-    race::<Brand, _>(&rt, rt.alloc(), ground, &setup, 3)
-}
-
-#[test]
-fn two_seats_that_meet(rt: HostRuntime) {
-    let setup = setup(&rt, rt.alloc(), 2);
-    let ground = Ground::new(rt.alloc()).expect(&rt, "memory");
-    race::<Brand, _>(&rt, rt.alloc(), ground, &setup, 2)
+    for count in [3, 2] {
+        let ground = Ground::new(rt.alloc()).expect(&rt, "memory");
+        race::<Brand, _>(&rt, rt.alloc(), ground, &setup, count)
+    }
 }
 
 /// A crew of no seats ends at once, with nothing.
@@ -281,7 +288,7 @@ fn nobody<F: Naming + Send + Sync, R: Threads + Wait + Abort + Sync>(
     requires { F.floor ≡ floor_id ground setup.now 2 600 }
 {
     let (floor, seats) = Floor::<F>::open(ground, alloc, setup, 2, 600).expect(rt, "a floor");
-    let back = played(rt, alloc, &floor, Vec::new(alloc), 0);
+    let back = come_and_play(rt, alloc, &floor, Vec::new(alloc), 0);
     same(rt, &back.is_empty(), &true);
     closes(rt, alloc, floor, seats, 0)
 }

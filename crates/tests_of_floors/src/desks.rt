@@ -55,20 +55,48 @@ fn posts<D: Planned, R: Abort>(
     same(rt, &desk.look(zero, 3), &None);
 }
 
+/// Takes the last seat of a row.
+fn take_seat<D: Planned, R: Abort>(
+    rt: &R,
+    desk: &Desk<'_, D>,
+    seats: &mut Vec<DeskSeat<D>>,
+) -> DeskSeat<D>
+    requires { All (λ seat. seat.desk ≡ desk.now.id) seats.old.items }
+    ensures rest { All (λ seat. seat.desk ≡ desk.now.id) seats.new.items }
+    ensures seat { result.desk ≡ desk.now.id }
+{
+    seats.pop().expect(rt, "a seat")
+}
+
+/// Puts two seats back.
+fn put_back<D: Planned, R: Abort>(
+    rt: &R,
+    desk: &Desk<'_, D>,
+    seats: &mut Vec<DeskSeat<D>>,
+    one: DeskSeat<D>,
+    other: DeskSeat<D>,
+)
+    requires seats { All (λ seat. seat.desk ≡ desk.now.id) seats.old.items }
+    requires both { (one.desk ≡ desk.now.id) × (other.desk ≡ desk.now.id) }
+    ensures { All (λ seat. seat.desk ≡ desk.now.id) seats.new.items }
+{
+    seats.push(one).expect(rt, "memory");
+    seats.push(other).expect(rt, "memory");
+}
+
 /// Two seats, three numbers, and one post: the other places stay empty.
 fn two_seats<D: Planned, R: Abort>(rt: &R, alloc: Global, job: &Job)
     requires { D.plan ≡ plan_of job.now }
 {
     let (desk, mut seats) = Desk::<D>::new(alloc, job, 3, 2).expect(rt, "a desk");
-    let mut one = seats.pop().expect(rt, "a seat");
-    let mut zero = seats.pop().expect(rt, "a seat");
+    let mut one = take_seat(rt, &desk, &mut seats);
+    let mut zero = take_seat(rt, &desk, &mut seats);
     claims(rt, &desk, &mut zero, &mut one);
     let two = trial(alloc, &job.scenario, &job.setup, 2)
         .expect(rt, "memory")
         .result;
     posts(rt, &desk, &mut zero, &mut one, two);
-    seats.push(zero).expect(rt, "memory");
-    seats.push(one).expect(rt, "memory");
+    put_back(rt, &desk, &mut seats, zero, one);
     let places = desk.close(seats).ok().expect(rt, "closed");
     same(rt, &places.as_slice(), &[None, None, Some(two)].as_slice());
 }
@@ -84,7 +112,7 @@ fn without_a_seat<D: Planned, R: Abort>(rt: &R, alloc: Global, job: &Job)
     requires { D.plan ≡ plan_of job.now }
 {
     let (desk, mut seats) = Desk::<D>::new(alloc, job, 3, 2).expect(rt, "a desk");
-    let one = seats.pop().expect(rt, "a seat");
+    let one = take_seat(rt, &desk, &mut seats);
     let (fault, desk, mut seats) = desk.close(seats).expect_err(rt, "a seat is missing");
     same(rt, &fault, &CloseFault::SeatMissing);
     seats.push(one).expect(rt, "memory");
@@ -161,33 +189,13 @@ fn one_after_the_other<D: Planned, R: Abort>(rt: &R, alloc: Global, job: &Job, n
     compare_with_batch(rt, alloc, job, n, &places)
 }
 
+/// A seat that works alone, and 64 for three numbers.
 #[test]
-fn a_seat_that_works_alone(rt: HostRuntime) {
+fn seats_that_work_in_turn(rt: HostRuntime) {
     let job = racing_pair(&rt, rt.alloc());
-    one_after_the_other::<Brand, _>(&rt, rt.alloc(), &job, 50, 1)
-}
-
-#[test]
-fn three_numbers_and_64_seats(rt: HostRuntime) {
-    let job = racing_pair(&rt, rt.alloc());
-    one_after_the_other::<Brand, _>(&rt, rt.alloc(), &job, 3, 64)
-}
-
-/// A row of seats with two more.
-fn with_both<D: Planned, R: Abort>(
-    rt: &R,
-    desk: &Desk<'_, D>,
-    mut seats: Vec<DeskSeat<D>>,
-    one: DeskSeat<D>,
-    other: DeskSeat<D>,
-) -> Vec<DeskSeat<D>>
-    requires seats { All (λ seat. seat.desk ≡ desk.now.id) seats.items }
-    requires both { (one.desk ≡ desk.now.id) × (other.desk ≡ desk.now.id) }
-    ensures { All (λ seat. seat.desk ≡ desk.now.id) result.items }
-{
-    seats.push(one).expect(rt, "memory");
-    seats.push(other).expect(rt, "memory");
-    seats
+    for (n, count) in [(50, 1), (3, 64)] {
+        one_after_the_other::<Brand, _>(&rt, rt.alloc(), &job, n, count)
+    }
 }
 
 /// Two seats that work in two threads, and how much they did.
@@ -227,12 +235,11 @@ fn two_threads<D: Planned + Send + Sync, R: Threads + Abort + Sync>(
     requires { D.plan ≡ plan_of job.now }
 {
     let (desk, mut seats) = Desk::<D>::new(alloc, job, 200, 2).expect(rt, "a desk");
-    let one = seats.pop().expect(rt, "a seat");
-    let zero = seats.pop().expect(rt, "a seat");
+    let one = take_seat(rt, &desk, &mut seats);
+    let zero = take_seat(rt, &desk, &mut seats);
     let (zero, one, made) = two_work(rt, &desk, zero, one);
     same(rt, &made, &Some(200));
-    seats.push(zero).expect(rt, "memory");
-    seats.push(one).expect(rt, "memory");
+    put_back(rt, &desk, &mut seats, zero, one);
     let places = desk.close(seats).ok().expect(rt, "closed");
     compare_with_batch(rt, alloc, job, 200, &places)
 }
@@ -252,10 +259,10 @@ fn four_threads<D: Planned + Send + Sync, R: Threads + Abort + Sync>(
     requires { D.plan ≡ plan_of job.now }
 {
     let (desk, mut seats) = Desk::<D>::new(alloc, job, 400, 4).expect(rt, "a desk");
-    let three = seats.pop().expect(rt, "a seat");
-    let two = seats.pop().expect(rt, "a seat");
-    let one = seats.pop().expect(rt, "a seat");
-    let zero = seats.pop().expect(rt, "a seat");
+    let three = take_seat(rt, &desk, &mut seats);
+    let two = take_seat(rt, &desk, &mut seats);
+    let one = take_seat(rt, &desk, &mut seats);
+    let zero = take_seat(rt, &desk, &mut seats);
     let shared = &desk;
     let ((zero, one, front), (two, three, back)) = thread::join(
         rt,
@@ -273,8 +280,8 @@ fn four_threads<D: Planned + Send + Sync, R: Threads + Abort + Sync>(
         _ => None,
     };
     same(rt, &made, &Some(400));
-    let seats = with_both(rt, &desk, seats, zero, one);
-    let seats = with_both(rt, &desk, seats, two, three);
+    put_back(rt, &desk, &mut seats, zero, one);
+    put_back(rt, &desk, &mut seats, two, three);
     let places = desk.close(seats).ok().expect(rt, "closed");
     compare_with_batch(rt, alloc, job, 400, &places)
 }
@@ -310,11 +317,7 @@ fn find_other<D: Planned>(
     requires plan { D.plan ≡ plan_of job.now }
     ensures { seat.new.desk ≡ desk.now.id }
 {
-    let number = desk.claim(seat)?;
-    let made = trial(alloc, &job.scenario, &job.setup, number).ok()?;
-    if desk.post(seat, number, made.result).is_err() {
-        return None;
-    }
+    let number = post_next(alloc, desk, seat, job)?;
     let other = if number == 0 { 1 } else { 0 };
     for _ in 0..LOOKS {
         if let Some(found) = desk.look(seat, other) {
@@ -324,13 +327,32 @@ fn find_other<D: Planned>(
     None
 }
 
+/// Makes the trial of the next number and posts it, and answers the number.
+fn post_next<D: Planned>(
+    alloc: Global,
+    desk: &Desk<'_, D>,
+    seat: &mut DeskSeat<D>,
+    job: &Job,
+) -> Option<u32>
+    requires seat { seat.old.desk ≡ desk.now.id }
+    requires plan { D.plan ≡ plan_of job.now }
+    ensures { seat.new.desk ≡ desk.now.id }
+{
+    let number = desk.claim(seat)?;
+    let made = trial(alloc, &job.scenario, &job.setup, number).ok()?.result;
+    match desk.post(seat, number, made) {
+        Ok(()) => Some(number),
+        Err(_) => None,
+    }
+}
+
 /// Two threads, of which each finds what the other posted.
 fn two_find<D: Planned + Send + Sync, R: Threads + Abort + Sync>(rt: &R, alloc: Global, job: &Job)
     requires { D.plan ≡ plan_of job.now }
 {
     let (desk, mut seats) = Desk::<D>::new(alloc, job, 2, 2).expect(rt, "a desk");
-    let one = seats.pop().expect(rt, "a seat");
-    let zero = seats.pop().expect(rt, "a seat");
+    let one = take_seat(rt, &desk, &mut seats);
+    let zero = take_seat(rt, &desk, &mut seats);
     let shared = &desk;
     let ((zero, first), (one, second)) = thread::join(
         rt,
@@ -346,8 +368,7 @@ fn two_find<D: Planned + Send + Sync, R: Threads + Abort + Sync>(rt: &R, alloc: 
         { post_and_find(alloc, shared, one, job) },
     );
     assert!(rt; first.is_some() && second.is_some());
-    seats.push(zero).expect(rt, "memory");
-    seats.push(one).expect(rt, "memory");
+    put_back(rt, &desk, &mut seats, zero, one);
     let places = desk.close(seats).ok().expect(rt, "closed");
     // Which seat has which number is up to the threads.
     assert!(rt; places.contains(&first) && places.contains(&second) && first != second);

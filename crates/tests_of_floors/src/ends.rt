@@ -39,7 +39,6 @@ const REQUEST: Wish = Wish::Step(Step::Request {
 });
 
 /// What the last seat of a floor wishes, and what comes of it.
-#[derive(Clone, Copy)]
 struct Row<'a> {
     seats: u32,
     capacity: u32,
@@ -112,7 +111,10 @@ struct Plan<'a> {
 
 impl<'a, F: Naming> Chooser<F> for Plan<'a> {
     fn next(&mut self, last: Option<&Receipt<F>>) -> Option<Wish> {
-        let told = last.map_or(0, |receipt| receipt.number().saturating_add(1));
+        let told = match last {
+            Some(receipt) => receipt.number().saturating_add(1),
+            None => 0,
+        };
         let call = self.asked.fetch_add(1, Ordering::SeqCst) as usize;
         if let Some(place) = self.told.get(call) {
             place.store(told, Ordering::SeqCst);
@@ -161,15 +163,12 @@ fn compare<F: Naming, R: Abort>(rt: &R, seat: &Seat<F>, lines: &[&str]) {
 }
 
 /// Six numbers that nobody is told of.
-fn untold() -> [AtomicU64; 6] {
-    [
-        AtomicU64::new(9),
-        AtomicU64::new(9),
-        AtomicU64::new(9),
-        AtomicU64::new(9),
-        AtomicU64::new(9),
-        AtomicU64::new(9),
-    ]
+fn untold(rt: &impl Abort, alloc: Global) -> Vec<AtomicU64> {
+    let mut numbers = Vec::new(alloc);
+    for _ in 0..6 {
+        numbers.push(AtomicU64::new(9)).expect(rt, "memory");
+    }
+    numbers
 }
 
 /// Has a seat play a row, and compares what comes of it.
@@ -178,9 +177,9 @@ fn plays_at<F: Naming + Send + Sync, R: Threads + Wait + Abort + Sync>(
     alloc: Global,
     floor: &Floor<F>,
     seat: Seat<F>,
-    row: Row<'_>,
+    row: &Row<'_>,
 ) {
-    let told = untold();
+    let told = untold(rt, alloc);
     let asked = AtomicU32::new(0);
     let gate = Counter {
         passed: AtomicU32::new(0),
@@ -188,7 +187,7 @@ fn plays_at<F: Naming + Send + Sync, R: Threads + Wait + Abort + Sync>(
     };
     let plan = Plan {
         wishes: row.wishes,
-        told: &told,
+        told: told.as_slice(),
         asked: &asked,
     };
     let (seat, fault) = played(rt, alloc, floor, &gate, seat, plan);
@@ -208,9 +207,9 @@ fn plays<F: Naming + Send + Sync, R: Threads + Wait + Abort + Sync>(
     alloc: Global,
     ground: Ground,
     setup: &Setup,
-    row: Row<'_>,
+    row: &Row<'_>,
 )
-    requires { F.floor ≡ floor_id ground setup.now row.seats row.capacity }
+    requires { F.floor ≡ floor_id ground setup.now row.now.seats row.now.capacity }
 {
     let opened = Floor::<F>::open(ground, alloc, setup, row.seats, row.capacity);
     let (floor, mut seats) = opened.expect(rt, "a floor");
@@ -221,7 +220,7 @@ fn plays<F: Naming + Send + Sync, R: Threads + Wait + Abort + Sync>(
 #[test]
 fn a_seat_ends_without_a_wish_or_at_a_fault(rt: HostRuntime) {
     let setup = setup(&rt, rt.alloc(), 2);
-    for row in ROWS {
+    for row in &ROWS {
         let ground = Ground::new(rt.alloc()).expect(&rt, "memory");
         plays::<Brand, _>(&rt, rt.alloc(), ground, &setup, row)
     }

@@ -5,7 +5,7 @@ use crate::asserting::same;
 use crate::entries::entry_of;
 use crate::setups::setup;
 use base::{Ask, BlockId, Buffer, CacheId, Step};
-use floor::{CloseFault, Closed, Floor, FloorFault, Ground, Naming, Seat, TurnFault};
+use floor::{CloseFault, Closed, Floor, FloorFault, Ground, Naming, Seat, TurnFault, Wish};
 use record::{Entry, Recording, replay};
 use std::alloc::Global;
 use std::marker::Brand;
@@ -13,19 +13,27 @@ use std::process::Abort;
 use std::sync::Wait;
 use trials::Setup;
 
-const ONE_LOAD: [&str; 2] = ["ask 0 0 load = sent", "request 0 0 = moved"];
-
-const STORE_AND_LOAD: [&str; 4] = [
-    "ask 0 0 store 7 = sent",
-    "request 0 0 = moved",
-    "response 0 0 = store 0 7",
-    "ask 0 0 load = load 0 7",
-];
-
 const LOAD: Step = Step::Ask {
     cache: CacheId(0),
     block: BlockId(0),
     ask: Ask::Load,
+};
+
+const OTHER_LOAD: Step = Step::Ask {
+    cache: CacheId(1),
+    block: BlockId(0),
+    ask: Ask::Load,
+};
+
+const STORE: Step = Step::Ask {
+    cache: CacheId(0),
+    block: BlockId(0),
+    ask: Ask::Store(7),
+};
+
+const REQUEST: Step = Step::Request {
+    block: BlockId(0),
+    index: 0,
 };
 
 const RESPONSE: Step = Step::Response {
@@ -33,15 +41,151 @@ const RESPONSE: Step = Step::Response {
     index: 0,
 };
 
-/// Makes the steps of entries by a floor's only seat, and compares their receipts.
-fn make<F: Naming, R: Wait + Abort>(rt: &R, floor: &Floor<F>, seat: &mut Seat<F>, lines: &[&str]) {
-    for (number, line) in lines.iter().enumerate() {
-        let entry = entry_of(line).expect(rt, "an entry");
-        let receipt = floor.turn(rt, seat, entry.step).expect(rt, "a turn");
-        same(rt, &receipt.number(), &(number as u64));
-        same(rt, &receipt.entry(), &entry);
+/// A turn, and the line of its receipt, if it has one, or its fault.
+type Turn<'a> = (Wish, Result<Option<&'a str>, TurnFault>);
+
+/// What a floor's only seat does.
+struct Row<'a> {
+    caches: u32,
+    capacity: u32,
+    turns: &'a [Turn<'a>],
+    /// The entries of what is closed.
+    lines: &'a [&'a str],
+    /// Its text, where that is compared.
+    text: Option<&'a str>,
+}
+
+/// A floor that is full, a store and a load, a draw behind one where nothing can be delivered, and draws of one of two.
+const ROWS: [Row<'static>; 6] = [
+    Row {
+        caches: 2,
+        capacity: 2,
+        turns: &[
+            (Wish::Step(LOAD), Ok(Some("ask 0 0 load = sent"))),
+            (Wish::Step(REQUEST), Ok(Some("request 0 0 = moved"))),
+            (Wish::Step(RESPONSE), Err(TurnFault::Full)),
+            (Wish::Any(0), Err(TurnFault::Full)),
+        ],
+        lines: &["ask 0 0 load = sent", "request 0 0 = moved"],
+        text: None,
+    },
+    Row {
+        caches: 1,
+        capacity: 9,
+        turns: &[
+            (Wish::Step(STORE), Ok(Some("ask 0 0 store 7 = sent"))),
+            (Wish::Step(REQUEST), Ok(Some("request 0 0 = moved"))),
+            (Wish::Step(RESPONSE), Ok(Some("response 0 0 = store 0 7"))),
+            (Wish::Step(LOAD), Ok(Some("ask 0 0 load = load 0 7"))),
+        ],
+        lines: &[
+            "ask 0 0 store 7 = sent",
+            "request 0 0 = moved",
+            "response 0 0 = store 0 7",
+            "ask 0 0 load = load 0 7",
+        ],
+        text: Some(
+            "msi-recording 2\nprotocol msi\nshape 1 1\nseats 1\nopening 0\ncells 0\nentries 4\n\
+             by 0 ask 0 0 store 7 = sent\nby 0 request 0 0 = moved\n\
+             by 0 response 0 0 = store 0 7\nby 0 ask 0 0 load = load 0 7\nend\n",
+        ),
+    },
+    Row {
+        caches: 2,
+        capacity: 4,
+        turns: &[
+            (Wish::Any(5), Ok(None)),
+            (Wish::Step(LOAD), Ok(Some("ask 0 0 load = sent"))),
+            (Wish::Any(5), Ok(Some("request 0 0 = moved"))),
+        ],
+        lines: &["ask 0 0 load = sent", "request 0 0 = moved"],
+        text: None,
+    },
+    Row {
+        caches: 2,
+        capacity: 3,
+        turns: &[
+            (Wish::Step(LOAD), Ok(Some("ask 0 0 load = sent"))),
+            (Wish::Step(OTHER_LOAD), Ok(Some("ask 1 0 load = sent"))),
+            (Wish::Any(0), Ok(Some("request 0 0 = moved"))),
+        ],
+        lines: &[
+            "ask 0 0 load = sent",
+            "ask 1 0 load = sent",
+            "request 0 0 = moved",
+        ],
+        text: None,
+    },
+    Row {
+        caches: 2,
+        capacity: 3,
+        turns: &[
+            (Wish::Step(LOAD), Ok(Some("ask 0 0 load = sent"))),
+            (Wish::Step(OTHER_LOAD), Ok(Some("ask 1 0 load = sent"))),
+            (Wish::Any(1), Ok(Some("request 0 1 = moved"))),
+        ],
+        lines: &[
+            "ask 0 0 load = sent",
+            "ask 1 0 load = sent",
+            "request 0 1 = moved",
+        ],
+        text: None,
+    },
+    Row {
+        caches: 2,
+        capacity: 3,
+        turns: &[
+            (Wish::Step(LOAD), Ok(Some("ask 0 0 load = sent"))),
+            (Wish::Step(OTHER_LOAD), Ok(Some("ask 1 0 load = sent"))),
+            (Wish::Any(2), Ok(Some("request 0 0 = moved"))),
+        ],
+        lines: &[
+            "ask 0 0 load = sent",
+            "ask 1 0 load = sent",
+            "request 0 0 = moved",
+        ],
+        text: None,
+    },
+];
+
+/// Takes a turn by a floor's only seat, and answers its entry.
+fn turned<F: Naming, R: Wait + Abort>(
+    rt: &R,
+    floor: &Floor<F>,
+    seat: &mut Seat<F>,
+    wish: Wish,
+) -> Result<Option<Entry>, TurnFault> {
+    let number = seat.made() as u64;
+    let receipt = match wish {
+        Wish::Step(step) => floor.turn(rt, seat, step)?,
+        Wish::Any(word) => match floor.turn_any(rt, seat, word)? {
+            Some(receipt) => receipt,
+            None => return Ok(None),
+        },
+    };
+    same(rt, &receipt.number(), &number);
+    Ok(Some(receipt.entry()))
+}
+
+/// The entry of a line.
+fn wanted_of(wanted: Result<Option<&str>, TurnFault>) -> Result<Option<Entry>, TurnFault> {
+    match wanted {
+        Ok(Some(line)) => Ok(entry_of(line)),
+        Ok(None) => Ok(None),
+        Err(fault) => Err(fault),
     }
-    same(rt, &seat.made(), &lines.len());
+}
+
+fn takes_turns<F: Naming, R: Wait + Abort>(
+    rt: &R,
+    floor: &Floor<F>,
+    seat: &mut Seat<F>,
+    row: &Row<'_>,
+) {
+    for (wish, wanted) in row.turns {
+        same(rt, &turned(rt, floor, seat, *wish), &wanted_of(*wanted));
+    }
+    same(rt, &seat.made(), &row.lines.len());
 }
 
 /// Compares what is closed with the entries of a floor's only seat.
@@ -49,8 +193,10 @@ pub fn compare<F: Naming, R: Abort>(rt: &R, closed: &Closed<F>, lines: &[&str]) 
     let entries = closed.recording.entries();
     same(rt, &entries.len(), &lines.len());
     same(rt, &closed.owners.len(), &lines.len());
-    for ((entry, owner), line) in entries.iter().zip(closed.owners.iter()).zip(lines) {
+    for (entry, line) in entries.iter().zip(lines) {
         same(rt, &Some(*entry), &entry_of(line));
+    }
+    for owner in closed.owners.iter() {
         same(rt, owner, &0);
     }
     same(rt, &closed.recording.seats(), &1);
@@ -70,136 +216,53 @@ fn compare_replayed<F: Naming, R: Abort>(
     same(rt, &replayed.entries.len(), &lines.len());
 }
 
-fn closes<F: Naming, R: Wait + Abort>(
-    rt: &R,
-    alloc: Global,
-    floor: Floor<F>,
-    seat: Seat<F>,
-    lines: &[&str],
-) -> Closed<F> {
-    let mut seats = Vec::new(alloc);
-    let refused = floor.close(Vec::new(alloc)).err();
-    let (fault, floor, _) = refused.expect(rt, "a seat is missing");
-    same(rt, &fault, &CloseFault::SeatMissing);
-    seats.push(seat).expect(rt, "memory");
-    let closed = floor.close(seats).ok().expect(rt, "closed");
-    compare_replayed(rt, alloc, &closed, lines);
-    closed
-}
-
-/// Compares the text of what is closed with that of a store and a load by the only seat.
-fn writes(rt: &impl Abort, alloc: Global, recording: &Recording) {
-    let text = "msi-recording 2\nprotocol msi\nshape 1 1\nseats 1\nopening 0\ncells 0\nentries 4\n\
-         by 0 ask 0 0 store 7 = sent\nby 0 request 0 0 = moved\n\
-         by 0 response 0 0 = store 0 7\nby 0 ask 0 0 load = load 0 7\nend\n";
+/// Compares the text of a recording.
+fn writes(rt: &impl Abort, alloc: Global, recording: &Recording, text: &str) {
     let mut sink = Buffer::open(alloc);
     recording.write(&mut sink).expect(rt, "memory");
     same(rt, &sink.bytes(), &text.as_bytes());
 }
 
-/// Makes as many steps as a floor takes, and compares what it answers to more.
-fn fills<F: Naming, R: Wait + Abort>(rt: &R, floor: &Floor<F>, seat: &mut Seat<F>) {
-    make(rt, floor, seat, &ONE_LOAD);
-    let refused = floor.turn(rt, seat, RESPONSE).err();
-    same(rt, &refused, &Some(TurnFault::Full));
-    let refused = floor.turn_any(rt, seat, 0).err();
-    same(rt, &refused, &Some(TurnFault::Full));
+fn closes<F: Naming, R: Abort>(
+    rt: &R,
+    alloc: Global,
+    floor: Floor<F>,
+    seats: Vec<Seat<F>>,
+    row: &Row<'_>,
+) {
+    let refused = floor.close(Vec::new(alloc)).err();
+    let (fault, floor, _) = refused.expect(rt, "a seat is missing");
+    same(rt, &fault, &CloseFault::SeatMissing);
+    let closed = floor.close(seats).ok().expect(rt, "closed");
+    compare_replayed(rt, alloc, &closed, row.lines);
+    if let Some(text) = row.text {
+        writes(rt, alloc, &closed.recording, text);
+    }
 }
 
-fn one_load<F: Naming, R: Wait + Abort>(rt: &R, alloc: Global, ground: Ground, setup: &Setup)
-    requires { F.floor ≡ floor_id ground setup.now 1 2 }
-{
-    let (floor, mut seats) = Floor::<F>::open(ground, alloc, setup, 1, 2).expect(rt, "a floor");
-    let mut seat = seats.pop().expect(rt, "a seat");
-    fills(rt, &floor, &mut seat);
-    let _closed = closes(rt, alloc, floor, seat, &ONE_LOAD);
-}
-
-#[test]
-fn a_floor_that_is_full(rt: HostRuntime) {
-    let setup = setup(&rt, rt.alloc(), 2);
-    let ground = Ground::new(rt.alloc()).expect(&rt, "memory");
-    one_load::<Brand, _>(&rt, rt.alloc(), ground, &setup)
-}
-
-fn store_and_load<F: Naming, R: Wait + Abort>(rt: &R, alloc: Global, ground: Ground, setup: &Setup)
-    requires { F.floor ≡ floor_id ground setup.now 1 9 }
-{
-    let (floor, mut seats) = Floor::<F>::open(ground, alloc, setup, 1, 9).expect(rt, "a floor");
-    let mut seat = seats.pop().expect(rt, "a seat");
-    make(rt, &floor, &mut seat, &STORE_AND_LOAD);
-    let closed = closes(rt, alloc, floor, seat, &STORE_AND_LOAD);
-    writes(rt, alloc, &closed.recording)
-}
-
-#[test]
-fn a_store_and_a_load(rt: HostRuntime) {
-    let setup = setup(&rt, rt.alloc(), 1);
-    let ground = Ground::new(rt.alloc()).expect(&rt, "memory");
-    store_and_load::<Brand, _>(&rt, rt.alloc(), ground, &setup)
-}
-
-/// Draws where nothing can be delivered, and then behind an ask.
-fn asks_and_draws<F: Naming, R: Wait + Abort>(rt: &R, floor: &Floor<F>, seat: &mut Seat<F>) {
-    let none = floor.turn_any(rt, seat, 5).expect(rt, "a turn").is_none();
-    same(rt, &none, &true);
-    make(rt, floor, seat, &["ask 0 0 load = sent"]);
-    let drawn = floor.turn_any(rt, seat, 5).expect(rt, "a turn");
-    let receipt = drawn.expect(rt, "a draw");
-    same(rt, &receipt.number(), &1);
-    same(rt, &Some(receipt.entry()), &entry_of("request 0 0 = moved"));
-}
-
-fn draws<F: Naming, R: Wait + Abort>(rt: &R, alloc: Global, ground: Ground, setup: &Setup)
-    requires { F.floor ≡ floor_id ground setup.now 1 4 }
-{
-    let (floor, mut seats) = Floor::<F>::open(ground, alloc, setup, 1, 4).expect(rt, "a floor");
-    let mut seat = seats.pop().expect(rt, "a seat");
-    asks_and_draws(rt, &floor, &mut seat);
-    let _closed = closes(rt, alloc, floor, seat, &ONE_LOAD);
-}
-
-#[test]
-fn a_drawn_delivery(rt: HostRuntime) {
-    let setup = setup(&rt, rt.alloc(), 2);
-    let ground = Ground::new(rt.alloc()).expect(&rt, "memory");
-    draws::<Brand, _>(&rt, rt.alloc(), ground, &setup)
-}
-
-/// What a word draws behind two asks, whose requests may both be delivered.
-fn drawn_of_two<F: Naming, R: Wait + Abort>(
+fn plays<F: Naming, R: Wait + Abort>(
     rt: &R,
     alloc: Global,
     ground: Ground,
     setup: &Setup,
-    word: u32,
-) -> Option<Entry>
-    requires { F.floor ≡ floor_id ground setup.now 1 3 }
+    row: &Row<'_>,
+)
+    requires { F.floor ≡ floor_id ground setup.now 1 row.now.capacity }
 {
-    let (floor, mut seats) = Floor::<F>::open(ground, alloc, setup, 1, 3).expect(rt, "a floor");
-    let mut seat = seats.pop().expect(rt, "a seat");
-    make(
-        rt,
-        &floor,
-        &mut seat,
-        &["ask 0 0 load = sent", "ask 1 0 load = sent"],
-    );
-    let drawn = floor.turn_any(rt, &mut seat, word).expect(rt, "a turn");
-    drawn.map(|receipt| receipt.entry())
+    let opened = Floor::<F>::open(ground, alloc, setup, 1, row.capacity);
+    let (floor, mut seats) = opened.expect(rt, "a floor");
+    for seat in seats.iter_mut() {
+        takes_turns(rt, &floor, seat, row);
+    }
+    closes(rt, alloc, floor, seats, row)
 }
 
 #[test]
-fn one_of_two_deliveries_is_drawn(rt: HostRuntime) {
-    let setup = setup(&rt, rt.alloc(), 2);
-    let rows = [
-        (0, "request 0 0 = moved"),
-        (1, "request 0 1 = moved"),
-        (2, "request 0 0 = moved"),
-    ];
-    for (word, line) in &rows {
+fn turns_of_an_only_seat(rt: HostRuntime) {
+    for row in &ROWS {
+        let setup = setup(&rt, rt.alloc(), row.caches);
         let ground = Ground::new(rt.alloc()).expect(&rt, "memory");
-        let drawn = drawn_of_two::<Brand, _>(&rt, rt.alloc(), ground, &setup, *word);
-        same(&rt, &drawn, &entry_of(line));
+        plays::<Brand, _>(&rt, rt.alloc(), ground, &setup, row)
     }
 }
 

@@ -1,5 +1,5 @@
 use crate::asserting::same;
-use crate::scenario_taking::{LOAD, STORE, letter, offered, read};
+use crate::scenario_taking::{LOAD, STORE, letter_of, offered, read};
 use base::{Ask, BlockId, CacheId, CoreAsk};
 use bumpalo::Bump;
 use scenario::{Cursor, Next, Rest, Scenario};
@@ -10,7 +10,7 @@ type InArena<'t, 'b> = Cursor<'t, Global, &'b Bump>;
 
 /// The offers as letters.
 fn letters(rt: &impl Abort, heap: Global, cursor: &InArena<'_, '_>) -> String {
-    offered(rt, heap, cursor)
+    offered(rt, heap, cursor).expect(rt, "memory")
 }
 
 /// Compares the offers.
@@ -34,7 +34,7 @@ fn takes<'b>(
     wanted: Option<char>,
 ) {
     let taken = cursor.take(bump, at).expect(rt, "memory");
-    same(rt, &taken.and_then(letter), &wanted);
+    same(rt, &letter_of(taken), &wanted);
 }
 
 /// Takes two turns so many times: first one of the row, and then one of the children that go on at once.
@@ -59,14 +59,6 @@ const MANY_TURNS: &str = r#"{"times":50000,"of":{"any":[
     {"both":[{"op":"load","core":0,"block":0},{"op":"store","core":0,"block":0,"value":5}]}
 ]}}"#;
 
-#[test]
-fn many_turns_take_little_memory(rt: HostRuntime) {
-    let source = read(&rt, rt.alloc(), MANY_TURNS);
-    let bump = Bump::new(rt.alloc());
-    let mut cursor: InArena<'_, '_> = Cursor::open(&source);
-    take_all_turns(&rt, rt.alloc(), &mut cursor, &bump);
-}
-
 /// A load at the deepest level.
 fn deep_load(rt: &impl Abort, heap: Global) -> Scenario<Global> {
     let mut text = String::new(heap);
@@ -88,14 +80,6 @@ fn take_only_load<'b>(rt: &impl Abort, heap: Global, cursor: &mut InArena<'_, 'b
     has_ended(rt, heap, cursor);
 }
 
-#[test]
-fn a_deep_scenario_has_its_one_offer(rt: HostRuntime) {
-    let source = deep_load(&rt, rt.alloc());
-    let bump = Bump::new(rt.alloc());
-    let mut cursor: InArena<'_, '_> = Cursor::open(&source);
-    take_only_load(&rt, rt.alloc(), &mut cursor, &bump);
-}
-
 /// Takes three loads, behind which there are more.
 fn take_loads<'b>(rt: &impl Abort, heap: Global, cursor: &mut InArena<'_, 'b>, bump: &'b Bump) {
     for _ in 0..3 {
@@ -103,21 +87,6 @@ fn take_loads<'b>(rt: &impl Abort, heap: Global, cursor: &mut InArena<'_, 'b>, b
         takes(rt, cursor, bump, 0, Some('L'));
     }
     same(rt, &cursor.may_end(), &false);
-}
-
-#[test]
-fn the_most_turns_are_counted(rt: HostRuntime) {
-    let heap = rt.alloc();
-    let load = CoreAsk {
-        core: CacheId(0),
-        block: BlockId(0),
-        ask: Ask::Load,
-    };
-    let one = Box::new(heap, Scenario::One(load)).expect(&rt, "memory");
-    let source = Scenario::Times(4_294_967_295, one);
-    let bump = Bump::new(heap);
-    let mut cursor: InArena<'_, '_> = Cursor::open(&source);
-    take_loads(&rt, heap, &mut cursor, &bump);
 }
 
 /// Takes offer 0 with ever more memory, until it isn't refused, and answers how often it was. A refusal changes nothing.
@@ -132,7 +101,7 @@ fn take_at_last<'b>(
     for refused in 0..64_usize {
         bump.set_allocation_limit(Some(refused.saturating_mul(256)));
         if let Ok(taken) = cursor.take(bump, 0) {
-            same(rt, &taken.and_then(letter), &Some(wanted));
+            same(rt, &letter_of(taken), &Some(wanted));
             return refused;
         }
         offers(rt, heap, cursor, before.as_str());
@@ -174,16 +143,59 @@ fn four_turns(rt: &impl Abort, heap: Global) -> Scenario<Global> {
     four_times(rt, heap, turn.as_str())
 }
 
+/// What is taken of a scenario by a cursor.
+#[derive(Clone, Copy)]
+enum Taking {
+    AllTurns,
+    OnlyLoad,
+    Loads,
+    Refused,
+}
+
+fn take(rt: &impl Abort, heap: Global, source: &Scenario<Global>, taking: Taking) {
+    let bump = Bump::new(heap);
+    let mut cursor: InArena<'_, '_> = Cursor::open(source);
+    match taking {
+        Taking::AllTurns => take_all_turns(rt, heap, &mut cursor, &bump),
+        Taking::OnlyLoad => take_only_load(rt, heap, &mut cursor, &bump),
+        Taking::Loads => take_loads(rt, heap, &mut cursor, &bump),
+        Taking::Refused => take_all(rt, heap, &mut cursor, &bump),
+    }
+}
+
+#[test]
+fn many_turns_take_little_memory(rt: HostRuntime) {
+    let source = read(&rt, rt.alloc(), MANY_TURNS);
+    take(&rt, rt.alloc(), &source, Taking::AllTurns);
+}
+
+#[test]
+fn a_deep_scenario_has_its_one_offer(rt: HostRuntime) {
+    let source = deep_load(&rt, rt.alloc());
+    take(&rt, rt.alloc(), &source, Taking::OnlyLoad);
+}
+
+/// (Text that asks for so many loads is refused as too long.)
+#[test]
+fn the_most_turns_are_counted(rt: HostRuntime) {
+    let load = CoreAsk {
+        core: CacheId(0),
+        block: BlockId(0),
+        ask: Ask::Load,
+    };
+    let one = Box::new(rt.alloc(), Scenario::One(load)).expect(&rt, "memory");
+    let source = Scenario::Times(4_294_967_295, one);
+    take(&rt, rt.alloc(), &source, Taking::Loads);
+}
+
 #[test]
 fn a_refused_take_leaves_a_cursor_as_it_was(rt: HostRuntime) {
     let source = four_turns(&rt, rt.alloc());
-    let bump = Bump::new(rt.alloc());
-    let mut cursor: InArena<'_, '_> = Cursor::open(&source);
-    take_all(&rt, rt.alloc(), &mut cursor, &bump);
+    take(&rt, rt.alloc(), &source, Taking::Refused);
 }
 
-/// Takes the first offer again and again, and compares before each whether the same is offered behind it. Another cursor passes
-/// what is taken, and has to say the same.
+/// Takes the first offer again and again. Another cursor passes what is taken, and has to say of each whether the same is offered
+/// behind it.
 fn compare_repeats<'b>(
     rt: &impl Abort,
     taken: &mut InArena<'_, 'b>,
@@ -192,9 +204,7 @@ fn compare_repeats<'b>(
     wanted: &[bool],
 ) {
     for repeats in wanted {
-        same(rt, &taken.repeats(), repeats);
         let _taken = taken.take(bump, 0).expect(rt, "memory");
-        same(rt, &passed.repeats(), repeats);
         if passed.offer_count() > 0 {
             let told = passed.pass_on(bump, 0).expect(rt, "memory");
             same(rt, &told, repeats);

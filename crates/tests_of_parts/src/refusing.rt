@@ -2,8 +2,8 @@
 //! nothing is refused they are plain calls.
 
 use crate::asserting::same;
-use crate::scenario_taking::letter;
-use base::{Buffer, CoreAsk, Shape};
+use crate::scenario_taking::{letter_of, offered};
+use base::{Buffer, NoMemory, Shape};
 use scenario::{Cursor, Rest, SaveFault, Scenario, ScenarioFault};
 use std::alloc::Global;
 use std::process::Abort;
@@ -29,17 +29,14 @@ const TREES: [(&str, &str); 4] = [
     ),
 ];
 
-fn read_at_last(rt: &impl Abort, alloc: Global, text: &str) -> Result<Scenario<Global>, Fail> {
-    let shape = Shape::new(2, 1)?;
+fn read_at_last(rt: &impl Abort, alloc: Global, text: &str) -> Scenario<Global> {
+    let shape = Shape::new(2, 1).expect(rt, "a shape");
     match Scenario::read(alloc, alloc, text.as_bytes(), shape) {
-        Ok(tree) => Ok(tree),
+        Ok(tree) => tree,
         Err(fault) => {
             same(rt, &fault, &ScenarioFault::NoMemory);
-            Ok(
-                Scenario::read(alloc, alloc, text.as_bytes(), shape)
-                    .ok()
-                    .ok_or("refused again")?,
-            )
+            let read = Scenario::read(alloc, alloc, text.as_bytes(), shape);
+            read.expect(rt, "a second refusal")
         }
     }
 }
@@ -66,44 +63,14 @@ fn was_refused(rt: &impl Abort, alloc: Global, tree: &Scenario<Global>, text: &s
 }
 
 /// Compares what a tree is written as. Of a write that was refused memory nothing went out.
-fn is_written(
-    rt: &impl Abort,
-    alloc: Global,
-    tree: &Scenario<Global>,
-    text: &str,
-) -> Result<(), Fail> {
-    if was_refused(rt, alloc, tree, text) && was_refused(rt, alloc, tree, text) {
-        return Err(Fail::from("refused again"));
+fn is_written(rt: &impl Abort, alloc: Global, tree: &Scenario<Global>, text: &str) {
+    if was_refused(rt, alloc, tree, text) {
+        same(rt, &was_refused(rt, alloc, tree, text), &false);
     }
-    Ok(())
-}
-
-/// The letters of a list of offers: each stands at its place, and there are no more than are counted.
-fn letters_of<R: Rest>(
-    rt: &impl Abort,
-    alloc: Global,
-    rest: &R,
-    asks: &[CoreAsk],
-) -> Result<String, Fail> {
-    same(rt, &rest.offer_count(), &asks.len());
-    same(rt, &rest.offer_at(asks.len()), &None);
-    let mut letters = String::new(alloc);
-    for (at, ask) in asks.iter().enumerate() {
-        same(rt, &rest.offer_at(at), &Some(*ask));
-        letters.push(letter(*ask).unwrap_or('?'))?;
-    }
-    Ok(letters)
-}
-
-/// The offers as letters.
-fn offered<R: Rest>(rt: &impl Abort, alloc: Global, rest: &R) -> Result<String, Fail> {
-    let mut asks = Vec::new(alloc);
-    rest.offers(&mut asks)?;
-    letters_of(rt, alloc, rest, asks.as_slice())
 }
 
 /// Compares the offers.
-fn offers<R: Rest>(rt: &impl Abort, alloc: Global, rest: &R, wanted: &str) -> Result<(), Fail> {
+fn offers<R: Rest>(rt: &impl Abort, alloc: Global, rest: &R, wanted: &str) -> Result<(), NoMemory> {
     let found = offered(rt, alloc, rest)?;
     same(rt, &found.as_str(), &wanted);
     Ok(())
@@ -115,16 +82,16 @@ fn take_at_last<R: Rest<Alloc = Global>>(
     alloc: Global,
     rest: &mut R,
     wanted: char,
-) -> Result<(), Fail> {
+) -> Result<(), NoMemory> {
     let before = offered(rt, alloc, rest)?;
     let taken = match rest.take(alloc, 0) {
         Ok(taken) => taken,
         Err(_) => {
             offers(rt, alloc, rest, before.as_str())?;
-            rest.take(alloc, 0).ok().ok_or("refused again")?
+            rest.take(alloc, 0).expect(rt, "a second refusal")
         }
     };
-    same(rt, &taken.and_then(letter), &Some(wanted));
+    same(rt, &letter_of(taken), &Some(wanted));
     Ok(())
 }
 
@@ -134,7 +101,7 @@ fn take_all<R: Rest<Alloc = Global>>(
     alloc: Global,
     rest: &mut R,
     letters: &str,
-) -> Result<(), Fail> {
+) -> Result<(), NoMemory> {
     for wanted in letters.chars() {
         take_at_last(rt, alloc, rest, wanted)?;
     }
@@ -142,10 +109,10 @@ fn take_all<R: Rest<Alloc = Global>>(
     offers(rt, alloc, rest, "")
 }
 
-fn copy_at_last(alloc: Global, tree: &Scenario<Global>) -> Result<Scenario<Global>, Fail> {
+fn copy_at_last(rt: &impl Abort, alloc: Global, tree: &Scenario<Global>) -> Scenario<Global> {
     match tree.copy_in(alloc) {
-        Ok(copy) => Ok(copy),
-        Err(_) => Ok(tree.copy_in(alloc).ok().ok_or("refused again")?),
+        Ok(copy) => copy,
+        Err(_) => tree.copy_in(alloc).expect(rt, "a second refusal"),
     }
 }
 
@@ -154,8 +121,8 @@ fn take_copy(
     alloc: Global,
     tree: &Scenario<Global>,
     letters: &str,
-) -> Result<(), Fail> {
-    let mut copy = copy_at_last(alloc, tree)?;
+) -> Result<(), NoMemory> {
+    let mut copy = copy_at_last(rt, alloc, tree);
     take_all(rt, alloc, &mut copy, letters)
 }
 
@@ -164,36 +131,32 @@ fn take_cursor(
     alloc: Global,
     tree: &Scenario<Global>,
     letters: &str,
-) -> Result<(), Fail> {
+) -> Result<(), NoMemory> {
     let mut cursor: Cursor<'_, Global, Global> = Cursor::open(tree);
     take_all(rt, alloc, &mut cursor, letters)
 }
 
-#[test]
-fn a_scenario_is_read_and_written(rt: HostRuntime) -> Result<(), Fail> {
-    for (text, _) in &TREES {
-        let tree = read_at_last(&rt, rt.alloc(), text)?;
-        is_written(&rt, rt.alloc(), &tree, text)?;
-    }
+/// Takes a copy of a tree and takes it by a cursor, neither of which changes the tree.
+fn is_taken(
+    rt: &impl Abort,
+    alloc: Global,
+    tree: &Scenario<Global>,
+    text: &str,
+    letters: &str,
+) -> Result<(), NoMemory> {
+    is_written(rt, alloc, tree, text);
+    take_copy(rt, alloc, tree, letters)?;
+    is_written(rt, alloc, tree, text);
+    take_cursor(rt, alloc, tree, letters)?;
+    is_written(rt, alloc, tree, text);
     Ok(())
 }
 
 #[test]
-fn a_scenario_is_copied_and_taken(rt: HostRuntime) -> Result<(), Fail> {
+fn a_scenario_is_read_written_and_taken(rt: HostRuntime) -> Result<(), Fail> {
     for (text, letters) in &TREES {
-        let tree = read_at_last(&rt, rt.alloc(), text)?;
-        take_copy(&rt, rt.alloc(), &tree, letters)?;
-        is_written(&rt, rt.alloc(), &tree, text)?;
-    }
-    Ok(())
-}
-
-#[test]
-fn a_cursor_is_taken(rt: HostRuntime) -> Result<(), Fail> {
-    for (text, letters) in &TREES {
-        let tree = read_at_last(&rt, rt.alloc(), text)?;
-        take_cursor(&rt, rt.alloc(), &tree, letters)?;
-        is_written(&rt, rt.alloc(), &tree, text)?;
+        let tree = read_at_last(&rt, rt.alloc(), text);
+        is_taken(&rt, rt.alloc(), &tree, text, letters)?;
     }
     Ok(())
 }

@@ -38,7 +38,7 @@ fn nested(
 
 const LOAD: &str = r#"{"block":0,"core":0,"op":"load"}"#;
 
-const REFUSED: [(&str, ScenarioFault); 33] = [
+const REFUSED: [(&str, ScenarioFault); 41] = [
     ("", ScenarioFault::NotJson),
     ("{", ScenarioFault::NotJson),
     (r#"{"seq":[],}"#, ScenarioFault::NotJson),
@@ -120,6 +120,36 @@ const REFUSED: [(&str, ScenarioFault); 33] = [
         r#"{"both":[{"times":1000000,"of":{"op":"load","core":0,"block":0}},{"op":"load","core":1,"block":2}]}"#,
         ScenarioFault::TooLong,
     ),
+    (
+        r#"{"op":"load","core":4294967296,"block":0}"#,
+        ScenarioFault::BadShape,
+    ),
+    (
+        r#"{"op":"load","core":0,"block":4294967296}"#,
+        ScenarioFault::BadShape,
+    ),
+    // The first fault of a text.
+    (
+        r#"{"seq":[{"op":"load","core":2,"block":0},{"any":[]}]}"#,
+        ScenarioFault::OutOfShape,
+    ),
+    (
+        r#"{"seq":[{"any":[]},{"op":"load","core":2,"block":0}]}"#,
+        ScenarioFault::EmptyAny,
+    ),
+    (
+        r#"{"seq":[{"seq":[{"any":[]}]},{}]}"#,
+        ScenarioFault::EmptyAny,
+    ),
+    (
+        r#"{"seq":[{"seq":[{}]},{"any":[]}]}"#,
+        ScenarioFault::BadShape,
+    ),
+    (r#"{"any":[{}],"x":1}"#, ScenarioFault::BadShape),
+    (
+        r#"{"seq":[{"times":4294967295,"of":{"op":"load","core":0,"block":0}},{"any":[]}]}"#,
+        ScenarioFault::EmptyAny,
+    ),
 ];
 
 #[test]
@@ -159,47 +189,6 @@ fn numbers_that_are_refused(rt: HostRuntime) {
         (r#"{"op":"store","core":0,"block":0,"value":"#, "}"),
     ] {
         are_no_numbers(&rt, rt.alloc(), before, behind);
-    }
-}
-
-#[test]
-fn small_numbers_that_are_refused(rt: HostRuntime) {
-    for text in &[
-        r#"{"op":"load","core":4294967296,"block":0}"#,
-        r#"{"op":"load","core":0,"block":4294967296}"#,
-        r#"{"times":4294967296,"of":{"seq":[]}}"#,
-    ] {
-        has_fault(&rt, rt.alloc(), text, Some(ScenarioFault::BadShape));
-    }
-}
-
-#[test]
-fn the_first_fault_of_a_text(rt: HostRuntime) {
-    let refused = [
-        (
-            r#"{"seq":[{"op":"load","core":2,"block":0},{"any":[]}]}"#,
-            ScenarioFault::OutOfShape,
-        ),
-        (
-            r#"{"seq":[{"any":[]},{"op":"load","core":2,"block":0}]}"#,
-            ScenarioFault::EmptyAny,
-        ),
-        (
-            r#"{"seq":[{"seq":[{"any":[]}]},{}]}"#,
-            ScenarioFault::EmptyAny,
-        ),
-        (
-            r#"{"seq":[{"seq":[{}]},{"any":[]}]}"#,
-            ScenarioFault::BadShape,
-        ),
-        (r#"{"any":[{}],"x":1}"#, ScenarioFault::BadShape),
-        (
-            r#"{"seq":[{"times":4294967295,"of":{"op":"load","core":0,"block":0}},{"any":[]}]}"#,
-            ScenarioFault::EmptyAny,
-        ),
-    ];
-    for (text, fault) in &refused {
-        has_fault(&rt, rt.alloc(), text, Some(*fault));
     }
 }
 

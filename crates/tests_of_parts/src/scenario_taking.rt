@@ -1,5 +1,5 @@
 use crate::asserting::same;
-use base::{Ask, BlockId, CacheId, CoreAsk, Shape};
+use base::{Ask, BlockId, CacheId, CoreAsk, NoMemory, Shape};
 use bumpalo::Bump;
 use scenario::{Cursor, Rest, Scenario};
 use std::alloc::Global;
@@ -13,12 +13,19 @@ pub const LOAD: &str = r#"{"op":"load","core":0,"block":0}"#;
 pub const STORE: &str = r#"{"op":"store","core":0,"block":0,"value":5}"#;
 
 /// An ask as a letter: L, S or R for those above.
-pub fn letter(ask: CoreAsk) -> Option<char> {
+fn letter(ask: CoreAsk) -> Option<char> {
     match (ask.core, ask.block, ask.ask) {
         (CacheId(0), BlockId(0), Ask::Load) => Some('L'),
         (CacheId(0), BlockId(0), Ask::Store(5)) => Some('S'),
         (CacheId(1), BlockId(0), Ask::Replace) => Some('R'),
         _ => None,
+    }
+}
+
+pub fn letter_of(ask: Option<CoreAsk>) -> Option<char> {
+    match ask {
+        Some(ask) => letter(ask),
+        None => None,
     }
 }
 
@@ -28,28 +35,32 @@ pub fn read(rt: &impl Abort, alloc: Global, text: &str) -> Scenario<Global> {
 }
 
 /// The letters of a list of offers: each stands at its place, and there are no more than are counted.
-fn letters_of<R: Rest>(rt: &impl Abort, heap: Global, rest: &R, asks: &[CoreAsk]) -> String {
+fn letters_of<R: Rest>(
+    rt: &impl Abort,
+    heap: Global,
+    rest: &R,
+    asks: &[CoreAsk],
+) -> Result<String, NoMemory> {
     same(rt, &rest.offer_count(), &asks.len());
     same(rt, &rest.offer_at(asks.len()), &None);
     let mut letters = String::new(heap);
     for (at, ask) in asks.iter().enumerate() {
         same(rt, &rest.offer_at(at), &Some(*ask));
-        let letter = letter(*ask).unwrap_or('?');
-        letters.push(letter).expect(rt, "memory");
+        letters.push(letter(*ask).unwrap_or('?'))?;
     }
-    letters
+    Ok(letters)
 }
 
 /// The offers as letters.
-pub fn offered<R: Rest>(rt: &impl Abort, heap: Global, rest: &R) -> String {
+pub fn offered<R: Rest>(rt: &impl Abort, heap: Global, rest: &R) -> Result<String, NoMemory> {
     let mut asks = Vec::new(heap);
-    rest.offers(&mut asks).expect(rt, "memory");
+    rest.offers(&mut asks)?;
     letters_of(rt, heap, rest, asks.as_slice())
 }
 
 /// Compares the offers.
 fn offers<R: Rest>(rt: &impl Abort, heap: Global, rest: &R, wanted: &str) {
-    let found = offered(rt, heap, rest);
+    let found = offered(rt, heap, rest).expect(rt, "memory");
     same(rt, &found.as_str(), &wanted);
 }
 
@@ -62,7 +73,7 @@ fn has_ended<R: Rest>(rt: &impl Abort, heap: Global, rest: &R) {
 /// Takes an offer, and compares its ask.
 fn takes<R: Rest>(rt: &impl Abort, rest: &mut R, alloc: R::Alloc, at: usize, wanted: Option<char>) {
     let ask = rest.take(alloc, at).expect(rt, "memory");
-    same(rt, &ask.and_then(letter), &wanted);
+    same(rt, &letter_of(ask), &wanted);
 }
 
 /// Follows the moments, and looks whether each is as it is told.
@@ -101,59 +112,51 @@ fn follow_in_all(rt: &impl Abort, heap: Global, text: &str, moments: &[Moment<'_
     follow(rt, heap, &mut source, heap, moments);
 }
 
-const TWO_CHOICES: &str =
-    r#"{"times":2,"of":{"any":[{"op":"load","core":0,"block":0},{"op":"store","core":0,"block":0,"value":5}]}}"#;
-
-#[test]
-fn turns_may_differ(rt: HostRuntime) {
-    let moments = [
-        ("LS", false, 0, Some('L')),
-        ("LS", false, 1, Some('S')),
-        ("", true, 0, None),
-    ];
-    follow_in_all(&rt, rt.alloc(), TWO_CHOICES, &moments);
-}
-
-const ROW_AND_REPLACE: &str =
-    r#"{"both":[{"seq":[{"op":"load","core":0,"block":0},{"op":"store","core":0,"block":0,"value":5}]},{"op":"replace","core":1,"block":0}]}"#;
-
-#[test]
-fn children_of_both_go_on_at_once(rt: HostRuntime) {
-    let moments = [
-        ("LR", false, 1, Some('R')),
-        ("L", false, 0, Some('L')),
-        ("S", false, 0, Some('S')),
-        ("", true, 0, None),
-    ];
-    follow_in_all(&rt, rt.alloc(), ROW_AND_REPLACE, &moments);
-}
-
-const NONE_AND_STORE: &str =
-    r#"{"seq":[{"times":0,"of":{"op":"load","core":0,"block":0}},{"op":"store","core":0,"block":0,"value":5}]}"#;
-
-const NOTHING_OR_LOAD: &str = r#"{"any":[{"seq":[]},{"op":"load","core":0,"block":0}]}"#;
-
-#[test]
-fn what_may_end_is_passed_over(rt: HostRuntime) {
-    let moments = [
-        ("S", false, 1, None),
-        ("S", false, 0, Some('S')),
-        ("", true, 0, None),
-    ];
-    follow_in_all(&rt, rt.alloc(), NONE_AND_STORE, &moments);
-    follow_in_all(
-        &rt,
-        rt.alloc(),
-        NOTHING_OR_LOAD,
+/// Turns may differ, children of `both` go on at once, and what may end is passed over.
+const TAKEN: [(&str, &[Moment<'static>]); 4] = [
+    (
+        r#"{"times":2,"of":{"any":[{"op":"load","core":0,"block":0},{"op":"store","core":0,"block":0,"value":5}]}}"#,
+        &[
+            ("LS", false, 0, Some('L')),
+            ("LS", false, 1, Some('S')),
+            ("", true, 0, None),
+        ],
+    ),
+    (
+        r#"{"both":[{"seq":[{"op":"load","core":0,"block":0},{"op":"store","core":0,"block":0,"value":5}]},{"op":"replace","core":1,"block":0}]}"#,
+        &[
+            ("LR", false, 1, Some('R')),
+            ("L", false, 0, Some('L')),
+            ("S", false, 0, Some('S')),
+            ("", true, 0, None),
+        ],
+    ),
+    (
+        r#"{"seq":[{"times":0,"of":{"op":"load","core":0,"block":0}},{"op":"store","core":0,"block":0,"value":5}]}"#,
+        &[
+            ("S", false, 1, None),
+            ("S", false, 0, Some('S')),
+            ("", true, 0, None),
+        ],
+    ),
+    (
+        r#"{"any":[{"seq":[]},{"op":"load","core":0,"block":0}]}"#,
         &[("L", true, 0, Some('L')), ("", true, 0, None)],
-    );
+    ),
+];
+
+#[test]
+fn scenarios_are_taken(rt: HostRuntime) {
+    for (text, moments) in &TAKEN {
+        follow_in_all(&rt, rt.alloc(), text, moments);
+    }
 }
 
 /// Takes so many loads, behind which nothing is left.
 fn takes_loads(rt: &impl Abort, heap: Global, tree: &mut Scenario<Global>, count: u32) {
     for _ in 0..count {
         let ask = tree.take(heap, 0).expect(rt, "memory");
-        same(rt, &ask.and_then(letter), &Some('L'));
+        same(rt, &letter_of(ask), &Some('L'));
     }
     has_ended(rt, heap, tree);
 }
@@ -175,15 +178,15 @@ fn take_in_full_arena<'b>(
     bump: &'b Bump,
     wanted: char,
 ) -> bool {
-    let before = offered(rt, heap, tree);
+    let before = offered(rt, heap, tree).expect(rt, "memory");
     if let Ok(taken) = tree.take(bump, 0) {
-        same(rt, &taken.and_then(letter), &Some(wanted));
+        same(rt, &letter_of(taken), &Some(wanted));
         return false;
     }
     offers(rt, heap, tree, before.as_str());
     bump.set_allocation_limit(None);
     let taken = tree.take(bump, 0).expect(rt, "memory");
-    same(rt, &taken.and_then(letter), &Some(wanted));
+    same(rt, &letter_of(taken), &Some(wanted));
     true
 }
 

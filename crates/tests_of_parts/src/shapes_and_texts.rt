@@ -217,8 +217,8 @@ fn blocks_of_steps(rt: HostRuntime) {
         ("forward 4 1", 4),
         ("response 5 1", 5),
     ] {
-        let found = Step::read(line.as_bytes()).map(|step| step.block());
-        same_at(&rt, &found, &Some(BlockId(*block)), line);
+        let step = Step::read(line.as_bytes()).expect(&rt, "a step");
+        same_at(&rt, &step.block(), &BlockId(*block), line);
     }
 }
 

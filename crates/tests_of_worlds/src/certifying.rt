@@ -5,44 +5,35 @@ use certify::{CELLS, Cell, Certificate, Standing, certify, standing_of};
 use directory_table::{DirectoryEntry, DirectoryEvent, DirectoryState};
 use std::process::Abort;
 
-#[test]
-fn the_own_tables(rt: HostRuntime) {
-    let own = Tables::baseline();
-    same(&rt, &certify(&own), &Certificate::NeverStuck);
-    for number in 0..CELLS {
-        let standing = Cell::at(number).map(|cell| standing_of(&own, cell));
-        same_at(&rt, &standing, &Some(Standing::Own), &number);
+/// These tables with another entry in one cell: the caches' or the directory's.
+fn changed(own: Tables, cell: Cell, cache: CacheEntry, directory: DirectoryEntry) -> Tables {
+    let mut tables = own;
+    match cell {
+        Cell::Cache(state, event) => tables.cache = own.cache.with(state, event, cache),
+        Cell::Directory(state, event) => {
+            tables.directory = own.directory.with(state, event, directory);
+        }
     }
-    same(&rt, &Cell::at(CELLS), &None);
+    tables
 }
 
-fn hold_at_cache(tables: &mut Tables, state: CacheState) {
-    for event in &CacheEvent::ALL {
-        tables.cache = tables.cache.with(state, *event, CacheEntry::Stall);
-    }
-}
-
-fn hold_at_directory(tables: &mut Tables, state: DirectoryState) {
-    for event in &DirectoryEvent::ALL {
-        tables.directory = tables.directory.with(state, *event, DirectoryEntry::Stall);
-    }
+/// These tables with a stall in one more cell.
+pub fn stalled(own: Tables, cell: Cell) -> Tables {
+    changed(own, cell, CacheEntry::Stall, DirectoryEntry::Stall)
 }
 
 /// Tables that hold whatever comes.
-fn held() -> Tables {
+fn held(rt: &impl Abort) -> Tables {
     let mut tables = Tables::baseline();
-    for state in &CacheState::ALL {
-        hold_at_cache(&mut tables, *state);
-    }
-    for state in &DirectoryState::ALL {
-        hold_at_directory(&mut tables, *state);
+    for number in 0..CELLS {
+        tables = stalled(tables, Cell::at(number).expect(rt, "a cell"));
     }
     tables
 }
 
 #[test]
 fn tables_of_stalls(rt: HostRuntime) {
-    let tables = held();
+    let tables = held(&rt);
     let data = Cell::Cache(CacheState::IsD, CacheEvent::DataDirZero);
     same(
         &rt,
@@ -50,40 +41,12 @@ fn tables_of_stalls(rt: HostRuntime) {
         &Certificate::MessagesMayGetStuck(data),
     );
     let load = Cell::Cache(CacheState::M, CacheEvent::Load);
-    same(&rt, &standing_of(&tables, load), &Standing::Stall);
     let held_anyway = Cell::Cache(CacheState::IsD, CacheEvent::Inv);
-    same(&rt, &standing_of(&tables, held_anyway), &Standing::Own);
-}
-
-/// Holds that one cell, where it is left blank, is named.
-fn is_named(rt: &impl Abort, cell: Cell) {
-    let own = Tables::baseline();
-    let tables = match cell {
-        Cell::Cache(state, event) => Tables {
-            cache: own.cache.with(state, event, CacheEntry::Blank),
-            directory: own.directory,
-        },
-        Cell::Directory(state, event) => Tables {
-            cache: own.cache,
-            directory: own.directory.with(state, event, DirectoryEntry::Blank),
-        },
-    };
-    let is_blank = tables.cache == own.cache && tables.directory == own.directory;
-    let wanted = if is_blank {
-        Certificate::NeverStuck
-    } else {
-        Certificate::NotProved(cell)
-    };
-    same(rt, &certify(&tables), &wanted);
-}
-
-#[test]
-fn cells_that_are_left_blank(rt: HostRuntime) {
-    for number in 0..CELLS {
-        if let Some(cell) = Cell::at(number) {
-            is_named(&rt, cell);
-        }
-    }
+    let standings = (
+        standing_of(&tables, load),
+        standing_of(&tables, held_anyway),
+    );
+    same(&rt, &standings, &(Standing::Stall, Standing::Own));
 }
 
 /// A stall over each of these cells alone leaves nothing stuck.
@@ -113,20 +76,6 @@ const HOLDING: [Cell; 8] = [
     Cell::Cache(CacheState::M, CacheEvent::Replacement),
 ];
 
-/// These tables with a stall in one more cell.
-fn stalled(tables: Tables, cell: Cell) -> Tables {
-    match cell {
-        Cell::Cache(state, event) => Tables {
-            cache: tables.cache.with(state, event, CacheEntry::Stall),
-            directory: tables.directory,
-        },
-        Cell::Directory(state, event) => Tables {
-            cache: tables.cache,
-            directory: tables.directory.with(state, event, DirectoryEntry::Stall),
-        },
-    }
-}
-
 fn acts(tables: &Tables, cell: Cell) -> bool {
     match cell {
         Cell::Cache(state, event) => matches!(
@@ -153,15 +102,33 @@ fn walked(own: &Tables, cell: Cell) -> Certificate {
     }
 }
 
-#[test]
-fn a_stall_over_each_cell(rt: HostRuntime) {
-    let own = Tables::baseline();
-    for number in 0..CELLS {
-        if let Some(cell) = Cell::at(number) {
-            let tables = stalled(own, cell);
-            same_at(&rt, &certify(&tables), &walked(&own, cell), &cell);
-        }
+/// What is certified where a cell of the own tables is left blank: it is named, unless it is blank anyway.
+fn named(own: &Tables, blank: &Tables, cell: Cell) -> Certificate {
+    if blank == own {
+        Certificate::NeverStuck
+    } else {
+        Certificate::NotProved(cell)
     }
+}
+
+/// Compares how a cell of the own tables stands, and what is certified where it alone is a stall, and where it is left blank.
+fn is_certified(rt: &impl Abort, own: &Tables, cell: Cell) {
+    let stall = stalled(*own, cell);
+    let blank = changed(*own, cell, CacheEntry::Blank, DirectoryEntry::Blank);
+    let found = (standing_of(own, cell), certify(&stall), certify(&blank));
+    let wanted = (Standing::Own, walked(own, cell), named(own, &blank, cell));
+    same_at(rt, &found, &wanted, &cell);
+}
+
+#[test]
+fn each_cell_of_the_own_tables(rt: HostRuntime) {
+    let own = Tables::baseline();
+    same(&rt, &certify(&own), &Certificate::NeverStuck);
+    for number in 0..CELLS {
+        let cell = Cell::at(number).expect(&rt, "a cell");
+        is_certified(&rt, &own, cell);
+    }
+    same(&rt, &Cell::at(CELLS), &None);
 }
 
 /// Whether a cell is a stall in a greatest set of them under which nothing gets stuck: a store's Data comes before its acks, or

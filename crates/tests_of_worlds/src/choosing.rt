@@ -1,10 +1,12 @@
 ghost use Rattle.schedule.specs.Lanes.{AreReady, IsKept, laned};
 
 use crate::asserting::same;
-use base::{Ask, BlockId, CacheId, CoreAsk, Shape, Step};
+use crate::making::{make_all, opened, scenario};
+use crate::trying::ONE_LOAD;
+use base::{Ask, BlockId, CacheId, CoreAsk, Step};
 use both_tables::Tables;
 use cores::Cores;
-use scenario::{Cursor, Scenario};
+use scenario::{Cursor, Rest, Scenario};
 use schedule::{Choice, Dice, Lanes, choices};
 use std::alloc::Global;
 use std::process::Abort;
@@ -23,13 +25,6 @@ const STORE: CoreAsk = CoreAsk {
     block: BLOCK,
     ask: Ask::Store(9),
 };
-
-/// A world of two caches and one block that opens at 0.
-fn opened(rt: &impl Abort, alloc: Global) -> World {
-    let shape = Shape::new(2, 1).expect(rt, "a shape");
-    let opening = vec![in alloc; 0; 1].expect(rt, "memory");
-    World::open(alloc, shape, Tables::baseline(), opening).expect(rt, "a world")
-}
 
 fn occupy(cores: &mut Cores, core: CacheId) {
     if cores.free(core) {
@@ -52,27 +47,16 @@ fn listed(
     choices(alloc, world, &cores, scenario).expect(rt, "memory")
 }
 
-fn play(rt: &impl Abort, world: &mut World, steps: &[&str]) {
-    for line in steps {
-        let step = Step::read(line.as_bytes()).expect(rt, "a step");
-        world.step(step).expect(rt, "memory");
-    }
-}
-
 const WORDS: [u32; 6] = [
     0xa15c02b7, 0x7b47f409, 0xba1d3330, 0x83d2f293, 0xbfa4784b, 0xcbed606e,
 ];
 
 #[test]
-fn the_first_words(rt: HostRuntime) {
+fn the_first_words_and_choices(rt: HostRuntime) {
     let mut dice = Dice::new(42, 54);
     for word in &WORDS {
         same(&rt, &dice.pick(4294967296), word);
     }
-}
-
-#[test]
-fn the_first_choices(rt: HostRuntime) {
     let mut dice = Dice::new(42, 54);
     for (count, picked) in &[(2, 1), (2, 1), (2, 0), (2, 1), (1, 0), (1, 0)] {
         same(&rt, &dice.pick(*count), picked);
@@ -80,70 +64,70 @@ fn the_first_choices(rt: HostRuntime) {
 }
 
 /// One of a load of core 0 and a store of core 1.
-fn load_or_store(rt: &impl Abort, alloc: Global) -> Scenario<Global> {
-    let mut children = Vec::new(alloc);
-    children.push(Scenario::One(LOAD)).expect(rt, "memory");
-    children.push(Scenario::One(STORE)).expect(rt, "memory");
-    Scenario::Any(children)
-}
+const LOAD_OR_STORE: &str = r#"{"any":[
+    {"op":"load","core":0,"block":0},{"op":"store","core":1,"block":0,"value":9}
+]}"#;
 
-/// Compares what can happen next, where these cores are busy.
-fn expect(
+const OFFERED_LOAD: Choice = Choice::Offer(0, LOAD);
+
+const OFFERED_STORE: Choice = Choice::Offer(1, STORE);
+
+const REQUEST: Choice = Choice::Deliver(Step::Request {
+    block: BLOCK,
+    index: 0,
+});
+
+const RESPONSE: Choice = Choice::Deliver(Step::Response {
+    block: BLOCK,
+    index: 0,
+});
+
+/// Compares what can happen next behind these steps, where these cores are busy.
+fn comes_next(
     rt: &impl Abort,
     alloc: Global,
-    world: &World,
-    busy: &[u32],
     scenario: &Scenario<Global>,
+    steps: &[&str],
+    busy: &[u32],
     wanted: &[Choice],
 ) {
-    let found = listed(rt, alloc, world, busy, scenario);
+    let mut world = opened(rt, alloc, 2, 1, Tables::baseline(), 0);
+    make_all(rt, &mut world, steps);
+    let found = listed(rt, alloc, &world, busy, scenario);
     same(rt, &found.as_slice(), &wanted);
 }
 
-/// Compares the choices before and behind the store's ask.
-fn offers_first(rt: &impl Abort, alloc: Global, world: &mut World, scenario: &Scenario<Global>) {
-    let (load, store) = (Choice::Offer(0, LOAD), Choice::Offer(1, STORE));
-    let request = Choice::Deliver(Step::Request {
-        block: BLOCK,
-        index: 0,
-    });
-    expect(rt, alloc, world, &[], scenario, &[load, store]);
-    play(rt, world, &["ask 1 0 store 9"]);
-    expect(rt, alloc, world, &[1], scenario, &[load, request]);
-    expect(rt, alloc, world, &[0, 1], scenario, &[request]);
-}
-
-fn offers_first_in_new(rt: &impl Abort, alloc: Global, scenario: &Scenario<Global>) {
-    let mut world = opened(rt, alloc);
-    offers_first(rt, alloc, &mut world, scenario);
-}
-
+/// Offers come before deliveries, before and behind the store's ask; and a forward that is held behind the Data is no choice.
 #[test]
-fn offers_before_deliveries(rt: HostRuntime) {
-    let scenario = load_or_store(&rt, rt.alloc());
-    offers_first_in_new(&rt, rt.alloc(), &scenario);
-}
-
-/// Compares the choices where a forward is held behind the Data.
-fn offers_no_held(rt: &impl Abort, alloc: Global, world: &mut World, scenario: &Scenario<Global>) {
+fn what_comes_next(rt: HostRuntime) {
     let steps = [
         "ask 0 0 store 7",
         "request 0 0",
         "ask 1 0 load",
         "request 0 0",
     ];
-    play(rt, world, &steps);
-    let response = Choice::Deliver(Step::Response {
-        block: BLOCK,
-        index: 0,
-    });
-    expect(rt, alloc, world, &[], scenario, &[response]);
-}
-
-#[test]
-fn what_is_held_is_no_choice(rt: HostRuntime) {
-    let mut world = opened(&rt, rt.alloc());
-    offers_no_held(&rt, rt.alloc(), &mut world, &Scenario::One(LOAD));
+    let load = scenario(&rt, rt.alloc(), ONE_LOAD, 2);
+    comes_next(&rt, rt.alloc(), &load, &steps, &[], &[RESPONSE]);
+    let either = scenario(&rt, rt.alloc(), LOAD_OR_STORE, 2);
+    for (steps, busy, wanted) in &[
+        (
+            [].as_slice(),
+            [].as_slice(),
+            [OFFERED_LOAD, OFFERED_STORE].as_slice(),
+        ),
+        (
+            ["ask 1 0 store 9"].as_slice(),
+            [1].as_slice(),
+            [OFFERED_LOAD, REQUEST].as_slice(),
+        ),
+        (
+            ["ask 1 0 store 9"].as_slice(),
+            [0, 1].as_slice(),
+            [REQUEST].as_slice(),
+        ),
+    ] {
+        comes_next(&rt, rt.alloc(), &either, steps, busy, wanted);
+    }
 }
 
 /// Makes the first choice, which is picked.
@@ -182,15 +166,34 @@ fn first_of_both(
     let wanted = choices(alloc, world, cores, rest).expect(rt, "memory");
     same(rt, &lanes.count(world, cores), &(wanted.len() as u64));
     for (k, choice) in wanted.iter().enumerate() {
-        let pick = lanes.pick(world, cores, k as u64);
-        same(rt, &pick.map(|it| it.step()), &Some(choice.step()));
+        let pick = lanes.pick(world, cores, k as u64).expect(rt, "a pick");
+        same(rt, &pick.step(), &choice.step());
     }
     wanted.first().copied()
 }
 
+fn step_of(choice: Option<Choice>) -> Option<Step> {
+    match choice {
+        Some(choice) => Some(choice.step()),
+        None => None,
+    }
+}
+
+/// Takes what is chosen of a cursor, if it is an offer.
+fn take_offer(
+    rt: &impl Abort,
+    alloc: Global,
+    rest: &mut Cursor<'_, Global, Global>,
+    choice: Option<Choice>,
+) {
+    if let Some(Choice::Offer(number, _)) = choice {
+        let _ask = rest.take(alloc, number).expect(rt, "memory");
+    }
+}
+
 /// Makes the first choice again and again, until there is none, with the lanes and with a cursor, and answers how many there were.
 /// (No core is busy, as none is told of its asks.)
-fn make_all(
+fn take_all(
     rt: &impl Abort,
     alloc: Global,
     world: &mut World,
@@ -203,11 +206,9 @@ fn make_all(
 {
     for made in 0..64 {
         let first = first_of_both(rt, alloc, world, cores, lanes, rest);
-        if let Some(Choice::Offer(number, _)) = first {
-            let _ask = rest.take(alloc, number).expect(rt, "memory");
-        }
+        take_offer(rt, alloc, rest, first);
         let step = make_pick(rt, alloc, world, cores, lanes);
-        same(rt, &step, &first.map(|it| it.step()));
+        same(rt, &step, &step_of(first));
         if step.is_none() {
             same(rt, &lanes.is_done(), &true);
             return made;
@@ -218,12 +219,12 @@ fn make_all(
 
 /// Makes what there is of a scenario.
 fn makes(rt: &impl Abort, alloc: Global, scenario: &Scenario<Global>, wanted: u32) {
-    let mut world = opened(rt, alloc);
+    let mut world = opened(rt, alloc, 2, 1, Tables::baseline(), 0);
     let cores = Cores::open(alloc, 2).expect(rt, "memory");
     let opened = Lanes::open(alloc, scenario, 2, &world, &cores);
     let mut lanes: Lanes<'_, Global, Global> = opened.expect(rt, "memory");
     let mut rest = Cursor::open(scenario);
-    let found = make_all(rt, alloc, &mut world, &cores, &mut lanes, &mut rest);
+    let found = take_all(rt, alloc, &mut world, &cores, &mut lanes, &mut rest);
     same(rt, &found, &wanted);
 }
 
@@ -234,9 +235,8 @@ const TWO_LANES: &str = r#"{"both":[
 
 #[test]
 fn lanes_have_the_choices_of_a_list(rt: HostRuntime) {
-    let shape = Shape::new(2, 1).expect(&rt, "a shape");
-    let read = Scenario::read(rt.alloc(), rt.alloc(), TWO_LANES.as_bytes(), shape);
-    let scenario = read.expect(&rt, "a scenario");
-    makes(&rt, rt.alloc(), &Scenario::One(LOAD), 3);
-    makes(&rt, rt.alloc(), &scenario, 10);
+    let load = scenario(&rt, rt.alloc(), ONE_LOAD, 2);
+    makes(&rt, rt.alloc(), &load, 3);
+    let lanes = scenario(&rt, rt.alloc(), TWO_LANES, 2);
+    makes(&rt, rt.alloc(), &lanes, 10);
 }

@@ -1,18 +1,17 @@
 //! MSI+E: what its tables and its recordings may name, and what MSI's may not.
 
 use crate::asserting::{same, same_at};
-use crate::recordings::is_refused;
-use base::Buffer;
+use crate::certifying::stalled;
+use crate::making::acting;
+use crate::recordings::{is_refused, writes};
 use base::controller::Protocol;
 use both_tables::{Tables, TablesFault};
-use cache_table::{CacheAction, CacheActions, CacheEntry, CacheEvent, CacheState, CacheTable};
+use cache_table::{CacheAction, CacheEntry, CacheEvent, CacheState};
 use certify::{CELLS, Cell, Certificate, Standing, certify, standing_of};
 use directory_table::{
     DirectoryAction, DirectoryActions, DirectoryEntry, DirectoryEvent, DirectoryState,
-    DirectoryTable,
 };
 use record::{ReadKind, Recording};
-use std::alloc::Global;
 use std::process::Abort;
 
 #[test]
@@ -20,18 +19,13 @@ fn what_a_first_reader_is_sent(rt: HostRuntime) {
     let own = Tables::baseline_of(Protocol::MsiE);
     same(&rt, &own.protocol(), &Protocol::MsiE);
     let actions = [DirectoryAction::DataExcl, DirectoryAction::SetOwner];
-    let given = DirectoryActions::of(&actions).map(|actions| DirectoryEntry::Act {
-        next: DirectoryState::M,
-        actions,
-    });
+    let actions = DirectoryActions::of(&actions).expect(&rt, "two actions");
+    let next = DirectoryState::M;
     let found = own.directory.entry(DirectoryState::I, DirectoryEvent::GetS);
-    same(&rt, &Some(found), &given);
-    let left = CacheActions::of(&[CacheAction::PutM]).map(|actions| CacheEntry::Act {
-        next: CacheState::MiA,
-        actions,
-    });
+    same(&rt, &found, &DirectoryEntry::Act { next, actions });
+    let left = acting(&rt, CacheState::MiA, &[CacheAction::PutM]);
     let found = own.cache.entry(CacheState::E, CacheEvent::Replacement);
-    same(&rt, &Some(found), &left);
+    same(&rt, &found, &left);
 }
 
 /// Compares how many cells the tables of a protocol list.
@@ -60,48 +54,25 @@ fn how_many_cells_are_listed(rt: HostRuntime) {
     lists(&rt, Protocol::MsiE, (72, 22));
 }
 
-/// Holds that a cell that names what MSI hasn't got changes nothing of MSI's own table.
-fn changes_no_cache(rt: &impl Abort, state: CacheState, event: CacheEvent, entry: CacheEntry) {
-    let own = CacheTable::baseline();
-    let changed = own.with(state, event, entry);
-    same(rt, &changed, &own);
-}
-
-/// The same of the directory's table, and of what it does on a GetS in I.
-fn changes_no_home(rt: &impl Abort, entry: DirectoryEntry) {
-    let own = DirectoryTable::baseline();
-    let changed = own.with(DirectoryState::I, DirectoryEvent::GetS, entry);
-    same(rt, &changed, &own);
-}
-
-/// A cell by which a cache goes to E.
-fn to_e() -> CacheEntry {
-    CacheEntry::Act {
-        next: CacheState::E,
-        actions: CacheActions::none(),
-    }
-}
-
-/// A cell by which a home gives a block exclusively.
-fn giving(rt: &impl Abort) -> DirectoryEntry {
-    let actions = DirectoryActions::of(&[DirectoryAction::DataExcl]).expect(rt, "one action");
-    DirectoryEntry::Act {
-        next: DirectoryState::M,
-        actions,
-    }
-}
-
+/// A cell that names what MSI hasn't got changes nothing of MSI's own tables.
 #[test]
 fn names_that_msi_has_not(rt: HostRuntime) {
-    changes_no_cache(&rt, CacheState::E, CacheEvent::Load, CacheEntry::Stall);
-    changes_no_cache(
-        &rt,
-        CacheState::I,
-        CacheEvent::DataDirExcl,
-        CacheEntry::Stall,
-    );
-    changes_no_cache(&rt, CacheState::I, CacheEvent::Load, to_e());
-    changes_no_home(&rt, giving(&rt));
+    let own = Tables::baseline();
+    let to_e = acting(&rt, CacheState::E, &[]);
+    for (state, event, entry) in &[
+        (CacheState::E, CacheEvent::Load, CacheEntry::Stall),
+        (CacheState::I, CacheEvent::DataDirExcl, CacheEntry::Stall),
+        (CacheState::I, CacheEvent::Load, to_e),
+    ] {
+        let changed = own.cache.with(*state, *event, *entry);
+        same_at(&rt, &changed, &own.cache, &(*state, *event));
+    }
+    let actions = DirectoryActions::of(&[DirectoryAction::DataExcl]).expect(&rt, "one action");
+    let next = DirectoryState::M;
+    let giving = DirectoryEntry::Act { next, actions };
+    let (state, event) = (DirectoryState::I, DirectoryEvent::GetS);
+    let changed = own.directory.with(state, event, giving);
+    same(&rt, &changed, &own.directory);
 }
 
 /// Overrides that MSI+E takes, and how MSI refuses them.
@@ -144,72 +115,50 @@ fn a_text_of_msi_e(rt: HostRuntime) {
     let mut source = TEXT.as_bytes();
     let recording = Recording::read(rt.alloc(), &mut source).expect(&rt, "a recording");
     same(&rt, &recording.protocol(), &Protocol::MsiE);
-    let mut sink = Buffer::open(rt.alloc());
-    recording.write(&mut sink).expect(&rt, "memory");
-    same(&rt, &sink.bytes(), &TEXT.as_bytes());
-}
-
-/// Compares what a text with this protocol, this number of cells and this cell is refused with.
-fn is_refused_in(rt: &impl Abort, alloc: Global, head: &str, kind: ReadKind, line: u64) {
-    let text = format!(in alloc; "{head}entries 0\nend\n").expect(rt, "memory");
-    is_refused(rt, alloc, text.as_bytes(), line, kind);
+    writes(&rt, rt.alloc(), &recording, TEXT);
 }
 
 #[test]
 fn texts_that_are_refused(rt: HostRuntime) {
-    for (head, kind, line) in &[
+    for (text, kind, line) in &[
         (
-            "msi-recording 2\nprotocol msi\nshape 1 1\nseats 0\nopening 0\ncells 1\ncell cache E Load stall\n",
+            "msi-recording 2\nprotocol msi\nshape 1 1\nseats 0\nopening 0\ncells 1\ncell cache E Load stall\nentries 0\nend\n",
             ReadKind::BadLine,
             7,
         ),
         (
-            "msi-recording 2\nprotocol msi\nshape 1 1\nseats 0\nopening 0\ncells 1\ncell cache I Load act E\n",
+            "msi-recording 2\nprotocol msi\nshape 1 1\nseats 0\nopening 0\ncells 1\ncell cache I Load act E\nentries 0\nend\n",
             ReadKind::BadLine,
             7,
         ),
         (
-            "msi-recording 1\nshape 1 1\nopening 0\ncells 1\ncell directory I GetS act M data-excl set-owner\n",
+            "msi-recording 1\nshape 1 1\nopening 0\ncells 1\ncell directory I GetS act M data-excl set-owner\nentries 0\nend\n",
             ReadKind::BadLine,
             5,
         ),
         (
             "msi-recording 2\nprotocol msi+e\nshape 1 1\nseats 0\nopening 0\ncells 1\n\
-            cell directory I GetS act M data-excl set-owner\n",
+            cell directory I GetS act M data-excl set-owner\nentries 0\nend\n",
             ReadKind::BadLine,
             7,
         ),
         (
-            "msi-recording 2\nprotocol msi+e\nshape 1 1\nseats 0\nopening 0\ncells 185\n",
+            "msi-recording 2\nprotocol msi+e\nshape 1 1\nseats 0\nopening 0\ncells 185\nentries 0\nend\n",
             ReadKind::OverLimit,
             6,
         ),
         (
-            "msi-recording 2\nprotocol msi+e\nshape 1 1\nseats 0\nopening 0\ncells 161\n",
+            "msi-recording 2\nprotocol msi+e\nshape 1 1\nseats 0\nopening 0\ncells 161\nentries 0\nend\n",
             ReadKind::BadLine,
             7,
         ),
         (
-            "msi-recording 2\nprotocol MSI+E\n",
+            "msi-recording 2\nprotocol MSI+E\nentries 0\nend\n",
             ReadKind::UnknownProtocol,
             2,
         ),
     ] {
-        is_refused_in(&rt, rt.alloc(), head, *kind, *line);
-    }
-}
-
-/// The own tables with a stall in one cell.
-fn stalled(own: Tables, cell: Cell) -> Tables {
-    match cell {
-        Cell::Cache(state, event) => Tables {
-            cache: own.cache.with(state, event, CacheEntry::Stall),
-            directory: own.directory,
-        },
-        Cell::Directory(state, event) => Tables {
-            cache: own.cache,
-            directory: own.directory.with(state, event, DirectoryEntry::Stall),
-        },
+        is_refused(&rt, rt.alloc(), text.as_bytes(), *line, *kind);
     }
 }
 
@@ -234,17 +183,10 @@ fn what_is_certified(rt: HostRuntime) {
     same(&rt, &certify(&own), &Certificate::NeverStuck);
     same(&rt, &counts(Tables::baseline()), &(34, 8));
     same(&rt, &counts(own), &(37, 11));
-    let kept = CacheActions::of(&[CacheAction::DataReq, CacheAction::DataDir]);
-    let kept = kept.map(|actions| CacheEntry::Act {
-        next: CacheState::E,
-        actions,
-    });
+    let actions = [CacheAction::DataReq, CacheAction::DataDir];
+    let kept = acting(&rt, CacheState::E, &actions);
     let mut tables = own;
-    tables.cache = tables.cache.with(
-        CacheState::E,
-        CacheEvent::FwdGetS,
-        kept.expect(&rt, "two actions"),
-    );
+    tables.cache = own.cache.with(CacheState::E, CacheEvent::FwdGetS, kept);
     let cell = Cell::Cache(CacheState::E, CacheEvent::FwdGetS);
     same(&rt, &certify(&tables), &Certificate::NotProved(cell));
     same(&rt, &standing_of(&tables, cell), &Standing::Open);

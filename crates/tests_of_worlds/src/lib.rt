@@ -12,6 +12,10 @@ mod entries;
 #[cfg(test)]
 mod exclusive;
 #[cfg(test)]
+mod making;
+#[cfg(test)]
+mod overrides;
+#[cfg(test)]
 mod recordings;
 #[cfg(test)]
 mod refusing;

@@ -1,12 +1,14 @@
 use crate::asserting::{same, same_at};
 use crate::entries::{entry_of, push};
+use crate::making::with_entry;
 use base::controller::Protocol;
-use base::{BlockId, Buffer, CacheId, Faltering, Outcome, Shape, Step};
+use base::{BlockId, Buffer, CacheId, Faltering, Outcome, Place, Shape, Step};
 use both_tables::Tables;
 use cache_table::{CacheEntry, CacheEvent, CacheState};
 use monitor::Violation;
 use record::{
-    Entry, MOST_ENTRIES, PushFault, ReadFault, ReadKind, Recording, ReplayFault, Replayed, replay,
+    Entry, MOST_ENTRIES, PushFault, ReadFault, ReadKind, Recording, ReplayFault, Replayed,
+    WriteFault, replay,
 };
 use std::alloc::Global;
 use std::process::Abort;
@@ -61,17 +63,10 @@ const LOAD_FROM_OWNER: [&str; 8] = [
 ];
 
 /// Compares the text of a recording.
-fn writes(rt: &impl Abort, alloc: Global, recording: &Recording, text: &str) {
+pub fn writes(rt: &impl Abort, alloc: Global, recording: &Recording, text: &str) {
     let mut sink = Buffer::open(alloc);
     recording.write(&mut sink).expect(rt, "memory");
     same(rt, &sink.bytes(), &text.as_bytes());
-}
-
-#[test]
-fn the_text_of_one_load(rt: HostRuntime) {
-    let recording = recorded(&rt, rt.alloc(), 1, Tables::baseline(), &ONE_LOAD);
-    writes(&rt, rt.alloc(), &recording, ONE_LOAD_TEXT);
-    same(&rt, &ONE_LOAD_TEXT.len(), &143);
 }
 
 #[test]
@@ -104,18 +99,18 @@ fn comes_through(rt: &impl Abort, alloc: Global, recording: &Recording, most: us
     let fault = recording.write(&mut sink).err();
     let out = sink.end().bytes();
     let written = out.len() as u64;
-    let expected = if written < 143 { Some(written) } else { None };
+    let cut = Some(WriteFault { written });
+    let expected = if written < 143 { cut } else { None };
     let is_front = ONE_LOAD_TEXT.as_bytes().starts_with(out);
     same_at(rt, &is_front, &true, &at);
-    same_at(rt, &fault.map(|f| f.written), &expected, &at);
+    same_at(rt, &fault, &expected, &at);
 }
 
-#[test]
-fn sinks_that_fail(rt: HostRuntime) {
-    let recording = recorded(&rt, rt.alloc(), 1, Tables::baseline(), &ONE_LOAD);
+/// Compares it wherever a sink fails.
+fn comes_through_each(rt: &impl Abort, alloc: Global, recording: &Recording) {
     for most in &[1, 7, 200] {
         for calls in 0..=143 {
-            comes_through(&rt, rt.alloc(), &recording, *most, calls);
+            comes_through(rt, alloc, recording, *most, calls);
         }
     }
 }
@@ -126,17 +121,20 @@ fn holds(rt: &impl Abort, recording: &Recording) {
     same(rt, &(recording.seats(), recording.owner(0)), &(0, None));
     same(rt, &recording.shape().caches(), &1);
     same(rt, &recording.opening(), &[0u64].as_slice());
-    same(rt, &recording.entries().len(), &3);
-    let first = recording.entries().first().map(|entry| entry.outcome);
-    same(rt, &first, &Some(Outcome::Sent));
     let is_own = recording.tables() == Tables::baseline();
     same(rt, &is_own, &true);
+    let first = entry_of(ONE_LOAD[0]);
+    same(rt, &recording.entries().len(), &3);
+    same(rt, &recording.entries().first().copied(), &first);
 }
 
 #[test]
-fn what_a_recording_holds(rt: HostRuntime) {
+fn a_recording_of_one_load(rt: HostRuntime) {
     let recording = recorded(&rt, rt.alloc(), 1, Tables::baseline(), &ONE_LOAD);
     holds(&rt, &recording);
+    same(&rt, &ONE_LOAD_TEXT.len(), &143);
+    writes(&rt, rt.alloc(), &recording, ONE_LOAD_TEXT);
+    comes_through_each(&rt, rt.alloc(), &recording);
 }
 
 #[test]
@@ -158,40 +156,39 @@ fn replayed(
     }
 }
 
-#[test]
-fn a_replay_to_the_end(rt: HostRuntime) {
-    let recording = recorded(&rt, rt.alloc(), 2, Tables::baseline(), &LOAD_FROM_OWNER);
-    same(&rt, &replayed(rt.alloc(), &recording), &Ok((8, None)));
+/// Compares what a replay of these entries finds.
+fn replays(
+    rt: &impl Abort,
+    alloc: Global,
+    tables: Tables,
+    lines: &[&str],
+    wanted: Result<(usize, Option<(u64, Violation)>), ReplayFault>,
+) {
+    let recording = recorded(rt, alloc, 2, tables, lines);
+    same(rt, &replayed(alloc, &recording), &wanted);
 }
 
 #[test]
-fn a_replay_that_differs(rt: HostRuntime) {
+fn recordings_are_replayed(rt: HostRuntime) {
+    let own = Tables::baseline();
+    replays(&rt, rt.alloc(), own, &LOAD_FROM_OWNER, Ok((8, None)));
     let mut lines = LOAD_FROM_OWNER;
     lines[6] = "response 0 0 = load 1 6";
-    let recording = recorded(&rt, rt.alloc(), 2, Tables::baseline(), &lines);
     let cache = CacheId(1);
     let differs = ReplayFault::Differs {
         entry: 6,
         told: Outcome::Load { cache, value: 6 },
         found: Outcome::Load { cache, value: 7 },
     };
-    same(&rt, &replayed(rt.alloc(), &recording), &Err(differs));
-}
-
-#[test]
-fn a_replay_that_breaks(rt: HostRuntime) {
-    let mut tables = Tables::baseline();
-    tables.cache = tables
-        .cache
-        .with(CacheState::M, CacheEvent::FwdGetS, CacheEntry::Blank);
-    let mut lines = LOAD_FROM_OWNER;
+    replays(&rt, rt.alloc(), own, &lines, Err(differs));
     lines[5] = "forward 0 0 = blank";
-    let recording = recorded(&rt, rt.alloc(), 2, tables, &lines[..6]);
-    let found = matches!(
-        replayed(rt.alloc(), &recording),
-        Ok((6, Some((5, Violation::Blank { .. }))))
-    );
-    same(&rt, &found, &true);
+    let blank = Violation::Blank {
+        at: Place::Cache(CacheId(0)),
+        block: BlockId(0),
+    };
+    let unanswered = with_entry(CacheState::M, CacheEvent::FwdGetS, CacheEntry::Blank);
+    let breaks = Ok((6, Some((5, blank))));
+    replays(&rt, rt.alloc(), unanswered, &lines[..6], breaks);
 }
 
 /// Pushes as many entries as a recording takes, and compares what it answers to one more.
@@ -256,24 +253,6 @@ pub fn is_refused(rt: &impl Abort, alloc: Global, bytes: &[u8], line: u64, kind:
     same_at(rt, &fault, &wanted, &bytes.len());
 }
 
-/// Compares what each beginning of a text of so many lines is refused with.
-fn is_cut(rt: &impl Abort, alloc: Global, text: &[u8], lines: u64) {
-    let mut line = 1;
-    for cut in 0..text.len() {
-        is_refused(rt, alloc, &text[..cut], line, ReadKind::Truncated);
-        if text[cut] == b'\n' {
-            line = line.saturating_add(1);
-        }
-    }
-    same(rt, &line, &lines.saturating_add(1));
-}
-
-#[test]
-fn beginnings_of_a_text(rt: HostRuntime) {
-    is_cut(&rt, rt.alloc(), FIRST_TEXT.as_bytes(), 9);
-    is_cut(&rt, rt.alloc(), ONE_LOAD_TEXT.as_bytes(), 11);
-}
-
 /// Compares what is refused where the source fails behind so many bytes.
 fn fails_behind(rt: &impl Abort, alloc: Global, text: &[u8], calls: u64, line: u64) {
     let mut source = Faltering::over(text, 1, calls);
@@ -282,22 +261,24 @@ fn fails_behind(rt: &impl Abort, alloc: Global, text: &[u8], calls: u64, line: u
     same_at(rt, &fault, &Some(ReadFault { line, kind }), &calls);
 }
 
-/// Compares it wherever the source of a text of so many lines fails.
+/// Compares what each beginning of a text of so many lines is refused with, and what the text is wherever its source fails.
 ///
 /// The line that isn't whole yet is named, and the line behind the last one where all lines are whole.
-fn fails(rt: &impl Abort, alloc: Global, text: &[u8], lines: u64) {
+fn is_cut(rt: &impl Abort, alloc: Global, text: &[u8], lines: u64) {
     let mut line = 1;
-    for calls in 0..=text.len() {
-        fails_behind(rt, alloc, text, calls as u64, line);
-        if text.get(calls) == Some(&b'\n') {
+    for cut in 0..text.len() {
+        is_refused(rt, alloc, &text[..cut], line, ReadKind::Truncated);
+        fails_behind(rt, alloc, text, cut as u64, line);
+        if text[cut] == b'\n' {
             line = line.saturating_add(1);
         }
     }
+    fails_behind(rt, alloc, text, text.len() as u64, line);
     same(rt, &line, &lines.saturating_add(1));
 }
 
 #[test]
-fn sources_that_fail(rt: HostRuntime) {
-    fails(&rt, rt.alloc(), FIRST_TEXT.as_bytes(), 9);
-    fails(&rt, rt.alloc(), ONE_LOAD_TEXT.as_bytes(), 11);
+fn beginnings_of_a_text(rt: HostRuntime) {
+    is_cut(&rt, rt.alloc(), FIRST_TEXT.as_bytes(), 9);
+    is_cut(&rt, rt.alloc(), ONE_LOAD_TEXT.as_bytes(), 11);
 }

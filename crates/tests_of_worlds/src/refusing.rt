@@ -3,20 +3,16 @@
 
 use crate::asserting::same;
 use crate::entries::{entry_of, push};
+use crate::trying::{ONE_LOAD, RACING_PAIR, are_results};
 use base::{BlockId, CacheId, NoMemory, Outcome, Shape, Step};
 use both_tables::Tables;
-use record::{Entry, PushFault, ReadFault, ReadKind, Recording, ReplayFault, Replayed, replay};
+use record::{Entry, PushFault, ReadFault, ReadKind, Recording, ReplayFault, replay};
 use scenario::Scenario;
 use std::alloc::Global;
 use std::process::Abort;
 use std::test::Fail;
 use trials::{BatchFault, Setup, Trial, TrialResult, Verdict, batch, trial};
 use world::World;
-
-const RACING_PAIR: &str =
-    r#"{"both":[{"op":"load","core":0,"block":0},{"op":"store","core":1,"block":0,"value":9}]}"#;
-
-const ONE_LOAD: &str = r#"{"op":"load","core":0,"block":0}"#;
 
 /// A PutS that comes late, among three caches.
 const LATE_PUTS: [&str; 24] = [
@@ -110,18 +106,19 @@ fn outcome_of(world: &mut World, step: Step, tells: bool) -> Result<Outcome, NoM
     world.step(step)
 }
 
-fn made_or_kept(
+/// Makes a step, at the second call where the first one is refused memory and changes nothing.
+fn made_at_last(
     rt: &impl Abort,
     world: &mut World,
     before: &World,
     step: Step,
     tells: bool,
-) -> Result<Outcome, Fail> {
+) -> Outcome {
     if let Ok(outcome) = outcome_of(world, step, tells) {
-        return Ok(outcome);
+        return outcome;
     }
     same_worlds(rt, world, before);
-    Ok(outcome_of(world, step, tells).ok().ok_or("refused again")?)
+    outcome_of(world, step, tells).expect(rt, "a second refusal")
 }
 
 fn made(
@@ -130,122 +127,90 @@ fn made(
     world: &mut World,
     step: Step,
     tells: bool,
-) -> Result<Outcome, Fail> {
+) -> Result<Outcome, NoMemory> {
     let before = world.try_clone(alloc)?;
-    made_or_kept(rt, world, &before, step, tells)
+    Ok(made_at_last(rt, world, &before, step, tells))
 }
 
-fn make_each(rt: &impl Abort, alloc: Global, world: &mut World, tells: bool) -> Result<(), Fail> {
+fn make_each(
+    rt: &impl Abort,
+    alloc: Global,
+    world: &mut World,
+    tells: bool,
+) -> Result<(), NoMemory> {
     for line in &LATE_PUTS {
-        let entry = entry_of(line).ok_or("not an entry")?;
+        let entry = entry_of(line).expect(rt, "an entry");
         let outcome = made(rt, alloc, world, entry.step, tells)?;
         same(rt, &outcome, &entry.outcome);
     }
     Ok(())
 }
 
-#[test]
-fn a_step(rt: HostRuntime) -> Result<(), Fail> {
-    let mut world = opened(rt.alloc())?;
-    make_each(&rt, rt.alloc(), &mut world, false)
+fn make_each_in_new(rt: &impl Abort, alloc: Global, tells: bool) -> Result<(), Fail> {
+    let mut world = opened(alloc)?;
+    Ok(make_each(rt, alloc, &mut world, tells)?)
 }
 
 #[test]
-fn a_step_of_which_more_is_told(rt: HostRuntime) -> Result<(), Fail> {
-    let mut world = opened(rt.alloc())?;
-    make_each(&rt, rt.alloc(), &mut world, true)
+fn a_step_of_which_more_is_told_or_not(rt: HostRuntime) -> Result<(), Fail> {
+    make_each_in_new(&rt, rt.alloc(), false)?;
+    make_each_in_new(&rt, rt.alloc(), true)
 }
 
 /// Compares the outcomes of the first steps of a run.
 fn compare(rt: &impl Abort, outcomes: &[Outcome], count: usize) {
     same(rt, &outcomes.len(), &count);
     for (outcome, line) in outcomes.iter().zip(&LATE_PUTS) {
-        same(rt, &Some(*outcome), &entry_of(line).map(|it| it.outcome));
+        same(rt, outcome, &entry_of(line).expect(rt, "an entry").outcome);
     }
 }
 
-fn late_steps(alloc: Global) -> Result<Vec<Step>, Fail> {
+fn late_steps(rt: &impl Abort, alloc: Global) -> Result<Vec<Step>, NoMemory> {
     let mut steps = Vec::new(alloc);
     for line in &LATE_PUTS {
-        let entry = entry_of(line).ok_or("not an entry")?;
+        let entry = entry_of(line).expect(rt, "an entry");
         steps.push(entry.step)?;
     }
     Ok(steps)
 }
 
-fn step_all(world: &mut World, steps: &[Step]) -> Result<(), Fail> {
+/// Compares a world with another one, once that has made these steps, too.
+fn has_made(rt: &impl Abort, world: &World, other: &mut World, steps: &[Step]) {
     for step in steps {
-        world.step(*step)?;
+        other.step(*step).expect(rt, "a second refusal");
     }
-    Ok(())
-}
-
-fn is_as_after(
-    rt: &impl Abort,
-    world: &World,
-    other: &mut World,
-    steps: &[Step],
-) -> Result<(), Fail> {
-    step_all(other, steps)?;
     same_worlds(rt, world, other);
-    Ok(())
 }
 
-/// Compares a world with one that has made just these steps.
-fn has_made(rt: &impl Abort, alloc: Global, world: &World, steps: &[Step]) -> Result<(), Fail> {
-    let mut other = opened(alloc)?;
-    is_as_after(rt, world, &mut other, steps)
-}
-
+/// Makes steps in one run, and what is left of them in a second one where a step is refused memory.
 fn run_at_last(
     rt: &impl Abort,
-    alloc: Global,
     world: &mut World,
+    other: &mut World,
     steps: &[Step],
     outcomes: &mut Vec<Outcome>,
-) -> Result<(), Fail> {
+) {
     if let Err(stop) = world.run(steps, outcomes) {
         compare(rt, outcomes.as_slice(), stop.done);
         let (front, rest) = steps.split_at(stop.done);
-        has_made(rt, alloc, world, front)?;
-        world.run(rest, outcomes).ok().ok_or("refused again")?;
+        has_made(rt, world, other, front);
+        world.run(rest, outcomes).expect(rt, "a second refusal");
     }
     compare(rt, outcomes.as_slice(), LATE_PUTS.len());
-    Ok(())
 }
 
 fn run_late(rt: &impl Abort, alloc: Global, steps: &[Step]) -> Result<(), Fail> {
-    let mut outcomes = Vec::new(alloc);
     let mut world = opened(alloc)?;
-    run_at_last(rt, alloc, &mut world, steps, &mut outcomes)
+    let mut other = opened(alloc)?;
+    let mut outcomes = Vec::new(alloc);
+    run_at_last(rt, &mut world, &mut other, steps, &mut outcomes);
+    Ok(())
 }
 
 #[test]
 fn a_run(rt: HostRuntime) -> Result<(), Fail> {
-    let steps = late_steps(rt.alloc())?;
+    let steps = late_steps(&rt, rt.alloc())?;
     run_late(&rt, rt.alloc(), steps.as_slice())
-}
-
-fn made_at_last(
-    alloc: Global,
-    scenario: &Scenario<Global>,
-    setup: &Setup,
-    number: u32,
-) -> Result<Trial, Fail> {
-    match trial(alloc, scenario, setup, number) {
-        Ok(made) => Ok(made),
-        Err(_) => Ok(
-            trial(alloc, scenario, setup, number)
-                .ok()
-                .ok_or("refused again")?,
-        ),
-    }
-}
-
-fn racing_trial(alloc: Global) -> Result<Trial, Fail> {
-    let setup = setup(alloc, 2, 6)?;
-    let pair = scenario(alloc, RACING_PAIR, 2)?;
-    made_at_last(alloc, &pair, &setup, 54)
 }
 
 const RACED: [&str; 6] = [
@@ -265,53 +230,50 @@ fn are_entries(rt: &impl Abort, found: &[Entry], lines: &[&str]) {
     }
 }
 
-fn compare_trial(rt: &impl Abort, made: &Trial) {
+/// Compares trial 54 of two cores that race for one block, which is cut at six steps.
+fn is_cut(rt: &impl Abort, made: &Trial) {
     are_entries(rt, made.recording.entries(), &RACED);
-    same(rt, &made.result.verdict, &Verdict::Cut);
-    same(rt, &made.result.steps, &6);
+    let cut = TrialResult {
+        number: 54,
+        verdict: Verdict::Cut,
+        steps: 6,
+    };
+    same(rt, &made.result, &cut);
+}
+
+fn trial_at_last(rt: &impl Abort, alloc: Global, pair: &Scenario<Global>, setup: &Setup) {
+    let made = match trial(alloc, pair, setup, 54) {
+        Ok(made) => made,
+        Err(_) => trial(alloc, pair, setup, 54).expect(rt, "a second refusal"),
+    };
+    is_cut(rt, &made);
 }
 
 #[test]
 fn a_trial(rt: HostRuntime) -> Result<(), Fail> {
-    let made = racing_trial(rt.alloc())?;
-    compare_trial(&rt, &made);
+    let setup = setup(rt.alloc(), 2, 6)?;
+    let pair = scenario(rt.alloc(), RACING_PAIR, 2)?;
+    trial_at_last(&rt, rt.alloc(), &pair, &setup);
     Ok(())
 }
 
-fn compare_batch(rt: &impl Abort, results: &[TrialResult]) {
-    same(rt, &results.len(), &3);
-    for (number, result) in (0..u32::MAX).zip(results) {
-        let wanted = TrialResult {
-            number,
-            verdict: Verdict::Quiet,
-            steps: 3,
-        };
-        same(rt, result, &wanted);
-    }
-}
-
-fn batch_at_last(
-    rt: &impl Abort,
-    alloc: Global,
-    load: &Scenario<Global>,
-    setup: &Setup,
-) -> Result<(), Fail> {
+fn batch_at_last(rt: &impl Abort, alloc: Global, load: &Scenario<Global>, setup: &Setup) {
     let results = match batch(alloc, load, setup, 3) {
         Ok(results) => results,
         Err(fault) => {
             same(rt, &fault, &BatchFault::NoMemory);
-            batch(alloc, load, setup, 3).ok().ok_or("refused again")?
+            batch(alloc, load, setup, 3).expect(rt, "a second refusal")
         }
     };
-    compare_batch(rt, results.as_slice());
-    Ok(())
+    are_results(rt, results.as_slice(), 3, Verdict::Quiet, 3);
 }
 
 #[test]
 fn a_batch(rt: HostRuntime) -> Result<(), Fail> {
-    let load = scenario(rt.alloc(), ONE_LOAD, 1)?;
     let setup = setup(rt.alloc(), 1, 9)?;
-    batch_at_last(&rt, rt.alloc(), &load, &setup)
+    let load = scenario(rt.alloc(), ONE_LOAD, 1)?;
+    batch_at_last(&rt, rt.alloc(), &load, &setup);
+    Ok(())
 }
 
 /// Compares a fault with one that a refused growth makes.
@@ -322,15 +284,16 @@ fn is_no_memory(rt: &impl Abort, fault: ReadFault) {
 }
 
 /// Reads a text, at the second call where the first one is refused memory.
-fn read_at_last(rt: &impl Abort, alloc: Global, text: &str) -> Result<Recording, Fail> {
+fn read_at_last(rt: &impl Abort, alloc: Global, text: &str) -> Recording {
     let mut source = text.as_bytes();
     match Recording::read(alloc, &mut source) {
-        Ok(recording) => return Ok(recording),
-        Err(fault) => is_no_memory(rt, fault),
+        Ok(recording) => recording,
+        Err(fault) => {
+            is_no_memory(rt, fault);
+            let mut source = text.as_bytes();
+            Recording::read(alloc, &mut source).expect(rt, "a second refusal")
+        }
     }
-    let mut source = text.as_bytes();
-    let read = Recording::read(alloc, &mut source);
-    Ok(read.ok().ok_or("refused again")?)
 }
 
 fn replayed_at_last(alloc: Global, recording: &Recording) -> Option<ReplayFault> {
@@ -352,41 +315,37 @@ fn differs(rt: &impl Abort, alloc: Global, recording: &Recording) {
 }
 
 #[test]
-fn a_recording_is_read_and_replayed(rt: HostRuntime) -> Result<(), Fail> {
-    let recording = read_at_last(&rt, rt.alloc(), ANOTHER_VALUE)?;
+fn a_recording_is_read_and_replayed(rt: HostRuntime) {
+    let recording = read_at_last(&rt, rt.alloc(), ANOTHER_VALUE);
     same(&rt, &recording.entries().len(), &8);
     differs(&rt, rt.alloc(), &recording);
-    Ok(())
 }
 
-fn pushed(rt: &impl Abort, recording: &mut Recording, entry: Entry) -> Result<(), Fail> {
+/// Adds an entry, at the second call where the first one is refused memory and changes nothing.
+fn push_at_last(rt: &impl Abort, recording: &mut Recording, entry: Entry) {
     let count = recording.entries().len();
-    match push(rt, recording, entry) {
-        Ok(()) => Ok(()),
-        Err(fault) => {
-            same(rt, &fault, &PushFault::NoMemory);
-            same(rt, &recording.entries().len(), &count);
-            Ok(push(rt, recording, entry).ok().ok_or("refused again")?)
-        }
+    if let Err(fault) = push(rt, recording, entry) {
+        same(rt, &fault, &PushFault::NoMemory);
+        same(rt, &recording.entries().len(), &count);
+        push(rt, recording, entry).expect(rt, "a second refusal");
     }
 }
 
-fn push_each(rt: &impl Abort, recording: &mut Recording) -> Result<(), Fail> {
+fn push_each(rt: &impl Abort, recording: &mut Recording) {
     for line in &LATE_PUTS {
-        let entry = entry_of(line).ok_or("not an entry")?;
-        pushed(rt, recording, entry)?;
+        push_at_last(rt, recording, entry_of(line).expect(rt, "an entry"));
     }
     are_entries(rt, recording.entries(), &LATE_PUTS);
-    Ok(())
 }
 
-fn push_into_new(rt: &impl Abort, alloc: Global, setup: &Setup) -> Result<(), Fail> {
-    let mut recording = setup.open_recording(alloc)?;
-    push_each(rt, &mut recording)
+fn opened_recording(alloc: Global) -> Result<Recording, Fail> {
+    let setup = setup(alloc, 3, 0)?;
+    Ok(setup.open_recording(alloc)?)
 }
 
 #[test]
 fn entries_are_pushed(rt: HostRuntime) -> Result<(), Fail> {
-    let setup = setup(rt.alloc(), 3, 0)?;
-    push_into_new(&rt, rt.alloc(), &setup)
+    let mut recording = opened_recording(rt.alloc())?;
+    push_each(&rt, &mut recording);
+    Ok(())
 }

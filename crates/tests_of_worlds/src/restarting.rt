@@ -1,56 +1,36 @@
 use crate::asserting::{same, same_at};
-use base::{BlockId, CacheId, Shape, Step};
+use crate::making::{acting, make_all, with_entry};
+use base::{BlockId, CacheId, Shape};
 use both_tables::Tables;
-use cache_table::{CacheAction, CacheActions, CacheEntry, CacheEvent, CacheState};
+use cache_table::{CacheAction, CacheEntry, CacheEvent, CacheState};
 use scenario::Scenario;
 use std::alloc::Global;
 use std::process::Abort;
 use trials::{Setup, TrialResult, Verdict, batch, trial};
 use world::World;
 
-/// A value for each block: 100 and its number.
-fn values(rt: &impl Abort, alloc: Global, blocks: u32) -> Vec<u64> {
+/// A value for each block: 100 and its number, or 7.
+fn values(rt: &impl Abort, alloc: Global, blocks: u32, rises: bool) -> Vec<u64> {
     let mut values = Vec::with_capacity(alloc, blocks as usize).expect(rt, "memory");
     for block in 0..blocks {
-        values.push(100 + block as u64).expect(rt, "memory");
+        let value = if rises { 100 + block as u64 } else { 7 };
+        values.push(value).expect(rt, "memory");
     }
     values
 }
 
 /// The protocol's own tables, where a load in I meets a blank cell if that is wanted.
 fn tables(blank: bool) -> Tables {
-    let mut tables = Tables::baseline();
     if blank {
-        tables.cache = tables
-            .cache
-            .with(CacheState::I, CacheEvent::Load, CacheEntry::Blank);
+        with_entry(CacheState::I, CacheEvent::Load, CacheEntry::Blank)
+    } else {
+        Tables::baseline()
     }
-    tables
 }
 
-fn opened(rt: &impl Abort, alloc: Global, shape: Shape, blank: bool) -> World {
-    let opening = values(rt, alloc, shape.blocks());
+fn opened(rt: &impl Abort, alloc: Global, shape: Shape, blank: bool, rises: bool) -> World {
+    let opening = values(rt, alloc, shape.blocks(), rises);
     World::open(alloc, shape, tables(blank), opening).expect(rt, "a world")
-}
-
-/// The same, where each block opens at 7.
-fn opened_at_7(rt: &impl Abort, alloc: Global, shape: Shape, blank: bool) -> World {
-    let opening = vec![in alloc; 7u64; shape.blocks() as usize].expect(rt, "memory");
-    World::open(alloc, shape, tables(blank), opening).expect(rt, "a world")
-}
-
-/// Has a world begin again with 7 in each block.
-fn reset_to_7(rt: &impl Abort, alloc: Global, world: &mut World) {
-    let blocks = world.shape().blocks();
-    let opening = vec![in alloc; 7u64; blocks as usize].expect(rt, "memory");
-    world.reset(opening.as_slice());
-}
-
-fn make_all(rt: &impl Abort, world: &mut World, steps: &str) {
-    for line in steps.split(',') {
-        let step = Step::read(line.as_bytes()).expect(rt, "a step");
-        world.step(step).expect(rt, "memory");
-    }
 }
 
 /// Compares what can be seen of a block.
@@ -80,61 +60,112 @@ fn same_world(rt: &impl Abort, alloc: Global, world: &World, fresh: &World) {
 }
 
 /// Compares a world that begins again with one that opens, before these steps and after them.
-fn begins_as(rt: &impl Abort, alloc: Global, world: &mut World, fresh: &mut World, steps: &str) {
+fn begins_as(rt: &impl Abort, alloc: Global, world: &mut World, fresh: &mut World, steps: &[&str]) {
     same_world(rt, alloc, world, fresh);
     make_all(rt, world, steps);
     make_all(rt, fresh, steps);
     same_world(rt, alloc, world, fresh);
 }
 
-/// Has a world begin again behind these steps, with the values that it has and with others.
-fn begins_again(rt: &impl Abort, alloc: Global, world: &mut World, blank: bool, steps: &str) {
-    let shape = world.shape();
-    make_all(rt, world, steps);
-    world.restart();
-    let mut fresh = opened(rt, alloc, shape, blank);
-    begins_as(rt, alloc, world, &mut fresh, steps);
-    reset_to_7(rt, alloc, world);
-    let mut fresh = opened_at_7(rt, alloc, shape, blank);
-    begins_as(rt, alloc, world, &mut fresh, steps);
+/// The same with one that it opens.
+fn begins_as_opened(
+    rt: &impl Abort,
+    alloc: Global,
+    world: &mut World,
+    round: &Round<'_>,
+    rises: bool,
+) {
+    let mut fresh = opened(rt, alloc, world.shape(), round.blank, rises);
+    begins_as(rt, alloc, world, &mut fresh, round.steps);
 }
 
-const ROUNDS: [(u32, u32, bool, &str); 5] = [
-    (
-        2,
-        3,
-        false,
-        "ask 0 0 store 7,request 0 0,response 0 0,ask 1 2 store 8,request 2 0,response 2 0",
-    ),
-    (2, 3, false, "ask 0 1 load,request 1 0,ask 1 1 store 5"),
-    (2, 3, true, "ask 0 2 load,ask 0 0 store 3"),
-    (1, 2, false, "ask 0 1 replace"),
-    (
-        4096,
-        65_536,
-        false,
-        "ask 4095 65535 store 7,request 65535 0,response 65535 0,ask 0 0 load,ask 0 65535 load",
-    ),
+/// Has a world begin again with 7 in each block.
+fn reset_to_7(rt: &impl Abort, alloc: Global, world: &mut World) {
+    let blocks = world.shape().blocks();
+    let opening = vec![in alloc; 7u64; blocks as usize].expect(rt, "memory");
+    world.reset(opening.as_slice());
+}
+
+/// Has a world begin again behind these steps, with the values that it has and with others.
+fn begins_again(rt: &impl Abort, alloc: Global, world: &mut World, round: &Round<'_>) {
+    make_all(rt, world, round.steps);
+    world.restart();
+    begins_as_opened(rt, alloc, world, round, true);
+    reset_to_7(rt, alloc, world);
+    begins_as_opened(rt, alloc, world, round, false);
+}
+
+struct Round<'a> {
+    caches: u32,
+    blocks: u32,
+    blank: bool,
+    steps: &'a [&'a str],
+}
+
+const ROUNDS: [Round<'static>; 5] = [
+    Round {
+        caches: 2,
+        blocks: 3,
+        blank: false,
+        steps: &[
+            "ask 0 0 store 7",
+            "request 0 0",
+            "response 0 0",
+            "ask 1 2 store 8",
+            "request 2 0",
+            "response 2 0",
+        ],
+    },
+    Round {
+        caches: 2,
+        blocks: 3,
+        blank: false,
+        steps: &["ask 0 1 load", "request 1 0", "ask 1 1 store 5"],
+    },
+    Round {
+        caches: 2,
+        blocks: 3,
+        blank: true,
+        steps: &["ask 0 2 load", "ask 0 0 store 3"],
+    },
+    Round {
+        caches: 1,
+        blocks: 2,
+        blank: false,
+        steps: &["ask 0 1 replace"],
+    },
+    Round {
+        caches: 4096,
+        blocks: 65_536,
+        blank: false,
+        steps: &[
+            "ask 4095 65535 store 7",
+            "request 65535 0",
+            "response 65535 0",
+            "ask 0 0 load",
+            "ask 0 65535 load",
+        ],
+    },
 ];
+
+fn plays(rt: &impl Abort, alloc: Global, round: &Round<'_>) {
+    let shape = Shape::new(round.caches, round.blocks).expect(rt, "a shape");
+    let mut world = opened(rt, alloc, shape, round.blank, true);
+    begins_again(rt, alloc, &mut world, round);
+}
 
 #[test]
 fn worlds_begin_again(rt: HostRuntime) {
-    for (caches, blocks, blank, steps) in &ROUNDS {
-        let shape = Shape::new(*caches, *blocks).expect(&rt, "a shape");
-        let mut world = opened(&rt, rt.alloc(), shape, *blank);
-        begins_again(&rt, rt.alloc(), &mut world, *blank, steps);
+    for round in &ROUNDS {
+        plays(&rt, rt.alloc(), round);
     }
 }
 
 /// The setup of the largest shape, over tables under which a cache that waits for its data answers an Inv at once.
 fn largest(rt: &impl Abort, alloc: Global, shape: Shape) -> Setup {
-    let mut tables = Tables::baseline();
-    let acks = CacheEntry::Act {
-        next: CacheState::IsD,
-        actions: CacheActions::of(&[CacheAction::InvAck]).expect(rt, "one action"),
-    };
-    tables.cache = tables.cache.with(CacheState::IsD, CacheEvent::Inv, acks);
-    let opening = values(rt, alloc, shape.blocks());
+    let acks = acting(rt, CacheState::IsD, &[CacheAction::InvAck]);
+    let tables = with_entry(CacheState::IsD, CacheEvent::Inv, acks);
+    let opening = values(rt, alloc, shape.blocks(), true);
     Setup::new(shape, tables, opening, 42, 100).expect(rt, "a setup")
 }
 
@@ -146,7 +177,7 @@ fn are_alone(
     setup: &Setup,
     results: &[TrialResult],
 ) {
-    for result in results.iter().skip(52) {
+    for result in results.get(52..).expect(rt, "more results") {
         let alone = trial(alloc, tree, setup, result.number).expect(rt, "memory");
         same(rt, result, &alone.result);
     }

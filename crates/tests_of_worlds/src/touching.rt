@@ -1,16 +1,11 @@
 use crate::asserting::same;
-use base::{Ask, BlockId, CacheId, Outcome, Shape, Step};
+use crate::making::opened;
+use base::{Ask, BlockId, CacheId, Outcome, Step};
 use both_tables::Tables;
 use schedule::Dice;
 use std::alloc::Global;
 use std::process::Abort;
 use world::World;
-
-fn opened(rt: &impl Abort, alloc: Global, caches: u32, blocks: u32) -> World {
-    let shape = Shape::new(caches, blocks).expect(rt, "a shape");
-    let opening = vec![in alloc; 0u64; blocks as usize].expect(rt, "memory");
-    World::open(alloc, shape, Tables::baseline(), opening).expect(rt, "a world")
-}
 
 fn load(cache: u32, block: u32) -> Step {
     Step::Ask {
@@ -58,7 +53,7 @@ fn touch_and_copy(rt: &impl Abort, alloc: Global, world: &mut World) {
 
 #[test]
 fn two_blocks_of_a_large_shape(rt: HostRuntime) {
-    let mut world = opened(&rt, rt.alloc(), 1024, 4096);
+    let mut world = opened(&rt, rt.alloc(), 1024, 4096, Tables::baseline(), 0);
     touch_and_copy(&rt, rt.alloc(), &mut world);
 }
 
@@ -92,7 +87,7 @@ fn make_a_load(rt: &impl Abort, world: &mut World) {
 /// `ci/refuse-growths` refuses each of its growths in turn.
 #[test]
 fn a_refused_step_leaves_an_untouched_block_alone(rt: HostRuntime) {
-    let mut world = opened(&rt, rt.alloc(), 3, 2);
+    let mut world = opened(&rt, rt.alloc(), 3, 2, Tables::baseline(), 0);
     make_a_load(&rt, &mut world);
 }
 
@@ -143,17 +138,13 @@ fn go_far(rt: &impl Abort, alloc: Global, world: &mut World, dice: &mut Dice, st
 
 /// Makes so many random steps from the start.
 fn wander(rt: &impl Abort, alloc: Global, caches: u32, blocks: u32, steps: u32) {
-    let mut world = opened(rt, alloc, caches, blocks);
+    let mut world = opened(rt, alloc, caches, blocks, Tables::baseline(), 0);
     let mut dice = Dice::new(7, caches as u64);
     go_far(rt, alloc, &mut world, &mut dice, steps);
 }
 
 #[test]
-fn random_steps_over_a_small_shape(rt: HostRuntime) {
+fn random_steps_over_a_small_and_the_largest_shape(rt: HostRuntime) {
     wander(&rt, rt.alloc(), 3, 2, 50_000);
-}
-
-#[test]
-fn random_steps_over_the_largest_shape(rt: HostRuntime) {
     wander(&rt, rt.alloc(), 4096, 65_536, 50_000);
 }

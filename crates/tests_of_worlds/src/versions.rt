@@ -2,7 +2,7 @@
 
 use crate::asserting::{same, same_at};
 use crate::entries::entry_of;
-use crate::recordings::{FIRST_TEXT, ONE_LOAD_TEXT, fault_of, is_refused};
+use crate::recordings::{FIRST_TEXT, ONE_LOAD_TEXT, fault_of, is_refused, writes};
 use base::controller::Protocol;
 use base::{Buffer, Faltering, Shape};
 use both_tables::Tables;
@@ -59,14 +59,6 @@ const OF_BOTH: [(&str, &str, ReadKind, u64, u64); 14] = [
         8,
     ),
 ];
-
-#[test]
-fn texts_that_are_refused(rt: HostRuntime) {
-    for (old, new, kind, first, second) in &OF_BOTH {
-        is_refused_with(&rt, rt.alloc(), FIRST_TEXT, old, new, *kind, *first);
-        is_refused_with(&rt, rt.alloc(), ONE_LOAD_TEXT, old, new, *kind, *second);
-    }
-}
 
 /// Changes to the text of one load in version 1.
 const OF_FIRST: [(&str, &str, ReadKind, u64); 6] = [
@@ -131,21 +123,26 @@ const OF_SEATS: [(&str, &str, ReadKind, u64); 10] = [
     ("end", "by 0 end", ReadKind::BadLine, 9),
 ];
 
-#[test]
-fn texts_that_are_refused_in_one_version(rt: HostRuntime) {
-    for (old, new, kind, line) in &OF_FIRST {
-        is_refused_with(&rt, rt.alloc(), FIRST_TEXT, old, new, *kind, *line);
-    }
-    for (old, new, kind, line) in &OF_SECOND {
-        is_refused_with(&rt, rt.alloc(), ONE_LOAD_TEXT, old, new, *kind, *line);
+fn are_refused_with(
+    rt: &impl Abort,
+    alloc: Global,
+    text: &str,
+    rows: &[(&str, &str, ReadKind, u64)],
+) {
+    for (old, new, kind, line) in rows {
+        is_refused_with(rt, alloc, text, old, new, *kind, *line);
     }
 }
 
 #[test]
-fn texts_of_seats_that_are_refused(rt: HostRuntime) {
-    for (old, new, kind, line) in &OF_SEATS {
-        is_refused_with(&rt, rt.alloc(), SEATS_TEXT, old, new, *kind, *line);
+fn texts_that_are_refused(rt: HostRuntime) {
+    for (old, new, kind, first, second) in &OF_BOTH {
+        is_refused_with(&rt, rt.alloc(), FIRST_TEXT, old, new, *kind, *first);
+        is_refused_with(&rt, rt.alloc(), ONE_LOAD_TEXT, old, new, *kind, *second);
     }
+    are_refused_with(&rt, rt.alloc(), FIRST_TEXT, &OF_FIRST);
+    are_refused_with(&rt, rt.alloc(), ONE_LOAD_TEXT, &OF_SECOND);
+    are_refused_with(&rt, rt.alloc(), SEATS_TEXT, &OF_SEATS);
 }
 
 /// Compares what a text that begins so is refused with, where so many bytes of a line without an end follow.
@@ -195,6 +192,14 @@ fn moves(rt: &impl Abort, alloc: Global, from: &str, to: &str) {
     same(rt, &sink.bytes(), &to.as_bytes());
 }
 
+/// Compares why a text isn't moved into a sink that fails behind seven bytes.
+fn is_not_moved(rt: &impl Abort, alloc: Global, text: &str, fault: MoveFault) {
+    let mut sink = Faltering::over(Buffer::open(alloc), 7, 1);
+    let mut source = text.as_bytes();
+    let moved = move_text(alloc, &mut source, &mut sink);
+    same_at(rt, &moved, &Err(fault), &text);
+}
+
 #[test]
 fn texts_are_moved(rt: HostRuntime) {
     let first =
@@ -211,18 +216,6 @@ fn texts_are_moved(rt: HostRuntime) {
     ] {
         moves(&rt, rt.alloc(), from, to);
     }
-}
-
-/// Compares why a text isn't moved into a sink that fails behind seven bytes.
-fn is_not_moved(rt: &impl Abort, alloc: Global, text: &str, fault: MoveFault) {
-    let mut sink = Faltering::over(Buffer::open(alloc), 7, 1);
-    let mut source = text.as_bytes();
-    let moved = move_text(alloc, &mut source, &mut sink);
-    same_at(rt, &moved, &Err(fault), &text);
-}
-
-#[test]
-fn texts_that_are_not_moved(rt: HostRuntime) {
     let fault = MoveFault::Write(WriteFault { written: 7 });
     is_not_moved(&rt, rt.alloc(), FIRST_TEXT, fault);
     let kind = ReadKind::UnknownProtocol;
@@ -237,9 +230,7 @@ fn is_of_seats(rt: &impl Abort, alloc: Global, recording: &Recording) {
     same(rt, &recording.seats(), &3);
     let owners = (recording.owner(0), recording.owner(1));
     same(rt, &owners, &(Some(2), None));
-    let mut sink = Buffer::open(alloc);
-    recording.write(&mut sink).expect(rt, "memory");
-    same(rt, &sink.bytes(), &SEATS_TEXT.as_bytes());
+    writes(rt, alloc, recording, SEATS_TEXT);
 }
 
 #[test]

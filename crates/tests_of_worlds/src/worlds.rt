@@ -1,21 +1,19 @@
 use crate::asserting::{same, same_at};
-use base::{Ask, BlockId, CacheId, Outcome, Place, Shape, Step};
-use both_tables::{Tables, TablesFault};
-use cache_table::{CacheAction, CacheActions, CacheEntry, CacheEvent, CacheState};
-use directory_table::{DirectoryEntry, DirectoryEvent, DirectoryState};
+use crate::making::{opened, step_of, with_entry};
+use base::{BlockId, CacheId, Outcome, Place, Shape, Step};
+use both_tables::Tables;
+use cache_table::{CacheEntry, CacheEvent, CacheState};
+use directory_table::DirectoryState;
 use std::alloc::Global;
 use std::process::Abort;
 use world::{OpenFault, World};
 
 const BLOCK: BlockId = BlockId(0);
 
-const STORED: &str = "ask 0 0 store 7,request 0 0,response 0 0";
-
 fn steps(rt: &impl Abort, alloc: Global, text: &str) -> Vec<Step> {
     let mut steps = Vec::new(alloc);
     for line in text.split(',') {
-        let step = Step::read(line.as_bytes()).expect(rt, "a step");
-        steps.push(step).expect(rt, "memory");
+        steps.push(step_of(rt, line)).expect(rt, "memory");
     }
     steps
 }
@@ -29,12 +27,6 @@ fn outcomes(rt: &impl Abort, alloc: Global, text: &str) -> Vec<Outcome> {
     outcomes
 }
 
-fn opened(rt: &impl Abort, alloc: Global, caches: u32, tables: Tables) -> World {
-    let shape = Shape::new(caches, 1).expect(rt, "a shape");
-    let opening = vec![in alloc; 0].expect(rt, "memory");
-    World::open(alloc, shape, tables, opening).expect(rt, "a world")
-}
-
 /// Makes a step that has to be foreseen by `ready`.
 fn make_foreseen(rt: &impl Abort, world: &mut World, step: Step) {
     let foreseen = world.ready(step).expect(rt, "memory");
@@ -44,17 +36,16 @@ fn make_foreseen(rt: &impl Abort, world: &mut World, step: Step) {
     same_at(rt, &(made, is_held), &(foreseen, held), &step);
 }
 
-fn make_all(rt: &impl Abort, world: &mut World, steps: &[Step]) {
-    for step in steps {
-        make_foreseen(rt, world, *step);
+fn make_each(rt: &impl Abort, world: &mut World, text: &str) {
+    for line in text.split(',') {
+        make_foreseen(rt, world, step_of(rt, line));
     }
 }
 
-/// A world that has made these steps, each of which was foreseen by `ready`.
-fn after(rt: &impl Abort, alloc: Global, caches: u32, text: &str) -> World {
-    let steps = steps(rt, alloc, text);
-    let mut world = opened(rt, alloc, caches, Tables::baseline());
-    make_all(rt, &mut world, steps.as_slice());
+/// A world of two caches that has made these steps, each of which was foreseen by `ready`.
+fn after(rt: &impl Abort, alloc: Global, text: &str) -> World {
+    let mut world = opened(rt, alloc, 2, 1, Tables::baseline(), 0);
+    make_each(rt, &mut world, text);
     world
 }
 
@@ -137,7 +128,7 @@ const WORKED: [(u32, &str, &str); 9] = [
 
 /// Makes these steps in a new world, and compares their outcomes.
 fn comes(rt: &impl Abort, alloc: Global, caches: u32, made: &str, came: &str) {
-    let mut world = opened(rt, alloc, caches, Tables::baseline());
+    let mut world = opened(rt, alloc, caches, 1, Tables::baseline(), 0);
     runs(rt, alloc, &mut world, made, came);
 }
 
@@ -148,48 +139,78 @@ fn worked_rows(rt: HostRuntime) {
     }
 }
 
-/// Compares what can be seen of a world in which a load got the value of a PutM, and is quiet again.
-fn has_loaded(rt: &impl Abort, world: &World) {
-    same(rt, &world.home(BLOCK), &Some((DirectoryState::S, None, 7)));
+/// Steps of two caches, and what can be seen of the block behind them.
+struct Seen<'a> {
+    made: &'a str,
+    home: (DirectoryState, Option<CacheId>, u64),
+    /// Whether the first cache is among the sharers, and whether the second is.
+    shares: (bool, bool),
+    latest: u64,
+    readers: u32,
+    writer: Option<CacheId>,
+    /// Whether nothing is on its way, and whether a blank was met.
+    ends: (bool, bool),
+}
+
+/// A PutM meets a load, and is served at once or waits; a line is stored.
+const SEEN: [Seen<'static>; 3] = [
+    Seen {
+        made: "ask 0 0 store 7,request 0 0,response 0 0,ask 0 0 replace,ask 1 0 load,request 0 1,\
+               request 0 0,forward 0 0,forward 0 0,response 0 0,response 0 0",
+        home: (DirectoryState::S, None, 7),
+        shares: (false, true),
+        latest: 7,
+        readers: 1,
+        writer: None,
+        ends: (true, false),
+    },
+    Seen {
+        made: "ask 0 0 store 7,request 0 0,response 0 0,ask 0 0 replace,ask 1 0 load,request 0 1,\
+               forward 0 0,response 0 1,response 0 0,ask 1 0 replace,request 0 1,forward 0 1,request 0 0",
+        home: (DirectoryState::S, None, 7),
+        shares: (false, false),
+        latest: 7,
+        readers: 0,
+        writer: None,
+        ends: (false, false),
+    },
+    Seen {
+        made: "ask 0 0 store 7,request 0 0,response 0 0",
+        home: (DirectoryState::M, Some(CacheId(0)), 0),
+        shares: (false, false),
+        latest: 7,
+        readers: 1,
+        writer: Some(CacheId(0)),
+        ends: (true, false),
+    },
+];
+
+fn is_seen(rt: &impl Abort, world: &World, seen: &Seen<'_>) {
+    same_at(rt, &world.home(BLOCK), &Some(seen.home), &seen.made);
     let shares = (
         world.shares(CacheId(0), BLOCK),
         world.shares(CacheId(1), BLOCK),
     );
-    same(rt, &shares, &(false, true));
-    same(rt, &(world.empty(), world.broken()), &(true, false));
-    same(rt, &world.latest(BLOCK), &Some(7));
-    same(rt, &world.readers(BLOCK), &1);
-    same(rt, &world.writer(BLOCK), &None);
+    same_at(rt, &shares, &seen.shares, &seen.made);
+    same_at(rt, &world.latest(BLOCK), &Some(seen.latest), &seen.made);
+    same_at(rt, &world.readers(BLOCK), &seen.readers, &seen.made);
+    same_at(rt, &world.writer(BLOCK), &seen.writer, &seen.made);
+    let ends = (world.empty(), world.broken());
+    same_at(rt, &ends, &seen.ends, &seen.made);
 }
 
-fn copy_has_loaded(rt: &impl Abort, alloc: Global, world: &World) {
+fn copy_is_seen(rt: &impl Abort, alloc: Global, world: &World, seen: &Seen<'_>) {
     let copy = world.try_clone(alloc).expect(rt, "memory");
-    has_loaded(rt, &copy);
+    is_seen(rt, &copy, seen);
 }
 
 #[test]
-fn a_putm_meets_a_load(rt: HostRuntime) {
-    let race = "ask 0 0 store 7,request 0 0,response 0 0,ask 0 0 replace,ask 1 0 load,request 0 1,\
-         request 0 0,forward 0 0,forward 0 0,response 0 0,response 0 0";
-    let world = after(&rt, rt.alloc(), 2, race);
-    copy_has_loaded(&rt, rt.alloc(), &world);
-}
-
-fn has_no_sharers(rt: &impl Abort, world: &World) {
-    same(rt, &world.home(BLOCK), &Some((DirectoryState::S, None, 7)));
-    let shares = (
-        world.shares(CacheId(0), BLOCK),
-        world.shares(CacheId(1), BLOCK),
-    );
-    same(rt, &shares, &(false, false));
-}
-
-#[test]
-fn a_putm_meets_a_load_and_waits(rt: HostRuntime) {
-    let late = "ask 0 0 store 7,request 0 0,response 0 0,ask 0 0 replace,ask 1 0 load,request 0 1,\
-         forward 0 0,response 0 1,response 0 0,ask 1 0 replace,request 0 1,forward 0 1,request 0 0";
-    let world = after(&rt, rt.alloc(), 2, late);
-    has_no_sharers(&rt, &world);
+fn what_is_seen_of_a_block(rt: HostRuntime) {
+    for seen in &SEEN {
+        let world = after(&rt, rt.alloc(), seen.made);
+        is_seen(&rt, &world, seen);
+        copy_is_seen(&rt, rt.alloc(), &world, seen);
+    }
 }
 
 /// Compares what is enabled.
@@ -209,8 +230,7 @@ const PLACES: [(&str, Option<Place>); 5] = [
 /// Compares where steps take place.
 fn takes_place(rt: &impl Abort, world: &World) {
     for (text, place) in &PLACES {
-        let step = Step::read(text.as_bytes()).expect(rt, "a step");
-        same_at(rt, &world.at(step), place, text);
+        same_at(rt, &world.at(step_of(rt, text)), place, text);
     }
 }
 
@@ -228,208 +248,77 @@ fn is_in_order(rt: &impl Abort, alloc: Global, world: &World) {
 #[test]
 fn deliveries_in_their_order(rt: HostRuntime) {
     let held = "ask 0 0 store 7,request 0 0,ask 1 0 load,request 0 0";
-    let world = after(&rt, rt.alloc(), 2, held);
+    let world = after(&rt, rt.alloc(), held);
     is_in_order(&rt, rt.alloc(), &world);
 }
 
-#[test]
-fn a_stored_line_is_the_writer(rt: HostRuntime) {
-    let world = after(&rt, rt.alloc(), 2, STORED);
-    same(&rt, &world.writer(BLOCK), &Some(CacheId(0)));
-}
-
-/// Makes the steps behind which an Inv is held for good.
-fn gets_stuck(rt: &impl Abort, alloc: Global, world: &mut World) {
-    let made = "ask 0 0 load,request 0 0,response 0 0,ask 0 0 replace,ask 1 0 store 5,request 0 1,\
-         response 0 0,request 0 0,forward 0 0";
-    let came = "sent,moved,load 0 0,sent,sent,moved,moved,moved,held";
-    runs(rt, alloc, world, made, came);
-    enables(rt, alloc, world, &[]);
-    same(rt, &world.empty(), &false);
-}
-
-#[test]
-fn a_held_inv_gets_stuck(rt: HostRuntime) {
-    let mut tables = Tables::baseline();
-    tables.cache = tables
-        .cache
-        .with(CacheState::SiA, CacheEvent::Inv, CacheEntry::Stall);
-    let mut world = opened(&rt, rt.alloc(), 2, tables);
-    gets_stuck(&rt, rt.alloc(), &mut world);
+/// Makes steps in a new world, behind which nothing is enabled, and compares their outcomes and how it ends.
+fn comes_to_an_end(
+    rt: &impl Abort,
+    alloc: Global,
+    caches: u32,
+    tables: Tables,
+    made: &str,
+    came: &str,
+    ends: (bool, bool),
+) {
+    let mut world = opened(rt, alloc, caches, 1, tables, 0);
+    runs(rt, alloc, &mut world, made, came);
+    enables(rt, alloc, &world, &[]);
+    same_at(rt, &(world.empty(), world.broken()), &ends, &made);
 }
 
 /// Makes a load that meets a blank cell, and compares what it and a second one do.
 fn breaks(rt: &impl Abort, alloc: Global, world: &mut World) {
-    let load = Step::Ask {
-        cache: CacheId(0),
-        block: BLOCK,
-        ask: Ask::Load,
-    };
+    let load = step_of(rt, "ask 0 0 load");
     same(rt, &world.step(load), &Ok(Outcome::Blank));
     same(rt, &world.broken(), &true);
     same(rt, &world.step(load), &Ok(Outcome::Broken));
     enables(rt, alloc, world, &[]);
 }
 
+/// An Inv is held for good, and a blank breaks a world.
 #[test]
-fn a_blank_breaks_the_world(rt: HostRuntime) {
-    let mut tables = Tables::baseline();
-    tables.cache = tables
-        .cache
-        .with(CacheState::I, CacheEvent::Load, CacheEntry::Blank);
-    let mut world = opened(&rt, rt.alloc(), 1, tables);
+fn worlds_that_come_to_an_end(rt: HostRuntime) {
+    let held = with_entry(CacheState::SiA, CacheEvent::Inv, CacheEntry::Stall);
+    let made = "ask 0 0 load,request 0 0,response 0 0,ask 0 0 replace,ask 1 0 store 5,request 0 1,\
+         response 0 0,request 0 0,forward 0 0";
+    let came = "sent,moved,load 0 0,sent,sent,moved,moved,moved,held";
+    comes_to_an_end(&rt, rt.alloc(), 2, held, made, came, (false, false));
+    let blank = with_entry(CacheState::I, CacheEvent::Load, CacheEntry::Blank);
+    let loads = "ask 0 0 load,ask 0 0 load";
+    comes_to_an_end(
+        &rt,
+        rt.alloc(),
+        1,
+        blank,
+        loads,
+        "blank,broken",
+        (true, true),
+    );
+    let mut world = opened(&rt, rt.alloc(), 1, 1, blank, 0);
     breaks(&rt, rt.alloc(), &mut world);
 }
 
-/// Why a world of one cache and two blocks isn't opened, if it isn't.
-fn refusal(rt: &impl Abort, alloc: Global, opening: Vec<u64>) -> Option<OpenFault> {
+fn two_blocks(rt: &impl Abort, alloc: Global, opening: Vec<u64>) -> Result<World, OpenFault> {
     let shape = Shape::new(1, 2).expect(rt, "a shape");
-    World::open(alloc, shape, Tables::baseline(), opening).err()
+    World::open(alloc, shape, Tables::baseline(), opening)
 }
 
-#[test]
-fn an_opening_of_another_length(rt: HostRuntime) {
-    let opening = vec![in rt.alloc(); 0].expect(&rt, "memory");
-    let refused = refusal(&rt, rt.alloc(), opening);
-    same(&rt, &refused, &Some(OpenFault::OpeningLength));
-}
-
-/// A world of one cache and two blocks that open at 3 and 4.
-fn two_blocks(rt: &impl Abort, alloc: Global) -> World {
-    let shape = Shape::new(1, 2).expect(rt, "a shape");
-    let opening = vec![in alloc; 3, 4].expect(rt, "memory");
-    World::open(alloc, shape, Tables::baseline(), opening).expect(rt, "a world")
+/// Compares what can be seen of a world of one cache and two blocks that open at 3 and 4.
+fn has_opened(rt: &impl Abort, world: &World) {
+    same(rt, &Ok(world.shape()), &Shape::new(1, 2));
+    let home = Some((DirectoryState::I, None, 4));
+    same(rt, &world.home(BlockId(1)), &home);
+    same(rt, &world.line(CacheId(1), BLOCK), &None);
 }
 
 #[test]
 fn an_opening_of_two_blocks(rt: HostRuntime) {
-    let world = two_blocks(&rt, rt.alloc());
-    same(&rt, &Ok(world.shape()), &Shape::new(1, 2));
-    let home = Some((DirectoryState::I, None, 4));
-    same(&rt, &world.home(BlockId(1)), &home);
-    same(&rt, &world.line(CacheId(1), BLOCK), &None);
-}
-
-/// Compares what a text makes of the baseline.
-fn makes(rt: &impl Abort, alloc: Global, text: &str, wanted: Result<Tables, TablesFault>) {
-    let found = Tables::from_json(alloc, text.as_bytes());
-    same_at(rt, &found, &wanted, &text);
-}
-
-/// The baseline, where a cache that waits for its data answers an Inv at once.
-fn answers_at_once(rt: &impl Abort) -> Tables {
-    let mut tables = Tables::baseline();
-    let acks = CacheEntry::Act {
-        next: CacheState::IsD,
-        actions: CacheActions::of(&[CacheAction::InvAck]).expect(rt, "one action"),
-    };
-    tables.cache = tables.cache.with(CacheState::IsD, CacheEvent::Inv, acks);
-    tables
-}
-
-/// The same, and a blank and a stall.
-fn on_both_sides(mut tables: Tables) -> Tables {
-    tables.cache = tables
-        .cache
-        .with(CacheState::M, CacheEvent::FwdGetS, CacheEntry::Blank);
-    tables.directory = tables.directory.with(
-        DirectoryState::I,
-        DirectoryEvent::GetS,
-        DirectoryEntry::Stall,
-    );
-    tables
-}
-
-#[test]
-fn overrides_of_nothing(rt: HostRuntime) {
-    for text in &[
-        "{}",
-        r#"{"cache":[],"directory":[]}"#,
-        r#"{"cache":[{"state":"S","event":"Store","entry":"stall"}],"cache":[]}"#,
-    ] {
-        makes(&rt, rt.alloc(), text, Ok(Tables::baseline()));
-    }
-}
-
-#[test]
-fn overrides_lie_over_the_baseline(rt: HostRuntime) {
-    let tables = answers_at_once(&rt);
-    let one =
-        r#"{"cache":[{"state":"IS^D","event":"Inv","entry":{"next":"IS^D","do":["inv-ack"]}}]}"#;
-    makes(&rt, rt.alloc(), one, Ok(tables));
-    let both = r#" {"directory": [{"entry": "stall", "event": "GetS", "state": "I"}],
-                 "cache": [{"entry": {"do": ["inv-ack"], "next": "IS^D"}, "event": "Inv", "state": "IS^D"},
-                           {"state": "M", "event": "Fwd-GetS", "entry": "blank"}]}"#;
-    makes(&rt, rt.alloc(), both, Ok(on_both_sides(tables)));
-}
-
-const REFUSED: [(&str, TablesFault); 19] = [
-    ("", TablesFault::NotJson),
-    ("{} {}", TablesFault::NotJson),
-    ("[]", TablesFault::BadShape),
-    (r#"{"cache":{}}"#, TablesFault::BadShape),
-    (r#"{"caches":[]}"#, TablesFault::BadShape),
-    (
-        r#"{"cache":[{"state":"X","event":"Inv","entry":"stall"}],"directory":0}"#,
-        TablesFault::BadShape,
-    ),
-    (
-        r#"{"cache":[{"state":"S","event":"Inv"}]}"#,
-        TablesFault::BadShape,
-    ),
-    (
-        r#"{"cache":[{"state":"S","event":"Inv","entry":"stall","by":1}]}"#,
-        TablesFault::BadShape,
-    ),
-    (
-        r#"{"cache":[{"state":"S","event":"Inv","entry":"wait"}]}"#,
-        TablesFault::BadShape,
-    ),
-    (
-        r#"{"cache":[{"state":"X","event":"Y","entry":{"next":"S","do":[1]}}]}"#,
-        TablesFault::BadShape,
-    ),
-    (
-        r#"{"cache":[{"state":"S","event":"Inv","entry":{"next":"I","do":["puts","puts","puts","puts","puts","puts","puts","puts","puts"]}}]}"#,
-        TablesFault::BadShape,
-    ),
-    (
-        r#"{"cache":[{"state":"X","event":"Inv","entry":"stall"}]}"#,
-        TablesFault::UnknownState,
-    ),
-    (
-        r#"{"cache":[{"state":"S","event":"Y","entry":{"next":"X","do":["z"]}}]}"#,
-        TablesFault::UnknownState,
-    ),
-    (
-        r#"{"directory":[{"state":"IS^D","event":"GetS","entry":"stall"}]}"#,
-        TablesFault::UnknownState,
-    ),
-    (
-        r#"{"cache":[{"state":"S","event":"GetS","entry":{"next":"I","do":["z"]}}]}"#,
-        TablesFault::UnknownEvent,
-    ),
-    (
-        r#"{"directory":[{"state":"I","event":"GetS","entry":{"next":"S","do":["putm"]}}]}"#,
-        TablesFault::UnknownAction,
-    ),
-    (
-        r#"{"cache":[{"state":"S","event":"Inv","entry":"stall"},{"state":"S","event":"Inv","entry":"stall"}]}"#,
-        TablesFault::SameCellTwice,
-    ),
-    (
-        r#"{"cache":[{"state":"S","event":"Inv","entry":"stall"},{"state":"S","event":"Inv","entry":{"next":"S","do":["z"]}}]}"#,
-        TablesFault::UnknownAction,
-    ),
-    (
-        r#"{"directory":[0],"cache":[{"state":"S","event":"Y","entry":"stall"},{"state":"X","event":"Inv","entry":"stall"}]}"#,
-        TablesFault::UnknownEvent,
-    ),
-];
-
-#[test]
-fn refused_overrides(rt: HostRuntime) {
-    for (text, fault) in &REFUSED {
-        makes(&rt, rt.alloc(), text, Err(*fault));
-    }
+    let opening = vec![in rt.alloc(); 3, 4].expect(&rt, "memory");
+    let world = two_blocks(&rt, rt.alloc(), opening).expect(&rt, "a world");
+    has_opened(&rt, &world);
+    let opening = vec![in rt.alloc(); 0].expect(&rt, "memory");
+    let refused = two_blocks(&rt, rt.alloc(), opening).err();
+    same(&rt, &refused, &Some(OpenFault::OpeningLength));
 }

@@ -44,40 +44,36 @@ fn closed<'j, D: Planned, R: Abort>(
     rt: &R,
     desk: Desk<'j, D>,
     seats: Vec<DeskSeat<D>>,
-) -> Result<Vec<Option<TrialResult>>, Fail>
+) -> Vec<Option<TrialResult>>
     requires { All (λ seat. seat.desk ≡ desk.id) seats.items }
 {
-    let (fault, desk, seats) = match desk.close(seats) {
-        Ok(places) => return Ok(places),
-        Err(refused) => refused,
-    };
-    same(rt, &fault, &CloseFault::NoMemory);
-    Ok(desk.close(seats).ok().ok_or("refused again")?)
+    match desk.close(seats) {
+        Ok(places) => places,
+        Err((fault, desk, seats)) => {
+            same(rt, &fault, &CloseFault::NoMemory);
+            desk.close(seats).ok().expect(rt, "a second refusal")
+        }
+    }
 }
 
 /// One seat at a desk of three numbers posts the first one's result.
-fn one_post<D: Planned, R: Abort>(
-    rt: &R,
-    alloc: Global,
-    job: &Job,
-    made: TrialResult,
-) -> Result<bool, Fail>
+fn one_post<D: Planned, R: Abort>(rt: &R, alloc: Global, job: &Job, made: TrialResult) -> bool
     requires plan { D.plan ≡ plan_of job.now }
     requires made { IsResultOf D.plan 0 made }
 {
     match Desk::<D>::new(alloc, job, 3, 1) {
         Ok((desk, mut seats)) => {
-            let mut seat = seats.pop().ok_or("no seat")?;
+            let mut seat = seats.pop().expect(rt, "a seat");
             same(rt, &desk.claim(&mut seat), &Some(0));
             posted(rt, &desk, &mut seat, made);
-            seats.push(seat)?;
-            let places = closed(rt, desk, seats)?;
+            seats.push(seat).expect(rt, "room for a seat");
+            let places = closed(rt, desk, seats);
             same(rt, &places.as_slice(), &[Some(made), None, None].as_slice());
-            Ok(true)
+            true
         }
         Err(fault) => {
             same(rt, &fault, &DeskFault::NoMemory);
-            Ok(false)
+            false
         }
     }
 }
@@ -86,11 +82,11 @@ fn posts<D: Planned, R: Abort>(rt: &R, alloc: Global, job: &Job) -> Result<(), F
     requires { D.plan ≡ plan_of job.now }
 {
     let made = trial(alloc, &job.scenario, &job.setup, 0)?.result;
-    let is_made = one_post::<D, _>(rt, alloc, job, made)?;
+    let mut is_made = one_post::<D, _>(rt, alloc, job, made);
     if !is_made {
-        let is_made = one_post::<D, _>(rt, alloc, job, made)?;
-        same(rt, &is_made, &true);
+        is_made = one_post::<D, _>(rt, alloc, job, made);
     }
+    same(rt, &is_made, &true);
     Ok(())
 }
 

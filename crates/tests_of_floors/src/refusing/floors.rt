@@ -2,13 +2,13 @@ ghost use Rattle.std.specs.Prelude.{◌≡◌};
 ghost use Rattle.floor.specs.FloorId.{floor_id};
 
 use crate::asserting::same;
-use crate::crews::{Meeting, cast};
+use crate::crews::{Meeting, Script, cast, played};
 use crate::entries::entry_of;
 use crate::turns::compare;
-use base::{Shape, Step};
+use base::{NoMemory, Shape, Step};
 use both_tables::Tables;
-use floor::{Closed, CrewFault, Floor, FloorFault, Ground, Naming, Receipt, Seat, TurnFault, crew};
-use record::replay;
+use floor::{CrewFault, Floor, FloorFault, Ground, Naming, Receipt, Seat, TurnFault};
+use record::{Recording, replay};
 use std::alloc::Global;
 use std::marker::Brand;
 use std::process::Abort;
@@ -30,10 +30,10 @@ fn setup(alloc: Global, caches: u32) -> Result<Setup, Fail> {
     Ok(Setup::new(shape, Tables::baseline(), vec![in alloc; 0]?, 0, 0)?)
 }
 
-fn ground(alloc: Global) -> Result<Ground, Fail> {
+fn ground(rt: &impl Abort, alloc: Global) -> Ground {
     match Ground::new(alloc) {
-        Ok(ground) => Ok(ground),
-        Err(_) => Ok(Ground::new(alloc).ok().ok_or("refused again")?),
+        Ok(ground) => ground,
+        Err(_) => Ground::new(alloc).expect(rt, "a second refusal"),
     }
 }
 
@@ -42,14 +42,14 @@ fn turned<F: Naming, R: Wait + Abort>(
     floor: &Floor<F>,
     seat: &mut Seat<F>,
     step: Step,
-) -> Result<Receipt<F>, Fail> {
+) -> Receipt<F> {
     let made = seat.made();
     match floor.turn(rt, seat, step) {
-        Ok(receipt) => Ok(receipt),
+        Ok(receipt) => receipt,
         Err(fault) => {
             same(rt, &fault, &TurnFault::NoMemory);
             same(rt, &seat.made(), &made);
-            Ok(floor.turn(rt, seat, step).ok().ok_or("refused again")?)
+            floor.turn(rt, seat, step).expect(rt, "a second refusal")
         }
     }
 }
@@ -58,36 +58,31 @@ fn drawn<F: Naming, R: Wait + Abort>(
     rt: &R,
     floor: &Floor<F>,
     seat: &mut Seat<F>,
-) -> Result<Option<Receipt<F>>, Fail> {
+) -> Option<Receipt<F>> {
     let made = seat.made();
     match floor.turn_any(rt, seat, 0) {
-        Ok(receipt) => Ok(receipt),
+        Ok(receipt) => receipt,
         Err(fault) => {
             same(rt, &fault, &TurnFault::NoMemory);
             same(rt, &seat.made(), &made);
-            Ok(floor.turn_any(rt, seat, 0).ok().ok_or("refused again")?)
+            floor.turn_any(rt, seat, 0).expect(rt, "a second refusal")
         }
     }
 }
 
 /// Makes a load, the first step by a turn and the others by draws.
-fn make<F: Naming, R: Wait + Abort>(
-    rt: &R,
-    floor: &Floor<F>,
-    seat: &mut Seat<F>,
-) -> Result<(), Fail> {
+fn make<F: Naming, R: Wait + Abort>(rt: &R, floor: &Floor<F>, seat: &mut Seat<F>) {
     for (number, line) in LOAD.iter().enumerate() {
-        let entry = entry_of(line).ok_or("not an entry")?;
+        let entry = entry_of(line).expect(rt, "an entry");
         let receipt = if number == 0 {
-            turned(rt, floor, seat, entry.step)?
+            turned(rt, floor, seat, entry.step)
         } else {
-            drawn(rt, floor, seat)?.ok_or("nothing is drawn")?
+            drawn(rt, floor, seat).expect(rt, "a draw")
         };
         same(rt, &receipt.number(), &(number as u64));
         same(rt, &receipt.entry(), &entry);
     }
     same(rt, &seat.made(), &LOAD.len());
-    Ok(())
 }
 
 /// Makes a load by a floor's only seat, and compares what is closed.
@@ -96,32 +91,27 @@ fn loads<F: Naming, R: Wait + Abort>(
     alloc: Global,
     floor: Floor<F>,
     mut seats: Vec<Seat<F>>,
-) -> Result<(), Fail> {
+) {
     for seat in seats.iter_mut() {
-        make(rt, &floor, seat)?;
+        make(rt, &floor, seat);
     }
-    let closed = floor.close(seats).ok().ok_or("not closed")?;
+    let closed = floor.close(seats).ok().expect(rt, "closed");
     compare(rt, &closed, &LOAD);
-    is_legal(rt, alloc, &closed, LOAD.len())
+    is_legal(rt, alloc, &closed.recording, LOAD.len());
 }
 
 /// Whether a floor was opened, at which a load is made then.
-fn tries<F: Naming, R: Wait + Abort>(
-    rt: &R,
-    alloc: Global,
-    ground: Ground,
-    setup: &Setup,
-) -> Result<bool, Fail>
+fn tries<F: Naming, R: Wait + Abort>(rt: &R, alloc: Global, ground: Ground, setup: &Setup) -> bool
     requires { F.floor ≡ floor_id ground setup.now 1 9 }
 {
     match Floor::<F>::open(ground, alloc, setup, 1, 9) {
         Ok((floor, seats)) => {
-            loads(rt, alloc, floor, seats)?;
-            Ok(true)
+            loads(rt, alloc, floor, seats);
+            true
         }
         Err(fault) => {
             same(rt, &fault, &FloorFault::NoMemory);
-            Ok(false)
+            false
         }
     }
 }
@@ -130,68 +120,80 @@ fn tries<F: Naming, R: Wait + Abort>(
 fn a_floor_and_its_turns(rt: HostRuntime) -> Result<(), Fail> {
     let alloc = rt.alloc();
     let setup = setup(alloc, 1)?;
-    let opened = tries::<Brand, _>(&rt, alloc, ground(alloc)?, &setup)?;
+    let mut opened = tries::<Brand, _>(&rt, alloc, ground(&rt, alloc), &setup);
     if !opened {
-        let opened = tries::<Brand, _>(&rt, alloc, ground(alloc)?, &setup)?;
-        same(&rt, &opened, &true);
+        opened = tries::<Brand, _>(&rt, alloc, ground(&rt, alloc), &setup);
     }
+    same(&rt, &opened, &true);
     Ok(())
 }
 
 /// Has the seats play their scripts, at the second call where the first one is refused memory. Each waits for the others, which come or
 /// have no thread.
-fn played<F: Naming + Send + Sync, R: Threads + Wait + Abort + Sync>(
+fn played_at_last<'a, F: Naming + Send + Sync, R: Threads + Wait + Abort + Sync>(
     rt: &R,
     alloc: Global,
     floor: &Floor<F>,
     gate: &Meeting,
-    seats: Vec<Seat<F>>,
-) -> Result<Vec<(Seat<F>, Option<TurnFault>)>, Fail> {
-    let members = cast(alloc, seats, gate)?;
-    let (fault, members) = match crew(rt, alloc, floor, gate, members) {
-        Ok(back) => return Ok(back),
-        Err(refused) => refused,
-    };
-    same(rt, &fault, &CrewFault::NoMemory);
-    same(rt, &members.len(), &3);
-    let back = crew(rt, alloc, floor, gate, members);
-    Ok(back.ok().ok_or("refused again")?)
+    members: Vec<(Seat<F>, Script<'a>)>,
+) -> Vec<(Seat<F>, Option<TurnFault>)> {
+    match played(rt, alloc, floor, gate, members) {
+        Ok(back) => back,
+        Err((fault, members)) => {
+            same(rt, &fault, &CrewFault::NoMemory);
+            same(rt, &members.len(), &3);
+            let back = played(rt, alloc, floor, gate, members).ok();
+            back.expect(rt, "a second refusal")
+        }
+    }
 }
 
 /// The seats that came back with no fault or without memory, and how much they made: nothing without a thread.
 fn come_back<F: Naming, R: Abort>(
     rt: &R,
-    alloc: Global,
     gate: &Meeting,
     back: Vec<(Seat<F>, Option<TurnFault>)>,
-) -> Result<(Vec<Seat<F>>, usize), Fail> {
+    mut seats: Vec<Seat<F>>,
+) -> (Vec<Seat<F>>, usize) {
     let mut made = 0usize;
-    let mut seats = Vec::new(alloc);
     for (seat, ended) in back {
         let is_right = ended.is_none() || ended == Some(TurnFault::NoMemory);
         same(rt, &is_right, &true);
         let played = seat.made() > 0 || ended.is_none();
         same(rt, &(gate.has_come(seat.number()) || !played), &true);
         made = made.saturating_add(seat.made());
-        seats.push(seat)?;
+        seats.push(seat).expect(rt, "room for each");
     }
+    (seats, made)
+}
+
+/// Compares how much is recorded, and how much of it is legal.
+fn is_legal(rt: &impl Abort, alloc: Global, recording: &Recording, made: usize) {
+    same(rt, &recording.entries().len(), &made);
+    let replayed = match replay(alloc, recording) {
+        Ok(replayed) => replayed,
+        Err(_) => replay(alloc, recording).expect(rt, "a second refusal"),
+    };
+    same(rt, &replayed.entries.len(), &made);
+}
+
+/// Three seats race, and come back with no fault or without memory. Answers how much they made.
+fn race_of<F: Naming + Send + Sync, R: Threads + Wait + Abort + Sync>(
+    rt: &R,
+    alloc: Global,
+    floor: &Floor<F>,
+    seats: Vec<Seat<F>>,
+) -> Result<(Vec<Seat<F>>, usize), NoMemory> {
+    let gate = Meeting::of(3);
+    let room = Vec::with_capacity(alloc, 3)?;
+    let members = cast(alloc, seats, &gate)?;
+    let back = played_at_last(rt, alloc, floor, &gate, members);
+    let (seats, made) = come_back(rt, &gate, back, room);
+    same(rt, &gate.is_right(), &true);
     Ok((seats, made))
 }
 
-/// Compares how much is closed, and how much of it is legal.
-fn is_legal<F: Naming, R: Abort>(
-    rt: &R,
-    alloc: Global,
-    closed: &Closed<F>,
-    made: usize,
-) -> Result<(), Fail> {
-    same(rt, &closed.recording.entries().len(), &made);
-    let replayed = replay(alloc, &closed.recording)?;
-    same(rt, &replayed.entries.len(), &made);
-    Ok(())
-}
-
-/// Three seats race. Each comes back with no fault or without memory, and what they made is legal.
+/// Three seats race, and what they made is legal.
 fn race<F: Naming + Send + Sync, R: Threads + Wait + Abort + Sync>(
     rt: &R,
     alloc: Global,
@@ -201,12 +203,10 @@ fn race<F: Naming + Send + Sync, R: Threads + Wait + Abort + Sync>(
     requires { F.floor ≡ floor_id ground setup.now 3 600 }
 {
     let (floor, seats) = Floor::<F>::open(ground, alloc, setup, 3, 600)?;
-    let gate = Meeting::of(3);
-    let back = played(rt, alloc, &floor, &gate, seats)?;
-    let (seats, made) = come_back(rt, alloc, &gate, back)?;
-    same(rt, &gate.is_right(), &true);
-    let closed = floor.close(seats).ok().ok_or("not closed")?;
-    is_legal(rt, alloc, &closed, made)
+    let (seats, made) = race_of(rt, alloc, &floor, seats)?;
+    let closed = floor.close(seats).ok().expect(rt, "closed");
+    is_legal(rt, alloc, &closed.recording, made);
+    Ok(())
 }
 
 #[test]

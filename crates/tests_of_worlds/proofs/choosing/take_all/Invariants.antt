@@ -1,5 +1,5 @@
 use Rattle.schedule.specs.Lanes.{AreReady, IsKept, laned}
-use Rattle.tests_of_worlds.proofs.choosing.make_all.Given as goal
+use Rattle.tests_of_worlds.proofs.choosing.take_all.Given as goal
 
 abbrev pub invariant-loop-made : goal.invariant-loop-made
 invariant-loop-made g l = record {

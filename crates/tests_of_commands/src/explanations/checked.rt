@@ -1,8 +1,13 @@
-use crate::served_as;
-use command_lines::run_over;
+//! Tables and scenarios that are checked, and what is refused.
+
+use crate::cases::{serve, served_as};
+use std::alloc::Global;
+use std::process::Abort;
+use std::sync::Wait;
+use std::thread::Threads;
 
 /// A command line over a table and an input, and what it prints.
-const ROWS: [(&str, &str, &str, &str); 6] = [
+const CHECKED: &[(&str, &str, &str, &str)] = &[
     (
         "msi check",
         "{}",
@@ -47,45 +52,58 @@ const ROWS: [(&str, &str, &str, &str); 6] = [
     ),
 ];
 
+fn are_checked<R: Threads + Wait + Abort + Sync>(rt: &R, alloc: Global) {
+    for (line, table, input, output) in CHECKED {
+        let served = serve(rt, alloc, line, table, input);
+        served_as(rt, line, &served, 0, output, "");
+    }
+}
+
 #[test]
 fn what_is_checked(rt: HostRuntime) {
-    for (line, table, input, output) in ROWS {
-        let served = run_over(&rt, rt.alloc(), line, table, input).expect(&rt, "served");
-        served_as(&rt, &served, 0, output, "");
+    are_checked(&rt, rt.alloc());
+}
+
+const LOAD: &str = r#"{"op":"load","core":0,"block":1}"#;
+
+const FAR: &str = r#"{"op":"load","core":4096,"block":1}"#;
+
+/// A command line over a table and an input, and what it says of what it refuses.
+const REFUSED: &[(&str, &str, &str, &str)] = &[
+    (
+        "msi check --caches 2",
+        "{}",
+        LOAD,
+        "msi: scenario refused 6 OutOfShape\n",
+    ),
+    (
+        "msi check --caches 2 --explain",
+        "{}",
+        LOAD,
+        "msi: scenario refused 6 OutOfShape\n  $.block is 1, and the blocks are 0 to 0\n",
+    ),
+    (
+        "msi check --explain",
+        "{}",
+        FAR,
+        "msi: scenario refused 6 OutOfShape\n  $.core is 4096, and the cores are 0 to 4095\n",
+    ),
+    (
+        "msi check --tables table.json",
+        "[]",
+        LOAD,
+        "msi: tables refused 2 BadShape\n",
+    ),
+];
+
+fn are_refused<R: Threads + Wait + Abort + Sync>(rt: &R, alloc: Global) {
+    for (line, table, input, errors) in REFUSED {
+        let served = serve(rt, alloc, line, table, input);
+        served_as(rt, line, &served, 2, "", errors);
     }
 }
 
 #[test]
 fn what_is_refused(rt: HostRuntime) {
-    let load = r#"{"op":"load","core":0,"block":1}"#;
-    let far = r#"{"op":"load","core":4096,"block":1}"#;
-    for (line, table, input, errors) in [
-        (
-            "msi check --caches 2",
-            "{}",
-            load,
-            "msi: scenario refused 6 OutOfShape\n",
-        ),
-        (
-            "msi check --caches 2 --explain",
-            "{}",
-            load,
-            "msi: scenario refused 6 OutOfShape\n  $.block is 1, and the blocks are 0 to 0\n",
-        ),
-        (
-            "msi check --explain",
-            "{}",
-            far,
-            "msi: scenario refused 6 OutOfShape\n  $.core is 4096, and the cores are 0 to 4095\n",
-        ),
-        (
-            "msi check --tables table.json",
-            "[]",
-            load,
-            "msi: tables refused 2 BadShape\n",
-        ),
-    ] {
-        let served = run_over(&rt, rt.alloc(), line, table, input).expect(&rt, "served");
-        served_as(&rt, &served, 2, "", errors);
-    }
+    are_refused(&rt, rt.alloc());
 }

@@ -1,0 +1,76 @@
+//! Texts that are damaged at each of their bytes in turn: something is told of each that is refused, and nothing of the others.
+
+use base::Shape;
+use base::controller::Protocol;
+use both_tables::Tables;
+use explaining::{explain_scenario, explain_tables};
+use scenario::Scenario;
+use std::alloc::Global;
+use std::process::Abort;
+
+const TABLE: &str =
+    r#"{"cache":[{"state":"E","event":"Inv","entry":{"next":"I","do":["inv-ack","gets"]}},
+    {"state":"S","event":"Inv","entry":"stall"},{"state":"I","event":"Inv","entry":"blank"}],
+    "directory":[{"event":"GetS","state":"I","entry":"stall"},{"event":"GetM","state":"I","entry":{"do":[],"next":"M"}}]}"#;
+
+const SCENARIO: &str =
+    r#"{"both":[{"seq":[{"op":"load","core":0,"block":0},{"op":"store","core":1,"block":0,"value":50}]},
+    {"times":999,"of":{"any":[{"op":"replace","core":1,"block":1},{"seq":[]}]}}]}"#;
+
+/// What stands in place of a byte.
+const DAMAGES: &[&str] = &["", "x", "0", "2", "\"", ",", "]", "}", "-1,"];
+
+/// A text with these bytes in place of one.
+fn damaged(rt: &impl Abort, alloc: Global, text: &str, at: usize, damage: &str) -> Vec<u8> {
+    let (front, rest) = text.as_bytes().split_at(at.min(text.len()));
+    let mut bytes = Vec::new(alloc);
+    for part in [front, damage.as_bytes(), rest.get(1..).unwrap_or(rest)] {
+        bytes.extend_from_slice(part).expect(rt, "memory");
+    }
+    bytes
+}
+
+/// Whether something is told of these tables where they are refused, and nothing else.
+fn tables_are_told_of(alloc: Global, bytes: &[u8]) -> bool {
+    let is_read = Tables::from_json_of(alloc, Protocol::MsiE, bytes).is_ok();
+    let told = explain_tables(alloc, Protocol::MsiE, bytes);
+    told.is_empty() == is_read
+}
+
+/// The same of a scenario.
+fn scenario_is_told_of(alloc: Global, shape: Shape, bytes: &[u8]) -> bool {
+    let is_read = Scenario::read(alloc, alloc, bytes, shape).is_ok();
+    let told = explain_scenario(alloc, shape, bytes);
+    told.is_empty() == is_read
+}
+
+fn damage_tables(rt: &impl Abort, alloc: Global, at: usize) {
+    for damage in DAMAGES {
+        let bytes = damaged(rt, alloc, TABLE, at, damage);
+        let is_so = tables_are_told_of(alloc, bytes.as_slice());
+        assert_eq!(rt; is_so, true, "{damage} at {at}");
+    }
+}
+
+fn damage_scenario(rt: &impl Abort, alloc: Global, shape: Shape, at: usize) {
+    for damage in DAMAGES {
+        let bytes = damaged(rt, alloc, SCENARIO, at, damage);
+        let is_so = scenario_is_told_of(alloc, shape, bytes.as_slice());
+        assert_eq!(rt; is_so, true, "{damage} at {at}");
+    }
+}
+
+#[test]
+fn damaged_tables(rt: HostRuntime) {
+    for at in 0..TABLE.len() {
+        damage_tables(&rt, rt.alloc(), at);
+    }
+}
+
+#[test]
+fn damaged_scenarios(rt: HostRuntime) {
+    let shape = Shape::new(2, 2).expect(&rt, "a shape");
+    for at in 0..SCENARIO.len() {
+        damage_scenario(&rt, rt.alloc(), shape, at);
+    }
+}
