@@ -13,6 +13,8 @@ CALLS = re.compile(r"^fn (\S+): no proof: it calls ", re.M)
 TACTIC = re.compile(r"^`(omega|grind|search|simp|decide)\b")
 # What is said of an answer that names a goal or a fact that isn't there in the changed body, without the names themselves.
 NAMES = re.compile(r"is not in scope|has no field|has no (?=[ ,;:.(]|$)|was not admitted|is no name")
+# What is said of an answer that names a place in the body which the changed body reaches in another way.
+PLACE = re.compile(r"expected type `\(?(?:\S*\.)?(?:After|Joined)-.*but this has type `\(?(?:\S*\.)?(?:After|Joined)-", re.S)
 # What is said of answers that lean on one of which something else is said.
 LEANS = re.compile(r"^\d+ declarations? that depends? on .* which was rejected")
 
@@ -59,7 +61,7 @@ def refusals_in(said):
         if LEANS.match(why):
             continue
         plain = re.sub(r"`[^`]*`", "", why)
-        kind = Kind.UNREAD if NAMES.search(plain) or not goal else Kind.OPEN if TACTIC.match(why) else Kind.OTHER
+        kind = Kind.UNREAD if NAMES.search(plain) or PLACE.search(why) or not goal else Kind.OPEN if TACTIC.match(why) else Kind.OTHER
         said_first = " ".join(why.split()).split(". ")[0]
         found.append(Refusal(kind, file, int(line), goal, f"{subject_of(goal)}, {said_first[:90]}"))
     return found
