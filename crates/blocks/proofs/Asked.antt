@@ -1,5 +1,5 @@
 -- What a step at a line leaves of the requests: those that there were, and their marks.
-use Rattle.std.proofs.Common.{◌≡◌, ℕ, ◌+◌, ◌++◌, List, [], ◌∷◌, Bool, Option, None, Some, length, map, take, drop}
+use Rattle.std.proofs.Common.{◌≡◌, ℕ, ◌++◌, List, [], ◌∷◌, Bool, Option, None, Some, length, map, take, drop}
 use Rattle.std.proofs.Common.{refl, sym, ap, ◌∙◌, zero, suc}
 use Rattle.std.proofs.lemmas.List.{drop-map, length-map, take-map}
 use Rattle.std.proofs.Math.Seq.{take-append_seam, take-length}

@@ -12,3 +12,5 @@ pub mod Holding
 pub mod Relinking
 pub mod Asked
 pub mod LinkMarks
+pub mod OwnLine
+pub mod Performed

@@ -3,3 +3,4 @@ pub mod Lined
 pub mod Tested
 pub mod Linking
 pub mod Asked
+pub mod OwnLine

@@ -5,6 +5,7 @@ mod deciding;
 mod free;
 mod looking;
 mod passing;
+mod serving;
 mod testing;
 
 use access::Access;

@@ -49,9 +49,9 @@ fn complete(line: &Line, ask: Ask) -> Option<LineCompletion>
     None
 }
 
-/// The line with what a response brings.
-fn take_in(line: Line, input: LineInput) -> Line
-    ensures { result ≡ taken_in input line }
+/// The line takes in what a response brings.
+fn take_in(line: &mut Line, input: LineInput)
+    ensures { line.new ≡ taken_in input line.old }
 {
     match input {
         LineInput::Response(
@@ -61,7 +61,7 @@ fn take_in(line: Line, input: LineInput) -> Line
                 value,
                 acks: _,
             },
-        ) => Line { value, ..line },
+        ) => line.value = value,
         LineInput::Response(
             Response::Data {
                 from: Place::Dir,
@@ -70,30 +70,24 @@ fn take_in(line: Line, input: LineInput) -> Line
                 acks: more,
             },
         ) => {
-            let acks = line.acks.saturating_add(more as i64);
-            Line {
-                value,
-                acks,
-                ..line
-            }
+            line.value = value;
+            line.acks = line.acks.saturating_add(more as i64);
         }
         LineInput::Response(Response::InvAck { from: _, to: _ }) => {
-            let acks = line.acks.saturating_sub(1);
-            Line { acks, ..line }
+            line.acks = line.acks.saturating_sub(1);
         }
-        LineInput::Response(Response::DataExcl { to: _, value }) => Line { value, ..line },
-        LineInput::Ask(_) => line,
-        LineInput::Forward(_) => line,
+        LineInput::Response(Response::DataExcl { to: _, value }) => line.value = value,
+        LineInput::Ask(_) | LineInput::Forward(_) => {}
     }
 }
 
-/// The line that took an input in and went to the next state.
-pub(crate) fn move_on(line: Line, input: LineInput, next: CacheState) -> Line
-    ensures { result ≡ moved_on input next line }
+/// The line takes an input in, and goes to the next state.
+#[inline(always)]
+pub(crate) fn move_on(line: &mut Line, input: LineInput, next: CacheState)
+    ensures { line.new ≡ moved_on input next line.old }
 {
-    let mut moved = take_in(line, input);
-    moved.state = next;
-    moved
+    take_in(line, input);
+    line.state = next;
 }
 
 /// What completes by an input at a line in its new state.
@@ -135,5 +129,7 @@ pub(crate) fn finish(line: &mut Line, input: LineInput, done: Option<LineComplet
 pub fn line_completion(line: &Line, input: LineInput, next: CacheState) -> Option<LineCompletion>
     ensures { result ≡ line_completes input next line.now }
 {
-    settle(&move_on(*line, input, next), input)
+    let mut moved = *line;
+    move_on(&mut moved, input, next);
+    settle(&moved, input)
 }

@@ -110,7 +110,7 @@ pub fn line_perform(
     ensures links { wires.new.marks.links ≡ wires.old.marks.links }
     ensures requests { take (length wires.old.marks.requests) wires.new.marks.requests ≡ wires.old.marks.requests }
 {
-    *line = move_on(*line, input, next);
+    move_on(line, input, next);
     send_all(
         actions.as_slice(),
         cache,

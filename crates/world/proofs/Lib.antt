@@ -14,3 +14,4 @@ pub mod Delivering
 pub mod Quieting
 pub mod Openings
 pub mod Spaces
+pub mod Visiting

@@ -6,6 +6,7 @@ ghost use Rattle.blocks.specs.View.{acts, acts_at_line};
 ghost use Rattle.blocks.specs.Passing.{ResponsesPass};
 ghost use Rattle.world.specs.Keeping.{has_line};
 ghost use Rattle.world.specs.View.{HasSpaceAt, space_of};
+ghost use Rattle.world.specs.inner.AtBlock.{HasStayed, HasStepped, NeedsNone};
 ghost use Rattle.world.specs.inner.Holding.{kept_at, state_at, IsLight, OthersStay};
 ghost use Rattle.world.specs.inner.Tests.{IsMarked};
 ghost use Rattle.blocks.specs.Tests.{IsTested, tested_in};
@@ -114,25 +115,37 @@ pub fn step_at(
     requires below { number < length blocks.old.items }
     requires pass { pass ≡ true → ResponsesPass tables.now }
     requires marked { IsMarked tables.now (kept_at blocks.old.items number) }
-    ensures others { OthersStay number blocks.old.items blocks.new.items }
-    ensures marked { IsMarked tables.now (kept_at blocks.new.items number) }
-    ensures made { IfOk result (λ visit. visit.made ≡ made_at tables.now step (state_at caches value blocks.old.items number)) }
-    ensures state { IfOk result (λ visit. (transition tables.now step (state_at caches value blocks.old.items number)).block
-        ≡ state_at caches value blocks.new.items number) }
-    ensures tested { IfOk result (λ visit. IsTested tables.now (state_at caches value blocks.old.items number)
-        (state_at caches value blocks.new.items number) visit.tested) }
-    ensures sent { IfOk result (λ visit. (length (messages_of (decision_of tables.now step (state_at caches value blocks.old.items number))
-        (state_at caches value blocks.old.items number)) ≤ tested_in visit.tested)) }
-    ensures err { OnErr result (state_at caches value blocks.new.items number ≡ state_at caches value blocks.old.items number) }
-    ensures succeeds { HasSpaceAt (decision_of tables.now step (state_at caches value blocks.old.items number))
-        (state_at caches value blocks.old.items number) (space_of (kept_at blocks.old.items number)) → IsOk result }
-    ensures idle { acts (decision_of tables.now step (state_at caches value blocks.old.items number)) ≡ false →
-        space_of (kept_at blocks.new.items number) ≡ space_of (kept_at blocks.old.items number) }
-    ensures lines { (cache : ℕ) → acts_at_line (decision_of tables.now step (state_at caches value blocks.old.items number)) cache ≡ false →
-        has_line (space_of (kept_at blocks.new.items number)) cache ≡ has_line (space_of (kept_at blocks.old.items number)) cache }
-    ensures light { IsLight tables.now step (state_at caches value blocks.old.items number) → IsOk result }
+    ensures ok { IfOk result (λ visit. HasStepped tables.now caches value number step blocks.old.items visit blocks.new.items) }
+    ensures err { OnErr result (HasStayed tables.now caches value number step blocks.old.items blocks.new.items) }
+    ensures succeeds { NeedsNone tables.now caches value number step blocks.old.items → IsOk result }
 {
-    if let Some(outcome) = touch(alloc, blocks, caches, value, number, tables, step)? {
+    if let Some(block) = blocks.get_mut(number) {
+        return block.make(tables, pass, step);
+    }
+    first_step_at(alloc, blocks, caches, value, number, tables, pass, step)
+}
+
+/// Makes a step at a block that isn't kept. It stands apart, as few steps come here.
+#[cold]
+#[inline(never)]
+fn first_step_at(
+    alloc: Global,
+    blocks: &mut Sparse<Block>,
+    caches: u32,
+    value: u64,
+    number: u32,
+    tables: &Tables,
+    pass: bool,
+    step: Step,
+) -> Result<Visit, NoMemory>
+    requires below { number < length blocks.old.items }
+    requires pass { pass ≡ true → ResponsesPass tables.now }
+    requires none { kept_at blocks.old.items number ≡ None }
+    ensures ok { IfOk result (λ visit. HasStepped tables.now caches value number step blocks.old.items visit blocks.new.items) }
+    ensures err { OnErr result (HasStayed tables.now caches value number step blocks.old.items blocks.new.items) }
+    ensures succeeds { NeedsNone tables.now caches value number step blocks.old.items → IsOk result }
+{
+    if let Some(outcome) = touch_opened(alloc, blocks, caches, value, number, tables, step)? {
         return Ok(Visit {
             made: Made::refused(outcome),
             tested: None,
@@ -141,8 +154,7 @@ pub fn step_at(
     let Some(block) = blocks.get_mut(number) else {
         unreachable!();
     };
-    let visit = block.make(tables, pass, step)?;
-    Ok(visit)
+    block.make(tables, pass, step)
 }
 
 /// Makes the room that a step at one of the blocks wants.

@@ -1,7 +1,7 @@
-ghost use Rattle.std.specs.Prelude.{◌≡◌, ◌<◌, ◌≤◌, Some, [], false, true, length, slice_set};
+ghost use Rattle.std.specs.Prelude.{◌≡◌, ◌<◌, ◌≤◌, Some, [], false, true, length, slice_get, slice_set, take};
 ghost use Rattle.network.specs.Traffic.{all_sent};
 ghost use Rattle.network.specs.Room.{HasRoomFor, UsesRoomFor};
-ghost use Rattle.control.specs.LineEffect.{line_after, line_completes, line_sends};
+ghost use Rattle.control.specs.LineEffect.{line_after, line_completes, line_sends, opened_line};
 ghost use Rattle.machine.specs.Transition.{outcome_of, plain_outcome, latest_after, without, IsThere};
 ghost use Rattle.rows.specs.Flags.{is_set};
 ghost use Rattle.blocks.specs.View.{wakes_line};
@@ -10,13 +10,14 @@ ghost use Rattle.blocks.specs.inner.Linking.{IsOwn, IsRelinked};
 ghost use Rattle.machine.specs.Made.{acted_by};
 ghost use Rattle.base.specs.declared.ids.CacheId.{CacheId};
 
+use crate::block::serving::{HeadAt, RequestAt, ResponseAt, Served};
 use crate::block::{Block, Tested, foreseen};
-use base::{CacheId, NoMemory, Outcome, Step};
+use base::{CacheId, CoreAsk, NoMemory, Outcome, Step};
 use both_tables::Tables;
-use cache_table::CacheState;
+use cache_table::{CacheActions, CacheState};
 use control::{
-    Line, LineCompletion, home_perform, home_reserve, line_perform, line_reserve, may_read,
-    may_write,
+    Line, LineCompletion, LineInput, home_perform, home_reserve, line_perform, line_reserve,
+    may_read, may_write,
 };
 use machine::{Acted, Actor, Decision, Made, Origin};
 use network::Wires;
@@ -39,6 +40,7 @@ impl Block {
     ghost use Rattle.blocks.specs.View.{acts, lines_after, moved_to, wakes_line, HasSpaceFor};
     ghost use Rattle.blocks.specs.Marking.{marks_of};
     ghost use Rattle.blocks.specs.inner.Named.{DecisionNames};
+    ghost use Rattle.blocks.specs.inner.OwnLine.{IsAboutLine};
     ghost use Rattle.blocks.specs.Steps.{Visits, Stays, WantsNone};
 
     /// Makes the room that a decision wants. Where it is refused nothing has changed.
@@ -92,7 +94,7 @@ impl Block {
         ensures sends_nothing { messages_of (decision_of tables.now step self.old.state) self.old.state ≡ [] →
             wakes_line (decision_of tables.now step self.old.state) ≡ false → IsOk result }
     {
-        let decision = self.decide(tables, step);
+        let decision = self.decide(tables, &step);
         self.prepare(&decision)?;
         Ok(foreseen(&decision))
     }
@@ -102,6 +104,7 @@ impl Block {
     fn carry_out(&mut self, decision: &Decision) -> Outcome
         requires fits { Fits decision.now self.old.state }
         requires names { DecisionNames self.old.space.lines decision.now }
+        requires line { IsAboutLine self.old.state.lines decision.now }
         requires room { HasSpaceFor decision.now self.old.state self.old.space }
         ensures done { carried_out decision.now self.old.state ≡ moved_to self.new.state result }
         ensures lines { self.new.space.lines ≡ lines_after decision.now self.old.space.lines }
@@ -121,11 +124,17 @@ impl Block {
                 origin,
             } => {
                 take(&mut self.wires, origin);
-                let mut after = line;
-                let done = line_perform(&mut after, cache, input, next, actions, &mut self.wires);
-                put_line(&mut self.lines, cache, after);
-                self.access.readers.set(cache.0, may_read(after.state));
-                self.access.writers.set(cache.0, may_write(after.state));
+                let done = perform(
+                    &mut self.lines,
+                    cache,
+                    line,
+                    input,
+                    next,
+                    actions,
+                    &mut self.wires,
+                );
+                self.access.readers.set(cache.0, may_read(next));
+                self.access.writers.set(cache.0, may_write(next));
                 self.latest = latest_value(done, self.latest);
                 completion_outcome(cache, origin, done)
             }
@@ -151,7 +160,35 @@ impl Block {
         ensures err { OnErr result (Stays tables.now self.old self.new) }
         ensures succeeds { WantsNone (decision_of tables.now step self.old.state) self.old.state self.old.space → IsOk result }
     {
-        let decision = self.decide(tables, step);
+        match step {
+            Step::Ask { cache, block, ask } => {
+                let core = cache;
+                self.serve(tables, pass, &CoreAsk { core, block, ask })
+            }
+            Step::Request { block, index } => {
+                self.serve(tables, pass, &RequestAt { block, index })
+            }
+            Step::Forward { block, cache } => self.serve(tables, pass, &HeadAt { block, cache }),
+            Step::Response { block, index } => {
+                self.serve(tables, pass, &ResponseAt { block, index })
+            }
+        }
+    }
+
+    /// Makes the step that serves this.
+    fn serve<S: Served>(
+        &mut self,
+        tables: &Tables,
+        pass: bool,
+        served: &S,
+    ) -> Result<Visit, NoMemory>
+        requires marks { self.old.marks ≡ marks_of tables.now self.old.state }
+        requires pass { pass ≡ true → ResponsesPass tables.now }
+        ensures ok { IfOk result (λ visit. Visits tables.now self.old (S.step served.now) visit self.new) }
+        ensures err { OnErr result (Stays tables.now self.old self.new) }
+        ensures succeeds { WantsNone (decision_of tables.now (S.step served.now) self.old.state) self.old.state self.old.space → IsOk result }
+    {
+        let decision = self.decide(tables, served);
         if let Decision::Refused(outcome) = decision {
             return Ok(Visit {
                 made: Made::refused(outcome),
@@ -209,17 +246,59 @@ fn wakes(decision: &Decision) -> bool
     }
 }
 
-/// Keeps the line of a cache, for which there is room.
-fn put_line(lines: &mut Sparse<Line>, cache: CacheId, line: Line)
-    requires below { cache.0 < length lines.old.items }
-    requires room { is_set (kept_lines lines.old.items) cache.0 ≡ false → 0 < lines.old.spare }
-    ensures items { lines.new.items ≡ slice_set lines.old.items cache.0 (Some line) }
-    ensures lines { lines_of lines.new.items ≡ slice_set (lines_of lines.old.items) cache.0 line }
-    ensures kept { kept_lines lines.new.items ≡ slice_set (kept_lines lines.old.items) cache.0 true }
+/// Lets an input act at the line of a cache, where it lies. A line that isn't kept is from now on.
+// (The line as it was is handed in for the contract alone.)
+#[inline(always)]
+fn perform(
+    lines: &mut Sparse<Line>,
+    cache: CacheId,
+    line: Line,
+    input: LineInput,
+    next: CacheState,
+    actions: CacheActions,
+    wires: &mut Wires,
+) -> Option<LineCompletion>
+    requires line { Some line ≡ slice_get (lines_of lines.old.items) cache.0 }
+    requires place { is_set (kept_lines lines.old.items) cache.0 ≡ false → 0 < lines.old.spare }
+    requires room { HasRoomFor (line_sends cache input actions line) wires.old.room }
+    ensures done { result ≡ line_completes input next line }
+    ensures items { lines.new.items ≡ slice_set lines.old.items cache.0 (Some (line_after input next line)) }
+    ensures traffic { wires.new.traffic ≡ all_sent (line_sends cache input actions line) wires.old.traffic }
+    ensures links { wires.new.marks.links ≡ wires.old.marks.links }
+    ensures requests { take (length wires.old.marks.requests) wires.new.marks.requests ≡ wires.old.marks.requests }
 {
+    if let Some(kept) = lines.get_mut(cache.0) {
+        return line_perform(kept, cache, input, next, actions, wires);
+    }
+    perform_first(lines, cache, input, next, actions, wires)
+}
+
+/// Does so at a line that isn't kept. It stands apart, as few steps come here.
+#[cold]
+#[inline(never)]
+fn perform_first(
+    lines: &mut Sparse<Line>,
+    cache: CacheId,
+    input: LineInput,
+    next: CacheState,
+    actions: CacheActions,
+    wires: &mut Wires,
+) -> Option<LineCompletion>
+    requires below { cache.0 < length lines.old.items }
+    requires place { 0 < lines.old.spare }
+    requires room { HasRoomFor (line_sends cache input actions opened_line) wires.old.room }
+    ensures done { result ≡ line_completes input next opened_line }
+    ensures items { lines.new.items ≡ slice_set lines.old.items cache.0 (Some (line_after input next opened_line)) }
+    ensures traffic { wires.new.traffic ≡ all_sent (line_sends cache input actions opened_line) wires.old.traffic }
+    ensures links { wires.new.marks.links ≡ wires.old.marks.links }
+    ensures requests { take (length wires.old.marks.requests) wires.new.marks.requests ≡ wires.old.marks.requests }
+{
+    let mut line = Line::opened();
+    let done = line_perform(&mut line, cache, input, next, actions, wires);
     if let Err(_) = lines.put(cache.0, line) {
         unreachable!();
     }
+    done
 }
 
 /// Takes the message that is served off its wire.

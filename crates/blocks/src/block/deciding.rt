@@ -4,6 +4,7 @@ ghost use Rattle.machine.specs.Block.{opened_block};
 ghost use Rattle.machine.specs.Transition.{at_line, at_ask, decision_of, is_idle};
 
 use crate::block::Block;
+use crate::block::serving::Served;
 use base::{Ask, CacheId, Outcome, Place, Step};
 use both_tables::Tables;
 use cache_table::{CacheEntry, CacheState};
@@ -53,7 +54,7 @@ fn at_line(
 
 /// What an ask comes to at the line of its cache.
 #[inline(always)]
-fn at_ask(tables: &Tables, cache: CacheId, ask: Ask, line: Option<Line>) -> Decision
+pub(crate) fn at_ask(tables: &Tables, cache: CacheId, ask: Ask, line: Option<Line>) -> Decision
     ensures { result ≡ at_ask tables.now.cache cache ask line }
 {
     let Some(found) = line else {
@@ -87,6 +88,7 @@ impl Block {
     ghost use Rattle.machine.specs.Block.{IsBlockAmong};
     ghost use Rattle.machine.specs.Transition.{at_line, at_home, at_request, at_forward, at_response, decision_of, Fits};
     ghost use Rattle.blocks.specs.inner.Named.{DecisionNames};
+    ghost use Rattle.blocks.specs.inner.OwnLine.{IsAboutLine};
 
     #[inline(always)]
     fn at_home(&self, tables: &Tables, input: HomeInput, from: Origin) -> Decision
@@ -115,7 +117,7 @@ impl Block {
     }
 
     #[inline(always)]
-    fn at_request(&self, tables: &Tables, index: u64) -> Decision
+    pub(crate) fn at_request(&self, tables: &Tables, index: u64) -> Decision
         ensures { result ≡ at_request tables.now.directory index self.now.state.home (slice_get self.now.state.traffic.requests index) }
     {
         match self.wires.request(index) {
@@ -127,7 +129,7 @@ impl Block {
     }
 
     #[inline(always)]
-    fn at_forward(&self, tables: &Tables, cache: CacheId) -> Decision
+    pub(crate) fn at_forward(&self, tables: &Tables, cache: CacheId) -> Decision
         ensures { result ≡ at_forward tables.now.cache cache self.now.state.lines (slice_get (link self.now.state.traffic cache.0) 0) }
     {
         match self.wires.head(cache) {
@@ -142,62 +144,44 @@ impl Block {
     }
 
     #[inline(always)]
-    fn at_response(&self, tables: &Tables, index: u64) -> Decision
+    pub(crate) fn at_response(&self, tables: &Tables, index: u64) -> Decision
         ensures { result ≡ at_response tables.now index self.now.state (slice_get self.now.state.traffic.responses index) }
     {
         let Some(response) = self.wires.response(index) else {
             return Decision::Refused(Outcome::Absent);
         };
         let from = Origin::Response(index);
-        match response {
+        let to = match response {
             Response::Data {
                 from: _,
                 to: Place::Dir,
                 value,
                 acks: _,
-            } => self.at_home(tables, HomeInput::Data(value), from),
+            } => return self.at_home(tables, HomeInput::Data(value), from),
             Response::Data {
                 from: _,
                 to: Place::Cache(to),
                 value: _,
                 acks: _,
-            } => self.at_line(tables, to, LineInput::Response(response), from),
-            Response::InvAck { from: _, to } => {
-                self.at_line(tables, to, LineInput::Response(response), from)
             }
-            Response::DataExcl { to, value: _ } => {
-                self.at_line(tables, to, LineInput::Response(response), from)
-            }
-        }
+            | Response::InvAck { from: _, to }
+            | Response::DataExcl { to, value: _ } => to,
+        };
+        self.at_line(tables, to, LineInput::Response(response), from)
     }
 
+    /// What a step comes to here, by what it serves.
     #[inline(always)]
-    fn find(&self, tables: &Tables, step: Step) -> Decision
-        ensures { result ≡ decision_of tables.now step self.now.state }
-    {
-        match step {
-            Step::Ask {
-                cache,
-                block: _,
-                ask,
-            } => at_ask(tables, cache, ask, self.line(cache)),
-            Step::Request { block: _, index } => self.at_request(tables, index),
-            Step::Forward { block: _, cache } => self.at_forward(tables, cache),
-            Step::Response { block: _, index } => self.at_response(tables, index),
-        }
-    }
-
-    /// What a step comes to here.
-    #[inline(always)]
-    pub(crate) fn decide(&self, tables: &Tables, step: Step) -> Decision
-        ensures decision { result ≡ decision_of tables.now step self.now.state }
+    pub(crate) fn decide<S: Served>(&self, tables: &Tables, served: &S) -> Decision
+        ensures decision { result ≡ decision_of tables.now (S.step served.now) self.now.state }
         ensures fits { Fits result self.now.state }
         ensures names { DecisionNames self.now.space.lines result }
         ensures among { IsBlockAmong (length self.now.state.lines) self.now.state }
+        ensures line { IsAboutLine self.now.state.lines result }
     {
         // A look at a field brings in what holds of every block.
         let _ = &self.lines;
-        self.find(tables, step)
+        served.decision(self, tables)
     }
 }
 

@@ -161,7 +161,7 @@ impl Block {
     pub fn foresee(&self, tables: &Tables, step: Step) -> Outcome
         ensures { result ≡ (transition tables.now step self.now.state).outcome }
     {
-        let decision = self.decide(tables, step);
+        let decision = self.decide(tables, &step);
         foreseen(&decision)
     }
 

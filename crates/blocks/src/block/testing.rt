@@ -77,6 +77,7 @@ impl Block {
     }
 
     /// Marks all messages but those of which this is known, and whose marks are right.
+    #[inline(always)]
     fn mark_but(&mut self, tables: &Tables, pass: bool, others: Others)
         requires pass { pass ≡ true → ResponsesPass tables.now }
         requires links { AreRight tables.now self.old.state.lines self.old.state.traffic.links others.cache.0 self.old.marks.links }
@@ -102,6 +103,7 @@ impl Block {
     }
 
     /// Tests all messages, or only those that a step at a line may have changed, where the rest is known.
+    #[inline(always)]
     pub(crate) fn test_after(
         &mut self,
         tables: &Tables,

@@ -1,13 +1,15 @@
-use Rattle.std.proofs.Common.{◌≡◌, ◌<◌, ◌∙◌, ap, sym, subst, length, set, refl}
+use Rattle.std.proofs.Common.{◌≡◌, ◌<◌, ◌∙◌, ap, arith, sym, subst, length, set, refl}
+use Rattle.std.proofs.lemmas.Grind.{common_steps}
 use Rattle.network.specs.Traffic.{Traffic, all_sent}
 use Rattle.blocks.proofs.Relinking.{messages-links}
-use Rattle.control.specs.LineEffect.{is_reader, is_writer, line_sends, requestor_of}
+use Rattle.control.specs.LineEffect.{is_reader, is_writer, line_after, line_sends, requestor_of}
 use Rattle.control.specs.HomeEffect.{home_sends, sender_of, IsBelow}
 use Rattle.machine.specs.Block.{BlockState}
 use Rattle.blocks.specs.View.{BlockView}
 use Rattle.blocks.specs.inner.Lined.{IsHeld, kept_lines, lines_of}
 use Rattle.blocks.specs.inner.Named.{IsKeptIf}
 use Rattle.blocks.proofs.Acting.{held-at_line, held-at_home}
+use Rattle.blocks.proofs.Performed.{after-state, kept-put, lines-put}
 use Rattle.blocks.proofs.block.Block.carry_out.Goals as goal
 
 pub invariant_of-self : goal.invariant_of-self
@@ -16,9 +18,9 @@ invariant_of-self c =
     record { lines = lines_of c.self.inside.lines.items; home = c.self.inside.home; traffic = c.self.inside.wires.traffic; latest = c.self.inside.latest } in
     let new : BlockState =
     record {
-      lines = lines_of c.put_line.new.lines.items;
+      lines = lines_of c.perform-done.new.lines.items;
       home = c.self.inside.home;
-      traffic = c.line_perform-done.new.wires.traffic;
+      traffic = c.perform-done.new.wires.traffic;
       latest = c.latest_value-self-inside.result;
     } in
     let fits : c.in-AtLine.cache.0 < length c.args.self.now.state.lines = (rw c.in-AtLine.is at c.requires.fits).0 in
@@ -26,14 +28,20 @@ invariant_of-self c =
     let named : IsKeptIf c.args.self.now.space.lines (requestor_of c.in-AtLine.input) = (rw c.in-AtLine.is at c.requires.names).0 in
     let requestor : IsKeptIf (kept_lines c.self.inside.lines.items) (requestor_of c.in-AtLine.input) =
     subst (λ (k : BlockView). IsKeptIf k.space.lines (requestor_of c.in-AtLine.input)) (sym c.self.view_is) named in
-    let after = c.line_perform-done.new.line in
-    rw (c.set.ensures, c.set-in-AtLine.ensures, c.may_read.ensures, c.may_write.ensures)
+    let after = line_after c.in-AtLine.input c.in-AtLine.next c.in-AtLine.line in
+    rw (
+      c.set.ensures,
+      c.set-in-AtLine.ensures,
+      c.may_read.ensures,
+      c.may_write.ensures,
+      ← after-state c.in-AtLine.input c.in-AtLine.next c.in-AtLine.line,
+    )
     (subst (λ is. IsHeld new is (set c.self.inside.access.readers c.in-AtLine.cache.0 (is_reader after.state))
     (set c.self.inside.access.writers c.in-AtLine.cache.0 (is_writer after.state)))
-    (sym c.put_line.ensures.items)
+    (sym c.perform-done.ensures.items)
     (held-at_line c.self.inside.lines.items c.in-AtLine.cache c.in-AtLine.line after c.in-AtLine.input c.in-AtLine.actions
-    c.in-AtLine.origin old new c.self.inside.access.readers c.self.inside.access.writers c.self.invariant there requestor (ap lines_of c.put_line.ensures.items) refl
-    (c.line_perform-done.ensures.traffic ∙ ap
+    c.in-AtLine.origin old new c.self.inside.access.readers c.self.inside.access.writers c.self.invariant there requestor (ap lines_of c.perform-done.ensures.items) refl
+    (c.perform-done.ensures.traffic ∙ ap
     (all_sent (line_sends c.in-AtLine.cache c.in-AtLine.input c.in-AtLine.actions c.in-AtLine.line)) c.take.ensures.traffic)))
 
 pub invariant_of-self-in-AtHome : goal.invariant_of-self-in-AtHome
@@ -60,6 +68,16 @@ invariant_of-self-in-AtHome c =
 pub returns-in-AtLine-clause-links : goal.returns-in-AtLine-clause-links
 returns-in-AtLine-clause-links c own at =
     let here = rw c.in-AtLine.is at at in
-    let links : c.line_perform-done.new.wires.traffic.links ≡ c.take.new.wires.traffic.links =
-    ap (λ (t : Traffic). t.links) c.line_perform-done.ensures.traffic ∙ messages-links c.in-AtLine.cache _ _ c.in-AtLine.actions c.take.new.wires.traffic in
-    rw (← c.self.view_is, c.line_perform-done.ensures.links, links) (c.take.ensures.links own here.1)
+    let links : c.perform-done.new.wires.traffic.links ≡ c.take.new.wires.traffic.links =
+    ap (λ (t : Traffic). t.links) c.perform-done.ensures.traffic ∙ messages-links c.in-AtLine.cache _ _ c.in-AtLine.actions c.take.new.wires.traffic in
+    rw (← c.self.view_is, c.perform-done.ensures.links, links) (c.take.ensures.links own here.1)
+
+pub returns-in-AtLine-clause-done : goal.returns-in-AtLine-clause-done
+returns-in-AtLine-clause-done c =
+    let lines = ap lines_of c.perform-done.ensures.items ∙ lines-put c.self.inside.lines.items c.in-AtLine.cache.0 _ in
+    grind (arith, common_steps, lines)
+
+pub returns-in-AtLine-clause-lines : goal.returns-in-AtLine-clause-lines
+returns-in-AtLine-clause-lines c =
+    let kept = ap kept_lines c.perform-done.ensures.items ∙ kept-put c.self.inside.lines.items c.in-AtLine.cache.0 _ in
+    grind (arith, common_steps, kept)

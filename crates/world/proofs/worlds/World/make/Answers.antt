@@ -37,9 +37,9 @@ pub invariant_of-self : goal.invariant_of-self
 invariant_of-self c = (
   world-stays c.self.inside.shape c.self.inside.tables c.self.inside.opening.items c.self.inside.blocks.items c.step_at.new.blocks.items
       c.self.inside.counts (block_of c.args.step) c.in-Some.value c.self.inside.met_blank c.self.invariant.0 (at c)
-      (rw c.block-number.ensures at c.in_err-visit.ensures.others)
-      (rw (c.block-number.ensures, c.caches.ensures.value) at c.in_err-visit.ensures.err)
-      (rw c.block-number.ensures at c.in_err-visit.ensures.marked),
+      (rw c.block-number.ensures at c.in_err-visit.ensures.err.visited.others)
+      (rw (c.block-number.ensures, c.caches.ensures.value) at c.in_err-visit.ensures.err.state)
+      (rw c.block-number.ensures at c.in_err-visit.ensures.err.visited.marked),
   c.self.invariant.1,
 )
 
@@ -51,8 +51,8 @@ returns-in_err-visit-clause-err c = on_err c.from_residual.result (record {
       (states-stay c.self.inside.shape.caches c.self.inside.opening.items c.self.inside.blocks.items c.step_at.new.blocks.items (block_of c.args.step)
       c.in-Some.value (at c)
       (below c)
-      (rw c.block-number.ensures at c.in_err-visit.ensures.others)
-      (rw (c.block-number.ensures, c.caches.ensures.value) at c.in_err-visit.ensures.err)));
+      (rw c.block-number.ensures at c.in_err-visit.ensures.err.visited.others)
+      (rw (c.block-number.ensures, c.caches.ensures.value) at c.in_err-visit.ensures.err.state)));
   shape = grind (arith, common_steps);
   tables = grind (arith, common_steps);
   opening = grind (arith, common_steps);
@@ -61,23 +61,23 @@ returns-in_err-visit-clause-err c = on_err c.from_residual.result (record {
       rw (← c.self.view_is, c.if-self.false)
       (kept-as-is c.self.inside.shape c.self.inside.tables c.self.inside.opening.items c.self.inside.blocks.items c.step_at.new.blocks.items
       c.self.inside.tested c.args.step c.in-Some.value _ (at c)
-      (rw c.block-number.ensures at c.in_err-visit.ensures.others)
-      (rw (c.block-number.ensures, c.caches.ensures.value) at c.in_err-visit.ensures.idle)
-      (rw (c.block-number.ensures, c.caches.ensures.value) at c.in_err-visit.ensures.lines) refl);
+      (rw c.block-number.ensures at c.in_err-visit.ensures.err.visited.others)
+      (rw (c.block-number.ensures, c.caches.ensures.value) at c.in_err-visit.ensures.err.visited.idle)
+      (rw (c.block-number.ensures, c.caches.ensures.value) at c.in_err-visit.ensures.err.visited.lines) refl);
 })
 
 pub returns-in_err-visit-clause-succeeds : goal.returns-in_err-visit-clause-succeeds
 returns-in_err-visit-clause-succeeds c needs = elim needs [
   | inl room ↦
       absurd (true≢false (sym ((rw (c.block-number.ensures, c.caches.ensures.value) at c.in_err-visit.ensures.succeeds)
-      (room-at c.self.inside.shape c.self.inside.tables c.self.inside.opening.items c.self.inside.blocks.items c.self.inside.tested
+      (inl (room-at c.self.inside.shape c.self.inside.tables c.self.inside.opening.items c.self.inside.blocks.items c.self.inside.tested
       c.args.step c.in-Some.value (at c)
-      (rw (← c.self.view_is, c.if-self.false) at room)))))
+      (rw (← c.self.view_is, c.if-self.false) at room))))))
   | inr light ↦
-      absurd (true≢false (sym ((rw (c.block-number.ensures, c.caches.ensures.value) at c.in_err-visit.ensures.light)
-      (light-in c.self.inside.shape c.self.inside.tables c.self.inside.opening.items c.self.inside.blocks.items c.self.inside.tested
+      absurd (true≢false (sym ((rw (c.block-number.ensures, c.caches.ensures.value) at c.in_err-visit.ensures.succeeds)
+      (inr (light-in c.self.inside.shape c.self.inside.tables c.self.inside.opening.items c.self.inside.blocks.items c.self.inside.tested
       c.args.step c.in-Some.value (at c)
-      (rw (← c.self.view_is, c.if-self.false) at light.0) (rw (← c.self.view_is) at light.1)))))
+      (rw (← c.self.view_is, c.if-self.false) at light.0) (rw (← c.self.view_is) at light.1))))))
 ]
 
 moved : (c : After-result-1) →
@@ -85,8 +85,8 @@ moved : (c : After-result-1) →
     ≡ moved_to (state_or c.self.inside.shape.caches c.in-Some.value (kept_at c.step_at.new.blocks.items (block_of c.args.step))) c.in_ok-visit.visit.made.outcome
 moved c =
     came-to c.self.inside.tables c.args.step _ _ c.in_ok-visit.visit.made
-    (rw (c.block-number.ensures, c.caches.ensures.value) at c.in_ok-visit.ensures.made)
-    (rw (c.block-number.ensures, c.caches.ensures.value) at c.in_ok-visit.ensures.state)
+    (rw (c.block-number.ensures, c.caches.ensures.value) at c.in_ok-visit.ensures.ok.made)
+    (rw (c.block-number.ensures, c.caches.ensures.value) at c.in_ok-visit.ensures.ok.state)
 
 pub invariant_of-self-2 : goal.invariant_of-self-2
 invariant_of-self-2 c =
@@ -94,10 +94,10 @@ invariant_of-self-2 c =
       world-stepped c.self.inside.shape c.self.inside.tables c.self.inside.opening.items c.self.inside.blocks.items c.step_at.new.blocks.items
           c.self.inside.counts c.args.step c.in-Some.value c.in_ok-visit.visit.made.outcome c.in_ok-visit.visit.tested c.self.inside.met_blank
           c.breaks-self-inside.result c.self.invariant.0 (at-2 c)
-          (rw c.block-number.ensures at c.in_ok-visit.ensures.others)
+          (rw c.block-number.ensures at c.in_ok-visit.ensures.ok.visited.others)
           (moved c)
-          (rw c.block-number.ensures at c.in_ok-visit.ensures.marked)
-          (rw (c.block-number.ensures, c.caches.ensures.value) at c.in_ok-visit.ensures.tested),
+          (rw c.block-number.ensures at c.in_ok-visit.ensures.ok.visited.marked)
+          (rw (c.block-number.ensures, c.caches.ensures.value) at c.in_ok-visit.ensures.ok.tested),
       c.self.invariant.1,
     )
 
@@ -107,12 +107,12 @@ returns-clause-ok c = record {
     told =
         rw (← c.self.view_is, c.if-self.false)
         (made-is c.self.inside.shape c.self.inside.tables c.self.inside.opening.items c.self.inside.blocks.items c.args.step c.in-Some.value
-        c.in_ok-visit.visit.made (at-2 c) (rw (c.block-number.ensures, c.caches.ensures.value) at c.in_ok-visit.ensures.made));
+        c.in_ok-visit.visit.made (at-2 c) (rw (c.block-number.ensures, c.caches.ensures.value) at c.in_ok-visit.ensures.ok.made));
     state =
         rw (← c.self.view_is, c.if-self.false, c.breaks-self-inside.ensures)
         (ap (λ (n : Next). n.state)
         (sym (next-is c.self.inside.shape c.self.inside.tables c.self.inside.opening.items c.self.inside.blocks.items c.step_at.new.blocks.items
-        c.args.step c.in-Some.value c.in_ok-visit.visit.made.outcome (at-2 c) (below-2 c) (rw c.block-number.ensures at c.in_ok-visit.ensures.others) (moved c))));
+        c.args.step c.in-Some.value c.in_ok-visit.visit.made.outcome (at-2 c) (below-2 c) (rw c.block-number.ensures at c.in_ok-visit.ensures.ok.visited.others) (moved c))));
   };
   shape = grind (arith, common_steps);
   tables = grind (arith, common_steps);
@@ -121,19 +121,19 @@ returns-clause-ok c = record {
       rw (c.note-self-inside.ensures.tested, ← c.self.view_is, c.if-self.false)
       (tests-sent c.self.inside.shape c.self.inside.tables c.self.inside.opening.items c.self.inside.blocks.items c.args.step c.in-Some.value
       c.self.inside.tested _ (at-2 c)
-      (rw (c.block-number.ensures, c.caches.ensures.value) at c.in_ok-visit.ensures.sent));
+      (rw (c.block-number.ensures, c.caches.ensures.value) at c.in_ok-visit.ensures.ok.sent));
   tests_its_block =
       rw (c.note-self-inside.ensures.tested, ← c.self.view_is)
       (tests-block c.self.inside.shape c.self.inside.tables c.self.inside.opening.items c.step_at.new.blocks.items c.breaks-self-inside.result
       (block_of c.args.step) c.in-Some.value c.self.inside.tested _ c.in_ok-visit.visit.tested (at-2 c)
-      (rw (c.block-number.ensures, c.caches.ensures.value) at c.in_ok-visit.ensures.tested));
+      (rw (c.block-number.ensures, c.caches.ensures.value) at c.in_ok-visit.ensures.ok.tested));
   keeps =
       rw (← c.self.view_is, c.if-self.false)
       (kept-as-is c.self.inside.shape c.self.inside.tables c.self.inside.opening.items c.self.inside.blocks.items c.step_at.new.blocks.items
       c.self.inside.tested c.args.step c.in-Some.value _ (at-2 c)
-      (rw c.block-number.ensures at c.in_ok-visit.ensures.others)
-      (rw (c.block-number.ensures, c.caches.ensures.value) at c.in_ok-visit.ensures.idle)
-      (rw (c.block-number.ensures, c.caches.ensures.value) at c.in_ok-visit.ensures.lines) refl);
+      (rw c.block-number.ensures at c.in_ok-visit.ensures.ok.visited.others)
+      (rw (c.block-number.ensures, c.caches.ensures.value) at c.in_ok-visit.ensures.ok.visited.idle)
+      (rw (c.block-number.ensures, c.caches.ensures.value) at c.in_ok-visit.ensures.ok.visited.lines) refl);
 }
 
 pub returns-then-self-clause-ok : goal.returns-then-self-clause-ok

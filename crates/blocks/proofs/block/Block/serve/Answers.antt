@@ -14,16 +14,16 @@ use Rattle.blocks.proofs.Asked.{first-right-after}
 use Rattle.blocks.proofs.Going.{acting}
 use Rattle.blocks.proofs.Relinking.{right-after, some-both, some-map}
 use Rattle.blocks.proofs.Sends.{sends-counted}
-use Rattle.blocks.proofs.block.Block.make.Goals as goal
+use Rattle.blocks.proofs.block.Block.serve.Goals as goal
 
 -- what a decision is told as
 abbrev made_by : Decision → BlockState → Made
 made_by d b = record { outcome = (carried_out d b).outcome; acted = acted_by d (is_crowded (carried_out d b).block) }
 
 pub returns-in-Refused-clause-ok : goal.returns-in-Refused-clause-ok
-returns-in-Refused-clause-ok c =
+returns-in-Refused-clause-ok g c =
     let b = c.args.self.now.state in
-    let was : Refused c.in-Refused.outcome ≡ decision_of c.args.tables.now c.args.step b = sym c.in-Refused.is ∙ c.decide-decision.ensures.decision in
+    let was : Refused c.in-Refused.outcome ≡ decision_of c.args.tables.now (g.S.Served.step c.args.served.now) b = sym c.in-Refused.is ∙ c.decide-decision.ensures.decision in
     record {
       made = c.refused.ensures ∙ ap (λ e. made_by e b) was;
       state = ap (λ e. (carried_out e b).block) was;
@@ -35,20 +35,20 @@ returns-in-Refused-clause-ok c =
     }
 
 pub returns-in-Err-clause-err : goal.returns-in-Err-clause-err
-returns-in-Err-clause-err c = record {
+returns-in-Err-clause-err g c = record {
   state = c.prepare.ensures.state;
   marks = c.prepare.ensures.marks ∙ c.requires.marks ∙ ap (marks_of c.args.tables.now) (sym c.prepare.ensures.state);
   lines = c.prepare.ensures.lines;
 }
 
 pub returns-in-Err-clause-succeeds : goal.returns-in-Err-clause-succeeds
-returns-in-Err-clause-succeeds c wants = elim wants [
+returns-in-Err-clause-succeeds g c wants = elim wants [
   | inl space ↦ c.in-Err.ensures.succeeds (rw c.decide-decision.ensures.decision space)
   | inr none ↦ (let sends = none.0 in let asleep = none.1 in grind (arith, common_steps))
 ]
 
 pub returns-clause-ok : goal.returns-clause-ok
-returns-clause-ok c =
+returns-clause-ok g c =
     let d = c.decide-decision.result in
     let before = c.args.self.now.state in
     let is = c.decide-decision.ensures.decision in
@@ -74,7 +74,7 @@ returns-clause-ok c =
     }
 
 pub test_after-tested-requires : goal.test_after-tested-requires
-test_after-tested-requires c =
+test_after-tested-requires g c =
     let before = c.args.self.now.state in
     let marks = c.args.self.now.marks in
     let after = c.carry_out-outcome.new.self in

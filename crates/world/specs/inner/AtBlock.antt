@@ -1,0 +1,41 @@
+-- What a step at one of the blocks leaves, kept or not, where blocks have so many caches and this one opens at a value.
+use Rattle.std.specs.Prelude.{◌≡◌, ◌≤◌, ◌⊎◌, ℕ, List, Option, false, length}
+use Rattle.base.specs.declared.step.Step.{Step}
+use Rattle.both_tables.specs.Tables.{Tables}
+use Rattle.machine.specs.Made.{made_at}
+use Rattle.machine.specs.Transition.{decision_of, messages_of, transition}
+use Rattle.blocks.specs.declared.block.acting.Visit.{Visit}
+use Rattle.blocks.specs.Tests.{IsTested, tested_in}
+use Rattle.blocks.specs.View.{BlockView, acts, acts_at_line}
+use Rattle.world.specs.Keeping.{has_line}
+use Rattle.world.specs.View.{HasSpaceAt, space_of}
+use Rattle.world.specs.inner.Holding.{kept_at, state_at, IsLight, OthersStay}
+use Rattle.world.specs.inner.Tests.{IsMarked}
+
+-- no other block than the one of this number has changed, that one has true marks, and where no cell acts it keeps its room
+pub record IsVisited (tables : Tables) (caches value number : ℕ) (step : Step) (old new : List (Option BlockView)) : Type 0 where
+  pub others : OthersStay number old new
+  pub marked : IsMarked tables (kept_at new number)
+  pub idle : acts (decision_of tables step (state_at caches value old number)) ≡ false → space_of (kept_at new number) ≡ space_of (kept_at old number)
+  pub lines : (cache : ℕ) → acts_at_line (decision_of tables step (state_at caches value old number)) cache ≡ false →
+      has_line (space_of (kept_at new number)) cache ≡ has_line (space_of (kept_at old number)) cache
+
+-- the block has made a step, which came to this
+pub record HasStepped (tables : Tables) (caches value number : ℕ) (step : Step) (old : List (Option BlockView)) (visit : Visit)
+    (new : List (Option BlockView)) : Type 0 where
+  pub visited : IsVisited tables caches value number step old new
+  pub made : visit.made ≡ made_at tables step (state_at caches value old number)
+  pub state : (transition tables step (state_at caches value old number)).block ≡ state_at caches value new number
+  pub tested : IsTested tables (state_at caches value old number) (state_at caches value new number) visit.tested
+  pub sent : length (messages_of (decision_of tables step (state_at caches value old number)) (state_at caches value old number)) ≤ tested_in visit.tested
+
+-- the block is in the state that it was in before a step
+pub record HasStayed (tables : Tables) (caches value number : ℕ) (step : Step) (old new : List (Option BlockView)) : Type 0 where
+  pub visited : IsVisited tables caches value number step old new
+  pub state : state_at caches value new number ≡ state_at caches value old number
+
+-- a step wants no memory at the block: there is room for it, or it wants nothing
+abbrev pub NeedsNone : Tables → ℕ → ℕ → ℕ → Step → List (Option BlockView) → Type 0
+NeedsNone tables caches value number step ks =
+    HasSpaceAt (decision_of tables step (state_at caches value ks number)) (state_at caches value ks number) (space_of (kept_at ks number))
+    ⊎ IsLight tables step (state_at caches value ks number)
