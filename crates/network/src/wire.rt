@@ -1,5 +1,5 @@
 ghost use Rattle.std.specs.Prelude.{◌≡◌, ◌+◌, ◌<◌, ◌≤◌, ◌^◌, ◌∷◌, ◌++◌, [], IsOk, OnOk, OnErr, IfOk, IfErr, false};
-ghost use Rattle.std.specs.Prelude.{length, not, remove, slice_get, vec_len};
+ghost use Rattle.std.specs.Prelude.{length, not, remove, slice_get, slice_index_or, vec_len};
 ghost use Rattle.std.specs.Vec.{vec_capacity};
 ghost use Rattle.network.specs.Marks.{is_stopped, unmarked, unmarked_count};
 ghost use Rattle.network.specs.inner.Links.{held_count, marks_in, messages_in, one, remarked, remarked_from, unmarked_one};
@@ -164,7 +164,7 @@ impl<M: Copy> Wire<M> {
         if index >= self.marked.len() as u64 {
             return None;
         }
-        let taken = self.marked.remove(index as usize);
+        let taken = take_at(&mut self.marked, index as usize);
         self.held = self.held - u32::from(taken.held);
         Some(taken.message)
     }
@@ -182,6 +182,23 @@ impl<M: Copy> Wire<M> {
         self.marked.reserve(count)?;
         Ok(())
     }
+}
+
+/// Takes what is at a place. Behind the last one there is nothing to move.
+#[inline(always)]
+fn take_at<M: Copy>(marked: &mut Vec<Marked<M>>, at: usize) -> Marked<M>
+    requires { at < length marked.old.items }
+    ensures taken { result ≡ slice_index_or marked.old.items at result }
+    ensures left { marked.new.items ≡ remove marked.old.items at }
+    ensures room { vec_capacity marked.new ≡ vec_capacity marked.old }
+{
+    if at + 1 < marked.len() {
+        return marked.remove(at);
+    }
+    let Some(last) = marked.pop() else {
+        unreachable!();
+    };
+    last
 }
 
 /// The place of the k-th message without a mark, counted from 0, if there are so many.

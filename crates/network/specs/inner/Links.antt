@@ -1,4 +1,5 @@
-use Rattle.std.specs.Prelude.{◌≡◌, ◌≢◌, ℕ, ◌+◌, ◌^◌, ◌<◌, ◌≤◌, ◌++◌, List, [], Option, None, Some, Bool, if◌then◌else◌, not, drop, false, length, map, slice_index, slice_index_or, take}
+use Rattle.std.specs.Prelude.{◌≡◌, ◌≢◌, ℕ, ◌+◌, ◌^◌, ◌<◌, ◌≤◌, ◌++◌, List, [], Option, None, Some, Bool, if◌then◌else◌, not, drop, false, length}
+use Rattle.std.specs.Prelude.{map, slice_index, slice_index_or, take}
 use Rattle.std.specs.List.{sum_by}
 use Rattle.network.specs.declared.message.Forward.{Forward}
 use Rattle.network.specs.declared.wire.Marked.{Marked}

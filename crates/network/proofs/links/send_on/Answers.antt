@@ -35,7 +35,8 @@ returns-clause-ok c =
     elim c.match-put.branch [
       | in-Ok w ↦
           rw (w.result-is, w.in-Ok.ensures.ok)
-          (parts-set on_link c.args.links.now.items c.args.cache.0 None c.send-2.new.self (λ xs. xs ++ unmarked_one c.args.forward ∷ []) c.in_default.ensures.item
+          (parts-set on_link c.args.links.now.items c.args.cache.0 None c.send-2.new.self
+          (λ xs. xs ++ unmarked_one c.args.forward ∷ []) c.in_default.ensures.item
           (c.in_ok-send-2.ensures.ok ∙ ap (λ xs. xs ++ unmarked_one c.args.forward ∷ []) c.open-link.ensures))
       | in-Err w ↦ rw w.result-is tt
     ]

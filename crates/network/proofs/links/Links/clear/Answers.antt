@@ -11,8 +11,10 @@ returns-then-self-eq0 c =
 pub invariant_of-self : goal.invariant_of-self
 invariant_of-self c =
     let items = c.self.inside.links.items in
-    let waiting = c.clear-2.ensures ∙ ap (λ n. replicate n false) (ap length c.self.invariant.waiting ∙ length-map (map on_link items) _ ∙ length-map items on_link) in
-    let free = c.clear-3.ensures ∙ ap (λ n. replicate n false) (ap length c.self.invariant.free ∙ length-map (map on_link items) _ ∙ length-map items on_link) in
+    let waiting = c.clear-2.ensures ∙ ap (λ n. replicate n false)
+    (ap length c.self.invariant.waiting ∙ length-map (map on_link items) _ ∙ length-map items on_link) in
+    let free = c.clear-3.ensures ∙ ap (λ n. replicate n false)
+    (ap length c.self.invariant.free ∙ length-map (map on_link items) _ ∙ length-map items on_link) in
     rw (waiting, free) (linked-same _ _ _ _ 0 (ap (map on_link) c.clear.ensures.items ∙ parts-none on_link (length items)) (linked-none (length items)))
 
 pub returns : goal.returns

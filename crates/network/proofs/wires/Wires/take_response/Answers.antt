@@ -9,12 +9,20 @@ pub returns-clause-some : goal.returns-clause-some
 returns-clause-some c =
     let left = ap messages_in c.take.ensures.left ∙ map-remove (λ m. m.message) c.self.inside.responses.sent c.args.index in
     rw (← c.self.view_is)
-    (on_some c.take.result (λ i. record { requests = messages_in c.self.inside.requests.sent; links = map messages_in c.self.inside.links.sent; responses = left i }))
+    (on_some c.take.result (λ i. record {
+      requests = messages_in c.self.inside.requests.sent;
+      links = map messages_in c.self.inside.links.sent;
+      responses = left i;
+    }))
 
 pub returns-clause-none : goal.returns-clause-none
 returns-clause-none c =
     rw (← c.self.view_is)
-    (if_none-to c.take.result (λ same. λ i. record { requests = messages_in c.self.inside.requests.sent; links = map messages_in c.self.inside.links.sent; responses = ap messages_in same i })
+    (if_none-to c.take.result (λ same. λ i. record {
+      requests = messages_in c.self.inside.requests.sent;
+      links = map messages_in c.self.inside.links.sent;
+      responses = ap messages_in same i;
+    })
     (none-taken c.take.result c.self.inside.responses.sent _ c.args.index c.take.ensures.taken c.take.ensures.left))
 
 pub returns-clause-some_marks : goal.returns-clause-some_marks
@@ -26,5 +34,9 @@ returns-clause-some_marks c =
 pub returns-clause-none_marks : goal.returns-clause-none_marks
 returns-clause-none_marks c =
     rw (← c.self.view_is)
-    (if_none-to c.take.result (λ same. λ i. record { requests = marks_in c.self.inside.requests.sent; links = map marks_in c.self.inside.links.sent; responses = ap marks_in same i })
+    (if_none-to c.take.result (λ same. λ i. record {
+      requests = marks_in c.self.inside.requests.sent;
+      links = map marks_in c.self.inside.links.sent;
+      responses = ap marks_in same i;
+    })
     (none-taken c.take.result c.self.inside.responses.sent _ c.args.index c.take.ensures.taken c.take.ensures.left))
