@@ -9,5 +9,5 @@ invariant_of-result g c whole = record {
   ready = c.in_ok-lanes.ensures.ready;
   tracked =
       tracked-opened c.args.world.shape c.args.world.opening _ _ _ c.requires c.in_ok-cores.ensures
-          (c.caches-caches.ensures.value ∙ ap (λ (x : Extent). x.caches) c.shape.ensures);
+      (c.caches-caches.ensures.value ∙ ap (λ (x : Extent). x.caches) c.shape.ensures);
 }

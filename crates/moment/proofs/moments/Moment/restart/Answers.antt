@@ -9,5 +9,5 @@ invariant_of-self-2 g c whole = record {
   ready = c.in_ok-restart.ensures.ready;
   tracked =
       tracked-opened c.self.inside.world.shape c.self.inside.world.opening _ _ _ c.restart.ensures.state c.in_ok-reset.ensures.ok
-          (c.caches-caches.ensures.value ∙ ap (λ (x : Extent). x.caches) c.shape.ensures);
+      (c.caches-caches.ensures.value ∙ ap (λ (x : Extent). x.caches) c.shape.ensures);
 }
