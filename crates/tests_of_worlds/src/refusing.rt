@@ -6,6 +6,7 @@ use crate::entries::{entry_of, push};
 use crate::trying::{ONE_LOAD, RACING_PAIR, are_results};
 use base::{BlockId, CacheId, NoMemory, Outcome, Shape, Step};
 use both_tables::Tables;
+use moment::Moment;
 use record::{Entry, PushFault, ReadFault, ReadKind, Recording, ReplayFault, replay};
 use scenario::Scenario;
 use std::alloc::Global;
@@ -211,6 +212,46 @@ fn run_late(rt: &impl Abort, alloc: Global, steps: &[Step]) -> Result<(), Fail> 
 fn a_run(rt: HostRuntime) -> Result<(), Fail> {
     let steps = late_steps(&rt, rt.alloc())?;
     run_late(&rt, rt.alloc(), steps.as_slice())
+}
+
+/// Makes the first choice again and again, until there is none, and answers how many there were.
+fn lead(alloc: Global, moment: &mut Moment<'_, Global, Global>) -> Result<u32, NoMemory> {
+    for made in 0..8 {
+        if moment.count() == 0 {
+            return Ok(made);
+        }
+        let _ = moment.make(alloc, 0)?;
+    }
+    Ok(8)
+}
+
+/// Leads a moment to its rest, from the start again where a refusal has spoilt it.
+fn lead_at_last<'s>(
+    rt: &impl Abort,
+    alloc: Global,
+    moment: &mut Moment<'s, Global, Global>,
+    load: &'s Scenario<Global>,
+) {
+    let mut made = lead(alloc, moment);
+    if made.is_err() {
+        same(rt, &moment.count(), &0);
+        moment.restart(alloc, load).expect(rt, "a second refusal");
+        made = lead(alloc, moment);
+    }
+    same(rt, &made.expect(rt, "a second refusal"), &3);
+    same(rt, &moment.is_at_rest(), &true);
+}
+
+#[test]
+fn a_moment(rt: HostRuntime) -> Result<(), Fail> {
+    let load = scenario(rt.alloc(), ONE_LOAD, 3)?;
+    let mut world = opened(rt.alloc())?;
+    world.restart();
+    let mut moment = Moment::open(rt.alloc(), &load, world)?;
+    lead_at_last(&rt, rt.alloc(), &mut moment, &load);
+    moment.restart(rt.alloc(), &load)?;
+    lead_at_last(&rt, rt.alloc(), &mut moment, &load);
+    Ok(())
 }
 
 const RACED: [&str; 6] = [

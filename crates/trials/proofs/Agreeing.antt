@@ -15,11 +15,12 @@ use Rattle.monitor.specs.Violations.{IsFirstViolation}
 use Rattle.schedule.specs.Choices.{chosen_step, rest_after}
 use Rattle.schedule.specs.declared.choosing.Choice.{Choice}
 use Rattle.trials.specs.Terms.{Terms}
-use Rattle.trials.specs.Moments.{Moment, IsNext, choices_at, entry_of, moment_behind}
+use Rattle.moment.specs.Moments.{Moment, choices_at, moment_behind}
+use Rattle.trials.specs.Moments.{IsNext, entry_of}
 use Rattle.trials.specs.Trial.{IsVerdict, AreClean, IsUnowned}
 use Rattle.trials.specs.declared.verdict.Verdict.{Verdict}
 use Rattle.trials.specs.declared.verdict.Verdict.TheVariants.{Quiet, Cut, Stuck, Broke}
-use Rattle.trials.proofs.Places.{same-some, get-low}
+use Rattle.moment.proofs.Places.{same-some, get-low}
 use Rattle.trials.proofs.Walks.{Walks}
 
 -- ---- a word leads to one moment

@@ -22,7 +22,7 @@ use Rattle.blocks.specs.Looks.{is_held}
 use Rattle.world.specs.Enabled.{enabled_steps, unless_held, requests_from, head_from, heads_from, responses_from, requests_enabled, heads_in}
 use Rattle.blocks.specs.Looks.{held_in}
 use Rattle.world.specs.Enabled.{responses_enabled, of_each, all_enabled}
-use Rattle.trials.proofs.Places.{same-some}
+use Rattle.moment.proofs.Places.{same-some}
 
 pub front-empty : {X : Type 0} (xs ys : List X) → xs ++ ys ≡ [] → xs ≡ []
 front-empty [] ys e = refl

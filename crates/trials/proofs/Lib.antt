@@ -1,15 +1,6 @@
 pub mod Pushing
 pub mod Paths
-pub mod Places
-pub mod CoreSteps
-pub mod Pending
-pub mod Effects
-pub mod Apart
-pub mod Counted
-pub mod Tracking
-pub mod Chosen
-pub mod Offered
-pub mod Noted
+pub mod Tracked
 pub mod Walks
 pub mod Turns
 pub mod Verdicts

@@ -4,8 +4,9 @@ use Rattle.schedule.specs.Words.{word}
 use Rattle.scenario.specs.Tree.{Tree}
 use Rattle.record.specs.declared.recording.Entry.{Entry}
 use Rattle.trials.specs.Terms.{Terms}
-use Rattle.trials.specs.Moments.{Moment, IsNext, IsPath, first_moment}
-use Rattle.trials.proofs.Places.{same-some}
+use Rattle.moment.specs.Moments.{Moment}
+use Rattle.trials.specs.Moments.{IsNext, IsPath, first_moment}
+use Rattle.moment.proofs.Places.{same-some}
 use Rattle.trials.proofs.Pushing.{get-push, get-pushed, get-before, length-push}
 
 -- the path of a trial that has made no step

@@ -25,12 +25,13 @@ use Rattle.cores.specs.Cores.{Core, is_free}
 use Rattle.scenario.specs.Taking.{offers}
 use Rattle.schedule.specs.Choices.{can_be_put, offers_from, step_of}
 use Rattle.schedule.specs.declared.choosing.Choice.TheVariants.{Offer, Deliver}
-use Rattle.trials.specs.Moments.{Moment, choices_at}
-use Rattle.trials.specs.Trial.{IsAtRest}
-use Rattle.trials.proofs.Places.{same-some}
-use Rattle.trials.proofs.Pending.{pending_at}
-use Rattle.trials.proofs.CoreSteps.{outstanding, free-tells}
-use Rattle.trials.proofs.Tracking.{IsTracked, Waits}
+use Rattle.moment.specs.Moments.{Moment, choices_at}
+use Rattle.moment.specs.Moments.{IsAtRest}
+use Rattle.moment.proofs.Places.{same-some}
+use Rattle.moment.specs.inner.Tracked.{pending_at}
+use Rattle.moment.specs.inner.Tracked.{outstanding}
+use Rattle.moment.proofs.CoreSteps.{free-tells}
+use Rattle.moment.specs.inner.Tracked.{IsTracked, Waits}
 use Rattle.trials.proofs.Disabled.{front-empty, back-empty, nothing-delivers}
 
 -- ---- a world in which no step is blank doesn't break

@@ -14,14 +14,20 @@ use Rattle.machine.specs.Completions.{Completion, completed_by}
 use Rattle.cores.specs.Cores.{Core, issuing, finishing, with_core}
 use Rattle.record.specs.declared.recording.Entry.{Entry}
 use Rattle.schedule.specs.Choices.{chosen_step}
-use Rattle.trials.specs.Moments.{Moment, IsNext, put_by, cores_after, entry_of}
-use Rattle.trials.specs.Answering.{answered, completed_in, put_in, of_core}
-use Rattle.trials.proofs.Places.{same-some}
-use Rattle.trials.proofs.Pending.{Sets, pending_at}
-use Rattle.trials.proofs.Effects.{Effect, Puts, PutsDone, Settles, effect}
-use Rattle.trials.proofs.CoreSteps.{outstanding, with-length, with-here, with-other, free-told, after-none, after-put, after-done, after-both}
-use Rattle.trials.proofs.Tracking.{IsTracked, PutsWhereFree, pending-here}
-use Rattle.trials.proofs.Chosen.{fair-puts, next-fair, tracked-moment}
+use Rattle.moment.specs.Moments.{Moment, put_by, cores_after}
+use Rattle.trials.specs.Moments.{IsNext, entry_of}
+use Rattle.moment.specs.Moments.{answered}
+use Rattle.trials.specs.Answering.{completed_in, put_in, of_core}
+use Rattle.moment.proofs.Places.{same-some}
+use Rattle.moment.specs.inner.Tracked.{pending_at}
+use Rattle.moment.proofs.Pending.{Sets}
+use Rattle.moment.proofs.Effects.{Effect, Puts, PutsDone, Settles, effect}
+use Rattle.moment.specs.inner.Tracked.{outstanding}
+use Rattle.moment.proofs.CoreSteps.{with-length, with-here, with-other, free-told, after-none, after-put, after-done, after-both}
+use Rattle.moment.specs.inner.Tracked.{IsTracked}
+use Rattle.moment.proofs.Tracking.{PutsWhereFree, pending-here}
+use Rattle.trials.proofs.Tracked.{next-fair, tracked-moment}
+use Rattle.moment.proofs.Chosen.{fair-puts}
 use Rattle.trials.proofs.Walks.{Walks}
 
 -- what is left to answer of a core: what it waits for, at the line where that is pending

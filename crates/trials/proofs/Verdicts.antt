@@ -12,7 +12,8 @@ use Rattle.monitor.specs.Violations.{IsFirstViolation}
 use Rattle.scenario.specs.Tree.{Tree}
 use Rattle.schedule.specs.Words.{word}
 use Rattle.trials.specs.Terms.{Terms}
-use Rattle.trials.specs.Moments.{Moment, first_moment}
+use Rattle.moment.specs.Moments.{Moment}
+use Rattle.trials.specs.Moments.{first_moment}
 use Rattle.trials.specs.Trial.{IsTrial, IsVerdict, IsSound, HasBroken, AreClean}
 use Rattle.trials.specs.declared.verdict.Verdict.{Verdict}
 use Rattle.trials.specs.declared.verdict.Verdict.TheVariants.{Quiet, Cut, Stuck, Broke}

@@ -6,8 +6,9 @@ use Rattle.record.specs.declared.recording.Entry.{Entry}
 use Rattle.scenario.specs.Tree.{Tree}
 use Rattle.schedule.specs.Words.{word}
 use Rattle.trials.specs.Terms.{Terms}
-use Rattle.trials.specs.Moments.{Moment, IsNext, IsPath, first_moment}
-use Rattle.trials.proofs.Places.{same-some, there-is}
+use Rattle.moment.specs.Moments.{Moment}
+use Rattle.trials.specs.Moments.{IsNext, IsPath, first_moment}
+use Rattle.moment.proofs.Places.{same-some, there-is}
 
 -- these entries lead from a moment to the last one, by these words
 abbrev pub Walks : Tables → (ℕ → ℕ) → Moment → List Entry → Moment → Type 0

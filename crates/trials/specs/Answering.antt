@@ -1,22 +1,11 @@
 -- How the loads and stores that cores put are answered.
 use Rattle.std.specs.Prelude.{◌≡◌, ◌==◌, ◌≤◌, ℕ, List, ◌++◌, length, filter, map}
 use Rattle.std.specs.List.{flat_map}
-use Rattle.base.specs.declared.step.Ask.{Ask}
-use Rattle.base.specs.declared.step.Ask.TheVariants as ask
 use Rattle.base.specs.declared.step.CoreAsk.{CoreAsk}
 use Rattle.machine.specs.Coherence.{Explained}
-use Rattle.machine.specs.Completions.{Access, load, store, Completion, completions}
+use Rattle.machine.specs.Completions.{Completion, completions}
 use Rattle.record.specs.declared.recording.Entry.{Entry}
-use Rattle.trials.specs.Moments.{put_by}
-
--- what completes with this access and this value: a load, or the store of the value
-abbrev pub ask_of : Access → ℕ → Ask
-ask_of load value = ask.Load
-ask_of store value = ask.Store value
-
--- the load or the store that a completion answers
-abbrev pub answered : Completion → CoreAsk
-answered c = record { core = c.cache; block = record { 0 = c.block }; ask = ask_of c.access c.value }
+use Rattle.moment.specs.Moments.{answered, put_by}
 
 -- the completions of entries, in order
 abbrev pub completed_in : List Entry → List Completion

@@ -1,23 +1,15 @@
 -- How a trial ends, and what a trial and a batch of them are.
-use Rattle.std.specs.Prelude.{◌≡◌, ◌≢◌, ◌≤◌, ◌+◌, ℕ, true, List, [], Some, length, slice_get}
+use Rattle.std.specs.Prelude.{◌≡◌, ◌≢◌, ◌≤◌, ◌+◌, ℕ, List, [], Some, length, slice_get}
 use Rattle.base.specs.declared.step.Step.{Step}
-use Rattle.cores.specs.Cores.{is_free}
 use Rattle.scenario.specs.Tree.{Tree}
-use Rattle.scenario.specs.Taking.{offers}
-use Rattle.world.specs.Looks.{all_quiet}
 use Rattle.record.specs.View.{RecordingView, steps_of}
 use Rattle.monitor.specs.Violations.{HasNoViolation, IsFirstViolation}
 use Rattle.trials.specs.declared.verdict.Verdict.{Verdict}
 use Rattle.trials.specs.declared.verdict.Verdict.TheVariants.{Quiet, Cut, Stuck, Broke}
 use Rattle.trials.specs.declared.verdict.TrialResult.{TrialResult}
 use Rattle.trials.specs.Terms.{Terms}
-use Rattle.trials.specs.Moments.{Moment, IsPath, choices_at}
-
--- nothing is offered, no message is on its way, and no core waits
-pub record IsAtRest (m : Moment) : Type 0 where
-  pub nothing_offered : offers m.rest ≡ []
-  pub quiet : all_quiet m.state.blocks ≡ true
-  pub free : (core : ℕ) → is_free m.cores core ≡ true
+use Rattle.moment.specs.Moments.{IsAtRest, Moment, choices_at}
+use Rattle.trials.specs.Moments.{IsPath}
 
 -- none of these steps has a violation
 abbrev pub AreClean : Terms → List Step → Type 0

@@ -7,7 +7,6 @@ mod going;
 mod laws;
 mod making;
 mod notes;
-mod noting;
 mod series;
 mod setup;
 mod spreading;

@@ -3,7 +3,8 @@
 ghost use Rattle.std.specs.Prelude.{◌≡◌, IfOk, MatchOption, OnErr, OnOk};
 ghost use Rattle.std.specs.Option.{ForSome};
 ghost use Rattle.scenario.specs.Tree.{plain};
-ghost use Rattle.trials.specs.inner.Going.{Begins, IsLike, IsUnder};
+ghost use Rattle.moment.specs.Seen.{IsLike};
+ghost use Rattle.trials.specs.inner.Going.{Begins, IsUnder};
 ghost use Rattle.trials.specs.inner.Notes.{counts};
 ghost use Rattle.trials.specs.Trial.{IsResult};
 
@@ -25,7 +26,7 @@ pub struct Series<'s, 'b, A: Allocator> {
     setup: &'s Setup,
     // The last trial, if there was one.
     course: Option<Course<'s, 'b, A, Tally>>,
-    ghost under: { ForSome course (λ it. IsUnder setup.now it.world) },
+    ghost under: { ForSome course (λ it. IsUnder setup.now it.moment) },
 }
 
 impl<'s, 'b, A: Allocator> Drop for Series<'s, 'b, A> {
@@ -99,9 +100,9 @@ fn first<'s, 'b, A: Allocator>(
     setup: &Setup,
     number: u32,
 ) -> Result<TrialResult, NoMemory>
-    requires { ForSome course.old (λ it. IsUnder setup.now it.world) }
+    requires { ForSome course.old (λ it. IsUnder setup.now it.moment) }
     ensures result { IfOk result (λ made. IsResult setup.now (plain scenario.entry.now) number made) }
-    ensures under { ForSome course.new (λ it. IsUnder setup.now it.world) }
+    ensures under { ForSome course.new (λ it. IsUnder setup.now it.moment) }
 {
     open(course, alloc, scenario, setup, number)?;
     let Some(opened) = course else {
@@ -141,7 +142,7 @@ fn finish<'s, 'b, A: Allocator>(
 ) -> Result<TrialResult, NoMemory>
     requires { Begins counts setup.now (plain scenario.now) number course.old }
     ensures result { IfOk result (λ made. IsResult setup.now (plain scenario.now) number made) }
-    ensures alike { IsLike course.old.world course.new.world }
+    ensures alike { IsLike course.old.moment course.new.moment }
 {
     let verdict = course.run(arena, setup.limit())?;
     Ok(TrialResult {

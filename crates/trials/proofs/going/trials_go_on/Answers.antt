@@ -1,12 +1,9 @@
-use Rattle.trials.proofs.Courses.{starts, can-be-made, ends-at-rest}
+use Rattle.trials.proofs.Courses.{starts, ends-at-rest, ends-cut}
 use Rattle.trials.proofs.CourseSteps.{goes-on}
 use Rattle.trials.proofs.going.trials_go_on.Goals as goal
 
 pub returns-clause-start : goal.returns-clause-start
 returns-clause-start c = starts c.draws_follow_the_words.ensures.first
-
-pub returns-clause-can_be_made : goal.returns-clause-can_be_made
-returns-clause-can_be_made c = can-be-made
 
 pub returns-clause-goes_on : goal.returns-clause-goes_on
 returns-clause-goes_on c =
@@ -15,3 +12,6 @@ returns-clause-goes_on c =
 
 pub returns-clause-at_rest : goal.returns-clause-at_rest
 returns-clause-at_rest c = ends-at-rest c.alike_trees_stay_alike.ensures.offers c.alike_trees_give_the_same_choices.ensures
+
+pub returns-clause-cut : goal.returns-clause-cut
+returns-clause-cut c = ends-cut c.alike_trees_give_the_same_choices.ensures

@@ -1,7 +1,8 @@
 use Rattle.std.proofs.Common.{[], refl, subst, sym}
 use Rattle.trials.specs.Moments.{first_moment}
-use Rattle.trials.proofs.CoreSteps.{outstanding, idle-free}
-use Rattle.trials.proofs.Tracking.{tracked-first}
+use Rattle.moment.specs.inner.Tracked.{outstanding}
+use Rattle.moment.proofs.CoreSteps.{idle-free}
+use Rattle.moment.proofs.Tracking.{tracked-first}
 use Rattle.trials.proofs.Walks.{path-walks, path-last}
 use Rattle.trials.proofs.Turns.{Left, left-few, walk-turns}
 use Rattle.trials.proofs.laws.cores_are_answered_in_turn.Goals as goal

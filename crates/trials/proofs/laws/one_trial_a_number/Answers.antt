@@ -1,7 +1,8 @@
 use Rattle.std.proofs.Common.{List, map, inl, inr, sym, ◌∙◌, subst}
 use Rattle.record.specs.declared.recording.Entry.{Entry}
 use Rattle.schedule.specs.Words.{word}
-use Rattle.trials.specs.Moments.{Moment, first_moment}
+use Rattle.moment.specs.Moments.{Moment}
+use Rattle.trials.specs.Moments.{first_moment}
 use Rattle.trials.specs.Trial.{IsVerdict}
 use Rattle.trials.proofs.Verdicts.{trial-walks}
 use Rattle.trials.proofs.Agreeing.{walks-agree, no-longer, same-verdict, same-kept}

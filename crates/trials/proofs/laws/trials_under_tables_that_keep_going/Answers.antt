@@ -4,7 +4,7 @@ use Rattle.machine.specs.Machine.{State, opened, state_after}
 use Rattle.machine.specs.Unstuck.{Unstuck}
 use Rattle.record.specs.View.{steps_of}
 use Rattle.trials.specs.Trial.{IsResult, IsVerdict}
-use Rattle.trials.proofs.Chosen.{path-tracked}
+use Rattle.trials.proofs.Tracked.{path-tracked}
 use Rattle.trials.proofs.Verdicts.{trial-state, sound}
 use Rattle.trials.proofs.Rests.{at-rest, stays-whole}
 use Rattle.trials.proofs.laws.trials_under_tables_that_keep_going.Goals as goal

@@ -1,47 +1,22 @@
-use Rattle.std.proofs.Common.{None, ap, arith, refl}
-use Rattle.std.specs.Option.{option_map}
-use Rattle.schedule.specs.Lanes.{laned}
-use Rattle.schedule.specs.Picks.{choice_of}
+use Rattle.std.proofs.Common.{None, arith, refl}
 use Rattle.trials.specs.inner.Going.{blank, parts_of}
 use Rattle.trials.proofs.Likes.{like-both, like-itself, like-same}
-use Rattle.trials.proofs.Runs.{choice-made, cuts, ends-without, room-left, step-goes}
+use Rattle.trials.proofs.Runs.{cuts, ends-without, room-left, step-goes}
 use Rattle.trials.proofs.course.Course.run.Goals as goal
 
 pub loop-made-init : goal.loop-made-init
 loop-made-init g c = (
   λ terms tree number same begins.
       (blank terms, begins.told, refl, c.trials_go_on.ensures.start terms tree number (parts_of (blank terms) c.args.self.now) begins.starts),
-  c.requires.5.counted,
-  like-itself c.args.self.now.world,
+  like-itself c.args.self.now.moment,
 )
-
-pub choose-requires : goal.choose-requires
-choose-requires g c = c.loop-made.invariant.1
-
-pub choose-requires-2 : goal.choose-requires-2
-choose-requires-2 g c = c.loop-made.invariant.1
-
-pub verdict_at_rest-requires : goal.verdict_at_rest-requires
-verdict_at_rest-requires g c = c.choose.ensures.counted
-
-pub verdict_at_rest-requires-in-None : goal.verdict_at_rest-requires-in-None
-verdict_at_rest-requires-in-None g c = c.choose-2.ensures.counted
 
 pub returns-in_default-clause-ends : goal.returns-in_default-clause-ends
 returns-in_default-clause-ends g c =
     let low = c.loop-made-test.true in
     ends-without c.trials_go_on.ensures.at_rest g.N.Notes.tells c.args.self.now c.loop-made.self c.choose.new.self c.args.limit _ _ _
     c.loop-made.invariant.0 (omega (arith, low)) c.choose.ensures.chooses
-    (ap (option_map (choice_of (laned c.choose.new.self.lanes))) c.in_default.is) c.choose.ensures.notes c.verdict_at_rest.ensures
-
-pub make-requires-clause-choice : goal.make-requires-clause-choice
-make-requires-clause-choice g c =
-    choice-made c.trials_go_on.ensures.can_be_made g.N.Notes.tells c.args.self.now c.loop-made.self c.choose.new.self c.args.limit _ _
-    (choice_of (laned c.choose.new.self.lanes) c.in-Some.pick) c.requires c.loop-made.invariant.0 c.choose.ensures.chooses
-    (ap (option_map (choice_of (laned c.choose.new.self.lanes))) c.in-Some.is)
-
-pub make-requires-clause-counted : goal.make-requires-clause-counted
-make-requires-clause-counted g c = c.choose.ensures.counted
+    c.in_default.is c.choose.ensures.notes c.verdict_at_rest.ensures
 
 pub make-requires-clause-room : goal.make-requires-clause-room
 make-requires-clause-room g c =
@@ -52,20 +27,19 @@ pub returns-in-Some-2-clause-ends : goal.returns-in-Some-2-clause-ends
 returns-in-Some-2-clause-ends g c terms tree number same begins =
     let ended =
     step-goes c.trials_go_on.ensures.goes_on g.N.Notes.tells c.args.self.now c.loop-made.self c.choose.new.self c.make.new.self c.args.limit _ _
-    (choice_of (laned c.choose.new.self.lanes) c.in-Some.pick) _ _ c.loop-made.invariant.0 c.loop-made-test.true c.choose.ensures.chooses
-    (ap (option_map (choice_of (laned c.choose.new.self.lanes))) c.in-Some.is) c.choose.ensures.notes
+    c.in-Some.k _ _ c.loop-made.invariant.0 c.loop-made-test.true c.choose.ensures.chooses
+    c.in-Some.is c.choose.ensures.notes
     c.in_ok-violation.ensures.makes c.in-Some-2.is terms tree number same begins in
     (ended.0, ended.1, ended.3)
 
 pub loop-made-preserved : goal.loop-made-preserved
 loop-made-preserved g c = (
   step-goes c.trials_go_on.ensures.goes_on g.N.Notes.tells c.args.self.now c.loop-made.self c.choose.new.self c.make.new.self c.args.limit _ _
-      (choice_of (laned c.choose.new.self.lanes) c.in-Some.pick) _ None c.loop-made.invariant.0 c.loop-made-test.true c.choose.ensures.chooses
-      (ap (option_map (choice_of (laned c.choose.new.self.lanes))) c.in-Some.is) c.choose.ensures.notes
+      c.in-Some.k _ None c.loop-made.invariant.0 c.loop-made-test.true c.choose.ensures.chooses
+      c.in-Some.is c.choose.ensures.notes
       c.in_ok-violation.ensures.makes c.in_default-2.is,
-  c.in_ok-violation.ensures.counted,
-  like-both c.args.self.now.world c.choose.new.self.world c.make.new.self.world
-      (like-same c.args.self.now.world c.loop-made.self.world c.choose.new.self.world c.choose.ensures.world c.loop-made.invariant.2)
+  like-both c.args.self.now.moment c.choose.new.self.moment c.make.new.self.moment
+      (like-same c.args.self.now.moment c.loop-made.self.moment c.choose.new.self.moment c.choose.ensures.moment c.loop-made.invariant.1)
       c.make.ensures.alike,
 )
 
@@ -75,33 +49,33 @@ returns-in-Some-choose-clause-ends g c =
     let end = c.loop-made.auto.made-end in
     cuts c.trials_go_on.ensures.cut g.N.Notes.tells c.args.self.now c.loop-made.self c.choose-2.new.self c.args.limit _ _ _
     c.loop-made.invariant.0 (omega (arith, high, end)) c.choose-2.ensures.chooses
-    (ap (option_map (choice_of (laned c.choose-2.new.self.lanes))) c.in-Some-choose.is) c.choose-2.ensures.notes
+    c.in-Some-choose.is c.choose-2.ensures.notes
 
 pub returns-in-None-clause-ends : goal.returns-in-None-clause-ends
 returns-in-None-clause-ends g c =
     let end = c.loop-made.auto.made-end in
     ends-without c.trials_go_on.ensures.at_rest g.N.Notes.tells c.args.self.now c.loop-made.self c.choose-2.new.self c.args.limit _ _ _
     c.loop-made.invariant.0 (omega (arith, end)) c.choose-2.ensures.chooses
-    (ap (option_map (choice_of (laned c.choose-2.new.self.lanes))) c.in-None.is) c.choose-2.ensures.notes c.verdict_at_rest-in-None.ensures
+    c.in-None.is c.choose-2.ensures.notes c.verdict_at_rest-in-None.ensures
 
 pub returns-in_default-clause-alike : goal.returns-in_default-clause-alike
 returns-in_default-clause-alike g c =
-    like-same c.args.self.now.world c.loop-made.self.world c.choose.new.self.world c.choose.ensures.world c.loop-made.invariant.2
+    like-same c.args.self.now.moment c.loop-made.self.moment c.choose.new.self.moment c.choose.ensures.moment c.loop-made.invariant.1
 
 pub returns-in-Some-2-clause-alike : goal.returns-in-Some-2-clause-alike
 returns-in-Some-2-clause-alike g c =
-    like-both c.args.self.now.world c.choose.new.self.world c.make.new.self.world
-    (like-same c.args.self.now.world c.loop-made.self.world c.choose.new.self.world c.choose.ensures.world c.loop-made.invariant.2) c.make.ensures.alike
+    like-both c.args.self.now.moment c.choose.new.self.moment c.make.new.self.moment
+    (like-same c.args.self.now.moment c.loop-made.self.moment c.choose.new.self.moment c.choose.ensures.moment c.loop-made.invariant.1) c.make.ensures.alike
 
 pub returns-in_err-violation-clause-alike : goal.returns-in_err-violation-clause-alike
 returns-in_err-violation-clause-alike g c =
-    like-both c.args.self.now.world c.choose.new.self.world c.make.new.self.world
-    (like-same c.args.self.now.world c.loop-made.self.world c.choose.new.self.world c.choose.ensures.world c.loop-made.invariant.2) c.make.ensures.alike
+    like-both c.args.self.now.moment c.choose.new.self.moment c.make.new.self.moment
+    (like-same c.args.self.now.moment c.loop-made.self.moment c.choose.new.self.moment c.choose.ensures.moment c.loop-made.invariant.1) c.make.ensures.alike
 
 pub returns-in-Some-choose-clause-alike : goal.returns-in-Some-choose-clause-alike
 returns-in-Some-choose-clause-alike g c =
-    like-same c.args.self.now.world c.loop-made.self.world c.choose-2.new.self.world c.choose-2.ensures.world c.loop-made.invariant.2
+    like-same c.args.self.now.moment c.loop-made.self.moment c.choose-2.new.self.moment c.choose-2.ensures.moment c.loop-made.invariant.1
 
 pub returns-in-None-clause-alike : goal.returns-in-None-clause-alike
 returns-in-None-clause-alike g c =
-    like-same c.args.self.now.world c.loop-made.self.world c.choose-2.new.self.world c.choose-2.ensures.world c.loop-made.invariant.2
+    like-same c.args.self.now.moment c.loop-made.self.moment c.choose-2.new.self.moment c.choose-2.ensures.moment c.loop-made.invariant.1

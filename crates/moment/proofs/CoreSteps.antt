@@ -6,11 +6,8 @@ use Rattle.base.specs.declared.step.Ask.{Ask}
 use Rattle.base.specs.declared.step.CoreAsk.{CoreAsk}
 use Rattle.machine.specs.Completions.{Completion}
 use Rattle.cores.specs.Cores.{Core, idle, issuing, finishing, with_core, is_free}
-use Rattle.trials.specs.Moments.{with_issued, with_finished}
-
--- what a core waits for
-abbrev pub outstanding : List Core → ℕ → Option Ask
-outstanding cores core = (get_or cores core idle).outstanding
+use Rattle.moment.specs.inner.Tracked.{outstanding}
+use Rattle.moment.specs.Moments.{with_issued, with_finished}
 
 pub with-length : (cores : List Core) (n : ℕ) (f : Core → Core) → length (with_core cores n f) ≡ length cores
 with-length cores n f = grind (arith, common_steps)

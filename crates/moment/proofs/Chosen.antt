@@ -1,6 +1,6 @@
--- What can be chosen: offers of free cores, and deliveries. What follows keeps the cores tracked.
-use Rattle.std.proofs.Common.{◌≡◌, ◌<◌, ◌+◌, ℕ, zero, suc, List, [], ◌∷◌, ◌++◌, length, map, Some, Bool, true, false, ◌&&◌, not, slice_get, refl, sym}
-use Rattle.std.proofs.Common.{ap, ◌∙◌, subst, arith, add-one}
+-- What can be chosen: offers of free cores, and deliveries.
+use Rattle.std.proofs.Common.{◌≡◌, ◌+◌, ℕ, zero, suc, List, [], ◌∷◌, ◌++◌, map, Some, Bool, true, false, ◌&&◌, not, slice_get, refl, sym}
+use Rattle.std.proofs.Common.{◌∙◌, subst}
 use Rattle.std.specs.Prelude.{if◌then◌else◌}
 use Rattle.base.specs.declared.ids.BlockId.{BlockId}
 use Rattle.base.specs.declared.step.CoreAsk.{CoreAsk}
@@ -23,12 +23,9 @@ use Rattle.scenario.specs.Taking.{offers}
 use Rattle.schedule.specs.Choices.{can_be_put, choices_of, chosen_step, offers_from, step_of}
 use Rattle.schedule.specs.declared.choosing.Choice.{Choice}
 use Rattle.schedule.specs.declared.choosing.Choice.TheVariants.{Offer, Deliver}
-use Rattle.trials.specs.Terms.{Terms}
-use Rattle.trials.specs.Moments.{Moment, IsNext, IsPath, first_moment}
-use Rattle.record.specs.declared.recording.Entry.{Entry}
-use Rattle.trials.proofs.Places.{same-some, get-low, there-is}
-use Rattle.trials.proofs.Tracking.{IsTracked, PutsWhereFree, tracked-first, tracked-next, put-by-core}
-use Rattle.trials.proofs.Effects.{delivery-puts-none}
+use Rattle.moment.proofs.Places.{same-some}
+use Rattle.moment.proofs.Tracking.{PutsWhereFree, put-by-core}
+use Rattle.moment.proofs.Effects.{delivery-puts-none}
 
 -- each of these is a delivery
 abbrev AllDeliver : List Step → Type 0
@@ -152,28 +149,3 @@ pub fair-puts : (tables : Tables) (state : State) (cores : List Core) (c : Choic
 fair-puts tables state cores (Offer i ask) fair a is =
     subst (λ x. is_free cores x.0 ≡ true) (sym (put-by-core tables state ask a is)) (put-free tables state cores ask fair)
 fair-puts tables state cores (Deliver s) fair a is = let e = sym is ∙ delivery-puts-none s (next tables state s).outcome fair in absurd (cc e)
-
-pub next-fair : (tables : Tables) (drawn : ℕ) (before behind : Moment) (entry : Entry) (is : IsNext tables drawn before entry behind) →
-    IsFair tables before.state before.cores is.choice
-next-fair tables drawn before behind entry is = choice-fair tables before.state before.cores before.rest _ is.choice is.taken
-
--- the next moment is tracked
-pub tracked-moment : (tables : Tables) (drawn : ℕ) (before behind : Moment) (entry : Entry) → IsNext tables drawn before entry behind →
-    IsTracked before.state before.cores → IsTracked behind.state behind.cores
-tracked-moment tables drawn before behind entry is tracked =
-    subst (λ (m : Moment). IsTracked m.state m.cores) (sym is.leads)
-    (tracked-next tables before.state (chosen_step is.choice) before.cores
-    (fair-puts tables before.state before.cores is.choice (next-fair tables drawn before behind entry is)) tracked)
-
--- every moment of a path is tracked
-pub path-tracked : (terms : Terms) (tree : Tree) (number : ℕ) (moments : List Moment) (entries : List Entry) →
-    IsPath terms tree number moments entries → (k : ℕ) (m : Moment) → slice_get moments k ≡ Some m → IsTracked m.state m.cores
-path-tracked terms tree number moments entries path zero m e =
-    subst (λ (x : Moment). IsTracked x.state x.cores) (same-some (first_moment terms tree) m (sym path.first ∙ e))
-    (tracked-first terms.shape.caches terms.shape.blocks terms.opening)
-path-tracked terms tree number moments entries path (suc k) m e =
-    let low : suc k < length moments = get-low moments m (suc k) e in
-    let before : (x : Moment) × (slice_get moments k ≡ Some x) = there-is moments k (omega (arith, low)) in
-    let entry : (x : Entry) × (slice_get entries k ≡ Some x) = there-is entries k (omega (arith, low, path.count)) in
-    tracked-moment terms.tables _ before.0 m entry.0 (path.each k before.0 m entry.0 before.1 (ap (slice_get moments) (add-one k) ∙ e) entry.1)
-    (path-tracked terms tree number moments entries path k before.0 before.1)

@@ -8,12 +8,13 @@ use Rattle.machine.specs.Completions.{Completion}
 use Rattle.cores.specs.Cores.{Core, issuing, is_free, with_core}
 use Rattle.schedule.specs.Choices.{chosen_step}
 use Rattle.schedule.specs.declared.choosing.Choice.{Choice}
-use Rattle.trials.specs.Moments.{put_by, with_issued}
-use Rattle.trials.specs.inner.Going.{AreBusy, AreFree, CanBeNoted}
-use Rattle.trials.proofs.CoreSteps.{waits-tells, with-here}
-use Rattle.trials.proofs.Effects.{Effect, effect}
-use Rattle.trials.proofs.Tracking.{IsTracked, PutsWhereFree, delivered-to-waiting}
-use Rattle.trials.proofs.Chosen.{IsFair, fair-puts}
+use Rattle.moment.specs.Moments.{put_by, with_issued}
+use Rattle.moment.specs.inner.Tracked.{IsTracked}
+use Rattle.moment.specs.inner.Noting.{AreBusy, AreFree, CanBeNoted}
+use Rattle.moment.proofs.CoreSteps.{waits-tells, with-here}
+use Rattle.moment.proofs.Effects.{Effect, effect}
+use Rattle.moment.proofs.Tracking.{PutsWhereFree, delivered-to-waiting}
+use Rattle.moment.proofs.Chosen.{IsFair, fair-puts}
 
 all-none : {X : Type 0} (P : X → Type 0) → All P []
 all-none P k x low = absurd (omega (arith, low))

@@ -2,8 +2,8 @@ use Rattle.std.proofs.Common.{◌≡◌, List, [], ◌∷◌, false, subst, arit
 use Rattle.base.specs.declared.step.Outcome.{Outcome}
 use Rattle.cores.specs.Cores.{Core, is_free}
 use Rattle.machine.specs.Completions.{Completion, completed_by}
-use Rattle.trials.specs.inner.Going.{AreBusy}
-use Rattle.trials.proofs.noting.finish.Goals as goal
+use Rattle.moment.specs.inner.Noting.{AreBusy}
+use Rattle.moment.proofs.noting.finish.Goals as goal
 
 busy : (c : Completion) (cores : List Core) → AreBusy (c ∷ []) cores → is_free cores c.cache.0 ≡ false
 busy c cores h = h 0 c (omega arith)

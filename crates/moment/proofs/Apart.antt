@@ -31,9 +31,9 @@ use Rattle.machine.specs.Transition.{carried_out, decision_of, outcome_of, trans
 use Rattle.blocks.specs.Looks.{cache_place, place_in}
 use Rattle.cores.specs.Cores.{Core, finishing, is_free, issuing, with_core}
 use Rattle.blocks.proofs.Going.{Goes, decision-goes}
-use Rattle.trials.specs.Moments.{cores_after, put_by, with_finished, with_issued}
-use Rattle.trials.proofs.CoreSteps.{with-other}
-use Rattle.trials.proofs.Effects.{none-done, none-put}
+use Rattle.moment.specs.Moments.{cores_after, put_by, with_finished, with_issued}
+use Rattle.moment.proofs.CoreSteps.{with-other}
+use Rattle.moment.proofs.Effects.{none-done, none-put}
 
 -- ---- cores that others issue for, or complete
 

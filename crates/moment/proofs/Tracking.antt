@@ -14,25 +14,14 @@ use Rattle.machine.specs.Completions.{Completion, completed_by}
 use Rattle.machine.specs.Unstuck.{IsDelivery}
 use Rattle.cores.specs.Cores.{Core, idle, issuing, finishing, with_core, is_free, Completes}
 use Rattle.schedule.specs.Choices.{step_of}
-use Rattle.trials.specs.Answering.{answered}
-use Rattle.trials.specs.Moments.{put_by, cores_after}
-use Rattle.trials.proofs.Places.{same-some, same-head}
-use Rattle.trials.proofs.Pending.{Same, Sets, pending_at}
-use Rattle.trials.proofs.Effects.{Effect, Puts, PutsDone, Settles, effect, delivery-puts-none}
-use Rattle.trials.proofs.CoreSteps.{outstanding, with-length, with-here, with-other, idle-free, free-told, waits-tells, after-none, after-put}
-use Rattle.trials.proofs.CoreSteps.{after-done, after-both}
-
--- what a core waits for is pending at one line of its cache, and nothing else is pending at its lines
-abbrev pub Waits : State → ℕ → Option Ask → Type 0
-Waits state cache None = (block : ℕ) (p : Option Ask) → pending_at state cache block ≡ Some p → p ≡ None
-Waits state cache (Some a) =
-    (at : ℕ) × (pending_at state cache at ≡ Some (Some a)) × Completes a × ((block : ℕ) (p : Option Ask) → block ≢ at →
-    pending_at state cache block ≡ Some p → p ≡ None)
-
--- so does each core, and there is a core for each line
-pub record IsTracked (state : State) (cores : List Core) : Type 0 where
-  pub waits : (cache : ℕ) → Waits state cache (outstanding cores cache)
-  pub few : (cache block : ℕ) (p : Option Ask) → pending_at state cache block ≡ Some p → cache < length cores
+use Rattle.moment.specs.inner.Tracked.{IsTracked, Waits, outstanding, pending_at}
+use Rattle.moment.specs.Moments.{answered}
+use Rattle.moment.specs.Moments.{put_by, cores_after}
+use Rattle.moment.proofs.Places.{same-some, same-head}
+use Rattle.moment.proofs.Pending.{Same, Sets}
+use Rattle.moment.proofs.Effects.{Effect, Puts, PutsDone, Settles, effect, delivery-puts-none}
+use Rattle.moment.proofs.CoreSteps.{with-length, with-here, with-other, idle-free, free-told, waits-tells, after-none, after-put}
+use Rattle.moment.proofs.CoreSteps.{after-done, after-both}
 
 -- ---- a world at first
 

@@ -7,8 +7,8 @@ use Rattle.machine.specs.Machine.{State}
 use Rattle.machine.specs.Made.{IsTold}
 use Rattle.cores.specs.Cores.{Core, is_free}
 use Rattle.schedule.specs.Lanes.{Follows}
-use Rattle.trials.specs.Moments.{cores_after}
-use Rattle.trials.proofs.Apart.{free-stays}
+use Rattle.moment.specs.Moments.{cores_after}
+use Rattle.moment.proofs.Apart.{free-stays}
 
 -- a step that was told, and whose outcome the cores have noted, leads from one moment to the next
 pub follows-noted : (tables : Tables) (step : Step) (made : Made) (before behind : State) (cores new : List Core) → IsTold tables before step made behind →

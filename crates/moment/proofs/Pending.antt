@@ -17,13 +17,9 @@ use Rattle.control.specs.declared.line.LineCompletion.TheVariants as done
 use Rattle.control.specs.LineEffect.{is_reader, is_modified, line_after, line_completes, taken_in, moved_on, after_ask, after_message, pending_completed}
 use Rattle.machine.specs.Block.{BlockState}
 use Rattle.machine.specs.Machine.{State}
-use Rattle.machine.specs.Coherence.{line_at}
 use Rattle.cores.specs.Cores.{Completes}
-use Rattle.trials.proofs.Places.{set-other, set-here}
-
--- what the line of a cache for a block waits for, if the line is there
-abbrev pub pending_at : State → ℕ → ℕ → Option (Option Ask)
-pending_at state cache block = option_map (λ line. line.pending) (line_at state cache block)
+use Rattle.moment.specs.inner.Tracked.{pending_at}
+use Rattle.moment.proofs.Places.{set-other, set-here}
 
 -- the lines wait for the same as before
 pub record Same (before behind : State) : Type 0 where

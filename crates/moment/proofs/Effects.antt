@@ -46,11 +46,12 @@ use Rattle.machine.specs.Completions as completions
 use Rattle.machine.specs.Completions.{completed_by}
 use Rattle.machine.specs.Unstuck.{IsDelivery}
 use Rattle.cores.specs.Cores.{Completes}
-use Rattle.trials.specs.Moments.{put_by}
-use Rattle.trials.specs.Answering.{answered}
+use Rattle.moment.specs.Moments.{put_by}
+use Rattle.moment.specs.Moments.{answered}
 use Rattle.schedule.specs.Choices.{step_of}
-use Rattle.trials.proofs.Pending.{Same, Sets, pending_at, settled_ask, settles-completes, AskDoes, ask-does, MessageDoes, forward-does, response-does}
-use Rattle.trials.proofs.Pending.{same-lines, one-line, sets-same}
+use Rattle.moment.specs.inner.Tracked.{pending_at}
+use Rattle.moment.proofs.Pending.{Same, Sets, settled_ask, settles-completes, AskDoes, ask-does, MessageDoes, forward-does, response-does}
+use Rattle.moment.proofs.Pending.{same-lines, one-line, sets-same}
 
 -- nothing is put, nothing completes, and the lines wait for the same
 pub record Stays (before : State) (s : Step) (made : Next) : Type 0 where

@@ -3,8 +3,8 @@
 ghost use Rattle.std.specs.Prelude.{◌≡◌, ◌∷◌, [], IfSome, MatchOption};
 ghost use Rattle.cores.specs.Cores.{Completes};
 ghost use Rattle.machine.specs.Completions.{completed_by};
-ghost use Rattle.trials.specs.inner.Going.{AreBusy, AreFree, CanBeNoted};
-ghost use Rattle.trials.specs.Moments as spec;
+ghost use Rattle.moment.specs.inner.Noting.{AreBusy, AreFree, CanBeNoted};
+ghost use Rattle.moment.specs.Moments as spec;
 
 use base::{Ask, CoreAsk, Outcome, Step};
 use cores::Cores;

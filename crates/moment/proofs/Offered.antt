@@ -12,7 +12,7 @@ use Rattle.scenario.specs.Taking.{offers}
 use Rattle.schedule.specs.Choices.{IsOffered, can_be_put, choices_of, offers_from}
 use Rattle.schedule.specs.declared.choosing.Choice.{Choice}
 use Rattle.schedule.specs.declared.choosing.Choice.TheVariants.{Offer, Deliver}
-use Rattle.trials.proofs.Places.{same-some}
+use Rattle.moment.proofs.Places.{same-some}
 
 -- an offer has a number below this
 abbrev IsBelow : ℕ → Choice → Type 0

@@ -1,0 +1,12 @@
+pub mod Places
+pub mod CoreSteps
+pub mod Pending
+pub mod Effects
+pub mod Apart
+pub mod Counted
+pub mod Tracking
+pub mod Chosen
+pub mod Offered
+pub mod Noted
+pub mod Holding
+pub mod Making

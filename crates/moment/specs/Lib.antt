@@ -1,0 +1,3 @@
+pub mod Moments
+pub mod Seen
+pub mod inner

@@ -1,0 +1,4 @@
+pub mod Code
+pub mod Holding
+pub mod Noting
+pub mod Tracked

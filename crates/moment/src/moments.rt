@@ -1,0 +1,152 @@
+//! The type of a moment.
+
+use crate::noting::note;
+use base::{NoMemory, Step};
+use cores::Cores;
+use machine::Made;
+use scenario::Scenario;
+use schedule::Lanes;
+use std::alloc::{Allocator, Global};
+use std::marker::Model;
+use world::World;
+
+/// A moment of a run: a world, its cores, and what is left of a scenario. One choice after another leads it on.
+///
+/// Where memory is refused it is spoilt: it has no choice, and is of use again once it is restarted.
+pub struct Moment<'s, A: Allocator, B: Allocator> {
+    world: World,
+    cores: Cores,
+    lanes: Lanes<'s, A, B>,
+    // Whether it isn't spoilt.
+    usable: bool,
+}
+
+impl<'s, A: Allocator, B: Allocator> Model for Moment<'s, A, B> {
+    ghost use Rattle.std.specs.Coded.{codes};
+    ghost use Rattle.moment.specs.Seen.{Seen};
+    ghost use Rattle.moment.specs.inner.Code.{tree_code};
+
+    ghost Value = { Seen };
+
+    ghost coded = { Prim.hlevel (codes, tree_code) };
+
+    ghost use Rattle.moment.specs.inner.Holding.{HoldsWhereUsable, seen};
+
+    ghost view = { seen };
+
+    ghost invariant = { HoldsWhereUsable };
+}
+
+impl<'s, A: Allocator, B: Allocator> Drop for Moment<'s, A, B> {
+    fn drop(self) {
+        // Whoever drops one has a call to prove, and not the drops of all its parts.
+        let Moment {
+            world: _,
+            cores: _,
+            lanes: _,
+            usable: _,
+        } = self;
+    }
+}
+
+impl<'s, A: Allocator, B: Allocator + Clone> Moment<'s, A, B> {
+    ghost use Rattle.std.specs.Prelude.{◌≡◌, ◌<◌, ◌↔◌, IfOk, OnErr, OnOk, None, true, length};
+    ghost use Rattle.machine.specs.Machine.{opened};
+    ghost use Rattle.scenario.specs.Tree.{plain};
+    ghost use Rattle.moment.specs.Moments.{opened_moment};
+    ghost use Rattle.moment.specs.Seen.{IsAt, IsLike, IsWorldOf, Makes, Rests, choices_in};
+
+    /// The moment at which a run of a scenario starts, in a world that has made no step.
+    pub fn open(
+        alloc: Global,
+        scenario: &'s Scenario<A>,
+        world: World,
+    ) -> Result<Moment<'s, A, B>, NoMemory>
+        requires { world.state ≡ opened world.shape world.opening }
+        ensures world { IfOk result (λ moment. IsWorldOf world moment) }
+        ensures at { IfOk result (λ moment. IsAt moment (opened_moment world.shape world.opening (plain scenario.entry.now))) }
+    {
+        let caches = world.shape().caches();
+        let cores = Cores::open(alloc, caches)?;
+        let lanes = Lanes::open(alloc, scenario, caches, &world, &cores)?;
+        Ok(Moment {
+            world,
+            cores,
+            lanes,
+            usable: true,
+        })
+    }
+
+    /// The same for another run, whatever moment it was before. Its memory is used again, so that the start costs what the runs
+    /// have touched, however many blocks there are.
+    pub fn restart(&mut self, alloc: Global, scenario: &'s Scenario<A>) -> Result<(), NoMemory>
+        ensures like { IsLike self.old self.new }
+        ensures ok { OnOk result (IsAt self.new (opened_moment self.old.shape self.old.opening (plain scenario.entry.now))) }
+        ensures err { OnErr result (self.new.now ≡ None) }
+    {
+        self.usable = false;
+        let caches = self.world.shape().caches();
+        self.world.restart();
+        self.cores.reset(caches)?;
+        self.lanes
+            .restart(alloc, scenario, caches, &self.world, &self.cores)?;
+        self.usable = true;
+        Ok(())
+    }
+
+    /// Makes the k-th choice, counted from 0, and answers its step and what that came to. What is made anew for the scenario is `alloc`'s.
+    #[inline(always)]
+    pub fn make(&mut self, alloc: B, k: u64) -> Result<(Step, Made), NoMemory>
+        requires { k < length (choices_in self.old) }
+        ensures like { IsLike self.old self.new }
+        ensures ok { IfOk result (λ made. Makes self.old k made.0 made.1 self.new) }
+        ensures err { OnErr result (self.new.now ≡ None) }
+    {
+        let Some(pick) = self.lanes.pick(&self.world, &self.cores, k) else {
+            unreachable!();
+        };
+        let step = pick.step();
+        let Ok(made) = self.world.make(step) else {
+            self.usable = false;
+            return Err(NoMemory);
+        };
+        note(&mut self.cores, step, made.outcome);
+        let (world, cores) = (&self.world, &self.cores);
+        let Ok(()) = self.lanes.follow(alloc, pick, &made, world, cores) else {
+            self.usable = false;
+            return Err(NoMemory);
+        };
+        Ok((step, made))
+    }
+}
+
+impl<'s, A: Allocator, B: Allocator> Moment<'s, A, B> {
+    ghost use Rattle.std.specs.Prelude.{◌≡◌, ◌↔◌, true, length};
+    ghost use Rattle.moment.specs.Seen.{IsWorldOf, Rests, choices_in};
+
+    /// How many choices there are.
+    #[inline(always)]
+    pub fn count(&self) -> u64
+        ensures { result ≡ length (choices_in self.now) }
+    {
+        if !self.usable {
+            return 0;
+        }
+        self.lanes.count(&self.world, &self.cores)
+    }
+
+    /// Whether nothing is left to do: nothing is offered, no message is on its way, and no core waits.
+    pub fn is_at_rest(&self) -> bool
+        ensures { (result ≡ true) ↔ Rests self.now }
+    {
+        self.usable && self.lanes.is_done() && self.world.empty() && self.cores.all_free()
+    }
+
+    /// The world.
+    #[inline(always)]
+    pub fn world(&self) -> &World
+        ensures { IsWorldOf result.now self.now }
+    {
+        &self.world
+    }
+}
