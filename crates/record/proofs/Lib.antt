@@ -12,6 +12,7 @@ pub mod Inverses
 pub mod Leading
 pub mod Legible
 pub mod Listed
+pub mod Makings
 pub mod Openings
 pub mod Outs
 pub mod Owners
