@@ -152,7 +152,8 @@ taken-more before left old new r s h taken off =
           (line-off left old.lines.line old.lines.ahead new.lines.line new.lines.ahead off.ahead off.line));
     }
 
-pub then-taken : {N : Type 0} (tells : N → Option RecordingView → Type 0) (before left : Option (List ℕ)) (old new : Reader N) (h : IsReading tells before left old) →
+pub then-taken : {N : Type 0} (tells : N → Option RecordingView → Type 0) (before left : Option (List ℕ)) (old new : Reader N)
+    (h : IsReading tells before left old) →
     HasTakenLine tells old.due h.recording (words old.lines.line) new.due new.draft new.entries → IsTakenOff old.lines new.lines →
     IsReading tells before left new
 then-taken tells before left old new h line off = record {

@@ -9,56 +9,68 @@ use Rattle.record.proofs.draft.Draft.accept.Goals as goal
 
 pub accept_header-requires : goal.accept_header-requires
 accept_header-requires g c =
-    record { read = read-in_front g.N.Entries.tells c.args.due Header c.args.self.now c.args.entries.now c.requires.read.0 c.in-Header.is tt c.requires.read.1 }
+    let at = Header in
+    record { read = read-in_front g.N.Entries.tells c.args.due at c.args.self.now c.args.entries.now c.requires.read.0 c.in-Header.is tt c.requires.read.1 }
 
 pub returns-in-Header-clause-ok : goal.returns-in-Header-clause-ok
 returns-in-Header-clause-ok g c r =
-    taken-in_front g.N.Entries.tells c.args.due Header c.args.self.now c.accept_header.new.self c.args.entries.now r (words c.args.line.now) _ c.in-Header.is tt
+    let at = Header in
+    taken-in_front g.N.Entries.tells c.args.due at c.args.self.now c.accept_header.new.self c.args.entries.now r (words c.args.line.now) _ c.in-Header.is tt
     c.accept_header.ensures.ok
 
 pub accept_protocol-requires : goal.accept_protocol-requires
 accept_protocol-requires g c =
-    record { read = read-in_front g.N.Entries.tells c.args.due ProtocolLine c.args.self.now c.args.entries.now c.requires.read.0 c.in-ProtocolLine.is tt c.requires.read.1 }
+    let at = ProtocolLine in
+    record { read = read-in_front g.N.Entries.tells c.args.due at c.args.self.now c.args.entries.now c.requires.read.0 c.in-ProtocolLine.is tt c.requires.read.1 }
 
 pub returns-in-ProtocolLine-clause-ok : goal.returns-in-ProtocolLine-clause-ok
 returns-in-ProtocolLine-clause-ok g c r =
-    taken-in_front g.N.Entries.tells c.args.due ProtocolLine c.args.self.now c.accept_protocol.new.self c.args.entries.now r (words c.args.line.now) _ c.in-ProtocolLine.is tt
+    let at = ProtocolLine in
+    taken-in_front g.N.Entries.tells c.args.due at c.args.self.now c.accept_protocol.new.self c.args.entries.now r (words c.args.line.now) _ c.in-ProtocolLine.is tt
     c.accept_protocol.ensures.ok
 
 pub accept_shape-requires : goal.accept_shape-requires
 accept_shape-requires g c =
-    record { read = read-in_front g.N.Entries.tells c.args.due (ShapeLine c.in-ShapeLine.form) c.args.self.now c.args.entries.now c.requires.read.0 c.in-ShapeLine.is tt c.requires.read.1 }
+    let at = ShapeLine c.in-ShapeLine.form in
+    record { read = read-in_front g.N.Entries.tells c.args.due at c.args.self.now c.args.entries.now c.requires.read.0 c.in-ShapeLine.is tt c.requires.read.1 }
 
 pub returns-in-ShapeLine-clause-ok : goal.returns-in-ShapeLine-clause-ok
 returns-in-ShapeLine-clause-ok g c r =
-    taken-in_front g.N.Entries.tells c.args.due (ShapeLine c.in-ShapeLine.form) c.args.self.now c.accept_shape.new.self c.args.entries.now r (words c.args.line.now) _ c.in-ShapeLine.is tt
+    let at = ShapeLine c.in-ShapeLine.form in
+    taken-in_front g.N.Entries.tells c.args.due at c.args.self.now c.accept_shape.new.self c.args.entries.now r (words c.args.line.now) _ c.in-ShapeLine.is tt
     c.accept_shape.ensures.ok
 
 pub accept_seats-requires : goal.accept_seats-requires
 accept_seats-requires g c =
-    record { read = read-in_front g.N.Entries.tells c.args.due (SeatsLine c.in-SeatsLine.form c.in-SeatsLine.shape) c.args.self.now c.args.entries.now c.requires.read.0 c.in-SeatsLine.is tt c.requires.read.1 }
+    let at = SeatsLine c.in-SeatsLine.form c.in-SeatsLine.shape in
+    record { read = read-in_front g.N.Entries.tells c.args.due at c.args.self.now c.args.entries.now c.requires.read.0 c.in-SeatsLine.is tt c.requires.read.1 }
 
 pub returns-in-SeatsLine-clause-ok : goal.returns-in-SeatsLine-clause-ok
 returns-in-SeatsLine-clause-ok g c r =
-    taken-in_front g.N.Entries.tells c.args.due (SeatsLine c.in-SeatsLine.form c.in-SeatsLine.shape) c.args.self.now c.accept_seats.new.self c.args.entries.now r (words c.args.line.now) _ c.in-SeatsLine.is tt
+    let at = SeatsLine c.in-SeatsLine.form c.in-SeatsLine.shape in
+    taken-in_front g.N.Entries.tells c.args.due at c.args.self.now c.accept_seats.new.self c.args.entries.now r (words c.args.line.now) _ c.in-SeatsLine.is tt
     c.accept_seats.ensures.ok
 
 pub accept_opening-requires-clause-read : goal.accept_opening-requires-clause-read
 accept_opening-requires-clause-read g c =
-    read-in_front g.N.Entries.tells c.args.due (OpeningLine c.in-OpeningLine.form c.in-OpeningLine.shape) c.args.self.now c.args.entries.now c.requires.read.0 c.in-OpeningLine.is tt c.requires.read.1
+    let at = OpeningLine c.in-OpeningLine.form c.in-OpeningLine.shape in
+    read-in_front g.N.Entries.tells c.args.due at c.args.self.now c.args.entries.now c.requires.read.0 c.in-OpeningLine.is tt c.requires.read.1
 
 pub returns-in-OpeningLine-clause-ok : goal.returns-in-OpeningLine-clause-ok
 returns-in-OpeningLine-clause-ok g c r =
-    taken-in_front g.N.Entries.tells c.args.due (OpeningLine c.in-OpeningLine.form c.in-OpeningLine.shape) c.args.self.now c.accept_opening.new.self c.args.entries.now r (words c.args.line.now) _ c.in-OpeningLine.is tt
+    let at = OpeningLine c.in-OpeningLine.form c.in-OpeningLine.shape in
+    taken-in_front g.N.Entries.tells c.args.due at c.args.self.now c.accept_opening.new.self c.args.entries.now r (words c.args.line.now) _ c.in-OpeningLine.is tt
     c.accept_opening.ensures.ok
 
 pub accept_cell-requires : goal.accept_cell-requires
 accept_cell-requires g c =
-    record { read = read-in_front g.N.Entries.tells c.args.due (CellLine c.in-CellLine.form c.in-CellLine.left c.in-CellLine.from) c.args.self.now c.args.entries.now c.requires.read.0 c.in-CellLine.is tt c.requires.read.1 }
+    let at = CellLine c.in-CellLine.form c.in-CellLine.left c.in-CellLine.from in
+    record { read = read-in_front g.N.Entries.tells c.args.due at c.args.self.now c.args.entries.now c.requires.read.0 c.in-CellLine.is tt c.requires.read.1 }
 
 pub returns-in-CellLine-clause-ok : goal.returns-in-CellLine-clause-ok
 returns-in-CellLine-clause-ok g c r =
-    taken-in_front g.N.Entries.tells c.args.due (CellLine c.in-CellLine.form c.in-CellLine.left c.in-CellLine.from) c.args.self.now c.accept_cell.new.self c.args.entries.now r (words c.args.line.now) _ c.in-CellLine.is tt
+    let at = CellLine c.in-CellLine.form c.in-CellLine.left c.in-CellLine.from in
+    taken-in_front g.N.Entries.tells c.args.due at c.args.self.now c.accept_cell.new.self c.args.entries.now r (words c.args.line.now) _ c.in-CellLine.is tt
     c.accept_cell.ensures.ok
 
 pub returns-in-CellCount-clause-ok : goal.returns-in-CellCount-clause-ok

@@ -33,16 +33,18 @@ returns-in_err-pull-clause-pulled g c =
 
 pub returns-in_err-gather-clause-pulled : goal.returns-in_err-gather-clause-pulled
 returns-in_err-gather-clause-pulled g c =
-    pulled-gathered g.N.Entries.tells _ _ c.args.self.now c.loop-self.self _ c.loop-self.invariant.pulled c.gather.ensures.kept c.gather.ensures.number refl refl (λ r t. t)
+    pulled-gathered g.N.Entries.tells _ _ c.args.self.now c.loop-self.self _ c.loop-self.invariant.pulled c.gather.ensures.kept
+    c.gather.ensures.number refl refl (λ r t. t)
 
 pub returns-in_err-reserve-clause-pulled : goal.returns-in_err-reserve-clause-pulled
 returns-in_err-reserve-clause-pulled g c =
-    pulled-gathered g.N.Entries.tells _ _ c.args.self.now c.loop-self.self _ c.loop-self.invariant.pulled c.gather.ensures.kept c.gather.ensures.number refl refl
-    c.reserve.ensures.told
+    pulled-gathered g.N.Entries.tells _ _ c.args.self.now c.loop-self.self _ c.loop-self.invariant.pulled c.gather.ensures.kept
+    c.gather.ensures.number refl refl c.reserve.ensures.told
 
 pub returns-clause-pulled : goal.returns-clause-pulled
 returns-clause-pulled g c =
-    pulled-gathered g.N.Entries.tells _ _ c.args.self.now c.loop-self.self _ c.loop-self.invariant.pulled c.gather.ensures.kept c.gather.ensures.number refl refl (λ r t. t)
+    pulled-gathered g.N.Entries.tells _ _ c.args.self.now c.loop-self.self _ c.loop-self.invariant.pulled c.gather.ensures.kept
+    c.gather.ensures.number refl refl (λ r t. t)
 
 pub returns-then-not-branch-2-clause-err : goal.returns-then-not-branch-2-clause-err
 returns-then-not-branch-2-clause-err g c =

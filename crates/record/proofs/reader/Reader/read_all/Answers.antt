@@ -72,7 +72,8 @@ returns-clause-fault g c =
     let done : new.due ≡ Nothing = c.end.ensures.pulled.due ∙ at in
     let taken = then-gathered g.N.Entries.tells _ _ left c.loop-self.self new c.loop-self.invariant.reading c.end.ensures.pulled in
     IfErr-weaker c.end.result _ _
-    (λ kind fault. then-refused g.N.Entries.tells _ left new kind taken (subst (λ d. IsFaultOfRest d (pending new.lines) left kind) (sym done) fault)) c.end.ensures.err
+    (λ kind fault. then-refused g.N.Entries.tells _ left new kind taken
+    (subst (λ d. IsFaultOfRest d (pending new.lines) left kind) (sym done) fault)) c.end.ensures.err
 
 pub loop-self-init : goal.loop-self-init
 loop-self-init g c = grind (arith, common_steps)
