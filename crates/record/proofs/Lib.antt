@@ -26,5 +26,6 @@ pub mod Standing
 pub mod Steps
 pub mod Streams
 pub mod Tabled
+pub mod Telling
 pub mod Whole
 pub mod Words

@@ -2,7 +2,8 @@ use Rattle.std.proofs.Common.{◌++◌, ◌∷◌, [], refl}
 use Rattle.base.specs.Spelling.{words}
 use Rattle.record.specs.View.{owner_list}
 use Rattle.record.specs.inner.Drafts.{recorded}
-use Rattle.record.proofs.Drafting.{added-room, entry-taken, same-room}
+use Rattle.record.proofs.Drafting.{entry-taken}
+use Rattle.record.proofs.Telling.{added-room, same-room}
 use Rattle.record.proofs.Exits.{handed-on}
 use Rattle.record.proofs.Splitting.{told-fault}
 use Rattle.record.proofs.draft.accept_entry.Goals as goal

@@ -3,7 +3,7 @@ use Rattle.record.specs.View.{steps_of}
 use Rattle.record.specs.declared.making.MadeEntries.{MadeEntries}
 use Rattle.record.specs.inner.Drafts.{recorded}
 use Rattle.record.specs.inner.Making.{has_made}
-use Rattle.record.proofs.Drafting.{read-recordable, read-versioned}
+use Rattle.record.proofs.Telling.{read-recordable, read-versioned}
 use Rattle.record.proofs.text_replaying.replay_text.Goals as goal
 
 pub first_violation-requires : goal.first_violation-requires

@@ -4,7 +4,8 @@ use Rattle.std.proofs.lemmas.Result.{IfOk-weaker}
 use Rattle.base.specs.Spelling.{words}
 use Rattle.record.specs.declared.due.Due.TheVariants.{Header, ProtocolLine, ShapeLine, SeatsLine, OpeningLine, CellCount, CellLine, EntryCount}
 use Rattle.record.specs.inner.Drafts.{kept}
-use Rattle.record.proofs.Drafting.{at-cell_count, none-yet, read-in_front, same-or-less, same-room, taken-end, taken-entry, taken-entry_count, taken-in_front}
+use Rattle.record.proofs.Drafting.{at-cell_count}
+use Rattle.record.proofs.Telling.{none-yet, read-in_front, same-or-less, same-room, taken-end, taken-entry, taken-entry_count, taken-in_front}
 use Rattle.record.proofs.draft.Draft.accept.Goals as goal
 
 pub accept_header-requires : goal.accept_header-requires

@@ -1,5 +1,5 @@
 use Rattle.std.proofs.Common.{ap, length, arith}
-use Rattle.record.proofs.Drafting.{ready-taken}
+use Rattle.record.proofs.Telling.{ready-taken}
 use Rattle.record.proofs.reader.Reader.accept.Goals as goal
 
 pub returns-clause-ready : goal.returns-clause-ready

@@ -4,7 +4,7 @@ use Rattle.record.specs.declared.due.Due.TheVariants.{Nothing}
 use Rattle.record.specs.declared.fault.ReadKind.TheVariants.{Device, NoMemory}
 use Rattle.record.specs.Refused.{limit, IsUnfinished}
 use Rattle.record.specs.inner.Reading.{pending}
-use Rattle.record.proofs.Drafting.{ready-gathered}
+use Rattle.record.proofs.Telling.{ready-gathered}
 use Rattle.record.proofs.Exits.{handed-on}
 use Rattle.record.proofs.Steps.{none-if, none-pulled, not-whole, some-if, pulled-gathered, pulled-more, then-longer, unfinished}
 use Rattle.record.proofs.reader.Reader.gather.Goals as goal

@@ -4,7 +4,7 @@ use Rattle.record.specs.View.{RecordingView}
 use Rattle.record.specs.Recordable.{IsRecordable}
 use Rattle.record.specs.Text.{text}
 use Rattle.record.specs.Versions.{HasTextIn}
-use Rattle.record.proofs.Drafting.{read-recordable, read-versioned}
+use Rattle.record.proofs.Telling.{read-recordable, read-versioned}
 use Rattle.record.proofs.Inverses.{read-back, refused-outside}
 use Rattle.record.proofs.recording.Recording.read.Goals as goal
 
