@@ -3,34 +3,36 @@ use crate::finding::Finding;
 use crate::format::Format;
 use crate::printing::Printer;
 use base::FromRead;
-use monitor::Violation;
-use record::{Recording, ReplayFault, first_violation};
+use record::{ReplayFault, TextFault, TextReplayed, replay_text};
 use std::alloc::Global;
 use std::io::{Read, Write};
 use story::ViolationObject;
 
-/// Reads a recording from the input, makes its steps again, and prints whether they had the outcomes that it tells, and
-/// the first violation.
+/// Reads a recording from the input and makes its steps again meanwhile, and prints whether they had the outcomes that it
+/// tells, and the first violation.
 pub fn replay<I: Read + Drop, O: Write + Drop>(
     alloc: Global,
     format: Format,
     input: I,
     output: O,
 ) -> Result<Finding, Fault> {
-    let recording = Recording::read(alloc, &mut FromRead::new(input))?;
-    print_replayed(alloc, format, &recording, output)
+    let found = match replay_text(alloc, &mut FromRead::new(input)) {
+        Ok(replayed) => Ok(replayed),
+        Err(TextFault::Replay(fault)) => Err(fault),
+        Err(TextFault::Read(fault)) => return Err(Fault::from(fault)),
+    };
+    print_replayed(alloc, format, found, output)
 }
 
 fn print_replayed<O: Write + Drop>(
     alloc: Global,
     format: Format,
-    recording: &Recording,
+    found: Result<TextReplayed, ReplayFault>,
     output: O,
 ) -> Result<Finding, Fault> {
-    let found = first_violation(alloc, recording);
     let mut printer = Printer::new(alloc, output)?;
     let finding = match found {
-        Ok(violation) => print_same(recording.entries().len(), violation, format, &mut printer),
+        Ok(replayed) => print_same(replayed, format, &mut printer),
         Err(ReplayFault::Differs { entry, told, found }) => {
             match format {
                 Format::Plain => {
@@ -48,11 +50,11 @@ fn print_replayed<O: Write + Drop>(
 }
 
 fn print_same<O: Write + Drop>(
-    entries: usize,
-    violation: Option<(u64, Violation)>,
+    replayed: TextReplayed,
     format: Format,
     printer: &mut Printer<O>,
 ) -> Finding {
+    let TextReplayed { entries, violation } = replayed;
     match format {
         Format::Plain => printer.line(format_args!("same {entries}")),
         Format::Json => {

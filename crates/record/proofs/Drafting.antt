@@ -1,6 +1,7 @@
 -- A recording that is read grows line by line.
 use Rattle.std.proofs.Common.{◌≡◌, ◌≢◌, ◌≤◌, ◌+◌, ◌-◌, ℕ, zero, suc, List, [], ◌∷◌, ◌++◌, length, map, refl, ap, sym, subst, ◌∙◌, arith}
 use Rattle.std.proofs.Common.{append_assoc}
+use Rattle.std.proofs.lemmas.Grind.{common_steps}
 use Rattle.std.specs.List.{All}
 use Rattle.std.proofs.lemmas.List.{length_push, map-append}
 use Rattle.std.proofs.lemmas.List.Elements.{All-push}
@@ -10,29 +11,24 @@ use Rattle.record.specs.declared.due.Form.{Form}
 use Rattle.record.specs.declared.told.Told.{Told}
 use Rattle.record.specs.declared.version.Version.{Version}
 use Rattle.record.specs.declared.version.Version.TheVariants.{One, Two}
-use Rattle.record.specs.Refused.{limit}
 use Rattle.record.specs.Versions.{form, shape_leads_in, protocol_lines, protocol_words, seats_lines, CanTell, IsShapeIn}
 use Rattle.record.proofs.Owners.{more-owners, told-more}
 use Rattle.both_tables.specs.Tables.{Tables, baseline_of}
 use Rattle.record.specs.declared.cells.Spot.{Spot}
 use Rattle.record.specs.declared.cells.Cell.{Cell}
-use Rattle.record.specs.declared.draft.Draft.{Draft}
 use Rattle.record.specs.declared.due.Due.{Due}
-use Rattle.record.specs.declared.due.Due.TheVariants.{ProtocolLine, ShapeLine, SeatsLine, OpeningLine, CellCount, CellLine, EntryCount, EntryLine, Nothing}
-use Rattle.record.specs.declared.reader.Reader.{Reader}
+use Rattle.record.specs.declared.due.Due.TheVariants.{ProtocolLine, ShapeLine, SeatsLine, OpeningLine, CellCount, CellLine, EntryCount, EntryLine}
+use Rattle.record.specs.declared.due.Due.TheVariants.{EndLine}
 use Rattle.record.specs.declared.recording.Entry.{Entry}
 use Rattle.record.specs.Cells.{cell_at, cell_words, spot_of, spot_number}
 use Rattle.record.specs.Grammar.{cells_due, entries_due, AreValues, FitsEntry, FitsTold, IsListed, IsOwner, Leads}
 use Rattle.record.specs.View.{owner_list, AreOwners}
 use Rattle.record.specs.Recordable.{AreWhole}
 use Rattle.record.specs.Text.{head_lines, header_words, shape_words, changed_cells, cells_words, entries_words, told, told_words}
-use Rattle.record.specs.inner.Drafts.{kept, recorded, Kept, lines_to_cells, lines_to_entries, lines_before, lines_left, IsBaselineFrom, IsHeadedAs, IsReadTo, IsTaken}
-use Rattle.record.specs.inner.Drafts.{HasRoom}
-use Rattle.record.specs.inner.Readers.{IsReady}
-use Rattle.record.specs.inner.Reading.{IsTakenOff}
+use Rattle.record.specs.inner.Drafts.{recorded, with_told, Kept, lines_to_cells, lines_to_entries, lines_before, IsBaselineFrom}
+use Rattle.record.specs.inner.Drafts.{IsHeadedAs, IsReadTo, IsTaken}
 use Rattle.record.proofs.Listed.{at-own, listed-all, listed-more, plain-more}
 use Rattle.record.proofs.Standing.{baseline-whole}
-use Rattle.record.proofs.Steps.{fewer-left}
 
 -- ---- what is due behind a count, and behind one of so many
 
@@ -83,7 +79,7 @@ baseline-changed p = sym (listed-all (baseline_of p) 0 (omega arith) (λ s high.
 
 -- ---- lines that leave the recording as it is
 
-at-cell_count : (f : Form) (r : Kept) (line : List (List ℕ)) (next : Due) → IsReadTo (CellCount f) r → Leads (CellCount f) line next →
+pub at-cell_count : (f : Form) (r : Kept) (line : List (List ℕ)) (next : Due) → IsReadTo (CellCount f) r → Leads (CellCount f) line next →
     IsTaken (CellCount f) r line next r
 at-cell_count f r line next h leads =
     let none : changed_cells r.tables ≡ [] = ap changed_cells h.cells ∙ baseline-changed r.tables.protocol in
@@ -100,7 +96,7 @@ at-cell_count f r line next h leads =
           (cells-read f leads.0 0 r h.shape h.tables h.opening h.entries (omega arith) plain h.fits h.owners h.head);
     }
 
-at-entry_count : (f : Form) (r : Kept) (line : List (List ℕ)) (next : Due) → IsReadTo (EntryCount f) r → Leads (EntryCount f) line next →
+pub at-entry_count : (f : Form) (r : Kept) (line : List (List ℕ)) (next : Due) → IsReadTo (EntryCount f) r → Leads (EntryCount f) line next →
     IsTaken (EntryCount f) r line next r
 at-entry_count f r line next h leads =
     let n : length r.entries + leads.0 ≡ leads.0 = omega (arith, ap length h.entries) in
@@ -116,15 +112,12 @@ at-entry_count f r line next h leads =
           (entries-read f leads.0 r h.shape h.tables h.opening (omega (arith, n, leads.1)) h.fits h.owners h.head);
     }
 
-pub cell_count-taken : (due : Due) (f : Form) (r : Kept) (line : List (List ℕ)) (next : Due) → due ≡ CellCount f → IsReadTo due r →
-    Leads (CellCount f) line next → IsTaken due r line next r
-cell_count-taken due f r line next is h leads =
-    subst (λ d. IsTaken d r line next r) (sym is) (at-cell_count f r line next (subst (λ d. IsReadTo d r) is h) leads)
+-- ---- the last line
 
-pub entry_count-taken : (due : Due) (f : Form) (r : Kept) (line : List (List ℕ)) (next : Due) → due ≡ EntryCount f → IsReadTo due r →
-    Leads (EntryCount f) line next → IsTaken due r line next r
-entry_count-taken due f r line next is h leads =
-    subst (λ d. IsTaken d r line next r) (sym is) (at-entry_count f r line next (subst (λ d. IsReadTo d r) is h) leads)
+pub end-taken : (f : Form) (r : Kept) (line : List (List ℕ)) (next : Due) → IsReadTo (EndLine f) r → Leads (EndLine f) line next →
+    IsTaken (EndLine f) r line next r
+end-taken f r line next h leads =
+    subst (λ d. IsTaken (EndLine f) r line d r) (sym leads.1) (grind (arith, common_steps, h, leads))
 
 -- ---- one cell or one entry more
 
@@ -176,18 +169,6 @@ cell-taken f r tables left from cell line next h listed spelled whole p here oth
           (cells-read f (left - 1) behind s h.shape whole h.opening h.entries low plain h.fits h.owners
           ((h.head.0.0, h.head.0.1 ∙ sym p, h.head.0.2, subst (λ q. CanTell r.version q r.seats) (sym p) h.head.0.3), h.head.1));
     }
-
--- a recording with these entries, and these owners
-abbrev pub with_told : Kept → List Entry → List ℕ → Kept
-with_told r entries owners = record {
-  version = r.version;
-  seats = r.seats;
-  shape = r.shape;
-  tables = r.tables;
-  opening = r.opening;
-  entries = entries;
-  owners = owners;
-}
 
 entry-more : (f : Form) (r : Kept) (left : ℕ) (t : Told) (line : List (List ℕ)) (next : Due) → IsReadTo (EntryLine f left) r → FitsTold f.seats t →
     line ≡ told_words t → next ≡ entries_due f (left - 1) →
@@ -302,31 +283,3 @@ shape-taken f r line shape next h within spelled due =
             head = (h.head, second, here);
           };
         })
-
--- ---- what a reader keeps
-
-pub less-room : (draft : Draft) (m n : ℕ) → n ≤ m → HasRoom draft m → HasRoom draft n
-less-room draft m n less h =
-    record { opening = h.opening; entries = omega (arith, less, h.entries); owners = omega (arith, less, h.owners) }
-
--- bytes that were pulled
-pub ready-gathered : (old new : Reader) → IsReady old → old.due ≢ Nothing → new.due ≡ old.due → kept new.draft ≡ kept old.draft →
-    new.lines.number ≡ old.lines.number → HasRoom new.draft (length new.lines.ahead) → length new.lines.line ≤ limit old.due → IsReady new
-ready-gathered old new h more due same number room short = record {
-  read = subst (λ d. IsReadTo d (kept new.draft)) (sym due) (subst (IsReadTo old.due) (sym same) h.read);
-  room = room;
-  few = omega (arith, h.few, number, ap lines_left due);
-  line = λ none. absurd (more (sym due ∙ none));
-  short = omega (arith, short, ap limit due);
-}
-
--- one line more
-pub ready-taken : (old new : Reader) (line : List (List ℕ)) → IsReady old → IsTaken old.due (kept old.draft) line new.due (kept new.draft) →
-    ((n : ℕ) → HasRoom old.draft (n + 1) → HasRoom new.draft n) → IsTakenOff old.lines new.lines → IsReady new
-ready-taken old new line h taken room off = record {
-  read = taken.read;
-  room = room (length new.lines.ahead) (less-room old.draft (length old.lines.ahead) (length new.lines.ahead + 1) (omega (arith, ap length off.ahead)) h.room);
-  few = omega (arith, h.few, off.number, fewer-left old.due line new.due taken.leads);
-  line = λ done. off.line;
-  short = omega (arith, ap length off.line);
-}

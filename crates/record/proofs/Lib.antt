@@ -12,6 +12,7 @@ pub mod Inverses
 pub mod Leading
 pub mod Legible
 pub mod Listed
+pub mod Makings
 pub mod Openings
 pub mod Outs
 pub mod Owners
@@ -25,5 +26,6 @@ pub mod Standing
 pub mod Steps
 pub mod Streams
 pub mod Tabled
+pub mod Telling
 pub mod Whole
 pub mod Words

@@ -68,7 +68,7 @@ state-push : (tables : Tables) (s : State) (xs : List Step) (step : Step) →
 state-push tables s [] step = refl
 state-push tables s (x ∷ xs) step = state-push tables (next tables s x).state xs step
 
-outcomes-push : (tables : Tables) (s : State) (xs : List Step) (step : Step) →
+pub outcomes-push : (tables : Tables) (s : State) (xs : List Step) (step : Step) →
     outcomes_of tables s (xs ++ step ∷ []) ≡ outcomes_of tables s xs ++ (next tables (state_after tables s xs) step).outcome ∷ []
 outcomes-push tables s [] step = refl
 outcomes-push tables s (x ∷ xs) step = ap (λ os. (next tables s x).outcome ∷ os) (outcomes-push tables (next tables s x).state xs step)

@@ -1,5 +1,5 @@
 -- Lines of a step, an equals sign and what follows.
-use Rattle.std.proofs.Common.{◌≡◌, ◌≢◌, ◌<◌, ◌-◌, ℕ, List, [], ◌∷◌, ◌++◌, eqb, None, length, refl, ap, sym, ◌∙◌, arith, codes}
+use Rattle.std.proofs.Common.{◌≡◌, ◌≢◌, ◌<◌, ℕ, List, [], ◌∷◌, ◌++◌, eqb, None, length, refl, ap, sym, ◌∙◌, arith, codes}
 use Rattle.std.proofs.lemmas.List.Splits.{length-slice_split}
 use Rattle.base.specs.Spelling.{words, spaced, step_words, outcome_words, FitsStep, IsNoOutcome}
 use Rattle.base.specs.declared.step.Step.{Step}

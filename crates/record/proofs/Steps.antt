@@ -20,9 +20,11 @@ use Rattle.record.specs.declared.reader.Reader.{Reader}
 use Rattle.record.specs.Cells.{spot_number, spot_of}
 use Rattle.record.specs.Grammar.{cells_due, entries_due, Leads, Follow}
 use Rattle.record.specs.Refused.{ended, limit, BeginsFaulty, HasNoEnd, IsFaultOfLine, IsUnfinished, IsFaultOfRest, IsRefused, IsWellFormed}
-use Rattle.record.specs.Text.{line, text}
-use Rattle.record.specs.inner.Drafts.{kept, recorded, lines_before, lines_left, IsTaken}
-use Rattle.record.specs.inner.Readers.{HasPulled, HasTaken}
+use Rattle.record.specs.Text.{line}
+use Rattle.record.specs.View.{RecordingView}
+use Rattle.record.specs.declared.draft.Draft.{Draft}
+use Rattle.record.specs.inner.Drafts.{kept, told_at, with_told, lines_before, lines_left, HasRead, HasTakenLine, IsReadTo, IsTaken, Kept}
+use Rattle.record.specs.inner.Readers.{HasPulled, HasTaken, IsReading, IsReadWhole}
 use Rattle.record.specs.inner.Reading.{Gathered, AreSomeIf, IsTakenOff, IsWholeIf, pending, stream}
 use Rattle.record.proofs.Streams.{let-go, line-off, none-held, pulled}
 use Rattle.record.proofs.Spots.{few-most}
@@ -63,26 +65,31 @@ then-pulled before left more old mid new first kept none line bytes =
     (subst (λ l. Consumes (prepend_known l left) (prepend_known (mid.line ++ new.ahead) more) []) kept
     (pulled left more mid.line mid.ahead new.ahead none bytes)))
 
-pub none-pulled : (left : Option (List ℕ)) (reader : Reader) → HasPulled left left reader reader
-none-pulled left reader = record { stream = Consumes-nil (stream reader.lines left); number = refl; due = refl; kept = refl }
+pub none-pulled : {N : Type 0} (tells : N → Option RecordingView → Type 0) (left : Option (List ℕ)) (reader : Reader N) →
+    HasPulled tells left left reader reader
+none-pulled tells left reader = record { stream = Consumes-nil (stream reader.lines left); number = refl; due = refl; draft = refl; told = λ r h. h }
 
-pub pulled-gathered : (left more : Option (List ℕ)) (old mid new : Reader) → HasPulled left more old mid → pending new.lines ≡ pending mid.lines →
-    new.lines.number ≡ mid.lines.number → new.due ≡ mid.due → kept new.draft ≡ kept mid.draft → HasPulled left more old new
-pulled-gathered left more old mid new h kept number due same = record {
+pub pulled-gathered : {N : Type 0} (tells : N → Option RecordingView → Type 0) (left more : Option (List ℕ)) (old mid new : Reader N) →
+    HasPulled tells left more old mid → pending new.lines ≡ pending mid.lines → new.lines.number ≡ mid.lines.number → new.due ≡ mid.due →
+    new.draft ≡ mid.draft → ((r : Option RecordingView) → tells mid.entries r → tells new.entries r) → HasPulled tells left more old new
+pulled-gathered tells left more old mid new h kept number due same told = record {
   stream = subst (λ l. Consumes (stream old.lines left) (prepend_known l more) []) (sym kept) h.stream;
   number = number ∙ h.number;
   due = due ∙ h.due;
-  kept = same ∙ h.kept;
+  draft = same ∙ h.draft;
+  told = λ r t. told r (h.told r t);
 }
 
-pub pulled-more : (left more most : Option (List ℕ)) (old mid new : Reader) (lines : Gathered) → HasPulled left more old mid →
-    pending lines ≡ pending mid.lines → lines.ahead ≡ [] → new.lines.line ≡ lines.line → Consumes more most new.lines.ahead →
-    new.lines.number ≡ mid.lines.number → new.due ≡ mid.due → kept new.draft ≡ kept mid.draft → HasPulled left most old new
-pulled-more left more most old mid new lines h pending none line bytes number due same = record {
+pub pulled-more : {N : Type 0} (tells : N → Option RecordingView → Type 0) (left more most : Option (List ℕ)) (old mid new : Reader N) (lines : Gathered) →
+    HasPulled tells left more old mid → pending lines ≡ pending mid.lines → lines.ahead ≡ [] → new.lines.line ≡ lines.line →
+    Consumes more most new.lines.ahead → new.lines.number ≡ mid.lines.number → new.due ≡ mid.due → new.draft ≡ mid.draft →
+    ((r : Option RecordingView) → tells mid.entries r → tells new.entries r) → HasPulled tells left most old new
+pulled-more tells left more most old mid new lines h pending none line bytes number due same told = record {
   stream = then-pulled (stream old.lines left) more most mid.lines lines new.lines h.stream pending none line bytes;
   number = number ∙ h.number;
   due = due ∙ h.due;
-  kept = same ∙ h.kept;
+  draft = same ∙ h.draft;
+  told = λ r t. told r (h.told r t);
 }
 
 pub then-longer : (most : ℕ) (old mid new : Gathered) → pending mid ≡ pending old → mid.ahead ≡ [] → new.line ≡ mid.line → length mid.line ≤ most →
@@ -100,22 +107,38 @@ then-longer most old mid new kept none line short some =
       some,
     )
 
-pub then-gathered : (before left more : Option (List ℕ)) (old new : Reader) → HasTaken before left old → HasPulled left more old new →
-    HasTaken before more new
-then-gathered before left more old new h pulled = record {
+pub read-gathered : {N : Type 0} (tells : N → Option RecordingView → Type 0) (left more : Option (List ℕ)) (old new : Reader N) (r : Kept) →
+    HasRead tells old.due old.draft old.entries r → HasPulled tells left more old new → HasRead tells new.due new.draft new.entries r
+read-gathered tells left more old new r h pulled = record {
+  head = h.head ∙ ap (λ (d : Draft). with_told (kept d) r.entries r.owners) (sym pulled.draft);
+  read = subst (λ (d : Due). IsReadTo d r) (sym pulled.due) h.read;
+  told = pulled.told (told_at new.due r) (subst (λ (d : Due). tells old.entries (told_at d r)) (sym pulled.due) h.told);
+}
+
+taken-gathered : {N : Type 0} (tells : N → Option RecordingView → Type 0) (before left more : Option (List ℕ)) (old new : Reader N) (r : Kept) →
+    HasTaken before left old r → HasPulled tells left more old new → HasTaken before more new r
+taken-gathered tells before left more old new r h pulled = record {
   lines = h.lines;
   follow = subst (λ d. Follow Header h.lines d) (sym pulled.due) h.follow;
-  told = h.told ∙ ap (λ d. lines_before d (kept old.draft)) (sym pulled.due) ∙ ap (lines_before new.due) (sym pulled.kept);
+  told = h.told ∙ ap (λ d. lines_before d r) (sym pulled.due);
   number = pulled.number ∙ h.number;
   taken =
       subst (Consumes before (stream new.lines more)) (append-nil (flat_map ended h.lines))
       (Consumes-trans before (stream old.lines left) (stream new.lines more) (flat_map ended h.lines) [] h.taken pulled.stream);
 }
 
+pub then-gathered : {N : Type 0} (tells : N → Option RecordingView → Type 0) (before left more : Option (List ℕ)) (old new : Reader N) →
+    IsReading tells before left old → HasPulled tells left more old new → IsReading tells before more new
+then-gathered tells before left more old new h pulled = record {
+  recording = h.recording;
+  read = read-gathered tells left more old new h.recording h.read pulled;
+  taken = taken-gathered tells before left more old new h.recording h.taken pulled;
+}
+
 -- one line more
-pub then-taken : (before left : Option (List ℕ)) (old new : Reader) → HasTaken before left old →
-    IsTaken old.due (kept old.draft) (words old.lines.line) new.due (kept new.draft) → IsTakenOff old.lines new.lines → HasTaken before left new
-then-taken before left old new h taken off =
+taken-more : {N : Type 0} (before left : Option (List ℕ)) (old new : Reader N) (r s : Kept) → HasTaken before left old r →
+    IsTaken old.due r (words old.lines.line) new.due s → IsTakenOff old.lines new.lines → HasTaken before left new s
+taken-more before left old new r s h taken off =
     let one : List (List ℕ) = old.lines.line ∷ [] in
     record {
       lines = h.lines ++ one;
@@ -128,6 +151,16 @@ then-taken before left old new h taken off =
           (Consumes-trans before (stream old.lines left) (stream new.lines left) (flat_map ended h.lines) (ended old.lines.line) h.taken
           (line-off left old.lines.line old.lines.ahead new.lines.line new.lines.ahead off.ahead off.line));
     }
+
+pub then-taken : {N : Type 0} (tells : N → Option RecordingView → Type 0) (before left : Option (List ℕ)) (old new : Reader N)
+    (h : IsReading tells before left old) →
+    HasTakenLine tells old.due h.recording (words old.lines.line) new.due new.draft new.entries → IsTakenOff old.lines new.lines →
+    IsReading tells before left new
+then-taken tells before left old new h line off = record {
+  recording = line.new;
+  read = line.read;
+  taken = taken-more before left old new h.recording line.new h.taken line.taken off;
+}
 
 -- ---- faults
 
@@ -156,15 +189,16 @@ line-fault due line ahead behind end kind is no_end short fault =
     })
 
 -- lines, and then a fault
-pub then-refused : (before left : Option (List ℕ)) (reader : Reader) (kind : ReadKind) → HasTaken before left reader →
-    IsFaultOfRest reader.due (pending reader.lines) left kind → IsRefused before left 0 Header (reader.lines.number + 1) kind
-then-refused before left reader kind h fault = record {
-  lines = h.lines;
+pub then-refused : {N : Type 0} (tells : N → Option RecordingView → Type 0) (before left : Option (List ℕ)) (reader : Reader N) (kind : ReadKind) →
+    IsReading tells before left reader → IsFaultOfRest reader.due (pending reader.lines) left kind →
+    IsRefused before left 0 Header (reader.lines.number + 1) kind
+then-refused tells before left reader kind h fault = record {
+  lines = h.taken.lines;
   last = reader.due;
   rest = pending reader.lines;
-  follow = h.follow;
-  number = omega (arith, h.number);
-  read = let-go before left (flat_map ended h.lines) (pending reader.lines) h.taken;
+  follow = h.taken.follow;
+  number = omega (arith, h.taken.number);
+  read = let-go before left (flat_map ended h.taken.lines) (pending reader.lines) h.taken.taken;
   fault = fault;
 }
 
@@ -186,26 +220,30 @@ all-ended : (ls : List (List ℕ)) → flat_map ended ls ≡ flat_map line (map 
 all-ended [] = refl
 all-ended (l ∷ ls) = ap (λ x. (x ++ 10 ∷ []) ++ flat_map ended ls) (spelled-text l (words l) refl) ∙ ap (λ x. line (words l) ++ x) (all-ended ls)
 
-all-taken : (before left : Option (List ℕ)) (reader : Reader) (h : HasTaken before left reader) → pending reader.lines ≡ [] →
+all-taken : {N : Type 0} (before left : Option (List ℕ)) (reader : Reader N) (r : Kept) (h : HasTaken before left reader r) → pending reader.lines ≡ [] →
     Consumes before left (flat_map ended h.lines)
-all-taken before left reader h none =
+all-taken before left reader r h none =
     subst (λ b. Consumes before b (flat_map ended h.lines)) (ap (λ l. prepend_known l left) none ∙ none-held left) h.taken
 
-pub taken-whole : (before left : Option (List ℕ)) (reader : Reader) → HasTaken before left reader → reader.due ≡ Nothing → pending reader.lines ≡ [] →
-    IsAtEnd left → IsWellFormed before left
-taken-whole before left reader h done none end = record {
-  lines = h.lines;
-  follow = subst (λ d. Follow Header h.lines d) done h.follow;
-  read = all-taken before left reader h none;
+pub taken-whole : {N : Type 0} (tells : N → Option RecordingView → Type 0) (before left : Option (List ℕ)) (reader : Reader N) →
+    IsReading tells before left reader → reader.due ≡ Nothing → pending reader.lines ≡ [] → IsAtEnd left → IsWellFormed before left
+taken-whole tells before left reader h done none end = record {
+  lines = h.taken.lines;
+  follow = subst (λ d. Follow Header h.taken.lines d) done h.taken.follow;
+  read = all-taken before left reader h.recording h.taken none;
   end = end;
 }
 
-pub taken-text : (before left : Option (List ℕ)) (reader : Reader) → HasTaken before left reader → reader.due ≡ Nothing → pending reader.lines ≡ [] →
-    Consumes before left (text reader.draft.version (recorded (kept reader.draft)))
-taken-text before left reader h done none =
-    subst (Consumes before left)
-    (all-ended h.lines ∙ ap (λ ls. flat_map line ls) (h.told ∙ ap (λ d. lines_before d (kept reader.draft)) done))
-    (all-taken before left reader h none)
+pub taken-text : {N : Type 0} (tells : N → Option RecordingView → Type 0) (before left : Option (List ℕ)) (reader : Reader N) →
+    IsReading tells before left reader → reader.due ≡ Nothing → pending reader.lines ≡ [] → IsReadWhole tells before left reader
+taken-text tells before left reader h done none = record {
+  recording = h.recording;
+  read = subst (λ (d : Due). HasRead tells d reader.draft reader.entries h.recording) done h.read;
+  text =
+      subst (Consumes before left)
+      (all-ended h.taken.lines ∙ ap (λ ls. flat_map line ls) (h.taken.told ∙ ap (λ d. lines_before d h.recording) done))
+      (all-taken before left reader h.recording h.taken none);
+}
 
 -- ---- each line leaves fewer
 

@@ -1,13 +1,23 @@
 -- What a replay finds: the first entry that differs.
-use Rattle.std.specs.Prelude.{◌≡◌, ◌≢◌, ℕ, List, Option, Some, slice_get, take}
+use Rattle.std.specs.Prelude.{◌≡◌, ◌≢◌, ◌↔◌, ℕ, List, Option, Some, None, length, slice_get, take}
 use Rattle.base.specs.declared.step.Outcome.{Outcome}
 use Rattle.std.specs.Io.KnownBytes.{Consumes}
 use Rattle.record.specs.declared.version.Version.{Version}
 use Rattle.record.specs.Text.{text}
 use Rattle.record.specs.Versions.{HasTextIn}
-use Rattle.record.specs.View.{RecordingView, told_by, found_by}
+use Rattle.record.specs.View.{RecordingView, told_by, found_by, steps_of, IsLegal}
+use Rattle.machine.specs.Coherence.{Safe}
+use Rattle.machine.specs.Restraint.{AreRestrained}
+use Rattle.monitor.specs.Violations.{AnswersFirst}
+use Rattle.record.specs.Recordable.{IsRecordable}
+use Rattle.record.specs.Refused.{IsRefused}
+use Rattle.record.specs.declared.due.Due.TheVariants.{Header}
+use Rattle.record.specs.declared.fault.ReadKind.TheVariants.{Device}
 use Rattle.record.specs.declared.replaying.ReplayFault.{ReplayFault}
 use Rattle.record.specs.declared.replaying.ReplayFault.TheVariants.{Differs, NoMemory}
+use Rattle.record.specs.declared.text_replaying.TextFault.{TextFault}
+use Rattle.record.specs.declared.text_replaying.TextFault.TheVariants.{Read, Replay}
+use Rattle.record.specs.declared.text_replaying.TextReplayed.{TextReplayed}
 
 -- this entry is the first whose outcome isn't that of its step: another one is told than is found, and those before it are as told
 pub record IsFirstToDiffer (r : RecordingView) (entry : ℕ) (told found : Outcome) : Type 0 where
@@ -26,3 +36,31 @@ pub record IsTextRead (before after : Option (List ℕ)) (r : RecordingView) : T
 abbrev pub FaultOf : RecordingView → ReplayFault → Type 0
 FaultOf r (Differs entry told found) = IsFirstToDiffer r entry told found
 FaultOf r NoMemory = Unit {0}
+
+-- what a source had was a text of a recording, whose replay found this
+pub record IsTextReplayed (before after : Option (List ℕ)) (replayed : TextReplayed) : Type 0 where
+  pub recording : RecordingView
+  pub recordable : IsRecordable recording
+  pub read : IsTextRead before after recording
+  pub entries : replayed.entries ≡ length recording.entries
+  pub legal : IsLegal recording
+  pub violation : AnswersFirst recording.shape recording.tables recording.opening (steps_of recording) replayed.violation
+  pub safe : replayed.violation ≡ None ↔ Safe recording.shape recording.tables recording.opening (steps_of recording)
+  pub clean : AreRestrained recording.tables → replayed.violation ≡ None
+
+-- what a source had was a text of a recording, whose replay is refused so
+pub record IsTextNotReplayed (before after : Option (List ℕ)) (fault : ReplayFault) : Type 0 where
+  pub recording : RecordingView
+  pub recordable : IsRecordable recording
+  pub read : IsTextRead before after recording
+  pub refused : FaultOf recording fault
+
+-- a text is refused as a reader refuses it, or else the replay of its recording is
+abbrev pub IsTextFault : Option (List ℕ) → Option (List ℕ) → TextFault → Type 0
+IsTextFault before after (Read fault) = IsRefused before after 0 Header fault.line fault.kind
+IsTextFault before after (Replay fault) = IsTextNotReplayed before after fault
+
+-- the device failed
+abbrev pub IsOfDevice : TextFault → Type 0
+IsOfDevice (Read fault) = fault.kind ≡ Device
+IsOfDevice (Replay fault) = ⊥

@@ -1,29 +1,28 @@
-ghost use Rattle.std.specs.Prelude.{◌≡◌, ◌≤◌, ◌+◌, ◌++◌, ℕ, IfOk, IfErr, OnOk, length};
-ghost use Rattle.std.specs.Vec.{vec_capacity};
+ghost use Rattle.std.specs.Prelude.{◌≡◌, ◌≤◌, ◌+◌, ℕ, Some, None, IfOk, IfErr, OnOk};
 ghost use Rattle.base.specs.Spelling.{words};
 ghost use Rattle.record.specs.declared.due.Due.TheVariants as due;
 ghost use Rattle.record.specs.Grammar.{FitsTold, Leads};
-ghost use Rattle.record.specs.Recordable.{IsRecordable};
 ghost use Rattle.record.specs.Refused.{IsFaultOfLine};
 ghost use Rattle.record.specs.Text.{told_words};
-ghost use Rattle.record.specs.inner.Drafts.{kept, recorded, HasRoom, IsReadTo, IsTaken};
+ghost use Rattle.record.specs.inner.Drafts.{Kept, kept, recorded, HasRead, HasRoom, HasTakenEntry, HasTakenLine, IsReadTo, IsTaken};
+ghost use Rattle.record.specs.inner.Holding.{holds};
 ghost use Rattle.record.specs.inner.Reading.{IsFaultOfTold};
-ghost use Rattle.record.specs.Versions.{HasTextIn};
-ghost use Rattle.record.specs.View.{owner_list};
+ghost use Rattle.record.specs.inner.Telling.{HasRoomUpTo};
 
 use crate::cells::{most_cells, spot_number};
 use crate::due::{Due, Form};
+use crate::entries::{Entries, KeptEntries};
 use crate::fault::ReadKind;
 use crate::parsing::{count_of, is_end, opening_of, protocol_of, shape_of, told_of, version_of};
 use crate::reading::{listed_cell, with_cell};
-use crate::recording::{Entry, MOST_ENTRIES, MOST_SEATS, Recording};
+use crate::recording::{MOST_ENTRIES, MOST_SEATS, Recording};
 use crate::told::Told;
 use crate::version::Version;
 use base::{MOST_BLOCKS, NoMemory, Shape};
 use both_tables::Tables;
 use std::alloc::Global;
 
-/// What has been read of a recording.
+/// What has been read of a recording in front of its entries.
 #[derive(Drop)]
 pub(crate) struct Draft {
     version: Version,
@@ -31,15 +30,13 @@ pub(crate) struct Draft {
     shape: Shape,
     tables: Tables,
     opening: Vec<u64>,
-    entries: Vec<Entry>,
-    owners: Vec<u32>,
 }
 
 impl Draft {
     /// Nothing read yet, and room for the opening values of as many blocks as there can be.
     pub(crate) fn open(alloc: Global) -> Result<Draft, NoMemory>
         ensures read { IfOk result (λ draft. IsReadTo due.Header (kept draft)) }
-        ensures room { IfOk result (λ draft. HasRoom draft 0) }
+        ensures room { IfOk result HasRoom }
     {
         let opening = Vec::with_capacity(alloc, MOST_BLOCKS as usize)?;
         Ok(Draft {
@@ -49,29 +46,24 @@ impl Draft {
             shape: Shape::new(1, 1).unwrap(),
             tables: Tables::baseline(),
             opening,
-            entries: Vec::new(alloc),
-            owners: Vec::new(alloc),
         })
     }
 
-    /// Makes room for so many entries more.
-    pub(crate) fn reserve(&mut self, entries: usize) -> Result<(), NoMemory>
-        ensures kept { kept self.new ≡ kept self.old }
-        ensures ok { OnOk result (HasRoom self.old 0 → HasRoom self.new entries) }
-        ensures less { (n : ℕ) → HasRoom self.old n → HasRoom self.new n }
-    {
-        self.entries.reserve(entries)?;
-        self.owners.reserve(entries)?;
-        Ok(())
-    }
-
     /// Takes a line where this is due, and answers what is due behind it.
-    pub(crate) fn accept(&mut self, due: Due, line: &[u8]) -> Result<Due, ReadKind>
-        requires read { IsReadTo due (kept self.old) }
-        requires room { HasRoom self.old 1 }
-        ensures ok { IfOk result (λ next. IsTaken due (kept self.old) (words line.now) next (kept self.new)) }
+    pub(crate) fn accept<N: Entries>(
+        &mut self,
+        due: Due,
+        line: &[u8],
+        entries: &mut N,
+    ) -> Result<Due, ReadKind>
+        requires read { (r : Kept) × HasRead N.tells due self.old entries.old r }
+        requires room { HasRoom self.old }
+        requires space { N.has_room entries.old 1 }
+        ensures ok { (r : Kept) → HasRead N.tells due self.old entries.old r →
+            IfOk result (λ next. HasTakenLine N.tells due r (words line.now) next self.new entries.new) }
         ensures err { IfErr result (IsFaultOfLine due (words line.now)) }
-        ensures room { (n : ℕ) → HasRoom self.old (n + 1) → HasRoom self.new n }
+        ensures room { HasRoom self.new }
+        ensures space { (n : ℕ) → HasRoomUpTo N.has_room entries.old (n + 1) → HasRoomUpTo N.has_room entries.new n }
     {
         match due {
             Due::Header => self.accept_header(line),
@@ -81,8 +73,8 @@ impl Draft {
             Due::OpeningLine(form, shape) => self.accept_opening(line, form, shape),
             Due::CellCount(form) => cell_count_due(line, form),
             Due::CellLine { form, left, from } => self.accept_cell(line, form, left, from),
-            Due::EntryCount(form) => entry_count_due(line, form),
-            Due::EntryLine(form, left) => self.accept_entry(line, form, left),
+            Due::EntryCount(form) => self.accept_entry_count(line, form, entries),
+            Due::EntryLine(form, left) => accept_entry(line, form, left, entries),
             Due::EndLine(form) => end_due(line, form),
             Due::Nothing => Err(ReadKind::BadLine),
         }
@@ -93,7 +85,7 @@ impl Draft {
         requires read { IsReadTo due.Header (kept self.old) }
         ensures ok { IfOk result (λ next. IsTaken due.Header (kept self.old) (words line.now) next (kept self.new)) }
         ensures err { IfErr result (IsFaultOfLine due.Header (words line.now)) }
-        ensures room { (n : ℕ) → HasRoom self.old (n + 1) → HasRoom self.new n }
+        ensures room { HasRoom self.old → HasRoom self.new }
     {
         let Some(version) = version_of(line) else {
             return Err(ReadKind::BadHeader);
@@ -107,7 +99,7 @@ impl Draft {
         requires read { IsReadTo due.ProtocolLine (kept self.old) }
         ensures ok { IfOk result (λ next. IsTaken due.ProtocolLine (kept self.old) (words line.now) next (kept self.new)) }
         ensures err { IfErr result (IsFaultOfLine due.ProtocolLine (words line.now)) }
-        ensures room { (n : ℕ) → HasRoom self.old (n + 1) → HasRoom self.new n }
+        ensures room { HasRoom self.old → HasRoom self.new }
     {
         let protocol = protocol_of(line)?;
         self.tables = Tables::baseline_of(protocol);
@@ -123,7 +115,7 @@ impl Draft {
         requires read { IsReadTo (due.ShapeLine form) (kept self.old) }
         ensures ok { IfOk result (λ next. IsTaken (due.ShapeLine form) (kept self.old) (words line.now) next (kept self.new)) }
         ensures err { IfErr result (IsFaultOfLine (due.ShapeLine form) (words line.now)) }
-        ensures room { (n : ℕ) → HasRoom self.old (n + 1) → HasRoom self.new n }
+        ensures room { HasRoom self.old → HasRoom self.new }
     {
         self.shape = shape_of(form.version, line)?;
         Ok(Due::behind_shape(form, self.shape))
@@ -134,7 +126,7 @@ impl Draft {
         requires read { IsReadTo (due.SeatsLine form shape) (kept self.old) }
         ensures ok { IfOk result (λ next. IsTaken (due.SeatsLine form shape) (kept self.old) (words line.now) next (kept self.new)) }
         ensures err { IfErr result (IsFaultOfLine (due.SeatsLine form shape) (words line.now)) }
-        ensures room { (n : ℕ) → HasRoom self.old (n + 1) → HasRoom self.new n }
+        ensures room { HasRoom self.old → HasRoom self.new }
     {
         self.seats = count_of(line, b"seats".as_slice(), MOST_SEATS)?;
         let form = Form {
@@ -148,10 +140,10 @@ impl Draft {
     /// Takes the line of the opening values.
     fn accept_opening(&mut self, line: &[u8], form: Form, shape: Shape) -> Result<Due, ReadKind>
         requires read { IsReadTo (due.OpeningLine form shape) (kept self.old) }
-        requires room { HasRoom self.old 1 }
+        requires room { HasRoom self.old }
         ensures ok { IfOk result (λ next. IsTaken (due.OpeningLine form shape) (kept self.old) (words line.now) next (kept self.new)) }
         ensures err { IfErr result (IsFaultOfLine (due.OpeningLine form shape) (words line.now)) }
-        ensures room { (n : ℕ) → HasRoom self.old (n + 1) → HasRoom self.new n }
+        ensures room { HasRoom self.old → HasRoom self.new }
     {
         opening_of(&mut self.opening, line, shape.blocks())?;
         Ok(Due::CellCount(form))
@@ -168,7 +160,7 @@ impl Draft {
         requires read { IsReadTo (due.CellLine form left from) (kept self.old) }
         ensures ok { IfOk result (λ next. IsTaken (due.CellLine form left from) (kept self.old) (words line.now) next (kept self.new)) }
         ensures err { IfErr result (IsFaultOfLine (due.CellLine form left from) (words line.now)) }
-        ensures room { (n : ℕ) → HasRoom self.old (n + 1) → HasRoom self.new n }
+        ensures room { HasRoom self.old → HasRoom self.new }
     {
         let Some(cell) = listed_cell(line, form.protocol, from) else {
             return Err(ReadKind::BadLine);
@@ -177,47 +169,58 @@ impl Draft {
         Ok(Due::cells(form, left - 1, spot_number(cell.spot()) + 1))
     }
 
-    /// Takes the line of an entry, of which so many are still to come.
-    fn accept_entry(&mut self, line: &[u8], form: Form, left: u32) -> Result<Due, ReadKind>
-        requires read { IsReadTo (due.EntryLine form left) (kept self.old) }
-        requires room { HasRoom self.old 1 }
-        ensures ok { IfOk result (λ next. IsTaken (due.EntryLine form left) (kept self.old) (words line.now) next (kept self.new)) }
-        ensures err { IfErr result (IsFaultOfLine (due.EntryLine form left) (words line.now)) }
-        ensures room { (n : ℕ) → HasRoom self.old (n + 1) → HasRoom self.new n }
+    /// Takes the line that says how many entries there are.
+    fn accept_entry_count<N: Entries>(
+        &self,
+        line: &[u8],
+        form: Form,
+        entries: &mut N,
+    ) -> Result<Due, ReadKind>
+        requires read { IsReadTo (due.EntryCount form) (kept self.now) }
+        requires none { N.tells entries.old None }
+        ensures ok { IfOk result (λ next. IsTaken (due.EntryCount form) (kept self.now) (words line.now) next (kept self.now)) }
+        ensures told { OnOk result (N.tells entries.new (Some (recorded (kept self.now)))) }
+        ensures err { IfErr result (IsFaultOfLine (due.EntryCount form) (words line.now)) }
+        ensures space { (n : ℕ) → N.has_room entries.old n → N.has_room entries.new n }
     {
-        let told = told_due(line, form.seats)?;
-        self.entries.push_reserved(told.entry);
-        push_owner(&mut self.owners, told.owner);
-        Ok(Due::entries(form, left - 1))
+        let due = entry_count_due(line, form)?;
+        entries.open(self.shape, self.tables, self.opening.as_slice());
+        Ok(due)
     }
 
-    /// The recording, of which all was read.
-    pub(crate) fn recording(self) -> Recording
-        requires read { IsReadTo due.Nothing (kept self) }
-        ensures recording { result ≡ recorded (kept self) }
-        ensures recordable { IsRecordable (recorded (kept self)) }
-        ensures told { HasTextIn self.version (recorded (kept self)) }
+    /// The recording, of which all was read, with these entries.
+    pub(crate) fn recording(self, kept: KeptEntries) -> Recording
+        requires read { (r : Kept) × HasRead holds due.Nothing self kept r }
+        ensures recording { (r : Kept) → HasRead holds due.Nothing self kept r → result ≡ recorded r }
     {
         Recording::of(
             self.seats,
             self.shape,
             self.tables,
             self.opening,
-            self.entries,
-            self.owners,
+            kept.entries,
+            kept.owners,
         )
     }
 }
 
-/// Adds the owner of an entry, if it has one.
-fn push_owner(owners: &mut Vec<u32>, owner: Option<u32>)
-    requires room { length owners.old.items + 1 ≤ vec_capacity owners.old }
-    ensures items { owners.new.items ≡ owners.old.items ++ owner_list owner }
-    ensures room { vec_capacity owners.new ≡ vec_capacity owners.old }
+/// Takes the line of an entry, of which so many are still to come.
+fn accept_entry<N: Entries>(
+    line: &[u8],
+    form: Form,
+    left: u32,
+    entries: &mut N,
+) -> Result<Due, ReadKind>
+    requires read { (r : Kept) × IsReadTo (due.EntryLine form left) r × N.tells entries.old (Some (recorded r)) }
+    requires space { N.has_room entries.old 1 }
+    ensures ok { (r : Kept) → IsReadTo (due.EntryLine form left) r → N.tells entries.old (Some (recorded r)) →
+        IfOk result (λ next. HasTakenEntry N.tells (due.EntryLine form left) r (words line.now) next entries.new) }
+    ensures err { IfErr result (IsFaultOfLine (due.EntryLine form left) (words line.now)) }
+    ensures space { (n : ℕ) → HasRoomUpTo N.has_room entries.old (n + 1) → HasRoomUpTo N.has_room entries.new n }
 {
-    if let Some(seat) = owner {
-        owners.push_reserved(seat);
-    }
+    let told = told_due(line, form.seats)?;
+    entries.add(told);
+    Ok(Due::entries(form, left - 1))
 }
 
 /// How many cells are due.

@@ -5,8 +5,10 @@ mod cell_parsing;
 mod cells;
 mod draft;
 mod due;
+mod entries;
 mod fault;
 mod lines;
+mod making;
 mod moving;
 mod parsing;
 mod reader;
@@ -15,6 +17,7 @@ mod recording;
 mod replaying;
 mod spelling;
 mod text_laws;
+mod text_replaying;
 mod told;
 mod version;
 mod writing;
@@ -27,5 +30,6 @@ pub use text_laws::{
     a_recording_has_a_text, a_text_is_of_one_recording, a_text_is_read, one_refusal_at_most,
     well_formed_bytes_are_a_text,
 };
+pub use text_replaying::{TextFault, TextReplayed, replay_text};
 pub use version::Version;
 pub use writing::WriteFault;

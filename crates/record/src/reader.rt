@@ -1,17 +1,16 @@
-ghost use Rattle.std.specs.Prelude.{◌≡◌, ◌≢◌, ◌≤◌, ◌+◌, ◌↔◌, ◌∷◌, [], ℕ, List, Option, IfOk, IfErr, OnOk, OnErr, IsTrue, true};
-ghost use Rattle.std.specs.Io.KnownBytes.{Consumes, IsAtEnd};
+ghost use Rattle.std.specs.Prelude.{◌≡◌, ◌≢◌, ◌≤◌, ◌+◌, ◌↔◌, ◌∷◌, [], ℕ, List, Option, None, IfOk, IfErr, OnOk, OnErr, IsTrue, true};
+ghost use Rattle.std.specs.Io.KnownBytes.{IsAtEnd};
 ghost use Rattle.base.specs.Spelling.{words};
 ghost use Rattle.record.specs.declared.due.Due.TheVariants as due;
-ghost use Rattle.record.specs.Recordable.{IsRecordable};
 ghost use Rattle.record.specs.Refused.{IsFaultOfLine, IsFaultOfRest, IsRefused, IsWellFormed};
-ghost use Rattle.record.specs.Text.{text};
-ghost use Rattle.record.specs.inner.Drafts.{kept, recorded, IsTaken, IsReadTo};
-ghost use Rattle.record.specs.Versions.{HasTextIn};
-ghost use Rattle.record.specs.inner.Readers.{HasPulled, HasTaken, HasWholeLine, IsReady};
+ghost use Rattle.record.specs.inner.Drafts.{Kept, recorded, HasRead, HasTakenLine};
+ghost use Rattle.record.specs.inner.Holding.{holds};
+ghost use Rattle.record.specs.inner.Readers.{HasPulled, HasWholeLine, IsReading, IsReadWhole, IsReady};
 ghost use Rattle.record.specs.inner.Reading.{pending, IsTakenOff};
 
 use crate::draft::Draft;
 use crate::due::Due;
+use crate::entries::{Entries, KeptEntries};
 use crate::fault::ReadKind;
 use crate::lines::{Lines, MOST_PULLED};
 use crate::recording::Recording;
@@ -22,22 +21,26 @@ use std::alloc::Global;
 ///
 /// All room that the bytes of a pull could need is made before it. So no line that is whole is refused for want of memory.
 #[derive(Drop)]
-pub(crate) struct Reader {
+pub(crate) struct Reader<N> {
     lines: Lines,
     due: Due,
     draft: Draft,
+    entries: N,
 }
 
-impl Reader {
-    /// A reader that has read nothing. There is room for a line, and for the opening values.
-    pub(crate) fn open(alloc: Global) -> Result<Reader, NoMemory>
-        ensures taken { IfOk result (λ reader. (left : Option (List ℕ)) → HasTaken left left reader) }
-        ensures ready { IfOk result IsReady }
+impl<N: Entries> Reader<N> {
+    /// A reader that has read nothing, whose entries these will take. There is room for a line, and for the opening values.
+    pub(crate) fn open(alloc: Global, entries: N) -> Result<Reader<N>, NoMemory>
+        requires none { N.tells entries None }
+        requires space { N.has_room entries 0 }
+        ensures reading { IfOk result (λ reader. (left : Option (List ℕ)) → IsReading N.tells left left reader) }
+        ensures ready { IfOk result (IsReady N.has_room) }
     {
         Ok(Reader {
             lines: Lines::open(alloc)?,
             due: Due::Header,
             draft: Draft::open(alloc)?,
+            entries,
         })
     }
 
@@ -57,11 +60,10 @@ impl Reader {
 
     /// Reads all lines, from the first to the last, behind which nothing is left.
     pub(crate) fn read_all<S: Source>(&mut self, source: &mut S) -> Result<(), ReadKind>
-        requires taken { HasTaken (S.left source.old) (S.left source.old) self.old }
-        requires ready { IsReady self.old }
-        ensures text { OnOk result (Consumes (S.left source.old) (S.left source.new) (text self.new.draft.version (recorded (kept self.new.draft)))) }
+        requires reading { IsReading N.tells (S.left source.old) (S.left source.old) self.old }
+        requires ready { IsReady N.has_room self.old }
+        ensures text { OnOk result (IsReadWhole N.tells (S.left source.old) (S.left source.new) self.new) }
         ensures whole { OnOk result (IsWellFormed (S.left source.old) (S.left source.new)) }
-        ensures read { OnOk result (IsReadTo due.Nothing (kept self.new.draft)) }
         ensures fault { IfErr result (IsRefused (S.left source.old) (S.left source.new) 0 due.Header (self.new.lines.number + 1)) }
         ensures device { IfErr result (λ kind. kind ≡ ReadKind.Device → S.has_failed source.new ≡ true) }
         ensures few { self.new.lines.number ≤ 1000194 }
@@ -75,16 +77,16 @@ impl Reader {
 
     /// Gathers the line that is due.
     fn gather<S: Source>(&mut self, source: &mut S) -> Result<(), ReadKind>
-        requires ready { IsReady self.old }
+        requires ready { IsReady N.has_room self.old }
         requires more { self.old.due ≢ due.Nothing }
         ensures ok { OnOk result (HasWholeLine self.new) }
         ensures err { IfErr result (IsFaultOfRest self.old.due (pending self.new.lines) (S.left source.new)) }
-        ensures pulled { HasPulled (S.left source.old) (S.left source.new) self.old self.new }
-        ensures ready { OnOk result (IsReady self.new) }
+        ensures pulled { HasPulled N.tells (S.left source.old) (S.left source.new) self.old self.new }
+        ensures ready { OnOk result (IsReady N.has_room self.new) }
         ensures device { IfErr result (λ kind. kind ≡ ReadKind.Device → S.has_failed source.new ≡ true) }
     {
         while !self.lines.gather(self.due.limit())? {
-            self.draft.reserve(MOST_PULLED)?;
+            self.entries.reserve(MOST_PULLED)?;
             if !self.lines.pull(source)? {
                 return Err(ReadKind::Truncated);
             }
@@ -94,26 +96,30 @@ impl Reader {
 
     /// Takes the line that was gathered.
     fn accept(&mut self) -> Result<(), ReadKind>
-        requires ready { IsReady self.old }
+        requires ready { IsReady N.has_room self.old }
         requires line { HasWholeLine self.old }
-        ensures ok { OnOk result (IsTaken self.old.due (kept self.old.draft) (words self.old.lines.line) self.new.due (kept self.new.draft)) }
+        requires read { (r : Kept) × HasRead N.tells self.old.due self.old.draft self.old.entries r }
+        ensures ok { (r : Kept) → HasRead N.tells self.old.due self.old.draft self.old.entries r →
+            OnOk result (HasTakenLine N.tells self.old.due r (words self.old.lines.line) self.new.due self.new.draft self.new.entries) }
         ensures err { IfErr result (IsFaultOfLine self.old.due (words self.old.lines.line)) }
-        ensures ready { OnOk result (IsReady self.new) }
+        ensures ready { OnOk result (IsReady N.has_room self.new) }
         ensures off { OnOk result (IsTakenOff self.old.lines self.new.lines) }
         ensures lines { OnErr result (self.new.lines ≡ self.old.lines) }
     {
-        self.due = self.draft.accept(self.due, self.lines.line())?;
+        self.due = self
+            .draft
+            .accept(self.due, self.lines.line(), &mut self.entries)?;
         self.lines.take_off();
         Ok(())
     }
 
     /// Sees that nothing is left behind the last line.
     fn end<S: Source>(&mut self, source: &mut S) -> Result<(), ReadKind>
-        requires ready { IsReady self.old }
+        requires ready { IsReady N.has_room self.old }
         requires done { self.old.due ≡ due.Nothing }
         ensures ok { OnOk result (IsAtEnd (S.left source.new) × (pending self.new.lines ≡ [])) }
         ensures err { IfErr result (IsFaultOfRest due.Nothing (pending self.new.lines) (S.left source.new)) }
-        ensures pulled { HasPulled (S.left source.old) (S.left source.new) self.old self.new }
+        ensures pulled { HasPulled N.tells (S.left source.old) (S.left source.new) self.old self.new }
         ensures device { IfErr result (λ kind. kind ≡ ReadKind.Device → S.has_failed source.new ≡ true) }
     {
         if self.lines.are_bytes_ahead() {
@@ -125,13 +131,20 @@ impl Reader {
         Ok(())
     }
 
+    /// What has taken the entries.
+    pub(crate) fn entries(self) -> N
+        ensures { result ≡ self.entries }
+    {
+        self.entries
+    }
+}
+
+impl Reader<KeptEntries> {
     /// The recording, of which all was read.
     pub(crate) fn recording(self) -> Recording
-        requires read { IsReadTo due.Nothing (kept self.draft) }
-        ensures recording { result ≡ recorded (kept self.draft) }
-        ensures recordable { IsRecordable (recorded (kept self.draft)) }
-        ensures told { HasTextIn self.draft.version (recorded (kept self.draft)) }
+        requires read { (r : Kept) × HasRead holds due.Nothing self.draft self.entries r }
+        ensures recording { (r : Kept) → HasRead holds due.Nothing self.draft self.entries r → result ≡ recorded r }
     {
-        self.draft.recording()
+        self.draft.recording(self.entries)
     }
 }

@@ -1,4 +1,4 @@
-ghost use Rattle.std.specs.Prelude.{◌≡◌, ◌≢◌, IfOk, IfErr, OnOk, MatchOption, MatchResult, Some, true};
+ghost use Rattle.std.specs.Prelude.{◌≡◌, ◌≢◌, IfOk, IfErr, OnOk, MatchOption, MatchResult, Some, None, true};
 ghost use Rattle.record.specs.Replaying.{IsTextRead};
 ghost use Rattle.record.specs.Versions.{HasTextIn};
 ghost use Rattle.record.specs.declared.version.Version.{Version};
@@ -12,9 +12,11 @@ ghost use Rattle.record.specs.View.{RecordingView};
 ghost use Rattle.record.specs.Recordable.{AreWhole, IsRecordable};
 ghost use Rattle.record.specs.Refused.{IsOutside, IsRefused, IsWellFormed};
 ghost use Rattle.record.specs.Text.{text};
+ghost use Rattle.record.specs.inner.Readers.{IsReadWhole};
 
 use crate::cell_parsing::cell_of;
 use crate::cells::{Cell, spot_number};
+use crate::entries::{Entries, KeptEntries};
 use crate::fault::{ReadFault, ReadKind};
 use crate::reader::Reader;
 use crate::recording::Recording;
@@ -38,19 +40,38 @@ impl Recording {
         ensures back { (version : Version) (r : RecordingView) → IsRecordable r → HasTextIn version r → S.left source.old ≡ Some (text version r) →
             MatchResult result (λ recording. recording ≡ r) (λ fault. IsOutside fault.kind) }
     {
-        let Ok(mut reader) = Reader::open(alloc) else {
-            return Err(ReadFault {
-                line: 1,
-                kind: ReadKind::NoMemory,
-            });
-        };
-        match reader.read_all(source) {
-            Ok(()) => Ok(reader.recording()),
-            Err(kind) => Err(ReadFault {
-                line: reader.number() + 1,
-                kind,
-            }),
+        match read_text(alloc, source, KeptEntries::new(alloc)) {
+            Ok(reader) => Ok(reader.recording()),
+            Err(fault) => Err(fault),
         }
+    }
+}
+
+/// Reads the text that a source gives, whose entries these take.
+pub(crate) fn read_text<S: Source, N: Entries>(
+    alloc: Global,
+    source: &mut S,
+    entries: N,
+) -> Result<Reader<N>, ReadFault>
+    requires none { N.tells entries None }
+    requires space { N.has_room entries 0 }
+    ensures text { IfOk result (IsReadWhole N.tells (S.left source.old) (S.left source.new)) }
+    ensures whole { OnOk result (IsWellFormed (S.left source.old) (S.left source.new)) }
+    ensures fault { IfErr result (λ fault. IsRefused (S.left source.old) (S.left source.new) 0 Header fault.line fault.kind) }
+    ensures device { IfErr result (λ fault. fault.kind ≡ ReadKind.Device → S.has_failed source.new ≡ true) }
+{
+    let Ok(mut reader) = Reader::open(alloc, entries) else {
+        return Err(ReadFault {
+            line: 1,
+            kind: ReadKind::NoMemory,
+        });
+    };
+    match reader.read_all(source) {
+        Ok(()) => Ok(reader),
+        Err(kind) => Err(ReadFault {
+            line: reader.number() + 1,
+            kind,
+        }),
     }
 }
 

@@ -22,6 +22,8 @@ mod refusing;
 #[cfg(test)]
 mod restarting;
 #[cfg(test)]
+mod text_replays;
+#[cfg(test)]
 mod touching;
 #[cfg(test)]
 mod trying;

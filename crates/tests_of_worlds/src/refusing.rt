@@ -3,11 +3,14 @@
 
 use crate::asserting::same;
 use crate::entries::{entry_of, push};
+use crate::text_replays::ANOTHER_VALUE;
 use crate::trying::{ONE_LOAD, RACING_PAIR, are_results};
 use base::{BlockId, CacheId, NoMemory, Outcome, Shape, Step};
 use both_tables::Tables;
 use moment::Moment;
-use record::{Entry, PushFault, ReadFault, ReadKind, Recording, ReplayFault, replay};
+use record::{
+    Entry, PushFault, ReadFault, ReadKind, Recording, ReplayFault, TextFault, replay, replay_text,
+};
 use scenario::Scenario;
 use std::alloc::Global;
 use std::process::Abort;
@@ -42,12 +45,6 @@ const LATE_PUTS: [&str; 24] = [
     "response 0 1 = moved",
     "response 0 0 = store 1 3",
 ];
-
-/// A load that is told another value than the one stored.
-const ANOTHER_VALUE: &str =
-    "msi-recording 2\nprotocol msi\nshape 2 1\nseats 2\nopening 0\ncells 0\nentries 8\n\
-    by 0 ask 0 0 store 7 = sent\nby 0 request 0 0 = moved\nby 0 response 0 0 = store 0 7\nby 1 ask 1 0 load = sent\nby 0 request 0 0 = moved\n\
-    by 0 forward 0 0 = moved\nby 0 response 0 0 = load 1 6\nby 0 response 0 0 = moved\nend\n";
 
 fn setup(alloc: Global, caches: u32, limit: u32) -> Result<Setup, Fail> {
     let shape = Shape::new(caches, 1)?;
@@ -344,15 +341,22 @@ fn replayed_at_last(alloc: Global, recording: &Recording) -> Option<ReplayFault>
     }
 }
 
-/// Compares why a replay of a recording that tells another value fails.
-fn differs(rt: &impl Abort, alloc: Global, recording: &Recording) {
+/// Why a replay of a recording that tells another value fails.
+fn another_value() -> ReplayFault {
     let cache = CacheId(1);
-    let wanted = ReplayFault::Differs {
+    ReplayFault::Differs {
         entry: 6,
         told: Outcome::Load { cache, value: 6 },
         found: Outcome::Load { cache, value: 7 },
-    };
-    same(rt, &replayed_at_last(alloc, recording), &Some(wanted));
+    }
+}
+
+fn differs(rt: &impl Abort, alloc: Global, recording: &Recording) {
+    same(
+        rt,
+        &replayed_at_last(alloc, recording),
+        &Some(another_value()),
+    );
 }
 
 #[test]
@@ -360,6 +364,24 @@ fn a_recording_is_read_and_replayed(rt: HostRuntime) {
     let recording = read_at_last(&rt, rt.alloc(), ANOTHER_VALUE);
     same(&rt, &recording.entries().len(), &8);
     differs(&rt, rt.alloc(), &recording);
+}
+
+/// Replays a text, at the second call where the first one is refused memory.
+fn text_replayed_at_last(rt: &impl Abort, alloc: Global, text: &str) -> Option<TextFault> {
+    let mut source = text.as_bytes();
+    match replay_text(alloc, &mut source).err() {
+        Some(TextFault::Read(fault)) => is_no_memory(rt, fault),
+        Some(TextFault::Replay(ReplayFault::NoMemory)) => {}
+        fault => return fault,
+    }
+    let mut source = text.as_bytes();
+    replay_text(alloc, &mut source).err()
+}
+
+#[test]
+fn a_text_is_replayed(rt: HostRuntime) {
+    let fault = text_replayed_at_last(&rt, rt.alloc(), ANOTHER_VALUE);
+    same(&rt, &fault, &Some(TextFault::Replay(another_value())));
 }
 
 /// Adds an entry, at the second call where the first one is refused memory and changes nothing.

@@ -1,5 +1,5 @@
 -- What has been read of a recording, line by line. Only private clauses cite this file.
-use Rattle.std.specs.Prelude.{◌≡◌, ℕ, ◌+◌, ◌<◌, ◌≤◌, List, [], ◌∷◌, ◌++◌, All, length, map}
+use Rattle.std.specs.Prelude.{◌≡◌, ℕ, ◌+◌, ◌<◌, ◌≤◌, List, [], ◌∷◌, ◌++◌, All, Option, Some, None, length, map}
 use Rattle.std.specs.Vec.{vec_capacity}
 use Rattle.base.specs.Extent.{Extent, IsWithinLimits}
 use Rattle.base.specs.declared.controller.protocol.Protocol.TheVariants.{Msi}
@@ -40,7 +40,7 @@ recorded r = record {
   owners = r.owners;
 }
 
--- what a draft keeps
+-- what a draft keeps, where no entry was read
 abbrev pub kept : Draft → Kept
 kept draft = record {
   version = draft.version;
@@ -48,8 +48,20 @@ kept draft = record {
   shape = draft.shape;
   tables = draft.tables;
   opening = draft.opening.items;
-  entries = draft.entries.items;
-  owners = draft.owners.items;
+  entries = [];
+  owners = [];
+}
+
+-- a recording with these entries, and these owners
+abbrev pub with_told : Kept → List Entry → List ℕ → Kept
+with_told r entries owners = record {
+  version = r.version;
+  seats = r.seats;
+  shape = r.shape;
+  tables = r.tables;
+  opening = r.opening;
+  entries = entries;
+  owners = owners;
 }
 
 -- the lines up to the cells that were read, of so many
@@ -139,11 +151,37 @@ pub record IsTaken (due : Due) (old : Kept) (line : List (List ℕ)) (next : Due
   pub before : lines_before next new ≡ lines_before due old ++ line ∷ []
   pub read : IsReadTo next new
 
--- there is room for the opening values, and for so many entries more
-pub record HasRoom (draft : Draft) (more : ℕ) : Type 0 where
-  pub opening : 65536 ≤ vec_capacity draft.opening
-  pub entries : length draft.entries.items + more ≤ vec_capacity draft.entries
-  pub owners : length draft.owners.items + more ≤ vec_capacity draft.owners
+-- of which recording those that take the entries have to tell: of none until their number is known
+abbrev pub told_at : Due → Kept → Option RecordingView
+told_at (EntryLine f left) r = Some (recorded r)
+told_at (EndLine f) r = Some (recorded r)
+told_at Nothing r = Some (recorded r)
+told_at due r = None
+
+-- a recording has been read up to the line that is due: a draft keeps what stands in front of its entries, and of these others tell
+pub record HasRead {N : Type 0} (tells : N → Option RecordingView → Type 0) (due : Due) (draft : Draft) (entries : N) (r : Kept) : Type 0 where
+  pub head : r ≡ with_told (kept draft) r.entries r.owners
+  pub read : IsReadTo due r
+  pub told : tells entries (told_at due r)
+
+-- the line of these words was due, and was taken: then the next is due, and so much has been read
+pub record HasTakenLine {N : Type 0} (tells : N → Option RecordingView → Type 0) (due : Due) (old : Kept) (line : List (List ℕ)) (next : Due) (draft : Draft)
+    (entries : N) : Type 0 where
+  pub new : Kept
+  pub taken : IsTaken due old line next new
+  pub read : HasRead tells next draft entries new
+
+-- an entry's line was taken
+pub record HasTakenEntry {N : Type 0} (tells : N → Option RecordingView → Type 0) (due : Due) (old : Kept) (line : List (List ℕ)) (next : Due)
+    (entries : N) : Type 0 where
+  pub all : List Entry
+  pub owners : List ℕ
+  pub taken : IsTaken due old line next (with_told old all owners)
+  pub told : tells entries (Some (recorded (with_told old all owners)))
+
+-- there is room for the opening values
+abbrev pub HasRoom : Draft → Type 0
+HasRoom draft = 65536 ≤ vec_capacity draft.opening
 
 -- at most so many lines are still to come
 abbrev pub lines_left : Due → ℕ

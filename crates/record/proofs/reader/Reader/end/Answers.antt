@@ -10,27 +10,33 @@ returns-clause-ok g c =
 
 pub returns-clause-pulled : goal.returns-clause-pulled
 returns-clause-pulled g c =
+    let tells = g.N.Entries.tells in
     let left = g.S.Source.left c.args.source.now in
     let old = c.args.self.now in
     let none = none-if c.are_bytes_ahead.result _ (search rules) c.are_bytes_ahead.ensures in
-    pulled-more left left _ old old _ old.lines (none-pulled left old) refl none c.pull.ensures.line c.pull.ensures.bytes c.pull.ensures.number refl refl
+    pulled-more tells left left _ old old _ old.lines (none-pulled tells left old) refl none c.pull.ensures.line c.pull.ensures.bytes
+    c.pull.ensures.number refl refl (λ r t. t)
 
 pub returns-in_err-pull-clause-pulled : goal.returns-in_err-pull-clause-pulled
 returns-in_err-pull-clause-pulled g c =
+    let tells = g.N.Entries.tells in
     let left = g.S.Source.left c.args.source.now in
     let old = c.args.self.now in
     let none = none-if c.are_bytes_ahead.result _ (search rules) c.are_bytes_ahead.ensures in
-    pulled-more left left _ old old _ old.lines (none-pulled left old) refl none c.pull.ensures.line c.pull.ensures.bytes c.pull.ensures.number refl refl
+    pulled-more tells left left _ old old _ old.lines (none-pulled tells left old) refl none c.pull.ensures.line c.pull.ensures.bytes
+    c.pull.ensures.number refl refl (λ r t. t)
 
 pub returns-then-branch-clause-pulled : goal.returns-then-branch-clause-pulled
 returns-then-branch-clause-pulled g c =
+    let tells = g.N.Entries.tells in
     let left = g.S.Source.left c.args.source.now in
     let old = c.args.self.now in
     let none = none-if c.are_bytes_ahead.result _ (search rules) c.are_bytes_ahead.ensures in
-    pulled-more left left _ old old _ old.lines (none-pulled left old) refl none c.pull.ensures.line c.pull.ensures.bytes c.pull.ensures.number refl refl
+    pulled-more tells left left _ old old _ old.lines (none-pulled tells left old) refl none c.pull.ensures.line c.pull.ensures.bytes
+    c.pull.ensures.number refl refl (λ r t. t)
 
 pub returns-then-are_bytes_ahead-clause-pulled : goal.returns-then-are_bytes_ahead-clause-pulled
-returns-then-are_bytes_ahead-clause-pulled g c = none-pulled (g.S.Source.left c.args.source.now) c.args.self.now
+returns-then-are_bytes_ahead-clause-pulled g c = none-pulled g.N.Entries.tells (g.S.Source.left c.args.source.now) c.args.self.now
 
 pub returns-then-branch-clause-err : goal.returns-then-branch-clause-err
 returns-then-branch-clause-err g c =

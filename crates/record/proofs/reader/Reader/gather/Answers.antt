@@ -4,7 +4,7 @@ use Rattle.record.specs.declared.due.Due.TheVariants.{Nothing}
 use Rattle.record.specs.declared.fault.ReadKind.TheVariants.{Device, NoMemory}
 use Rattle.record.specs.Refused.{limit, IsUnfinished}
 use Rattle.record.specs.inner.Reading.{pending}
-use Rattle.record.proofs.Drafting.{less-room, ready-gathered}
+use Rattle.record.proofs.Telling.{ready-gathered}
 use Rattle.record.proofs.Exits.{handed-on}
 use Rattle.record.proofs.Steps.{none-if, none-pulled, not-whole, some-if, pulled-gathered, pulled-more, then-longer, unfinished}
 use Rattle.record.proofs.reader.Reader.gather.Goals as goal
@@ -27,21 +27,24 @@ returns-in_err-pull-clause-err g c =
 pub returns-in_err-pull-clause-pulled : goal.returns-in_err-pull-clause-pulled
 returns-in_err-pull-clause-pulled g c =
     let none = not-whole c.in_ok-gather.field-0 _ (search rules) c.in_ok-gather.ensures.ok in
-    pulled-more _ (g.S.Source.left c.loop-self.source) _ c.args.self.now c.loop-self.self _ c.gather.new.self c.loop-self.invariant.pulled
-    c.gather.ensures.kept none c.pull.ensures.line c.pull.ensures.bytes (c.pull.ensures.number ∙ c.gather.ensures.number) refl c.reserve.ensures.kept
+    pulled-more g.N.Entries.tells _ (g.S.Source.left c.loop-self.source) _ c.args.self.now c.loop-self.self _ c.gather.new.self c.loop-self.invariant.pulled
+    c.gather.ensures.kept none c.pull.ensures.line c.pull.ensures.bytes (c.pull.ensures.number ∙ c.gather.ensures.number) refl refl
+    c.reserve.ensures.told
 
 pub returns-in_err-gather-clause-pulled : goal.returns-in_err-gather-clause-pulled
 returns-in_err-gather-clause-pulled g c =
-    pulled-gathered _ _ c.args.self.now c.loop-self.self _ c.loop-self.invariant.pulled c.gather.ensures.kept c.gather.ensures.number refl refl
+    pulled-gathered g.N.Entries.tells _ _ c.args.self.now c.loop-self.self _ c.loop-self.invariant.pulled c.gather.ensures.kept
+    c.gather.ensures.number refl refl (λ r t. t)
 
 pub returns-in_err-reserve-clause-pulled : goal.returns-in_err-reserve-clause-pulled
 returns-in_err-reserve-clause-pulled g c =
-    pulled-gathered _ _ c.args.self.now c.loop-self.self _ c.loop-self.invariant.pulled c.gather.ensures.kept c.gather.ensures.number refl
-    c.reserve.ensures.kept
+    pulled-gathered g.N.Entries.tells _ _ c.args.self.now c.loop-self.self _ c.loop-self.invariant.pulled c.gather.ensures.kept
+    c.gather.ensures.number refl refl c.reserve.ensures.told
 
 pub returns-clause-pulled : goal.returns-clause-pulled
 returns-clause-pulled g c =
-    pulled-gathered _ _ c.args.self.now c.loop-self.self _ c.loop-self.invariant.pulled c.gather.ensures.kept c.gather.ensures.number refl refl
+    pulled-gathered g.N.Entries.tells _ _ c.args.self.now c.loop-self.self _ c.loop-self.invariant.pulled c.gather.ensures.kept
+    c.gather.ensures.number refl refl (λ r t. t)
 
 pub returns-then-not-branch-2-clause-err : goal.returns-then-not-branch-2-clause-err
 returns-then-not-branch-2-clause-err g c =
@@ -53,8 +56,9 @@ returns-then-not-branch-2-clause-err g c =
 pub returns-then-not-branch-2-clause-pulled : goal.returns-then-not-branch-2-clause-pulled
 returns-then-not-branch-2-clause-pulled g c =
     let none = not-whole c.in_ok-gather.field-0 _ (search rules) c.in_ok-gather.ensures.ok in
-    pulled-more _ (g.S.Source.left c.loop-self.source) _ c.args.self.now c.loop-self.self _ c.gather.new.self c.loop-self.invariant.pulled
-    c.gather.ensures.kept none c.pull.ensures.line c.pull.ensures.bytes (c.pull.ensures.number ∙ c.gather.ensures.number) refl c.reserve.ensures.kept
+    pulled-more g.N.Entries.tells _ (g.S.Source.left c.loop-self.source) _ c.args.self.now c.loop-self.self _ c.gather.new.self c.loop-self.invariant.pulled
+    c.gather.ensures.kept none c.pull.ensures.line c.pull.ensures.bytes (c.pull.ensures.number ∙ c.gather.ensures.number) refl refl
+    c.reserve.ensures.told
 
 pub loop-self-smaller : goal.loop-self-smaller
 loop-self-smaller g c =
@@ -66,21 +70,21 @@ loop-self-smaller g c =
 pub loop-self-preserved : goal.loop-self-preserved
 loop-self-preserved g c =
     let none = not-whole c.in_ok-gather.field-0 _ (search rules) c.in_ok-gather.ensures.ok in
-    let room = c.in_ok-reserve.ensures.ok (less-room c.loop-self.self.draft _ 0 (omega arith) c.loop-self.invariant.ready.room) in
+    let space = c.in_ok-reserve.ensures.ok (c.loop-self.invariant.ready.space 0 (omega arith)) in
     let number = c.pull.ensures.number ∙ c.gather.ensures.number in
     let more : c.loop-self.self.due ≢ Nothing = λ done. c.requires.more (sym c.loop-self.invariant.pulled.due ∙ done) in
     record {
       ready =
-          ready-gathered c.loop-self.self _ c.loop-self.invariant.ready more refl c.reserve.ensures.kept number
-          (less-room c.reserve.new.self 4096 _ c.pull.ensures.few room)
+          ready-gathered g.N.Entries.has_room c.loop-self.self _ c.loop-self.invariant.ready more refl refl number
+          (λ n low. space n (omega (arith, low, c.pull.ensures.few)))
           (omega (arith, ap length c.pull.ensures.line, c.gather.ensures.short, c.limit.ensures.limit));
       pulled =
-          pulled-more _ (g.S.Source.left c.loop-self.source) _ c.args.self.now c.loop-self.self _ c.gather.new.self c.loop-self.invariant.pulled
-          c.gather.ensures.kept none c.pull.ensures.line c.pull.ensures.bytes number refl c.reserve.ensures.kept;
+          pulled-more g.N.Entries.tells _ (g.S.Source.left c.loop-self.source) _ c.args.self.now c.loop-self.self _ c.gather.new.self
+          c.loop-self.invariant.pulled c.gather.ensures.kept none c.pull.ensures.line c.pull.ensures.bytes number refl refl c.reserve.ensures.told;
     }
 
 pub loop-self-init : goal.loop-self-init
-loop-self-init g c = record { ready = c.requires.ready; pulled = none-pulled _ c.args.self.now }
+loop-self-init g c = record { ready = c.requires.ready; pulled = none-pulled g.N.Entries.tells _ c.args.self.now }
 
 pub returns-in_err-gather-clause-ok : goal.returns-in_err-gather-clause-ok
 returns-in_err-gather-clause-ok g c = grind (arith, common_steps)

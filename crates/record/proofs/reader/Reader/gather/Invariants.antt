@@ -6,8 +6,8 @@ use Rattle.record.proofs.reader.Reader.gather.Given as goal
 
 abbrev pub invariant-loop-self : goal.invariant-loop-self
 invariant-loop-self g l = record {
-  ready : IsReady l.self;
-  pulled : HasPulled (g.S.Source.left l.fn.source) (g.S.Source.left l.source) l.fn.self l.self;
+  ready : IsReady g.N.Entries.has_room l.self;
+  pulled : HasPulled g.N.Entries.tells (g.S.Source.left l.fn.source) (g.S.Source.left l.source) l.fn.self l.self;
 }
 
 abbrev pub decreases-loop-self : goal.decreases-loop-self

@@ -3,7 +3,7 @@ use Rattle.std.proofs.lemmas.Grind.{common_steps}
 use Rattle.std.proofs.lemmas.Result.{IfErr-weaker, on_ok_weaker}
 use Rattle.record.specs.declared.due.Due.TheVariants.{Header, Nothing}
 use Rattle.record.specs.Refused.{IsFaultOfRest, IsRefused}
-use Rattle.record.specs.inner.Drafts.{kept, lines_left, IsReadTo}
+use Rattle.record.specs.inner.Drafts.{lines_left}
 use Rattle.record.specs.inner.Reading.{Gathered, pending}
 use Rattle.record.proofs.Exits.{handed-on}
 use Rattle.record.proofs.Steps.{fewer-left, line-fault, taken-text, taken-whole, then-gathered, then-refused, then-taken}
@@ -14,23 +14,27 @@ returns-in_err-gather-clause-fault g c =
     let left = g.S.Source.left c.gather.new.source in
     let kind = c.in_err-gather.field-0.0 in
     let new = c.gather.new.self in
-    let taken = then-gathered _ _ left c.loop-self.self new c.loop-self.invariant.taken c.gather.ensures.pulled in
+    let taken = then-gathered g.N.Entries.tells _ _ left c.loop-self.self new c.loop-self.invariant.reading c.gather.ensures.pulled in
     handed-on c.from_residual.result _ _ _ c.from_residual.ensures.1
-    (then-refused _ left new kind taken
+    (then-refused g.N.Entries.tells _ left new kind taken
     (subst (λ d. IsFaultOfRest d (pending new.lines) left kind) (sym c.gather.ensures.pulled.due) c.in_err-gather.ensures.err))
 
 pub loop-self-smaller : goal.loop-self-smaller
 loop-self-smaller g c =
+    let taken =
+    then-gathered g.N.Entries.tells _ _ (g.S.Source.left c.gather.new.source) c.loop-self.self c.gather.new.self c.loop-self.invariant.reading
+    c.gather.ensures.pulled in
     subst (λ d. lines_left c.accept.new.self.due < lines_left d) c.gather.ensures.pulled.due
-    (fewer-left c.gather.new.self.due _ c.accept.new.self.due c.in_ok-accept.ensures.ok.leads)
+    (fewer-left c.gather.new.self.due _ c.accept.new.self.due (c.in_ok-accept.ensures.ok taken.recording taken.read).taken.leads)
 
 pub loop-self-preserved : goal.loop-self-preserved
 loop-self-preserved g c =
     let left = g.S.Source.left c.gather.new.source in
-    let taken = then-gathered _ _ left c.loop-self.self c.gather.new.self c.loop-self.invariant.taken c.gather.ensures.pulled in
+    let taken = then-gathered g.N.Entries.tells _ _ left c.loop-self.self c.gather.new.self c.loop-self.invariant.reading c.gather.ensures.pulled in
     record {
-      taken =
-          then-taken _ left c.gather.new.self c.accept.new.self taken c.in_ok-accept.ensures.ok c.in_ok-accept.ensures.off;
+      reading =
+          then-taken g.N.Entries.tells _ left c.gather.new.self c.accept.new.self taken (c.in_ok-accept.ensures.ok taken.recording taken.read)
+          c.in_ok-accept.ensures.off;
       ready = c.in_ok-accept.ensures.ready;
     }
 
@@ -40,32 +44,25 @@ returns-in_err-accept-clause-fault g c =
     let kind = c.in_err-accept.field-0.0 in
     let new = c.gather.new.self in
     let line = c.in_ok-gather.ensures.ok in
-    let taken = then-gathered _ _ left c.loop-self.self new c.loop-self.invariant.taken c.gather.ensures.pulled in
+    let taken = then-gathered g.N.Entries.tells _ _ left c.loop-self.self new c.loop-self.invariant.reading c.gather.ensures.pulled in
     handed-on c.from_residual-in_err-accept.result _ _ _ c.from_residual-in_err-accept.ensures.1
     (subst (λ (l : Gathered). IsRefused (g.S.Source.left c.args.source.now) left 0 Header (l.number + 1) kind) (sym c.in_err-accept.ensures.lines)
-    (then-refused _ left new kind taken
+    (then-refused g.N.Entries.tells _ left new kind taken
     (line-fault new.due new.lines.line new.lines.ahead line.whole.0 left kind line.whole.1 line.no_end line.short c.in_err-accept.ensures.err)))
 
 pub returns-clause-text : goal.returns-clause-text
 returns-clause-text g c =
     let left = g.S.Source.left c.end.new.source in
-    let taken = then-gathered _ _ left c.loop-self.self c.end.new.self c.loop-self.invariant.taken c.end.ensures.pulled in
+    let taken = then-gathered g.N.Entries.tells _ _ left c.loop-self.self c.end.new.self c.loop-self.invariant.reading c.end.ensures.pulled in
     let done : c.loop-self.self.due ≡ Nothing = search rules in
-    on_ok_weaker c.end.result (λ end. taken-text _ left c.end.new.self taken (c.end.ensures.pulled.due ∙ done) end.1) c.end.ensures.ok
+    on_ok_weaker c.end.result (λ end. taken-text g.N.Entries.tells _ left c.end.new.self taken (c.end.ensures.pulled.due ∙ done) end.1) c.end.ensures.ok
 
 pub returns-clause-whole : goal.returns-clause-whole
 returns-clause-whole g c =
     let left = g.S.Source.left c.end.new.source in
-    let taken = then-gathered _ _ left c.loop-self.self c.end.new.self c.loop-self.invariant.taken c.end.ensures.pulled in
+    let taken = then-gathered g.N.Entries.tells _ _ left c.loop-self.self c.end.new.self c.loop-self.invariant.reading c.end.ensures.pulled in
     let done : c.loop-self.self.due ≡ Nothing = search rules in
-    on_ok_weaker c.end.result (λ end. taken-whole _ left c.end.new.self taken (c.end.ensures.pulled.due ∙ done) end.1 end.0) c.end.ensures.ok
-
-pub returns-clause-read : goal.returns-clause-read
-returns-clause-read g c =
-    let done : c.loop-self.self.due ≡ Nothing = search rules in
-    on_ok_weaker c.end.result
-    (λ end. subst (IsReadTo Nothing) (sym c.end.ensures.pulled.kept)
-    (subst (λ d. IsReadTo d (kept c.loop-self.self.draft)) done c.loop-self.invariant.ready.read)) c.end.ensures.ok
+    on_ok_weaker c.end.result (λ end. taken-whole g.N.Entries.tells _ left c.end.new.self taken (c.end.ensures.pulled.due ∙ done) end.1 end.0) c.end.ensures.ok
 
 pub returns-clause-fault : goal.returns-clause-fault
 returns-clause-fault g c =
@@ -73,9 +70,10 @@ returns-clause-fault g c =
     let new = c.end.new.self in
     let at : c.loop-self.self.due ≡ Nothing = search rules in
     let done : new.due ≡ Nothing = c.end.ensures.pulled.due ∙ at in
-    let taken = then-gathered _ _ left c.loop-self.self new c.loop-self.invariant.taken c.end.ensures.pulled in
+    let taken = then-gathered g.N.Entries.tells _ _ left c.loop-self.self new c.loop-self.invariant.reading c.end.ensures.pulled in
     IfErr-weaker c.end.result _ _
-    (λ kind fault. then-refused _ left new kind taken (subst (λ d. IsFaultOfRest d (pending new.lines) left kind) (sym done) fault)) c.end.ensures.err
+    (λ kind fault. then-refused g.N.Entries.tells _ left new kind taken
+    (subst (λ d. IsFaultOfRest d (pending new.lines) left kind) (sym done) fault)) c.end.ensures.err
 
 pub loop-self-init : goal.loop-self-init
 loop-self-init g c = grind (arith, common_steps)
@@ -85,9 +83,6 @@ returns-in_err-gather-clause-text g c = grind (arith, common_steps)
 
 pub returns-in_err-gather-clause-whole : goal.returns-in_err-gather-clause-whole
 returns-in_err-gather-clause-whole g c = grind (arith, common_steps)
-
-pub returns-in_err-gather-clause-read : goal.returns-in_err-gather-clause-read
-returns-in_err-gather-clause-read g c = grind (arith, common_steps)
 
 pub returns-in_err-gather-clause-device : goal.returns-in_err-gather-clause-device
 returns-in_err-gather-clause-device g c = grind (arith, common_steps)
@@ -101,9 +96,6 @@ returns-in_err-accept-clause-text g c = grind (arith, common_steps)
 pub returns-in_err-accept-clause-whole : goal.returns-in_err-accept-clause-whole
 returns-in_err-accept-clause-whole g c = grind (arith, common_steps)
 
-pub returns-in_err-accept-clause-read : goal.returns-in_err-accept-clause-read
-returns-in_err-accept-clause-read g c = grind (arith, common_steps)
-
 pub returns-in_err-accept-clause-device : goal.returns-in_err-accept-clause-device
 returns-in_err-accept-clause-device g c = grind (arith, common_steps)
 
@@ -115,3 +107,10 @@ returns-clause-device g c = grind (arith, common_steps)
 
 pub returns-clause-few : goal.returns-clause-few
 returns-clause-few g c = grind (arith, common_steps)
+
+pub accept-requires-clause-read : goal.accept-requires-clause-read
+accept-requires-clause-read g c =
+    let taken =
+    then-gathered g.N.Entries.tells _ _ (g.S.Source.left c.gather.new.source) c.loop-self.self c.gather.new.self c.loop-self.invariant.reading
+    c.gather.ensures.pulled in
+    (taken.recording, taken.read)

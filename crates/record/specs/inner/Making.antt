@@ -1,0 +1,28 @@
+-- How far the entries of a text have been made. Only private clauses cite this file.
+use Rattle.std.specs.Prelude.{◌≡◌, ℕ, Option, Some, None, length}
+use Rattle.record.specs.Replaying.{FaultOf}
+use Rattle.record.specs.View.{RecordingView}
+use Rattle.record.specs.declared.making.MadeEntries.{MadeEntries}
+use Rattle.record.specs.declared.making.Run.{Run}
+use Rattle.record.specs.declared.making.Stage.{Stage}
+use Rattle.record.specs.declared.making.Stage.TheVariants.{Closed, Same, Refused}
+use Rattle.record.specs.inner.SoFar.{IsSoFar}
+
+-- all entries of a recording have been made as they are told
+abbrev pub HasMade : RecordingView → Run → Type 0
+HasMade r run = IsSoFar r r.entries run.world run.watch run.violation
+
+-- so far the entries of a recording have been made; behind the first that differs none is
+abbrev pub HasCome : RecordingView → Stage → Type 0
+HasCome r Closed = ⊥
+HasCome r (Same run) = HasMade r run
+HasCome r (Refused fault) = FaultOf r fault
+
+-- entries that are made are those of this recording; where no recording is told of yet, there are none
+abbrev pub has_made : MadeEntries → Option RecordingView → Type 0
+has_made made None = made.count ≡ 0
+has_made made (Some r) = (made.count ≡ length r.entries) × HasCome r made.stage
+
+-- they need no room
+abbrev pub needs_none : MadeEntries → ℕ → Type 0
+needs_none made more = Unit {0}

@@ -1,0 +1,168 @@
+//! Entries that are made as they are read.
+
+use crate::entries::Entries;
+use crate::recording::Entry;
+use crate::replaying::ReplayFault;
+use crate::told::Told;
+use base::{NoMemory, Shape};
+use both_tables::Tables;
+use monitor::{Violation, Watch};
+use std::alloc::Global;
+use world::World;
+
+/// A replay on its way: a world and a watch that have seen the same steps, and the first violation.
+#[derive(Drop)]
+pub(crate) struct Run {
+    world: World,
+    watch: Watch,
+    violation: Option<(u64, Violation)>,
+}
+
+impl Run {
+    ghost use Rattle.std.specs.Prelude.{◌≡◌, ℕ, Option, IfOk, IfErr, OnOk, length};
+    ghost use Rattle.record.specs.Replaying.{FaultOf};
+    ghost use Rattle.record.specs.View.{RecordingView, opened_of, with_owned};
+    ghost use Rattle.record.specs.inner.Making.{HasMade};
+
+    /// A replay of no step yet.
+    fn open(alloc: Global, shape: Shape, tables: Tables, opening: &[u64]) -> Result<Run, NoMemory>
+        ensures { IfOk result (λ run. (seats : ℕ) → HasMade (opened_of seats shape tables opening.now) run) }
+    {
+        let values = Vec::from_slice(alloc, opening)?;
+        let Ok(world) = World::open(alloc, shape, tables, values) else {
+            return Err(NoMemory);
+        };
+        let watch = Watch::open(alloc, opening)?;
+        Ok(Run {
+            world,
+            watch,
+            violation: None,
+        })
+    }
+
+    /// Makes the step of the entry of this number, and sees whether it has the outcome that is told.
+    fn make(&mut self, number: u64, entry: Entry) -> Result<(), ReplayFault>
+        ensures ok { (r : RecordingView) (owner : Option ℕ) → number ≡ length r.entries → HasMade r self.old →
+            OnOk result (HasMade (with_owned r entry owner) self.new) }
+        ensures differs { (r : RecordingView) (owner : Option ℕ) → number ≡ length r.entries → HasMade r self.old →
+            IfErr result (FaultOf (with_owned r entry owner)) }
+    {
+        let Ok(made) = self.world.make(entry.step) else {
+            return Err(ReplayFault::NoMemory);
+        };
+        let seen = self.watch.see_made(&self.world, entry.step, &made);
+        self.violation = self.violation.or(Some(number).zip(seen));
+        let found = made.outcome;
+        if found != entry.outcome {
+            return Err(ReplayFault::Differs {
+                entry: number,
+                told: entry.outcome,
+                found,
+            });
+        }
+        Ok(())
+    }
+}
+
+/// How far the entries of a text have been made.
+#[derive(Drop)]
+pub(crate) enum Stage {
+    /// The entries aren't due yet.
+    Closed,
+    /// All that were read had the outcomes that are told.
+    Same(Run),
+    /// There is no replay, whatever entries follow.
+    Refused(ReplayFault),
+}
+
+impl Stage {
+    ghost use Rattle.std.specs.Prelude.{ℕ};
+    ghost use Rattle.record.specs.View.{opened_of};
+    ghost use Rattle.record.specs.inner.Making.{HasCome};
+
+    /// No entry was read yet.
+    fn open(alloc: Global, shape: Shape, tables: Tables, opening: &[u64]) -> Stage
+        ensures { (seats : ℕ) → HasCome (opened_of seats shape tables opening.now) result }
+    {
+        match Run::open(alloc, shape, tables, opening) {
+            Ok(run) => Stage::Same(run),
+            Err(NoMemory) => Stage::Refused(ReplayFault::NoMemory),
+        }
+    }
+}
+
+/// Entries of which each is made as it is read, and none is kept.
+#[derive(Drop)]
+pub(crate) struct MadeEntries {
+    alloc: Global,
+    count: u32,
+    stage: Stage,
+}
+
+impl MadeEntries {
+    ghost use Rattle.std.specs.Prelude.{◌≡◌, Some, None, IfOk, IfErr, length};
+    ghost use Rattle.monitor.specs.Violations.{AnswersFirst};
+    ghost use Rattle.record.specs.Replaying.{FaultOf};
+    ghost use Rattle.record.specs.View.{RecordingView, IsLegal, steps_of};
+    ghost use Rattle.record.specs.inner.Making.{has_made};
+
+    /// No entries yet. It takes no memory.
+    pub(crate) fn new(alloc: Global) -> MadeEntries
+        ensures { has_made result None }
+    {
+        MadeEntries {
+            alloc,
+            count: 0,
+            stage: Stage::Closed,
+        }
+    }
+
+    /// How many entries there were.
+    pub(crate) fn count(&self) -> u32
+        ensures { (r : RecordingView) → has_made self.now (Some r) → result ≡ length r.entries }
+    {
+        self.count
+    }
+
+    /// The first violation, or why there is no replay.
+    pub(crate) fn first_violation(self) -> Result<Option<(u64, Violation)>, ReplayFault>
+        requires told { (r : RecordingView) × has_made self (Some r) }
+        ensures legal { (r : RecordingView) → has_made self (Some r) → IfOk result (λ violation. IsLegal r) }
+        ensures violation { (r : RecordingView) → has_made self (Some r) →
+            IfOk result (λ violation. AnswersFirst r.shape r.tables r.opening (steps_of r) violation) }
+        ensures differs { (r : RecordingView) → has_made self (Some r) → IfErr result (FaultOf r) }
+    {
+        match self.stage {
+            Stage::Closed => unreachable!(),
+            Stage::Same(run) => Ok(run.violation),
+            Stage::Refused(fault) => Err(fault),
+        }
+    }
+}
+
+impl Entries for MadeEntries {
+    ghost use Rattle.record.specs.inner.Making.{has_made, needs_none};
+
+    ghost tells = { has_made };
+
+    ghost has_room = { needs_none };
+
+    fn reserve(&mut self, _entries: usize) -> Result<(), NoMemory> {
+        Ok(())
+    }
+
+    fn open(&mut self, shape: Shape, tables: Tables, opening: &[u64]) {
+        self.stage = Stage::open(self.alloc, shape, tables, opening);
+    }
+
+    fn add(&mut self, told: Told) {
+        let number = u64::from(self.count);
+        self.count += 1;
+        let Stage::Same(run) = &mut self.stage else {
+            return;
+        };
+        if let Err(fault) = run.make(number, told.entry) {
+            self.stage = Stage::Refused(fault);
+        }
+    }
+}
