@@ -76,7 +76,8 @@ marks-stay tables lines links marks cache line new_marks new_links right re =
           ∙ sym (links_stall-at cells (slice_set lines cache line) 0 links k)
           ∙ sym (get_or-set_other new cache k mine [] e)
     ])
-    ∙ sym (links_stall-set cells (slice_set lines cache line) 0 links cache now ∙ ap (λ c. slice_set new cache (link_stalls cells (slice_set lines cache line) c now)) (zero-add cache))
+    ∙ sym (links_stall-set cells (slice_set lines cache line) 0 links cache now ∙ ap
+    (λ c. slice_set new cache (link_stalls cells (slice_set lines cache line) c now)) (zero-add cache))
     ∙ ap (links_stall cells (slice_set lines cache line) 0) (sym re.links)
 
 -- ---- a step at a line

@@ -58,7 +58,8 @@ owned_push f es os e o h lt mine = record {
 }
 
 -- one entry more, made by a step of the world that its watch has seen
-kept_push : (f : FloorId) (world new : View) (watch watch' : List ℕ) (recording : RecordingView) (os : List ℕ) (violation : Option (ℕ × Violation)) (e : Entry) (o : ℕ)
+kept_push : (f : FloorId) (world new : View) (watch watch' : List ℕ) (recording : RecordingView) (os : List ℕ) (violation : Option (ℕ × Violation))
+    (e : Entry) (o : ℕ)
     (seen : Option Violation) →
     IsKeptUp f world watch recording os violation → o < f.seats → is_its f recording.entries o e.step ≡ true →
     next world.tables world.state e.step ≡ stepped new.state e.outcome → new.shape ≡ world.shape → new.tables ≡ world.tables →

@@ -113,7 +113,8 @@ both-apart s what cores core asks completes =
     finished-apart (completed_by s what) (with_issued (put_by s what) cores) core (done-apart s what core completes)
     ∙ issued-apart (put_by s what) cores core (put-apart s what core asks)
 
-outcome-apart : (cache : CacheId) (from : Origin) (completion : Option LineCompletion) (core : ℕ) → core ≢ cache.0 → Completes (outcome_of cache from completion) core
+outcome-apart : (cache : CacheId) (from : Origin) (completion : Option LineCompletion) (core : ℕ) → core ≢ cache.0 → Completes
+    (outcome_of cache from completion) core
 outcome-apart cache origin.Core None core ne = tt
 outcome-apart cache (origin.Request i) None core ne = tt
 outcome-apart cache (origin.Head at) None core ne = tt
@@ -161,7 +162,8 @@ free-at s b (AtLine cache line input state actions from) crowded cores core g ne
     (outcome-apart cache from (line_completes input state line) core.0 apart)
 free-at s b (AtHome input state actions from) crowded cores core g ne = nothing-put s outcome.Moved cores core.0 (moved-puts-none s) refl
 
-free-in : (tables : Tables) (s : Step) (found : Option BlockState) (cores : List Core) (core : CacheId) → place_of (made_in tables s found) ≢ Some (Cache core) →
+free-in : (tables : Tables) (s : Step) (found : Option BlockState) (cores : List Core) (core : CacheId) → place_of (made_in tables s found) ≢ Some
+    (Cache core) →
     is_free (cores_after s (made_in tables s found).outcome cores) core.0 ≡ is_free cores core.0
 free-in tables s None cores core ne = nothing-put s outcome.Absent cores core.0 (none-put s outcome.Absent tt) (none-done s outcome.Absent tt)
 free-in tables s (Some b) cores core ne =

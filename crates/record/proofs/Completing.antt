@@ -25,7 +25,8 @@ use Rattle.record.specs.declared.cells.Cell.TheVariants as cell
 use Rattle.record.specs.declared.recording.Entry.{Entry}
 use Rattle.record.specs.Cells.{all_spots, cell_at, cell_words, is_known, spot_number, spot_of, FitsCell}
 use Rattle.record.specs.View.{RecordingView}
-use Rattle.record.specs.Text.{text, line, header_words, shape_words, opening_words, cells_words, entries_words, told, told_words, end_words, changed, changed_cells}
+use Rattle.record.specs.Text.{text, line, header_words, shape_words, opening_words, cells_words, entries_words, told, told_words, end_words, changed}
+use Rattle.record.specs.Text.{changed_cells}
 use Rattle.base.specs.Extent.{Extent}
 use Rattle.base.specs.declared.controller.protocol.Protocol.{Protocol}
 use Rattle.base.specs.declared.controller.protocol.Protocol.TheVariants.{Msi}
@@ -36,7 +37,8 @@ use Rattle.record.specs.declared.version.Version.{Version}
 use Rattle.record.specs.declared.version.Version.TheVariants.{One, Two}
 use Rattle.record.specs.Versions.{form, header_leads, protocol_lines, protocol_words, seats_lines, seats_words, CanTell, HasTextIn, IsShapeIn}
 use Rattle.record.proofs.Owners.{are-owners, entries-fit, entries_of, owners_of, told-of}
-use Rattle.record.specs.declared.due.Due.TheVariants.{Header, ProtocolLine, ShapeLine, SeatsLine, OpeningLine, CellCount, CellLine, EntryCount, EntryLine, EndLine, Nothing}
+use Rattle.record.specs.declared.due.Due.TheVariants.{Header, ProtocolLine, ShapeLine, SeatsLine, OpeningLine, CellCount, CellLine, EntryCount}
+use Rattle.record.specs.declared.due.Due.TheVariants.{EntryLine, EndLine, Nothing}
 use Rattle.record.specs.Grammar.{cells_due}
 use Rattle.record.specs.Grammar.{entries_due, AreValues, FitsEntry, FitsTold, Leads, Follow}
 use Rattle.record.specs.Recordable.{AreWhole, IsRecordable}

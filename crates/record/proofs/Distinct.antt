@@ -3,11 +3,14 @@ use Rattle.std.proofs.Common.{◌≡◌, ◌<◌, ◌+◌, ℕ, List, [], ◌∷
 use Rattle.std.specs.List.{flat_map}
 use Rattle.base.specs.Spelling.{words}
 use Rattle.record.specs.declared.fault.ReadKind.{ReadKind}
-use Rattle.record.specs.declared.fault.ReadKind.TheVariants.{BadHeader, BadLine, Truncated, CountDiffers, BadOutcome, OverLimit, NoMemory, Device, UnknownProtocol}
+use Rattle.record.specs.declared.fault.ReadKind.TheVariants.{BadHeader, BadLine, Truncated, CountDiffers, BadOutcome, OverLimit, NoMemory, Device}
+use Rattle.record.specs.declared.fault.ReadKind.TheVariants.{UnknownProtocol}
 use Rattle.record.specs.declared.due.Due.{Due}
-use Rattle.record.specs.declared.due.Due.TheVariants.{Header, ProtocolLine, ShapeLine, SeatsLine, OpeningLine, CellCount, CellLine, EntryCount, EntryLine, EndLine, Nothing}
+use Rattle.record.specs.declared.due.Due.TheVariants.{Header, ProtocolLine, ShapeLine, SeatsLine, OpeningLine, CellCount, CellLine, EntryCount}
+use Rattle.record.specs.declared.due.Due.TheVariants.{EntryLine, EndLine, Nothing}
 use Rattle.record.specs.Grammar.{Leads, Follow}
-use Rattle.record.specs.Refused.{IsOver, IsMiscounted, IsBadOutcome, IsUnknown, IsFaultOfLine, ended, limit, BeginsFaulty, IsTooLong, IsUnfinished, IsRefused, IsOutside}
+use Rattle.record.specs.Refused.{IsOver, IsMiscounted, IsBadOutcome, IsUnknown, IsFaultOfLine, ended, limit, BeginsFaulty, IsTooLong, IsUnfinished}
+use Rattle.record.specs.Refused.{IsRefused, IsOutside}
 use Rattle.record.proofs.Leading.{IsDue, leads-due, leads-one}
 use Rattle.record.proofs.Ending.{line-ends_in, line-ends_within, one-line_first}
 use Rattle.record.proofs.Faulting.{owned-two}

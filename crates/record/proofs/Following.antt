@@ -12,7 +12,8 @@ use Rattle.record.specs.declared.cells.Cell.{Cell}
 use Rattle.record.specs.Cells.{all_spots, cell_at, cell_words, is_known, is_same, most_cells, spot_of, spot_number}
 use Rattle.record.specs.View.{RecordingView}
 use Rattle.base.specs.Spelling.{joined}
-use Rattle.record.specs.Text.{text, lines, header_words, shape_words, opening_words, cells_words, entries_words, told, told_words, end_words, is_changed, changed, changed_cells}
+use Rattle.record.specs.Text.{text, lines, header_words, shape_words, opening_words, cells_words, entries_words, told, told_words, end_words}
+use Rattle.record.specs.Text.{is_changed, changed, changed_cells}
 use Rattle.base.specs.Extent.{Extent}
 use Rattle.base.specs.declared.controller.protocol.Protocol.{Protocol}
 use Rattle.base.specs.declared.controller.protocol.Protocol.TheVariants.{Msi, MsiE}
@@ -23,7 +24,8 @@ use Rattle.record.specs.declared.version.Version.{Version}
 use Rattle.record.specs.declared.version.Version.TheVariants.{One, Two}
 use Rattle.record.specs.Versions.{form, header_leads, shape_leads_in, most_bytes, protocol_lines, seats_lines, HasTextIn}
 use Rattle.record.proofs.Owners.{told-fit, told-length}
-use Rattle.record.specs.declared.due.Due.TheVariants.{Header, ProtocolLine, ShapeLine, SeatsLine, OpeningLine, CellCount, CellLine, EntryCount, EntryLine, EndLine, Nothing}
+use Rattle.record.specs.declared.due.Due.TheVariants.{Header, ProtocolLine, ShapeLine, SeatsLine, OpeningLine, CellCount, CellLine, EntryCount}
+use Rattle.record.specs.declared.due.Due.TheVariants.{EntryLine, EndLine, Nothing}
 use Rattle.record.specs.Grammar.{cells_due, entries_due, IsListed, FitsEntry, FitsTold}
 use Rattle.record.specs.Grammar.{Leads, Follow}
 use Rattle.record.specs.Refused.{ended, limit, AreShort, IsWellFormed}

@@ -1,5 +1,6 @@
 -- Lines that are well formed where they are due.
-use Rattle.std.proofs.Common.{◌≡◌, true, ◌≤◌, ◌<◌, ◌+◌, ◌-◌, ◌^◌, ℕ, zero, suc, List, [], ◌∷◌, Option, Some, None, get_or, length, map, refl, ap, sym, subst, ◌∙◌, arith}
+use Rattle.std.proofs.Common.{◌≡◌, true, ◌≤◌, ◌<◌, ◌+◌, ◌-◌, ◌^◌, ℕ, zero, suc, List, [], ◌∷◌, Option, Some, None, get_or, length, map, refl, ap}
+use Rattle.std.proofs.Common.{sym, subst, ◌∙◌, arith}
 use Rattle.std.proofs.Common.{codes, length-append}
 use Rattle.std.specs.List.{AllByRecursion}
 use Rattle.std.specs.Fmt.{decimal}
@@ -37,7 +38,8 @@ use Rattle.record.specs.declared.version.Version.{Version}
 use Rattle.record.specs.declared.version.Version.TheVariants.{One, Two}
 use Rattle.record.specs.Refused.{limit}
 use Rattle.record.specs.Versions.{form, header_leads, shape_leads_in, most_blocks, most_bytes, protocol_words, IsShapeIn}
-use Rattle.record.specs.declared.due.Due.TheVariants.{Header, ProtocolLine, ShapeLine, SeatsLine, OpeningLine, CellCount, CellLine, EntryCount, EntryLine, EndLine, Nothing}
+use Rattle.record.specs.declared.due.Due.TheVariants.{Header, ProtocolLine, ShapeLine, SeatsLine, OpeningLine, CellCount, CellLine, EntryCount}
+use Rattle.record.specs.declared.due.Due.TheVariants.{EntryLine, EndLine, Nothing}
 use Rattle.record.specs.Grammar.{cells_due}
 use Rattle.record.specs.Grammar.{entries_due, AreValues, FitsEntry, FitsTold, IsOwner, Leads}
 use Rattle.record.proofs.Alike.{same-spot}

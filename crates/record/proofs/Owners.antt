@@ -101,7 +101,8 @@ each-owners : (seats : ℕ) (ts : List Told) → seats ≢ 0 → AllByRecursion 
 each-owners seats [] other h = refl
 each-owners seats (t ∷ ts) other h = each-one seats t.owner (owners_of ts) (length (entries_of ts)) other h.0.0 (each-owners seats ts other h.1)
 
-within-one : (seats : ℕ) (o : Option ℕ) (ks : List ℕ) → IsOwner seats o → AllByRecursion (λ k. k < seats) ks → AllByRecursion (λ k. k < seats) (owner_list o ++ ks)
+within-one : (seats : ℕ) (o : Option ℕ) (ks : List ℕ) → IsOwner seats o → AllByRecursion (λ k. k < seats) ks → AllByRecursion (λ k. k < seats)
+    (owner_list o ++ ks)
 within-one seats None ks is h = h
 within-one seats (Some k) ks is h = (is, h)
 

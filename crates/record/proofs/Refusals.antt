@@ -5,11 +5,13 @@ use Rattle.std.specs.List.{flat_map}
 use Rattle.std.proofs.lemmas.List.{take-append-le}
 use Rattle.base.specs.Spelling.{words}
 use Rattle.record.specs.declared.fault.ReadKind.{ReadKind}
-use Rattle.record.specs.declared.fault.ReadKind.TheVariants.{BadHeader, BadLine, Truncated, CountDiffers, BadOutcome, OverLimit, NoMemory, Device, UnknownProtocol}
+use Rattle.record.specs.declared.fault.ReadKind.TheVariants.{BadHeader, BadLine, Truncated, CountDiffers, BadOutcome, OverLimit, NoMemory, Device}
+use Rattle.record.specs.declared.fault.ReadKind.TheVariants.{UnknownProtocol}
 use Rattle.record.specs.declared.due.Due.{Due}
 use Rattle.record.specs.declared.due.Due.TheVariants.{Header, Nothing}
 use Rattle.record.specs.Grammar.{Leads, Follow}
-use Rattle.record.specs.Refused.{ended, limit, HasNoEnd, IsFaultOfLine, BeginsFaulty, IsTooLong, IsUnfinished, IsFaultOfRest, IsRefused, IsWellFormed, IsOutside}
+use Rattle.record.specs.Refused.{ended, limit, HasNoEnd, IsFaultOfLine, BeginsFaulty, IsTooLong, IsUnfinished, IsFaultOfRest, IsRefused}
+use Rattle.record.specs.Refused.{IsWellFormed, IsOutside}
 use Rattle.record.proofs.Legible.{joined-open}
 use Rattle.record.proofs.Ending.{some-line, line-ends_in, line-ends_within, one-line_first}
 use Rattle.record.proofs.Leading.{IsDue, leads-line, leads-short, leads-due, leads-one}

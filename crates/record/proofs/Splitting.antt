@@ -12,13 +12,15 @@ use Rattle.base.proofs.Spellings.{behind_step}
 use Rattle.record.specs.Refused.{HasNoOutcome, IsFaultOfLine}
 use Rattle.record.specs.inner.Reading.{IsFaultOfTold, HasNoOwned, HasNoStep}
 use Rattle.record.specs.declared.fault.ReadKind.{ReadKind}
-use Rattle.record.specs.declared.fault.ReadKind.TheVariants.{BadHeader, BadLine, Truncated, CountDiffers, BadOutcome, OverLimit, NoMemory, Device, UnknownProtocol}
+use Rattle.record.specs.declared.fault.ReadKind.TheVariants.{BadHeader, BadLine, Truncated, CountDiffers, BadOutcome, OverLimit, NoMemory, Device}
+use Rattle.record.specs.declared.fault.ReadKind.TheVariants.{UnknownProtocol}
 use Rattle.record.specs.Grammar.{FitsTold}
 use Rattle.record.specs.Text.{by_words, told_words}
 use Rattle.record.proofs.Words.{spelled-text}
 
 -- behind a step no equals sign stands in front
-pub no-sign : (line : List (List ℕ)) (s : Step) (rest : List ℕ) → line ≡ step_words s ++ words rest → ((behind : List ℕ) → rest ≢ 61 ∷ 32 ∷ behind) → HasNoStep line
+pub no-sign : (line : List (List ℕ)) (s : Step) (rest : List ℕ) → line ≡ step_words s ++ words rest → ((behind : List ℕ) → rest ≢ 61 ∷ 32 ∷ behind) →
+    HasNoStep line
 no-sign line s rest is none t first others fits e =
     let same = behind_step s t (words rest) (codes "=" ∷ first ∷ others) (sym is ∙ e) in
     none (first ++ spaced others) (spelled-text rest (codes "=" ∷ first ∷ others) same)

@@ -1,7 +1,8 @@
 -- Bytes that come from a source, with those that were pulled and aren't taken yet.
 use Rattle.std.proofs.Common.{◌≡◌, Bool, true, false, ℕ, ◌+◌, ◌-◌, ◌<◌, ◌≤◌, List, [], ◌∷◌, ◌++◌, Option, Some, None, length, take, drop, get_or, suc, refl, ap}
 use Rattle.std.proofs.Common.{◌≢◌, inl, inr, sym, ◌∙◌, subst, arith, append_assoc, length-append, length-drop, take-append-drop}
-use Rattle.std.proofs.lemmas.List.{drop_more, drop-drop, drop-take, append-nil, get_or-drop, get_or-take, length-take, length-take-le, take-append-le, take-take}
+use Rattle.std.proofs.lemmas.List.{drop_more, drop-drop, drop-take, append-nil, get_or-drop, get_or-take, length-take, length-take-le}
+use Rattle.std.proofs.lemmas.List.{take-append-le, take-take}
 use Rattle.std.proofs.lemmas.Bool.{cases_lt}
 use Rattle.std.proofs.lemmas.List.Elements.{All-append, All-take}
 use Rattle.std.specs.Bool.{Decides}
@@ -78,7 +79,8 @@ pub held-length : (buffer : List ℕ) (at end : ℕ) → end ≤ length buffer �
 held-length buffer at end fits = length-take-le (end - at) (drop at buffer) (omega (arith, length-drop {A = ℕ} at buffer))
 
 -- the first of the bytes that are held, as a part of the buffer
-pub held-front : (buffer : List ℕ) (at end count : ℕ) → count ≤ end - at → take ((at + count) - at) (drop at buffer) ≡ take count (take (end - at) (drop at buffer))
+pub held-front : (buffer : List ℕ) (at end count : ℕ) → count ≤ end - at → take ((at + count) - at) (drop at buffer) ≡ take count
+    (take (end - at) (drop at buffer))
 held-front buffer at end count few =
     let n : (at + count) - at ≡ count = omega arith in
     ap (λ k. take k (drop at buffer)) n ∙ sym (take-take count (end - at) (drop at buffer) few)

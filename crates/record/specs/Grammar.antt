@@ -4,7 +4,8 @@ use Rattle.base.specs.Extent.{Extent}
 use Rattle.base.specs.Spelling.{words, FitsStep, FitsOutcome}
 use Rattle.both_tables.specs.Tables.{baseline_of}
 use Rattle.record.specs.declared.due.Due.{Due}
-use Rattle.record.specs.declared.due.Due.TheVariants.{Header, ProtocolLine, ShapeLine, SeatsLine, OpeningLine, CellCount, CellLine, EntryCount, EntryLine, EndLine, Nothing}
+use Rattle.record.specs.declared.due.Due.TheVariants.{Header, ProtocolLine, ShapeLine, SeatsLine, OpeningLine, CellCount, CellLine, EntryCount}
+use Rattle.record.specs.declared.due.Due.TheVariants.{EntryLine, EndLine, Nothing}
 use Rattle.record.specs.declared.due.Form.{Form}
 use Rattle.record.specs.declared.recording.Entry.{Entry}
 use Rattle.record.specs.declared.told.Told.{Told}

@@ -14,11 +14,13 @@ use Rattle.record.specs.declared.version.Version.{Version}
 use Rattle.record.specs.declared.version.Version.TheVariants.{One, Two}
 use Rattle.record.specs.Versions.{most_bytes, IsShapeIn}
 use Rattle.record.specs.declared.fault.ReadKind.{ReadKind}
-use Rattle.record.specs.declared.fault.ReadKind.TheVariants.{BadHeader, BadLine, Truncated, CountDiffers, BadOutcome, OverLimit, NoMemory, Device, UnknownProtocol}
+use Rattle.record.specs.declared.fault.ReadKind.TheVariants.{BadHeader, BadLine, Truncated, CountDiffers, BadOutcome, OverLimit, NoMemory, Device}
+use Rattle.record.specs.declared.fault.ReadKind.TheVariants.{UnknownProtocol}
 use Rattle.record.specs.Cells.{most_cells}
 use Rattle.record.specs.Text.{header_words, shape_words, by_words, told_words, end_words}
 use Rattle.record.specs.declared.due.Due.{Due}
-use Rattle.record.specs.declared.due.Due.TheVariants.{Header, ProtocolLine, ShapeLine, SeatsLine, OpeningLine, CellCount, CellLine, EntryCount, EntryLine, EndLine, Nothing}
+use Rattle.record.specs.declared.due.Due.TheVariants.{Header, ProtocolLine, ShapeLine, SeatsLine, OpeningLine, CellCount, CellLine, EntryCount}
+use Rattle.record.specs.declared.due.Due.TheVariants.{EntryLine, EndLine, Nothing}
 use Rattle.record.specs.Grammar.{IsOwner, FitsTold, Leads, Follow}
 
 -- a line with its end

@@ -1,5 +1,6 @@
 -- Marks beside asks, and what can be put by them.
-use Rattle.std.proofs.Common.{◌≡◌, ◌≢◌, ◌==◌, ℕ, zero, suc, ◌+◌, ◌-◌, ◌<◌, ◌≤◌, not, Bool, true, false, ◌&&◌, if◌then◌else◌, cond, List, [], ◌∷◌, ◌++◌, length, map}
+use Rattle.std.proofs.Common.{◌≡◌, ◌≢◌, ◌==◌, ℕ, zero, suc, ◌+◌, ◌-◌, ◌<◌, ◌≤◌, not, Bool, true, false, ◌&&◌, if◌then◌else◌, cond, List, [], ◌∷◌}
+use Rattle.std.proofs.Common.{◌++◌, length, map}
 use Rattle.std.proofs.Common.{take, drop, set, get_or, slice_get, Option, Some, None, IfSome, inl, inr, refl, sym, ap, ◌∙◌, subst, arith, add-one, append_assoc}
 use Rattle.std.proofs.lemmas.List.{take_more, take_more_set, drop-set-lt}
 use Rattle.std.proofs.lemmas.Bool.{cases_lt}
@@ -104,8 +105,10 @@ pub held-here : (tables : Tables) (s : State) (core : CacheId) (block : BlockId)
     is_at core block ask ≡ true → not (holds held ask.ask) ≡ is_unheld tables s ask
 held-here tables s core block held ask all here =
     ap not (all ask.ask)
-    ∙ ap (λ (c : CacheId). not (held_at tables s (step.Ask c block ask.ask))) (sym (same-core ask.core core (is-here ask.core.0 core.0 ask.block.0 block.0 here).0))
-    ∙ ap (λ (b : BlockId). not (held_at tables s (step.Ask ask.core b ask.ask))) (sym (same-block ask.block block (is-here ask.core.0 core.0 ask.block.0 block.0 here).1))
+    ∙ ap (λ (c : CacheId). not (held_at tables s (step.Ask c block ask.ask)))
+    (sym (same-core ask.core core (is-here ask.core.0 core.0 ask.block.0 block.0 here).0))
+    ∙ ap (λ (b : BlockId). not (held_at tables s (step.Ask ask.core b ask.ask)))
+    (sym (same-block ask.block block (is-here ask.core.0 core.0 ask.block.0 block.0 here).1))
   where
     is-here : (a b c d : ℕ) → ((a == b) && (c == d)) ≡ true → (a ≡ b) × (c ≡ d)
     is-here a b c d e = grind (arith, nat_tests)

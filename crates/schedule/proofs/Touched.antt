@@ -57,7 +57,8 @@ other-cache cache other ne e = ne (ap (λ n. Some (Cache (record { 0 = n }))) (s
 LineWent : Actor → BlockState → BlockState → Type 0
 LineWent actor.Home b new = Unit {0}
 LineWent (actor.Line cache before after) b new =
-    (old : Line) × (line : Line) × (slice_get b.lines cache.0 ≡ Some old) × (old.state ≡ before) × (slice_get new.lines cache.0 ≡ Some line) × (line.state ≡ after)
+    (old : Line) × (line : Line) × (slice_get b.lines cache.0 ≡ Some old) × (old.state ≡ before) × (slice_get new.lines cache.0 ≡ Some line) ×
+    (line.state ≡ after)
 
 WentIn : Option Acted → BlockState → BlockState → Type 0
 WentIn None b new = Unit {0}
@@ -174,7 +175,8 @@ went-at tables s step (Some b) acted there e =
       in-some acted e (went-in (decision_of tables step b) (place_in step b) b (is_crowded new) (decision-goes tables step b)),
     )
   where
-    in-some : (acted : Acted) → (made_in tables step (Some b)).acted ≡ Some acted → WentIn (made_in tables step (Some b)).acted b (transition tables step b).block →
+    in-some : (acted : Acted) → (made_in tables step (Some b)).acted ≡ Some acted → WentIn (made_in tables step (Some b)).acted b
+        (transition tables step b).block →
         LineWent acted.by b (transition tables step b).block
     in-some acted e w = subst (λ o. WentIn o b (transition tables step b).block) e w
 
@@ -208,7 +210,8 @@ home-only actor.Home h = refl
 home-only (actor.Line cache from to) h = absurd (h cache from to refl)
 
 -- where a cache's did, two moments agree but for that cache
-pub agree-line : (tables : Tables) (step : Step) (made : Made) (before behind : State) (acted : Acted) (cache : CacheId) (block : BlockId) (from to : CacheState)
+pub agree-line : (tables : Tables) (step : Step) (made : Made) (before behind : State) (acted : Acted) (cache : CacheId) (block : BlockId)
+    (from to : CacheState)
     (cb cn : List Core) → before.broken ≡ false → block.0 ≡ block_of step → Follows tables step made before behind cb cn → made.acted ≡ Some acted →
     acted.by ≡ actor.Line cache from to → AgreeBut (Some (Cache cache)) block.0 before behind cb cn
 agree-line tables step made before behind acted cache block from to cb cn sound here f is by =
@@ -258,7 +261,8 @@ held-at : (tables : Tables) (s : State) (core : CacheId) (block : BlockId) (line
     line_at s core.0 block.0 ≡ Some line → line.state ≡ state → HoldsIn tables.cache held state → AreHeldAt tables s core block held
 held-at tables s core block line state held sound there is all a =
     let ask : CoreAsk = record { core = core; block = block; ask = a } in
-    all a ∙ ap (stalls_in tables.cache a) (sym is) ∙ sym (asked-by-state tables ask line) ∙ ap (asked tables ask) (sym there) ∙ sym (held-by-line tables s ask sound)
+    all a ∙ ap (stalls_in tables.cache a) (sym is) ∙ sym (asked-by-state tables ask line) ∙ ap (asked tables ask) (sym there) ∙ sym
+    (held-by-line tables s ask sound)
 
 both-true : (x y : Bool) → x && y ≡ true → (x ≡ true) × (y ≡ true)
 both-true true true e = (refl, refl)
@@ -284,7 +288,8 @@ pub record HeldBoth (tables : Tables) (before behind : State) (cache : CacheId) 
   pub were : (held : HeldAsks) → HoldsIn tables.cache held from → AreHeldAt tables before cache block held
   pub are : (held : HeldAsks) → HoldsIn tables.cache held to → AreHeldAt tables behind cache block held
 
-pub held-told : (tables : Tables) (step : Step) (made : Made) (before behind : State) (acted : Acted) (cache : CacheId) (block : BlockId) (from to : CacheState) →
+pub held-told : (tables : Tables) (step : Step) (made : Made) (before behind : State) (acted : Acted) (cache : CacheId) (block : BlockId)
+    (from to : CacheState) →
     before.broken ≡ false → behind.broken ≡ false → block.0 ≡ block_of step → IsTold tables before step made behind → made.acted ≡ Some acted →
     acted.by ≡ actor.Line cache from to → HeldBoth tables before behind cache block from to
 unfolding LineWent

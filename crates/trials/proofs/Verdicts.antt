@@ -20,7 +20,8 @@ use Rattle.trials.specs.declared.verdict.Verdict.TheVariants.{Quiet, Cut, Stuck,
 use Rattle.trials.proofs.Walks.{Walks, path-walks, walk-outcomes, walk-state}
 
 -- a trial's entries lead from the first moment to its last
-pub trial-walks : (terms : Terms) (tree : Tree) (number : ℕ) (recording : RecordingView) (verdict : Verdict) (trial : IsTrial terms tree number recording verdict) →
+pub trial-walks : (terms : Terms) (tree : Tree) (number : ℕ) (recording : RecordingView) (verdict : Verdict)
+    (trial : IsTrial terms tree number recording verdict) →
     Walks terms.tables (λ k. word terms.seed number k) (first_moment terms tree) recording.entries trial.last
 trial-walks terms tree number recording verdict trial = path-walks terms tree number trial.moments recording.entries trial.last trial.path trial.at_last
 
@@ -30,7 +31,8 @@ trial-told terms tree number recording verdict trial =
     walk-outcomes terms.tables (λ k. word terms.seed number k) (first_moment terms tree) trial.last recording.entries
     (trial-walks terms tree number recording verdict trial)
 
-pub trial-state : (terms : Terms) (tree : Tree) (number : ℕ) (recording : RecordingView) (verdict : Verdict) (trial : IsTrial terms tree number recording verdict) →
+pub trial-state : (terms : Terms) (tree : Tree) (number : ℕ) (recording : RecordingView) (verdict : Verdict)
+    (trial : IsTrial terms tree number recording verdict) →
     trial.last.state ≡ state_after terms.tables (opened terms.shape terms.opening) (steps_of recording)
 trial-state terms tree number recording verdict trial =
     walk-state terms.tables (λ k. word terms.seed number k) (first_moment terms tree) trial.last recording.entries

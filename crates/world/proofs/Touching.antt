@@ -97,7 +97,8 @@ idle-wants (AtHome input next actions from) b space none = absurd (cc)
 -- where there is room at a block, kept or not, what is decided there wants nothing of the block that is kept then
 pub wants-at : (tables : Tables) (s : Step) (caches value : ℕ) (old : Option BlockView) (k : BlockView) → (IsSome old → old ≡ Some k) →
     k.state ≡ state_or caches value old →
-    HasSpaceAt (decision_of tables s (state_or caches value old)) (state_or caches value old) (space_of old) → WantsNone (decision_of tables s k.state) k.state k.space
+    HasSpaceAt (decision_of tables s (state_or caches value old)) (state_or caches value old) (space_of old) → WantsNone
+    (decision_of tables s k.state) k.state k.space
 wants-at tables s caches value None k kept same space = idle-wants _ _ _ (subst (λ b. acts (decision_of tables s b) ≡ false) (sym same) space)
 wants-at tables s caches value (Some old) k kept same space =
     let here : old ≡ k = same-view old k (kept refl) in

@@ -1,5 +1,6 @@
 -- A step at a block of a row, by what it makes of that block.
-use Rattle.std.proofs.Common.{◌≡◌, ◌∙◌, ◌<◌, ◌≤◌, ℕ, List, [], Option, None, Some, IsSome, Result, Ok, Err, IfOk, IsOk, OnErr, false, ap, inl, inr, length, refl, set, subst, sym, arith}
+use Rattle.std.proofs.Common.{◌≡◌, ◌∙◌, ◌<◌, ◌≤◌, ℕ, List, [], Option, None, Some, IsSome, Result, Ok, Err, IfOk, IsOk, OnErr, false, ap, inl, inr}
+use Rattle.std.proofs.Common.{length, refl, set, subst, sym, arith}
 use Rattle.std.proofs.lemmas.List.{get_or-set_same, length-set}
 use Rattle.base.specs.declared.fault.NoMemory.{NoMemory}
 use Rattle.base.specs.declared.step.Step.{Step}

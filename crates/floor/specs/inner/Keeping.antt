@@ -19,7 +19,8 @@ use Rattle.floor.specs.Closing.{HaveOwners}
 use Rattle.floor.specs.inner.Tokens.{keeper, sitting}
 
 -- a world, a watch, owners and a violation are those of a recording of these entries, which is legal
-pub record IsKeptUp (floor : FloorId) (world : View) (watch : List ℕ) (recording : RecordingView) (owners : List ℕ) (violation : Option (ℕ × Violation)) : Type 0 where
+pub record IsKeptUp (floor : FloorId) (world : View) (watch : List ℕ) (recording : RecordingView) (owners : List ℕ)
+    (violation : Option (ℕ × Violation)) : Type 0 where
   pub recorded_is : recording ≡ recorded_at floor recording.entries owners
   pub legal : IsLegal (recorded floor.setup recording.entries)
   pub shape : world.shape ≡ floor.setup.shape

@@ -12,7 +12,8 @@ use Rattle.record.specs.declared.recording.Entry.{Entry}
 use Rattle.record.specs.declared.version.Version.{Version}
 use Rattle.record.specs.declared.version.Version.TheVariants.{Two}
 use Rattle.record.specs.Versions.{protocol_lines, seats_lines, CanTell, IsShapeIn}
-use Rattle.record.specs.declared.due.Due.TheVariants.{Header, ProtocolLine, ShapeLine, SeatsLine, OpeningLine, CellCount, CellLine, EntryCount, EntryLine, EndLine, Nothing}
+use Rattle.record.specs.declared.due.Due.TheVariants.{Header, ProtocolLine, ShapeLine, SeatsLine, OpeningLine, CellCount, CellLine, EntryCount}
+use Rattle.record.specs.declared.due.Due.TheVariants.{EntryLine, EndLine, Nothing}
 use Rattle.record.specs.Cells.{cell_at, cell_words, spot_number}
 use Rattle.record.specs.Grammar.{AreValues, FitsEntry, Leads}
 use Rattle.record.specs.View.{AreOwners, RecordingView}

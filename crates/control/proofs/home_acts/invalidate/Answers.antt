@@ -18,7 +18,8 @@ loop-from-preserved c =
     record {
       counted = c.loop-from.invariant.counted;
       few = omega (arith, within, c.loop-from.invariant.counted);
-      links = ap (λ (w : Traffic). length w.links) c.invalidate_one.ensures.traffic ∙ links-all_sent one c.loop-from.wires.traffic ∙ c.loop-from.invariant.links;
+      links = ap (λ (w : Traffic). length w.links) c.invalidate_one.ensures.traffic ∙ links-all_sent one c.loop-from.wires.traffic
+          ∙ c.loop-from.invariant.links;
       traffic =
           ap (all_sent rest) c.invalidate_one.ensures.traffic ∙ sym (all_sent-append one rest c.loop-from.wires.traffic)
           ∙ ap (λ (ms : List Message). all_sent ms c.loop-from.wires.traffic) (sym front) ∙ c.loop-from.invariant.traffic;

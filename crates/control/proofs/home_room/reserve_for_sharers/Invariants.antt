@@ -11,7 +11,8 @@ invariant-loop-next l = record {
   few : l.next ≤ l.caches;
   traffic : l.wires.traffic ≡ l.fn.wires.traffic;
   marks : l.wires.marks ≡ l.fn.wires.marks;
-  links : (k : ℕ) → k < l.next → owns l.home.owner (record { 0 = k }) ≡ false → k ≢ l.from.0 → shares l.home.sharers k ≡ true → HasRoomOnLink k l.from l.actions l.home l.wires.room;
+  links : (k : ℕ) → k < l.next → owns l.home.owner (record { 0 = k }) ≡ false → k ≢ l.from.0 → shares l.home.sharers k ≡ true →
+      HasRoomOnLink k l.from l.actions l.home l.wires.room;
   kept : UsesRoomFor [] l.fn.wires.room l.wires.room;
 }
 

@@ -1,7 +1,8 @@
 use Rattle.std.proofs.Common.{arith, ap, length, get_or, List, ℕ}
 use Rattle.base.specs.Spelling.{words}
 use Rattle.record.proofs.Splitting.{no-sign}
-use Rattle.record.proofs.parsing.step_at_front.Goals.{then-rest-lt2-via-then-rest-lt2, then-rest-lt2-via-else-rest-lt2+then-rest-ne61, then-rest-lt2-via-else-rest-lt2+else-rest-ne61+then-rest-ne32}
+use Rattle.record.proofs.parsing.step_at_front.Goals.{then-rest-lt2-via-then-rest-lt2, then-rest-lt2-via-else-rest-lt2+then-rest-ne61}
+use Rattle.record.proofs.parsing.step_at_front.Goals.{then-rest-lt2-via-else-rest-lt2+else-rest-ne61+then-rest-ne32}
 use Rattle.record.proofs.parsing.step_at_front.Goals as goal
 
 pub returns-then-rest-lt2-clause-step : goal.returns-then-rest-lt2-clause-step

@@ -34,7 +34,8 @@ returns-clause-piece c =
     let six = c.push_number-3.ensures.text ∙ ap (λ l. l ++ (32 ∷ decimal c.from-3.result)) five in
     let seven = c.push-5.ensures.text ∙ ap (λ l. l ++ codes "\nopening") six in
     seven
-    ∙ put (10 ∷ []) (32 ∷ []) (codes "msi-recording") (codes "2") (codes "protocol") (codes "shape") (codes "seats") (codes "opening") (protocol_name c.args.protocol)
+    ∙ put (10 ∷ []) (32 ∷ []) (codes "msi-recording") (codes "2") (codes "protocol") (codes "shape") (codes "seats") (codes "opening")
+    (protocol_name c.args.protocol)
     (decimal c.from.result) (decimal c.from-2.result) (decimal c.from-3.result)
     ∙ parts c.args.protocol c.from.result c.from-2.result c.from-3.result
     ∙ ap (λ n. piece n c.from-2.result c.from-3.result) caches

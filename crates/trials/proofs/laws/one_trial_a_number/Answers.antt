@@ -17,7 +17,8 @@ returns c terms tree number one other verdict another trial second =
           let ends =
           subst (λ (m : Moment). IsVerdict terms (map (λ (e : Entry). e.step) other.entries) m verdict) same.1
           (subst (λ (l : List Entry). IsVerdict terms (map (λ (e : Entry). e.step) l) trial.last verdict) same.0 trial.ends) in (
-            same-kept one other trial.unowned second.unowned (trial.shape ∙ sym second.shape) (trial.tables ∙ sym second.tables) (trial.opening ∙ sym second.opening) same.0,
+            same-kept one other trial.unowned second.unowned (trial.shape ∙ sym second.shape) (trial.tables ∙ sym second.tables)
+                (trial.opening ∙ sym second.opening) same.0,
             same-verdict terms (map (λ (e : Entry). e.step) other.entries) second.last verdict another c.one_violation_at_most.ensures ends second.ends,
           )
       | inr (inl longer) ↦ absurd (no-longer terms one.entries other.entries trial.last second.last verdict another second.few longer trial.ends second.ends)

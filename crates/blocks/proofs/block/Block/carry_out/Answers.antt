@@ -40,7 +40,8 @@ invariant_of-self c =
     (set c.self.inside.access.writers c.in-AtLine.cache.0 (is_writer after.state)))
     (sym c.perform-done.ensures.items)
     (held-at_line c.self.inside.lines.items c.in-AtLine.cache c.in-AtLine.line after c.in-AtLine.input c.in-AtLine.actions
-    c.in-AtLine.origin old new c.self.inside.access.readers c.self.inside.access.writers c.self.invariant there requestor (ap lines_of c.perform-done.ensures.items) refl
+    c.in-AtLine.origin old new c.self.inside.access.readers c.self.inside.access.writers c.self.invariant there requestor
+    (ap lines_of c.perform-done.ensures.items) refl
     (c.perform-done.ensures.traffic ∙ ap
     (all_sent (line_sends c.in-AtLine.cache c.in-AtLine.input c.in-AtLine.actions c.in-AtLine.line)) c.take.ensures.traffic)))
 

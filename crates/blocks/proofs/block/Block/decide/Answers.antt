@@ -4,7 +4,8 @@ use Rattle.blocks.proofs.OwnLine.{decision-about}
 use Rattle.blocks.proofs.block.Block.decide.Goals as goal
 
 pub returns-clause-fits : goal.returns-clause-fits
-returns-clause-fits g c = rw (c.decision.ensures, ← c.self.view_is) (decision-fits _ c.args.tables.now (g.S.Served.step c.args.served.now) _ c.self.invariant.among)
+returns-clause-fits g c = rw (c.decision.ensures, ← c.self.view_is)
+    (decision-fits _ c.args.tables.now (g.S.Served.step c.args.served.now) _ c.self.invariant.among)
 
 pub returns-clause-names : goal.returns-clause-names
 returns-clause-names g c =

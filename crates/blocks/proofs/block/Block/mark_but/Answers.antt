@@ -21,7 +21,8 @@ returns-clause-marks c =
     let stalls = λ (r : Request). home_stalls tables.directory c.self.inside.home (home_input.Request r) in
     let first : AreFirstRight c.args.others.requests w.marks.requests (map stalls w.traffic.requests) = rw (sym c.self.view_is) at c.requires.requests in
     let others : AreRight tables lines w.traffic.links cache w.marks.links = rw (sym c.self.view_is) at c.requires.links in
-    let now = c.mark_link.ensures ∙ ap (link_marked cache (λ f. line_stalls tables.cache (slice_get lines cache) (line_input.Forward f))) c.mark_requests.ensures in
+    let now = c.mark_link.ensures ∙ ap (link_marked cache (λ f. line_stalls tables.cache (slice_get lines cache)
+    (line_input.Forward f))) c.mark_requests.ensures in
     let traffic : c.mark_link.new.self.traffic ≡ w.traffic = ap (λ (k : Wiring). k.traffic) now in
     let marks = ap (λ (k : Wiring). k.marks) now in
     rw (← c.self.view_is)

@@ -23,7 +23,8 @@ made_by d b = record { outcome = (carried_out d b).outcome; acted = acted_by d (
 pub returns-in-Refused-clause-ok : goal.returns-in-Refused-clause-ok
 returns-in-Refused-clause-ok g c =
     let b = c.args.self.now.state in
-    let was : Refused c.in-Refused.outcome ≡ decision_of c.args.tables.now (g.S.Served.step c.args.served.now) b = sym c.in-Refused.is ∙ c.decide-decision.ensures.decision in
+    let was : Refused c.in-Refused.outcome ≡ decision_of c.args.tables.now (g.S.Served.step c.args.served.now) b = sym c.in-Refused.is
+    ∙ c.decide-decision.ensures.decision in
     record {
       made = c.refused.ensures ∙ ap (λ e. made_by e b) was;
       state = ap (λ e. (carried_out e b).block) was;

@@ -18,7 +18,8 @@ loop-from-preserved c =
     let cache = c.in-Some.cache.0 in
     let next : IsNextWaiting old.traffic c.loop-from.from cache = rw c.loop-from.invariant.traffic at c.in-Some.ensures.some in
     let marks : c.mark_link.new.self.marks ≡ record c.loop-from.wires.marks {
-      links = slice_set c.loop-from.wires.marks.links cache (link_stalls c.args.tables.now.cache (lines_of c.args.lines.now.items) cache (link c.loop-from.wires.traffic cache));
+      links = slice_set c.loop-from.wires.marks.links cache (link_stalls c.args.tables.now.cache (lines_of c.args.lines.now.items) cache
+          (link c.loop-from.wires.traffic cache));
     } = ap (λ (w : Wiring). w.marks) c.mark_link.ensures in
     record {
       traffic = ap (λ (w : Wiring). w.traffic) c.mark_link.ensures ∙ c.loop-from.invariant.traffic;

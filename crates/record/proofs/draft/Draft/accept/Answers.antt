@@ -27,7 +27,8 @@ accept_protocol-requires g c =
 pub returns-in-ProtocolLine-clause-ok : goal.returns-in-ProtocolLine-clause-ok
 returns-in-ProtocolLine-clause-ok g c r =
     let at = ProtocolLine in
-    taken-in_front g.N.Entries.tells c.args.due at c.args.self.now c.accept_protocol.new.self c.args.entries.now r (words c.args.line.now) _ c.in-ProtocolLine.is tt
+    taken-in_front g.N.Entries.tells c.args.due at c.args.self.now c.accept_protocol.new.self c.args.entries.now r
+    (words c.args.line.now) _ c.in-ProtocolLine.is tt
     c.accept_protocol.ensures.ok
 
 pub accept_shape-requires : goal.accept_shape-requires
@@ -60,7 +61,8 @@ accept_opening-requires-clause-read g c =
 pub returns-in-OpeningLine-clause-ok : goal.returns-in-OpeningLine-clause-ok
 returns-in-OpeningLine-clause-ok g c r =
     let at = OpeningLine c.in-OpeningLine.form c.in-OpeningLine.shape in
-    taken-in_front g.N.Entries.tells c.args.due at c.args.self.now c.accept_opening.new.self c.args.entries.now r (words c.args.line.now) _ c.in-OpeningLine.is tt
+    taken-in_front g.N.Entries.tells c.args.due at c.args.self.now c.accept_opening.new.self c.args.entries.now r
+    (words c.args.line.now) _ c.in-OpeningLine.is tt
     c.accept_opening.ensures.ok
 
 pub accept_cell-requires : goal.accept_cell-requires

@@ -17,4 +17,9 @@ returns-clause-few c =
     )
 
 pub returns-clause-kept : goal.returns-clause-kept
-returns-clause-kept c = record { within = c.opening.ensures.within; each = c.opening.ensures.each; few = c.entries.ensures.few; owners = c.entries.ensures.owned }
+returns-clause-kept c = record {
+  within = c.opening.ensures.within;
+  each = c.opening.ensures.each;
+  few = c.entries.ensures.few;
+  owners = c.entries.ensures.owned;
+}

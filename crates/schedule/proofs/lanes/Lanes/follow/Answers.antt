@@ -44,7 +44,8 @@ returns-clause-kept g c = grind (arith, common_steps)
 
 pub count_taken-requires-clause-counted : goal.count_taken-requires-clause-counted
 count_taken-requires-clause-counted g c =
-    counted-at-all c.args.cores.now c.place-at.result (laned c.mark_again.new.self) (laned c.count_at.new.self) c.count_at.ensures.counts c.count_at.ensures.each
+    counted-at-all c.args.cores.now c.place-at.result (laned c.mark_again.new.self)
+    (laned c.count_at.new.self) c.count_at.ensures.counts c.count_at.ensures.each
 
 pub returns-clause-fits : goal.returns-clause-fits
 returns-clause-fits g c tree h =

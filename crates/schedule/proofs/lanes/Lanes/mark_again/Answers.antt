@@ -29,7 +29,8 @@ returns-then-eq-clause-marked g c step before cb cn but sb sn here follows were 
     held-told world.tables step made before world.state c.in-Some.acted c.in-Line.cache c.args.block c.in-Line.before c.in-Line.after sb sn here follows.told
     c.in-Some.is c.in-Line.is in
     all-held world.tables before world.state cb cn but c.in-Line.cache c.args.block c.held_asks-held.result (laned c.args.self.now) sb sn
-    (told.were c.held_asks-held.result (λ a. same-asks c.held_asks-held.result c.held_asks.result (sym c.eq.ensures ∙ c.if-eq.true) a ∙ c.held_asks.ensures a)) (told.are c.held_asks-held.result c.held_asks-held.ensures) were
+    (told.were c.held_asks-held.result (λ a. same-asks c.held_asks-held.result c.held_asks.result (sym c.eq.ensures ∙ c.if-eq.true) a
+    ∙ c.held_asks.ensures a)) (told.are c.held_asks-held.result c.held_asks-held.ensures) were
     (agree-line world.tables step made before world.state c.in-Some.acted c.in-Line.cache c.args.block c.in-Line.before c.in-Line.after cb cn sb here follows
     c.in-Some.is c.in-Line.is)
 

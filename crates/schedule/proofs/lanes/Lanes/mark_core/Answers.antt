@@ -40,7 +40,8 @@ marks g c =
     let new = length-map c.mark_each.new.lanes.items (λ (l : Lane g.row.A.Denot g.row.B.Denot). l.asks) in
     let old = length-map c.args.self.now.lanes.items (λ (l : Lane g.row.A.Denot g.row.B.Denot). l.asks) in
     marks-only c.args.held c.args.core c.args.block (lanes_of (rows_in c.args.self.now.reached.items) c.args.core.0) c.args.done
-    (laned c.args.self.now) (laned (made g c)) c.mark_each.ensures.trees c.mark_each.ensures.stocks refl refl refl (omega (arith, count, new, old)) c.requires.level.listed (each g c)
+    (laned c.args.self.now) (laned (made g c)) c.mark_each.ensures.trees c.mark_each.ensures.stocks refl refl refl
+    (omega (arith, count, new, old)) c.requires.level.listed (each g c)
 
 pub returns-clause-kept : goal.returns-clause-kept
 returns-clause-kept g c = kept-marks (laned c.args.self.now) (laned (made g c)) (marks g c) c.requires

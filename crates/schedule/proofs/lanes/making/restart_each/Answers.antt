@@ -29,7 +29,8 @@ as-many ss items n same many = many ∙ ap length (sym same) ∙ sym (many-all s
 
 pub returns-else-len-clause-rest : goal.returns-else-len-clause-rest
 returns-else-len-clause-rest g c done =
-    same-alike _ _ (ap (λ ts. Both (trees_of ts)) c.restart_all.ensures.rest ∙ sym (row-is c.args.scenario.now c.in-Both.children c.as_slice.result.now c.in-Both.is c.as_slice.ensures.value))
+    same-alike _ _ (ap (λ ts. Both (trees_of ts)) c.restart_all.ensures.rest ∙ sym
+    (row-is c.args.scenario.now c.in-Both.children c.as_slice.result.now c.in-Both.is c.as_slice.ensures.value))
 
 pub returns-else-len-clause-many : goal.returns-else-len-clause-many
 returns-else-len-clause-many g c done few =

@@ -81,8 +81,10 @@ returns-in_err-visit-clause-succeeds c needs = elim needs [
 ]
 
 moved : (c : After-result-1) →
-    transition c.self.inside.tables c.args.step (state_or c.self.inside.shape.caches c.in-Some.value (kept_at c.self.inside.blocks.items (block_of c.args.step)))
-    ≡ moved_to (state_or c.self.inside.shape.caches c.in-Some.value (kept_at c.step_at.new.blocks.items (block_of c.args.step))) c.in_ok-visit.visit.made.outcome
+    transition c.self.inside.tables c.args.step (state_or c.self.inside.shape.caches c.in-Some.value
+    (kept_at c.self.inside.blocks.items (block_of c.args.step)))
+    ≡ moved_to (state_or c.self.inside.shape.caches c.in-Some.value
+    (kept_at c.step_at.new.blocks.items (block_of c.args.step))) c.in_ok-visit.visit.made.outcome
 moved c =
     came-to c.self.inside.tables c.args.step _ _ c.in_ok-visit.visit.made
     (rw (c.block-number.ensures, c.caches.ensures.value) at c.in_ok-visit.ensures.ok.made)
@@ -112,7 +114,8 @@ returns-clause-ok c = record {
         rw (← c.self.view_is, c.if-self.false, c.breaks-self-inside.ensures)
         (ap (λ (n : Next). n.state)
         (sym (next-is c.self.inside.shape c.self.inside.tables c.self.inside.opening.items c.self.inside.blocks.items c.step_at.new.blocks.items
-        c.args.step c.in-Some.value c.in_ok-visit.visit.made.outcome (at-2 c) (below-2 c) (rw c.block-number.ensures at c.in_ok-visit.ensures.ok.visited.others) (moved c))));
+        c.args.step c.in-Some.value c.in_ok-visit.visit.made.outcome (at-2 c) (below-2 c)
+        (rw c.block-number.ensures at c.in_ok-visit.ensures.ok.visited.others) (moved c))));
   };
   shape = grind (arith, common_steps);
   tables = grind (arith, common_steps);
