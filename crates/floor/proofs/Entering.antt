@@ -1,13 +1,13 @@
 -- One entry more keeps what the lock keeps.
-use Rattle.std.proofs.Common.{◌≡◌, ◌<◌, ◌≤◌, ℕ, List, [], ◌∷◌, ◌++◌, ◌+◌, Option, None, Some, Result, Ok, Err}
-use Rattle.std.proofs.Common.{IsOk, IfOk, true, length, take, refl, sym, ap, ◌∙◌, subst, inl, inr, arith, length-append}
+use Rattle.std.proofs.Common.{◌≡◌, ◌<◌, ◌≤◌, ℕ, List, [], ◌∷◌, ◌++◌, ◌+◌, Option, None, Some}
+use Rattle.std.proofs.Common.{true, length, take, refl, sym, ap, ◌∙◌, subst, inl, inr, arith, length-append}
 use Rattle.std.proofs.lemmas.List.{map_push, length-map, take-append-le}
 use Rattle.base.specs.Extent.{Extent}
-use Rattle.base.specs.declared.fault.NoMemory.{NoMemory}
 use Rattle.base.specs.declared.step.Step.{Step}
-use Rattle.base.specs.declared.step.Outcome.{Outcome}
 use Rattle.both_tables.specs.Tables.{Tables}
+use Rattle.machine.specs.declared.made.Made.{Made}
 use Rattle.machine.specs.Machine.{State, Next, next, opened, state_after, outcomes_of}
+use Rattle.machine.proofs.Making.{next-told}
 use Rattle.machine.specs.Completions.{completions_of}
 use Rattle.world.specs.View.{View, stepped}
 use Rattle.monitor.specs.declared.violation.Violation.{Violation}
@@ -58,7 +58,8 @@ owned_push f es os e o h lt mine = record {
 }
 
 -- one entry more, made by a step of the world that its watch has seen
-kept_push : (f : FloorId) (world new : View) (watch watch' : List ℕ) (recording : RecordingView) (os : List ℕ) (violation : Option (ℕ × Violation)) (e : Entry) (o : ℕ)
+kept_push : (f : FloorId) (world new : View) (watch watch' : List ℕ) (recording : RecordingView) (os : List ℕ) (violation : Option (ℕ × Violation))
+    (e : Entry) (o : ℕ)
     (seen : Option Violation) →
     IsKeptUp f world watch recording os violation → o < f.seats → is_its f recording.entries o e.step ≡ true →
     next world.tables world.state e.step ≡ stepped new.state e.outcome → new.shape ≡ world.shape → new.tables ≡ world.tables →
@@ -101,32 +102,18 @@ kept_push f world new watch watch' recording os violation e o seen h lt mine mad
       owned = owned_push f es os e o h.owned lt mine;
     }
 
--- a step directly after its `ready` is made, and has the outcome that was told
-pub as_told : (world mid new : View) (step : Step) (told : Outcome) (r : Result Outcome NoMemory) → mid.tables ≡ world.tables → mid.state ≡ world.state →
-    told ≡ (next world.tables world.state step).outcome → IsOk r → IfOk r (λ what. next mid.tables mid.state step ≡ stepped new.state what) →
-    next world.tables world.state step ≡ stepped new.state told
-as_told world mid new step told (Ok what) tables state is ok made =
-    let here : next world.tables world.state step ≡ stepped new.state what =
-    ap (λ (t : Tables). next t world.state step) (sym tables) ∙ (ap (λ (x : State). next mid.tables x step) (sym state) ∙ made) in
-    here ∙ ap (stepped new.state) (sym (is ∙ ap (λ (n : Next). n.outcome) here))
-as_told world mid new step told (Err fault) tables state is ok made = absurd (cc ok)
-
 pub kept_more : (f : FloorId) (world new : View) (watch watch' : List ℕ) (recording recording' : RecordingView) (os os' : List ℕ)
     (violation violation' : Option (ℕ × Violation))
-    (step : Step) (e : Entry) (o n : ℕ) (seen : Option Violation) →
+    (step : Step) (made : Made) (o n : ℕ) (seen : Option Violation) →
     IsKeptUp f world watch recording os violation → o < f.seats → is_its f recording.entries o step ≡ true →
-    Advances world new recording recording' o step e → AnswersHistory new watch step e.outcome seen → SeesNext new watch step e.outcome watch' →
+    Advances world new recording recording' o step made → AnswersHistory new watch step made.outcome seen → SeesNext new watch step made.outcome watch' →
     os' ≡ os ++ o ∷ [] → n ≡ length recording.entries → violation' ≡ first_seen violation n seen →
     IsKeptUp f new watch' recording' os' violation'
-kept_more f world new watch watch' recording recording' os os' violation violation' step e o n seen
-    h lt mine advances answers sees same_owners number same_violation =
-    let a = advances in
-    let is : step ≡ e.step = sym a.step_is in
-    let kept = kept_push f world new watch watch' recording os violation e o seen h lt
-    (subst (λ (s : Step). is_its f recording.entries o s ≡ true) is mine)
-    (subst (λ (s : Step). next world.tables world.state s ≡ stepped new.state e.outcome) is a.made) a.shape a.tables
-    (subst (λ (s : Step). AnswersHistory new watch s e.outcome seen) is answers)
-    (subst (λ (s : Step). SeesNext new watch s e.outcome watch') is sees) in
+kept_more f world new watch watch' recording recording' os os' violation violation' step made o n seen
+    h lt mine a answers sees same_owners number same_violation =
+    let e : Entry = record { step = step; outcome = made.outcome } in
+    let kept = kept_push f world new watch watch' recording os violation e o seen h lt mine
+    (next-told world.tables world.state step made new.state a.told) a.shape a.tables answers sees in
     let same : recording' ≡ recorded_at f (recording.entries ++ e ∷ []) (os ++ o ∷ []) =
     a.recorded ∙ ap (λ (k : RecordingView). with_owned k e (Some o)) h.recorded_is in
     rw (same, same_owners, same_violation, number) kept

@@ -8,6 +8,7 @@ use crate::grounds::Naming;
 use crate::seats::{Receipt, Seat};
 use crate::tokens::{Log, Token, add_entry, compare_seat};
 use base::{NoMemory, Step};
+use machine::Made;
 use monitor::{Violation, Watch};
 use record::{Entry, Recording};
 use std::alloc::Global;
@@ -142,11 +143,15 @@ impl<F: Naming> Hall<F> {
             return Err(TurnFault::NoMemory);
         }
         let number = self.recording.entries().len() as u64;
-        let Ok(entry) = advance(&mut self.world, &mut self.recording, seat.number, step) else {
+        let Ok(made) = advance(&mut self.world, &mut self.recording, seat.number, step) else {
             self.compare(seat);
             return Err(TurnFault::NoMemory);
         };
-        let seen = self.watch.see(&self.world, step, entry.outcome);
+        let seen = self.watch.see_made(&self.world, step, &made);
+        let entry = Entry {
+            step,
+            outcome: made.outcome,
+        };
         self.violation = self.violation.or(Some(number).zip(seen));
         add_entry(&self.log, &mut self.token, &mut seat.token, &entry);
         self.owners.push_reserved(seat.number);
@@ -179,9 +184,9 @@ fn advance(
     recording: &mut Recording,
     seat: u32,
     step: Step,
-) -> Result<Entry, NoMemory>
+) -> Result<Made, NoMemory>
     requires { seat < recording.old.seats }
-    ensures ok { IfOk result (λ entry. Advances world.old world.new recording.old recording.new seat step entry) }
+    ensures ok { IfOk result (λ made. Advances world.old world.new recording.old recording.new seat step made) }
     ensures err { OnErr result (IsSame world.old world.new × (recording.new ≡ recording.old)) }
 {
     let outcome = world.ready(step)?;
@@ -189,7 +194,9 @@ fn advance(
     if let Err(_) = recording.push_by(entry, seat) {
         return Err(NoMemory);
     }
-    // Directly after its `ready` the step succeeds.
-    let _ = world.step(step);
-    Ok(entry)
+    // Directly after its `ready` the step succeeds, with the outcome that was foreseen.
+    let Ok(made) = world.make(step) else {
+        unreachable!();
+    };
+    Ok(made)
 }

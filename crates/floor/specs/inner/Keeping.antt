@@ -3,12 +3,14 @@ use Rattle.std.specs.Prelude.{◌≡◌, ◌<◌, ◌≤◌, ℕ, List, [], Opti
 use Rattle.atomic_table.specs.Table.{Me}
 use Rattle.atomic_table.specs.Seated.{TableId}
 use Rattle.base.specs.declared.step.Step.{Step}
-use Rattle.machine.specs.Machine.{next, opened}
+use Rattle.machine.specs.declared.made.Made.{Made}
+use Rattle.machine.specs.Made.{IsTold}
+use Rattle.machine.specs.Machine.{opened}
 use Rattle.monitor.specs.declared.violation.Violation.{Violation}
 use Rattle.monitor.specs.Watching.{HasSeen}
 use Rattle.record.specs.declared.recording.Entry.{Entry}
 use Rattle.record.specs.View.{RecordingView, IsLegal, steps_of, with_owned}
-use Rattle.world.specs.View.{View, stepped}
+use Rattle.world.specs.View.{View}
 use Rattle.trials.specs.Terms.{Terms}
 use Rattle.floor.specs.declared.tokens.TokenView.{TokenView}
 use Rattle.floor.specs.FloorId.{FloorId}
@@ -17,7 +19,8 @@ use Rattle.floor.specs.Closing.{HaveOwners}
 use Rattle.floor.specs.inner.Tokens.{keeper, sitting}
 
 -- a world, a watch, owners and a violation are those of a recording of these entries, which is legal
-pub record IsKeptUp (floor : FloorId) (world : View) (watch : List ℕ) (recording : RecordingView) (owners : List ℕ) (violation : Option (ℕ × Violation)) : Type 0 where
+pub record IsKeptUp (floor : FloorId) (world : View) (watch : List ℕ) (recording : RecordingView) (owners : List ℕ)
+    (violation : Option (ℕ × Violation)) : Type 0 where
   pub recorded_is : recording ≡ recorded_at floor recording.entries owners
   pub legal : IsLegal (recorded floor.setup recording.entries)
   pub shape : world.shape ≡ floor.setup.shape
@@ -57,10 +60,9 @@ pub record IsSame (old new : View) : Type 0 where
   pub tables : new.tables ≡ old.tables
   pub state : new.state ≡ old.state
 
--- a world has made a step, and a recording has one more entry of it, which a seat owns
-pub record Advances (old new : View) (before after : RecordingView) (seat : ℕ) (step : Step) (entry : Entry) : Type 0 where
-  pub step_is : entry.step ≡ step
-  pub made : next old.tables old.state step ≡ stepped new.state entry.outcome
+-- a world has made a step, which came to this, and a recording has one more entry of it, which a seat owns
+pub record Advances (old new : View) (before after : RecordingView) (seat : ℕ) (step : Step) (made : Made) : Type 0 where
+  pub told : IsTold old.tables old.state step made new.state
   pub shape : new.shape ≡ old.shape
   pub tables : new.tables ≡ old.tables
-  pub recorded : after ≡ with_owned before entry (Some seat)
+  pub recorded : after ≡ with_owned before (record { step = step; outcome = made.outcome }) (Some seat)

@@ -10,18 +10,18 @@ use Rattle.floor.proofs.halls.Hall.enter.Goals.{After-push_reserved}
 
 -- the hall keeps up
 kept : (g : Over) (c : After-push_reserved g) →
-    IsKeptUp g.F.Naming.floor c.advance.new.world c.see-seen.new.self c.advance.new.recording c.push_reserved.new.self.items c.or-self-inside.result
+    IsKeptUp g.F.Naming.floor c.advance.new.world c.see_made-seen.new.self c.advance.new.recording c.push_reserved.new.self.items c.or-self-inside.result
 kept g c =
     let i = c.self.inside in
     kept_more g.F.Naming.floor i.world c.advance.new.world i.watch _ i.recording c.advance.new.recording i.owners.items _ i.violation _
-    c.args.step c.in-Ok.entry c.seat.inside.number
-    (length c.entries.result.now) c.see-seen.result
+    c.args.step c.in-Ok.made c.seat.inside.number
+    (length c.entries.result.now) c.see_made-seen.result
     c.self.invariant.0
     c.seat.invariant.within
     (search rules)
     c.in-Ok.ensures.ok
-    c.see-seen.ensures.history
-    c.see-seen.ensures.seen
+    c.see_made-seen.ensures.history
+    c.see_made-seen.ensures.seen
     (search rules)
     (ap length c.entries.ensures.value)
     (search rules)
@@ -34,7 +34,7 @@ invariant_of-self-2 g c =
         capacity_is = h.capacity_is;
         seats_is = h.seats_is;
         some = h.some;
-        within = fits_more c.self.inside.recording c.advance.new.recording c.args.self.now.entries c.in-Ok.entry c.seat.inside.number g.F.Naming.floor.capacity
+        within = fits_more c.self.inside.recording c.advance.new.recording c.args.self.now.entries _ c.seat.inside.number g.F.Naming.floor.capacity
             c.in-Ok.ensures.ok.recorded (ap (λ s. s.entries) c.self.view_is) c.requires.room;
         table_is = h.table_is;
         one = h.one;
