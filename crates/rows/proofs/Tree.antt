@@ -1,67 +1,81 @@
 -- A tree of sums.
-use Rattle.std.proofs.Common.{ℕ, ◌≡◌, ◌≢◌, ◌+◌, ◌-◌, ◌*◌, ◌/◌, ◌%◌, ◌^◌, ◌<◌, ◌≤◌, List}
+use Rattle.std.proofs.Common.{ℕ, ◌≡◌, ◌+◌, ◌-◌, ◌*◌, ◌/◌, ◌%◌, ◌^◌, ◌<◌, ◌≤◌, List}
 use Rattle.std.proofs.Common.{length, take, drop, get_or, replicate, refl, ap, sym, ◌∙◌, arith, zero, suc, inl, inr, slice_index, add-one}
 use Rattle.std.specs.List.{sum}
 use Rattle.std.proofs.lemmas.Bool.{cases_eq, cases_lt}
 use Rattle.std.proofs.lemmas.List.{drop-replicate, get_or-drop, get_or-take, length-drop}
 use Rattle.std.proofs.lemmas.List.{length-take, take-replicate, take_all}
-use Rattle.std.proofs.lemmas.Nat.{one_shl, pow_pos}
-use Rattle.std.proofs.Math.Nat.{pow-suc, pow-le-pow_right}
 use Rattle.rows.specs.Counts.{Finds}
-use Rattle.rows.specs.inner.Tree.{IsBehind, IsOnTheWay, IsSummed, IsTree, numbers_of, span}
+use Rattle.rows.specs.inner.Tree.{IsOnTheWay, IsSummed, IsTree, below, level_at, numbers_of, span}
 use Rattle.rows.proofs.Fronts.{front_step, sum_is_small}
 
--- the next level has twice as many nodes
-pub twice : (n : ℕ) → 2 ^ (n + 1) ≡ 2 * 2 ^ n
-twice n = ap (λ m. 2 ^ m) (add-one n) ∙ pow-suc 2 n ∙ (let e : 2 ^ n * 2 ≡ 2 * 2 ^ n = omega arith in e)
+-- no level above begins later
+pub earlier : (m n : ℕ) → m ≤ n → level_at m ≤ level_at n
+earlier zero n h = omega arith
+earlier (suc m) zero h = absurd (omega arith)
+earlier (suc m) (suc n) h = let before = earlier m n (omega arith) in omega arith
 
--- no level above is wider
-pub narrower : (m n : ℕ) → m ≤ n → 2 ^ m ≤ 2 ^ n
-narrower m n h = pow-le-pow_right (omega arith) h
+-- a level begins behind as many nodes as there are levels above, or more
+pub no-fewer : (n : ℕ) → n ≤ level_at n
+no-fewer zero = omega arith
+no-fewer (suc n) = let before = no-fewer n in omega arith
 
 -- there are so many numbers
-pub numbers-length : (tree : List ℕ) (levels count : ℕ) → IsTree tree levels count → length (numbers_of tree levels count) ≡ count
-numbers-length tree levels count kept =
+pub numbers-length : (tree : List ℕ) (first levels count : ℕ) → IsTree tree first levels count → length (numbers_of tree first count) ≡ count
+numbers-length tree first levels count kept =
     simp (length-take, length-drop) (let long = kept.long in let wide = kept.wide in omega arith)
 
 -- a number is a node of the last level
-pub number-at : (tree : List ℕ) (levels count at : ℕ) → at < count →
-    get_or (numbers_of tree levels count) at 0 ≡ slice_index tree (2 ^ levels + at)
-number-at tree levels count at h = get_or-take count (drop (2 ^ levels) tree) at 0 h ∙ get_or-drop (2 ^ levels) tree at 0
+pub number-at : (tree : List ℕ) (first count at : ℕ) → at < count → get_or (numbers_of tree first count) at 0 ≡ slice_index tree (first + at)
+number-at tree first count at h = get_or-take count (drop first tree) at 0 h ∙ get_or-drop first tree at 0
 
 -- the sum of the first numbers
-pub front-span : (tree : List ℕ) (levels count n : ℕ) → IsTree tree levels count → n ≤ count →
-    sum (take n (numbers_of tree levels count)) ≡ span tree (2 ^ levels) n
-front-span tree levels count zero kept h = refl
-front-span tree levels count (suc n) kept h =
-    let numbers = numbers_of tree levels count in
-    let before = front-span tree levels count n kept (omega arith) in
-    let step = front_step numbers n (omega (arith, numbers-length tree levels count kept)) in
+pub front-span : (tree : List ℕ) (first levels count n : ℕ) → IsTree tree first levels count → n ≤ count →
+    sum (take n (numbers_of tree first count)) ≡ span tree first n
+front-span tree first levels count zero kept h = refl
+front-span tree first levels count (suc n) kept h =
+    let numbers = numbers_of tree first count in
+    let before = front-span tree first levels count n kept (omega arith) in
+    let step = front_step numbers n (omega (arith, numbers-length tree first levels count kept)) in
     let next : sum (take (suc n) numbers) ≡ sum (take (n + 1) numbers) = ap (λ m. sum (take m numbers)) (sym (add-one n)) in
-    omega (arith, number-at tree levels count n h)
+    omega (arith, number-at tree first count n h)
+
+-- nodes and those behind them
+span-more : (tree : List ℕ) (from a b : ℕ) → span tree from (a + b) ≡ span tree from a + span tree (from + a) b
+span-more tree from a zero = let e = ap (span tree from) (let q : a + 0 ≡ a = omega arith in q) in omega arith
+span-more tree from a (suc b) =
+    let before = span-more tree from a b in
+    let more : span tree from (a + suc b) ≡ span tree from (suc (a + b)) =
+    ap (span tree from) (let q : a + suc b ≡ suc (a + b) = omega arith in q) in
+    let last : slice_index tree (from + (a + b)) ≡ slice_index tree (from + a + b) = ap (slice_index tree) (omega arith) in
+    omega arith
 
 -- the sums of two levels, one over the other
-pub halves : (tree : List ℕ) (size from n : ℕ) → IsSummed tree size → 0 < from → from + n ≤ size →
-    span tree (2 * from) (2 * n) ≡ span tree from n
-halves tree size from zero summed some h = refl
-halves tree size from (suc n) summed some h =
-    let before = halves tree size from n summed some (omega arith) in
-    let here = summed.each (from + n) (omega arith) (omega arith) in
-    let count : span tree (2 * from) (2 * suc n) ≡ span tree (2 * from) (suc (suc (2 * n))) =
-    ap (span tree (2 * from)) (let e : 2 * suc n ≡ suc (suc (2 * n)) = omega arith in e) in
-    let left : slice_index tree (2 * from + 2 * n) ≡ slice_index tree (2 * (from + n)) = ap (slice_index tree) (omega arith) in
-    let right : slice_index tree (2 * from + suc (2 * n)) ≡ slice_index tree (2 * (from + n) + 1) = ap (slice_index tree) (omega arith) in
+pub quarters : (tree : List ℕ) (first from n : ℕ) → IsSummed tree first → from + n ≤ first →
+    span tree (4 * from + 1) (4 * n) ≡ span tree from n
+quarters tree first from zero summed h = refl
+quarters tree first from (suc n) summed h =
+    let before = quarters tree first from n summed (omega arith) in
+    let here = summed.each (from + n) (omega arith) in
+    let count : span tree (4 * from + 1) (4 * suc n) ≡ span tree (4 * from + 1) (suc (suc (suc (suc (4 * n))))) =
+    ap (span tree (4 * from + 1)) (let e : 4 * suc n ≡ suc (suc (suc (suc (4 * n)))) = omega arith in e) in
+    let one : slice_index tree (4 * from + 1 + 4 * n) ≡ slice_index tree (4 * (from + n) + 1) = ap (slice_index tree) (omega arith) in
+    let two : slice_index tree (4 * from + 1 + suc (4 * n)) ≡ slice_index tree (4 * (from + n) + 2) = ap (slice_index tree) (omega arith) in
+    let three : slice_index tree (4 * from + 1 + suc (suc (4 * n))) ≡ slice_index tree (4 * (from + n) + 3) = ap (slice_index tree) (omega arith) in
+    let four : slice_index tree (4 * from + 1 + suc (suc (suc (4 * n)))) ≡ slice_index tree (4 * (from + n) + 4) =
+    ap (slice_index tree) (omega arith) in
     omega arith
 
 -- each level sums up to the first node
-pub level-sum : (tree : List ℕ) (levels level : ℕ) → IsSummed tree (2 ^ levels) → level ≤ levels →
-    span tree (2 ^ level) (2 ^ level) ≡ slice_index tree 1
+pub level-sum : (tree : List ℕ) (levels level : ℕ) → IsSummed tree (level_at levels) → level ≤ levels →
+    span tree (level_at level) (3 * level_at level + 1) ≡ slice_index tree 0
 level-sum tree levels zero summed h = omega arith
 level-sum tree levels (suc level) summed h =
-    let before = level-sum tree levels level summed (omega arith) in
-    let wide : 2 ^ suc level ≡ 2 * 2 ^ level = ap (λ m. 2 ^ m) (sym (add-one level)) ∙ twice level in
-    let below : 2 ^ suc level ≤ 2 ^ levels = narrower (suc level) levels h in
-    (λ i. span tree (wide i) (wide i)) ∙ halves tree (2 ^ levels) (2 ^ level) (2 ^ level) summed (pow_pos level) (omega arith) ∙ before
+    let over = level-sum tree levels level summed (omega arith) in
+    let within : level_at (suc level) ≤ level_at levels = earlier (suc level) levels h in
+    let wide : 3 * level_at (suc level) + 1 ≡ 4 * (3 * level_at level + 1) = omega arith in
+    ap (span tree (level_at (suc level))) wide
+    ∙ quarters tree (level_at levels) (level_at level) (3 * level_at level + 1) summed (omega arith) ∙ over
 
 -- nodes that are 0 add nothing
 pub span-past : (tree : List ℕ) (from n : ℕ) → ((i : ℕ) → from + n ≤ i → slice_index tree i ≡ 0) → (m : ℕ) → n ≤ m →
@@ -74,236 +88,135 @@ span-past tree from n past (suc m) h =
     ]
 
 -- the first node is the sum of all numbers
-pub root-sum : (tree : List ℕ) (levels count : ℕ) → IsTree tree levels count → slice_index tree 1 ≡ sum (numbers_of tree levels count)
-root-sum tree levels count kept =
-    let numbers = numbers_of tree levels count in
-    sym (ap sum (sym (take_all count numbers (omega (arith, numbers-length tree levels count kept))))
-    ∙ front-span tree levels count count kept (omega arith)
-    ∙ sym (span-past tree (2 ^ levels) count kept.past (2 ^ levels) kept.wide)
-    ∙ level-sum tree levels levels kept.sums (omega arith))
+pub root-sum : (tree : List ℕ) (first levels count : ℕ) → IsTree tree first levels count → slice_index tree 0 ≡ sum (numbers_of tree first count)
+root-sum tree first levels count kept =
+    let numbers = numbers_of tree first count in
+    let whole : span tree first (3 * first + 1) ≡ slice_index tree 0 =
+    rw (kept.begins) (level-sum tree levels levels (rw kept.begins at kept.sums) (omega arith)) in
+    sym (ap sum (sym (take_all count numbers (omega (arith, numbers-length tree first levels count kept))))
+    ∙ front-span tree first levels count count kept (omega arith)
+    ∙ sym (span-past tree first count kept.past (3 * first + 1) kept.wide)
+    ∙ whole)
+
+-- which of the four below a node another is
+one-of-four : (tree : List ℕ) (i : ℕ) → 0 < i → slice_index tree i ≤ below tree ((i - 1) / 4)
+one-of-four tree i some =
+    let p : ℕ = (i - 1) / 4 in
+    elim (cases_eq ((i - 1) % 4) 0) [
+      | inl e ↦ (let same : slice_index tree i ≡ slice_index tree (4 * ((i - 1) / 4) + 1) = ap (slice_index tree) (omega arith) in omega arith)
+      | inr first-not ↦
+          elim (cases_eq ((i - 1) % 4) 1) [
+            | inl e ↦ (let same : slice_index tree i ≡ slice_index tree (4 * ((i - 1) / 4) + 2) = ap (slice_index tree) (omega arith) in omega arith)
+            | inr neither ↦
+                elim (cases_eq ((i - 1) % 4) 2) [
+                  | inl e ↦
+                      (let same : slice_index tree i ≡ slice_index tree (4 * ((i - 1) / 4) + 3) = ap (slice_index tree) (omega arith) in omega arith)
+                  | inr none ↦
+                      (let same : slice_index tree i ≡ slice_index tree (4 * ((i - 1) / 4) + 4) = ap (slice_index tree) (omega arith) in omega arith)
+                ]
+          ]
+    ]
 
 -- no node is above the first
-below-root : (tree : List ℕ) (size fuel i : ℕ) → IsSummed tree size → i ≤ fuel → 0 < i → i < 2 * size →
-    slice_index tree i ≤ slice_index tree 1
-below-root tree size zero i summed h some inside = absurd (omega arith)
-below-root tree size (suc fuel) i summed h some inside =
-    elim (cases_lt 1 i) [
+below-root : (tree : List ℕ) (first fuel i : ℕ) → IsSummed tree first → i ≤ fuel → i < 4 * first + 1 → slice_index tree i ≤ slice_index tree 0
+below-root tree first zero i summed h inside = (let same : slice_index tree i ≡ slice_index tree 0 = ap (slice_index tree) (omega arith) in omega arith)
+below-root tree first (suc fuel) i summed h inside =
+    elim (cases_lt 0 i) [
       | inl l ↦
-          let up = below-root tree size fuel (i / 2) summed (omega arith) (omega arith) (omega arith) in
-          let here = summed.each (i / 2) (omega arith) (omega arith) in
-          elim (cases_eq (i % 2) 0) [
-            | inl e ↦
-                let same : slice_index tree i ≡ slice_index tree (2 * (i / 2)) = ap (slice_index tree) (let q : i ≡ 2 * (i / 2) = omega arith in q) in
-                omega arith
-            | inr ne ↦
-                let same : slice_index tree i ≡ slice_index tree (2 * (i / 2) + 1) = ap (slice_index tree) (let q : i ≡ 2 * (i / 2) + 1 =
-                omega arith in q) in
-                omega arith
-          ]
-      | inr l ↦ (let same : slice_index tree i ≡ slice_index tree 1 = ap (slice_index tree) (let q : i ≡ 1 = omega arith in q) in omega arith)
+          let up = below-root tree first fuel ((i - 1) / 4) summed (omega arith) (omega arith) in
+          let here = summed.each ((i - 1) / 4) (omega arith) in
+          omega (arith, one-of-four tree i l)
+      | inr l ↦ (let same : slice_index tree i ≡ slice_index tree 0 = ap (slice_index tree) (let q : i ≡ 0 = omega arith in q) in omega arith)
     ]
 
 -- each number fits a `u32`
-sum-below : (tree : List ℕ) (levels count : ℕ) → IsTree tree levels count →
-    sum (numbers_of tree levels count) ≤ length (numbers_of tree levels count) * 4294967295
-sum-below tree levels count kept =
-    let long = numbers-length tree levels count kept in
-    sum_is_small (numbers_of tree levels count) 4294967295
-    (λ i h. let at = number-at tree levels count i (omega arith) in let small = kept.small (2 ^ levels + i) (omega arith) in omega arith)
+sum-below : (tree : List ℕ) (first levels count : ℕ) → IsTree tree first levels count →
+    sum (numbers_of tree first count) ≤ length (numbers_of tree first count) * 4294967295
+sum-below tree first levels count kept =
+    let long = numbers-length tree first levels count kept in
+    sum_is_small (numbers_of tree first count) 4294967295
+    (λ i h. let at = number-at tree first count i (omega arith) in let small = kept.small (first + i) (omega arith) in omega arith)
 
-pub sum-few : (tree : List ℕ) (levels count : ℕ) → IsTree tree levels count →
-    sum (numbers_of tree levels count) ≤ 2 ^ 32 * length (numbers_of tree levels count)
-sum-few tree levels count kept = let below = sum-below tree levels count kept in omega arith
+pub sum-few : (tree : List ℕ) (first levels count : ℕ) → IsTree tree first levels count →
+    sum (numbers_of tree first count) ≤ 2 ^ 32 * length (numbers_of tree first count)
+sum-few tree first levels count kept = let small = sum-below tree first levels count kept in omega arith
 
--- the sum of all fits with room for one number more
-pub sum-fits : (tree : List ℕ) (levels count : ℕ) → IsTree tree levels count → sum (numbers_of tree levels count) + 2 ^ 32 ≤ 2 ^ 64
-sum-fits tree levels count kept =
-    let long = numbers-length tree levels count kept in
-    let below = sum-below tree levels count kept in
-    let few = kept.few in
-    omega arith
-
--- and so does each node
-pub node-fits : (tree : List ℕ) (levels count i : ℕ) → IsTree tree levels count → 0 < i → i < 2 * 2 ^ levels →
+-- each node fits with room for one number more
+pub node-fits : (tree : List ℕ) (first levels count i : ℕ) → IsTree tree first levels count → i < 4 * first + 1 →
     slice_index tree i + 2 ^ 32 ≤ 2 ^ 64
-node-fits tree levels count i kept some inside =
-    let all = below-root tree (2 ^ levels) i i kept.sums (omega arith) some inside in
-    omega (arith, root-sum tree levels count kept, sum-fits tree levels count kept)
+node-fits tree first levels count i kept inside =
+    let all = below-root tree first i i kept.sums (omega arith) inside in
+    let long = numbers-length tree first levels count kept in
+    let small = sum-below tree first levels count kept in
+    let few = kept.few in
+    omega (arith, root-sum tree first levels count kept)
 
 -- ---- the way down
 
-pub at-root : (tree : List ℕ) (levels count k : ℕ) → IsTree tree levels count → k < sum (numbers_of tree levels count) → IsOnTheWay tree 0 1 k k
-at-root tree levels count k kept h = record {
+pub at-root : (tree : List ℕ) (first levels count k : ℕ) → IsTree tree first levels count → k < sum (numbers_of tree first count) →
+    IsOnTheWay tree 0 0 k k
+at-root tree first levels count k kept h = record {
   least = omega arith;
   most = omega arith;
   front = omega arith;
-  within = omega (arith, root-sum tree levels count kept);
+  within = omega (arith, root-sum tree first levels count kept);
 }
 
--- the nodes before the two below
-down : (tree : List ℕ) (levels count level node rest k : ℕ) → IsTree tree levels count → level < levels → IsOnTheWay tree level node rest k →
-    span tree (2 ^ (level + 1)) (2 * node - 2 ^ (level + 1)) + rest ≡ k
-down tree levels count level node rest k kept h way =
-    let least = way.least in
-    let most = way.most in
-    let wide = twice level in
-    let below : 2 ^ (level + 1) ≤ 2 ^ levels = narrower (level + 1) levels (omega arith) in
-    let two : span tree (2 * 2 ^ level) (2 * (node - 2 ^ level)) ≡ span tree (2 ^ level) (node - 2 ^ level) =
-    halves tree (2 ^ levels) (2 ^ level) (node - 2 ^ level) kept.sums (pow_pos level) (omega arith) in
-    let from : span tree (2 ^ (level + 1)) (2 * node - 2 ^ (level + 1)) ≡ span tree (2 * 2 ^ level) (2 * node - 2 ^ (level + 1)) =
-    ap (λ a. span tree a (2 * node - 2 ^ (level + 1))) wide in
-    let count : span tree (2 * 2 ^ level) (2 * node - 2 ^ (level + 1)) ≡ span tree (2 * 2 ^ level) (2 * (node - 2 ^ level)) =
-    ap (span tree (2 * 2 ^ level)) (let e : 2 * node - 2 ^ (level + 1) ≡ 2 * (node - 2 ^ level) = omega arith in e) in
-    omega (arith, way.front)
+-- a node on the way down stands over four nodes of the tree, and one of these is on the way
+pub way-inside : (tree : List ℕ) (first levels count level node rest k : ℕ) → IsTree tree first levels count → level < levels →
+    IsOnTheWay tree level node rest k → (node < first) × (rest < span tree (4 * node + 1) 4)
+way-inside tree first levels count level node rest k kept h way =
+    let low : level_at (suc level) ≤ level_at levels = earlier (suc level) levels h in
+    let inside : node < first = omega (arith, way.most, kept.begins) in
+    let four : span tree (4 * node + 1) 4 ≡ slice_index tree node =
+    (let one = ap (slice_index tree) (let q : 4 * node + 1 + 1 ≡ 4 * node + 2 = omega arith in q) in
+    let two = ap (slice_index tree) (let q : 4 * node + 1 + 2 ≡ 4 * node + 3 = omega arith in q) in
+    let three = ap (slice_index tree) (let q : 4 * node + 1 + 3 ≡ 4 * node + 4 = omega arith in q) in
+    let zeroth = ap (slice_index tree) (let q : 4 * node + 1 + 0 ≡ 4 * node + 1 = omega arith in q) in
+    omega (arith, kept.sums.each node inside)) in
+    (inside, omega (arith, four, way.within))
 
-pub down-left : (tree : List ℕ) (levels count level node rest k : ℕ) → IsTree tree levels count → level < levels →
-    IsOnTheWay tree level node rest k →
-    rest < slice_index tree (2 * node) → IsOnTheWay tree (level + 1) (2 * node) rest k
-down-left tree levels count level node rest k kept h way less = record {
-  least = omega (arith, way.least, twice level);
-  most = omega (arith, way.most, twice level);
-  front = down tree levels count level node rest k kept h way;
-  within = less;
-}
-
-pub down-right : (tree : List ℕ) (levels count level node rest k : ℕ) → IsTree tree levels count → level < levels →
-    IsOnTheWay tree level node rest k →
-    slice_index tree (2 * node) ≤ rest → IsOnTheWay tree (level + 1) (2 * node + 1) (rest - slice_index tree (2 * node)) k
-down-right tree levels count level node rest k kept h way more =
-    let least = way.least in
-    let most = way.most in
-    let within = way.within in
-    let wide = twice level in
-    let below : 2 ^ (level + 1) ≤ 2 ^ levels = narrower (level + 1) levels (omega arith) in
-    let here = kept.sums.each node (let pos = pow_pos level in omega arith) (omega arith) in
-    let n : ℕ = 2 * node - 2 ^ (level + 1) in
-    let before = down tree levels count level node rest k kept h way in
-    let step : span tree (2 ^ (level + 1)) (2 * node + 1 - 2 ^ (level + 1)) ≡
-    span tree (2 ^ (level + 1)) (2 * node - 2 ^ (level + 1)) + slice_index tree (2 ^ (level + 1) + (2 * node - 2 ^ (level + 1))) =
-    ap (span tree (2 ^ (level + 1))) (let e : 2 * node + 1 - 2 ^ (level + 1) ≡ suc (2 * node - 2 ^ (level + 1)) = omega arith in e) in
-    let last : slice_index tree (2 ^ (level + 1) + (2 * node - 2 ^ (level + 1))) ≡ slice_index tree (2 * node) =
-    ap (slice_index tree) (let e : 2 ^ (level + 1) + (2 * node - 2 ^ (level + 1)) ≡ 2 * node = omega arith in e) in
-    record {
-      least = omega arith;
-      most = omega arith;
-      front = omega arith;
-      within = omega arith;
-    }
+pub down : (tree : List ℕ) (first levels count level node rest next left k : ℕ) → IsTree tree first levels count → level < levels →
+    IsOnTheWay tree level node rest k → 4 * node + 1 ≤ next → next < 4 * node + 1 + 4 →
+    span tree (4 * node + 1) (next - (4 * node + 1)) + left ≡ rest → left < slice_index tree next → IsOnTheWay tree (level + 1) next left k
+down tree first levels count level node rest next left k kept h way least most front within =
+    let at : ℕ = level_at level in
+    let low : level_at (suc level) ≤ level_at levels = earlier (suc level) levels h in
+    let over : span tree (4 * at + 1) (4 * (node - at)) ≡ span tree at (node - at) =
+    quarters tree first at (node - at) kept.sums (omega (arith, way.most, way.least, kept.begins)) in
+    let parts = span-more tree (4 * at + 1) (4 * (node - at)) (next - (4 * node + 1)) in
+    let from : span tree (4 * at + 1 + 4 * (node - at)) (next - (4 * node + 1)) ≡ span tree (4 * node + 1) (next - (4 * node + 1)) =
+    ap (λ f. span tree f (next - (4 * node + 1))) (let q : 4 * at + 1 + 4 * (node - at) ≡ 4 * node + 1 = omega (arith, way.least) in q) in
+    let count : span tree (4 * at + 1) (next - (4 * at + 1)) ≡ span tree (4 * at + 1) (4 * (node - at) + (next - (4 * node + 1))) =
+    ap (span tree (4 * at + 1)) (let q : next - (4 * at + 1) ≡ 4 * (node - at) + (next - (4 * node + 1)) = omega (arith, way.least) in q) in
+    let step : level + 1 ≡ suc level = add-one level in
+    rw step
+    (record {
+      least = omega (arith, way.least);
+      most = omega (arith, way.most);
+      front = omega (arith, way.front);
+      within = within;
+    })
 
 -- the number that is found
-pub found : (tree : List ℕ) (levels count node rest k : ℕ) → IsTree tree levels count → IsOnTheWay tree levels node rest k →
-    Finds (numbers_of tree levels count) k (node - 2 ^ levels) rest
-found tree levels count node rest k kept way =
-    let least = way.least in
+pub found : (tree : List ℕ) (first levels count node rest k : ℕ) → IsTree tree first levels count → IsOnTheWay tree levels node rest k →
+    Finds (numbers_of tree first count) k (node - first) rest
+found tree first levels count node rest k kept way =
+    let least : first ≤ node = omega (arith, way.least, kept.begins) in
     let within = way.within in
-    let inside : node - 2 ^ levels < count =
-    elim (cases_lt (node - 2 ^ levels) count) [
+    let inside : node - first < count =
+    elim (cases_lt (node - first) count) [
       | inl h ↦ h
       | inr h ↦ absurd (let none = kept.past node (omega arith) in omega arith)
     ] in
-    let at = number-at tree levels count (node - 2 ^ levels) inside in
-    let same : slice_index tree (2 ^ levels + (node - 2 ^ levels)) ≡ slice_index tree node =
-    ap (slice_index tree) (let e : 2 ^ levels + (node - 2 ^ levels) ≡ node = omega arith in e) in
+    let at = number-at tree first count (node - first) inside in
+    let same : slice_index tree (first + (node - first)) ≡ slice_index tree node =
+    ap (slice_index tree) (let e : first + (node - first) ≡ node = omega arith in e) in
+    let front : span tree first (node - first) + rest ≡ k = rw kept.begins way.front in
     record {
-      front = omega (arith, front-span tree levels count (node - 2 ^ levels) kept (omega arith), way.front);
+      front = omega (arith, front-span tree first levels count (node - first) kept (omega arith));
       within = omega arith;
     }
-
--- ---- the way up
-
-pub from-place : (tree : List ℕ) (levels count at : ℕ) → IsTree tree levels count → at < count →
-    IsBehind tree levels (2 ^ levels + at) 0 (sum (take at (numbers_of tree levels count)))
-from-place tree levels count at kept h = record {
-  least = omega arith;
-  most = omega (arith, kept.wide);
-  front =
-      let same : span tree (2 ^ levels) (2 ^ levels + at - 2 ^ levels) ≡ span tree (2 ^ levels) at =
-      ap (span tree (2 ^ levels)) (let e : 2 ^ levels + at - 2 ^ levels ≡ at = omega arith in e) in
-      omega (arith, front-span tree levels count at kept (omega arith));
-}
-
--- what stands before a node and before the one over it
-up : (tree : List ℕ) (levels count level node : ℕ) → IsTree tree levels count → level < levels → 2 ^ (level + 1) ≤ node →
-    node < 2 * 2 ^ (level + 1) →
-    span tree (2 ^ (level + 1)) (2 * (node / 2) - 2 ^ (level + 1)) ≡ span tree (2 ^ level) (node / 2 - 2 ^ level)
-up tree levels count level node kept h least most =
-    let wide = twice level in
-    let below : 2 ^ (level + 1) ≤ 2 ^ levels = narrower (level + 1) levels (omega arith) in
-    let two : span tree (2 * 2 ^ level) (2 * (node / 2 - 2 ^ level)) ≡ span tree (2 ^ level) (node / 2 - 2 ^ level) =
-    halves tree (2 ^ levels) (2 ^ level) (node / 2 - 2 ^ level) kept.sums (pow_pos level) (omega arith) in
-    ap (λ a. span tree a (2 * (node / 2) - 2 ^ (level + 1))) wide
-    ∙ ap (span tree (2 * 2 ^ level)) (let e : 2 * (node / 2) - 2 ^ (level + 1) ≡ 2 * (node / 2 - 2 ^ level) = omega arith in e)
-    ∙ two
-
-pub up-even : (tree : List ℕ) (levels count level node before whole : ℕ) → IsTree tree levels count → level < levels →
-    IsBehind tree (level + 1) node before whole →
-    node % 2 ≢ 1 → IsBehind tree level (node / 2) before whole
-up-even tree levels count level node before whole kept h way even =
-    let least = way.least in
-    let most = way.most in
-    let wide = twice level in
-    let same : span tree (2 ^ (level + 1)) (node - 2 ^ (level + 1)) ≡ span tree (2 ^ (level + 1)) (2 * (node / 2) - 2 ^ (level + 1)) =
-    ap (span tree (2 ^ (level + 1))) (let e : node - 2 ^ (level + 1) ≡ 2 * (node / 2) - 2 ^ (level + 1) = omega arith in e) in
-    record {
-      least = omega arith;
-      most = omega arith;
-      front = omega (arith, up tree levels count level node kept h least most, way.front);
-    }
-
--- what is added stands in the whole
-pub record IsAdded (tree : List ℕ) (level node before more whole : ℕ) : Type 0 where
-  pub way : IsBehind tree level node (before + more) whole
-  pub within : before + more ≤ whole
-
-pub up-odd : (tree : List ℕ) (levels count level node before whole : ℕ) → IsTree tree levels count → level < levels →
-    IsBehind tree (level + 1) node before whole →
-    node % 2 ≡ 1 → IsAdded tree level (node / 2) before (slice_index tree (node - 1)) whole
-up-odd tree levels count level node before whole kept h way odd =
-    let least = way.least in
-    let most = way.most in
-    let front = way.front in
-    let wide = twice level in
-    let same : span tree (2 ^ (level + 1)) (node - 2 ^ (level + 1)) ≡
-    span tree (2 ^ (level + 1)) (2 * (node / 2) - 2 ^ (level + 1)) + slice_index tree (2 ^ (level + 1) + (2 * (node / 2) - 2 ^ (level + 1))) =
-    ap (span tree (2 ^ (level + 1))) (let e : node - 2 ^ (level + 1) ≡ suc (2 * (node / 2) - 2 ^ (level + 1)) = omega arith in e) in
-    let last : slice_index tree (2 ^ (level + 1) + (2 * (node / 2) - 2 ^ (level + 1))) ≡ slice_index tree (node - 1) =
-    ap (slice_index tree) (let e : 2 ^ (level + 1) + (2 * (node / 2) - 2 ^ (level + 1)) ≡ node - 1 = omega arith in e) in
-    let two = up tree levels count level node kept h least most in
-    record {
-      way = record { least = omega arith; most = omega arith; front = omega arith };
-      within = omega arith;
-    }
-
--- at the first node nothing stands before
-pub at-top : (tree : List ℕ) (node before whole : ℕ) → IsBehind tree 0 node before whole → before ≡ whole
-at-top tree node before whole way =
-    let least = way.least in
-    let most = way.most in
-    let none : span tree 1 (node - 1) ≡ 0 = ap (span tree 1) (let e : node - 1 ≡ 0 = omega arith in e) in
-    omega (arith, way.front)
-
--- ---- in the words of the code
-
-pub size-is : (levels : ℕ) → levels ≤ 32 → 1 * 2 ^ levels % 2 ^ 64 ≡ 2 ^ levels
-size-is levels h = one_shl levels 64 (omega arith)
-
--- a node on the way down stands over nodes of the tree
-pub way-inside : (tree : List ℕ) (levels count level node rest k : ℕ) → IsTree tree levels count → level < levels →
-    IsOnTheWay tree level node rest k →
-    (0 < node) × (2 * node + 1 < length tree)
-way-inside tree levels count level node rest k kept h way =
-    let least = way.least in
-    let most = way.most in
-    let below : 2 ^ (level + 1) ≤ 2 ^ levels = narrower (level + 1) levels (omega arith) in
-    let pos = pow_pos level in
-    (omega arith, omega (arith, twice level, kept.long))
-
-pub behind-inside : (tree : List ℕ) (levels count level node before whole : ℕ) → IsTree tree levels count → level ≤ levels →
-    IsBehind tree level node before whole → node < length tree
-behind-inside tree levels count level node before whole kept h way =
-    let most = way.most in
-    let below : 2 ^ level ≤ 2 ^ levels = narrower level levels h in
-    omega (arith, kept.long)
 
 -- a tree of nothing but 0
 pub numbers-none : (n from count : ℕ) → from + count ≤ n → take count (drop from (replicate {A = ℕ} n 0)) ≡ replicate count 0

@@ -1,17 +1,21 @@
-ghost use Rattle.std.specs.Prelude.{◌≡◌, ◌*◌, ◌<◌, ◌≤◌, ◌^◌, IfOk, length, replicate, slice_index, slice_set, take, true};
+ghost use Rattle.std.specs.Prelude.{◌≡◌, ◌+◌, ◌-◌, ◌*◌, ◌<◌, ◌≤◌, ◌^◌, IfOk, length, replicate, slice_index, slice_set, true};
 ghost use Rattle.std.specs.List.{sum};
 ghost use Rattle.rows.specs.Counts.{Finds};
+ghost use Rattle.rows.specs.inner.Tree.{span};
 
 use base::NoMemory;
 use std::alloc::Global;
 use std::marker::Model;
 
-/// A row of numbers below 2^32, and a binary tree of their sums.
+/// A row of numbers below 2^32, and a tree of their sums, in which each node stands over four.
 ///
-/// The sum of them all is at 1, and under the node at `i` are those at `2 * i` and `2 * i + 1`. The numbers are the last level.
+/// The sum of them all is at 0, and under the node at `i` are those from `4 * i + 1` to `4 * i + 4`. The numbers are the last level.
 #[derive(Drop)]
 pub struct Sums {
     tree: Vec<u64>,
+    // Where the numbers begin.
+    first: usize,
+    // How many levels there are above them.
     levels: u32,
     count: u32,
 }
@@ -31,9 +35,9 @@ impl Model for Sums {
 
     ghost Value = { List ℕ };
 
-    ghost view = { λ s. numbers_of s.tree.items s.levels s.count };
+    ghost view = { λ s. numbers_of s.tree.items s.first s.count };
 
-    ghost invariant = { λ s. IsTree s.tree.items s.levels s.count };
+    ghost invariant = { λ s. IsTree s.tree.items s.first s.levels s.count };
 }
 
 impl Sums {
@@ -41,13 +45,16 @@ impl Sums {
     pub fn open(alloc: Global, count: u32) -> Result<Sums, NoMemory>
         ensures { IfOk result (λ sums. sums ≡ replicate count 0) }
     {
+        let mut first: usize = 0;
         let mut levels: u32 = 0;
-        while levels < 32 && (1usize << levels) < count as usize {
+        while 3 * first + 1 < count as usize {
+            first = 4 * first + 1;
             levels += 1;
         }
-        let tree = vec![in alloc; 0u64; 2 * (1usize << levels)]?;
+        let tree = vec![in alloc; 0u64; 4 * first + 1]?;
         Ok(Sums {
             tree,
+            first,
             levels,
             count,
         })
@@ -60,6 +67,7 @@ impl Sums {
         let tree = Vec::from_slice(alloc, self.tree.as_slice())?;
         Ok(Sums {
             tree,
+            first: self.first,
             levels: self.levels,
             count: self.count,
         })
@@ -79,7 +87,7 @@ impl Sums {
         requires { at < length self.now }
         ensures { result ≡ slice_index self.now at }
     {
-        self.tree[(1usize << self.levels) + at] as u32
+        self.tree[self.first + at] as u32
     }
 
     /// The sum of all.
@@ -88,28 +96,7 @@ impl Sums {
         ensures total { result ≡ sum self.now }
         ensures few { sum self.now ≤ 2 ^ 32 * length self.now }
     {
-        self.tree[1]
-    }
-
-    /// The sum of the numbers before a place.
-    #[inline(always)]
-    pub fn front(&self, at: usize) -> u64
-        requires { at ≤ length self.now }
-        ensures front { result ≡ sum (take at self.now) }
-        ensures fits { sum self.now < 2 ^ 64 }
-    {
-        if at == self.count as usize {
-            return self.tree[1];
-        }
-        let mut node = (1usize << self.levels) + at;
-        let mut before = 0;
-        for _ in 0..self.levels {
-            if node % 2 == 1 {
-                before += self.tree[node - 1];
-            }
-            node /= 2;
-        }
-        before
+        self.tree[0]
     }
 
     /// Makes the number at a place another.
@@ -118,15 +105,15 @@ impl Sums {
         requires { at < length self.old }
         ensures { self.new ≡ slice_set self.old at value }
     {
-        let mut node = (1usize << self.levels) + at;
+        let mut node = self.first + at;
         let before = self.tree[node];
         let after = value as u64;
         if before == after {
             return;
         }
         self.tree[node] = after;
-        while node > 1 {
-            node /= 2;
+        while node > 0 {
+            node = (node - 1) / 4;
             self.tree[node] = self.tree[node] - before + after;
         }
     }
@@ -137,18 +124,15 @@ impl Sums {
         requires { k < sum self.now }
         ensures { Finds self.now k result.place result.rest }
     {
-        let mut node = 1;
+        let mut node = 0;
         let mut rest = k;
         for _ in 0..self.levels {
-            node *= 2;
-            let left = self.tree[node];
-            if left <= rest {
-                rest -= left;
-                node += 1;
-            }
+            let (next, left) = fall(&self.tree, 4 * node + 1, rest);
+            node = next;
+            rest = left;
         }
         Found {
-            place: node - (1usize << self.levels),
+            place: node - self.first,
             rest: rest as u32,
         }
     }
@@ -176,4 +160,32 @@ impl Sums {
         }
         false
     }
+}
+
+/// The one of four nodes from one on that what is left falls in, and what is left of it there.
+#[inline(always)]
+fn fall(tree: &Vec<u64>, node: usize, rest: u64) -> (usize, u64)
+    requires inside { node + 3 < length tree.now.items }
+    requires within { rest < span tree.now.items node 4 }
+    ensures least { node ≤ result.0 }
+    ensures most { result.0 < node + 4 }
+    ensures front { span tree.now.items node (result.0 - node) + result.1 ≡ rest }
+    ensures within { result.1 < slice_index tree.now.items result.0 }
+{
+    let mut left = rest;
+    let first = tree[node];
+    if left < first {
+        return (node, left);
+    }
+    left -= first;
+    let second = tree[node + 1];
+    if left < second {
+        return (node + 1, left);
+    }
+    left -= second;
+    let third = tree[node + 2];
+    if left < third {
+        return (node + 2, left);
+    }
+    (node + 3, left - third)
 }
