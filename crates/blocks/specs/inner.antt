@@ -4,3 +4,4 @@ pub mod Tested
 pub mod Linking
 pub mod Asked
 pub mod OwnLine
+pub mod Told

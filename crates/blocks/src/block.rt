@@ -10,14 +10,15 @@ mod testing;
 
 use access::Access;
 pub use acting::Visit;
-pub use asking::{HeldAsks, held_asks_in};
+pub use asking::HeldAsks;
+pub(crate) use asking::held_asks_in;
 use base::{CacheId, NoMemory};
 use control::{Home, Line};
 pub use deciding::{decide_opened, opened_line};
 use directory_table::DirectoryState;
 pub use looking::{foreseen, is_held_opened};
 use network::Wires;
-pub use passing::responses_pass;
+pub(crate) use passing::{is_clear, responses_pass};
 use rows::{Sparse, TryClone};
 use std::alloc::Global;
 use std::marker::Model;

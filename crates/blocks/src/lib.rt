@@ -2,8 +2,9 @@
 #![tactic(auto)]
 
 mod block;
+mod controllers;
 
 pub use block::{
-    Block, HeldAsks, Tested, Visit, decide_opened, foreseen, held_asks_in, is_held_opened,
-    opened_line, responses_pass,
+    Block, HeldAsks, Tested, Visit, decide_opened, foreseen, is_held_opened, opened_line,
 };
+pub use controllers::Controllers;

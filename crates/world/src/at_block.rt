@@ -3,7 +3,6 @@ ghost use Rattle.machine.specs.Transition.{decision_of, messages_of, transition}
 ghost use Rattle.machine.specs.declared.decision.Decision.TheVariants.{Refused};
 ghost use Rattle.machine.specs.Made.{made_at};
 ghost use Rattle.blocks.specs.View.{acts, acts_at_line};
-ghost use Rattle.blocks.specs.Passing.{ResponsesPass};
 ghost use Rattle.world.specs.Keeping.{has_line};
 ghost use Rattle.world.specs.View.{HasSpaceAt, space_of};
 ghost use Rattle.world.specs.inner.AtBlock.{HasStayed, HasStepped, NeedsNone};
@@ -12,7 +11,7 @@ ghost use Rattle.world.specs.inner.Tests.{IsMarked};
 ghost use Rattle.blocks.specs.Tests.{IsTested, tested_in};
 
 use base::{NoMemory, Outcome, Step};
-use blocks::{Block, Visit, decide_opened};
+use blocks::{Block, Controllers, Visit, decide_opened};
 use both_tables::Tables;
 use machine::{Decision, Made};
 use rows::Sparse;
@@ -108,21 +107,19 @@ pub fn step_at(
     caches: u32,
     value: u64,
     number: u32,
-    tables: &Tables,
-    pass: bool,
+    controllers: &Controllers,
     step: Step,
 ) -> Result<Visit, NoMemory>
     requires below { number < length blocks.old.items }
-    requires pass { pass ≡ true → ResponsesPass tables.now }
-    requires marked { IsMarked tables.now (kept_at blocks.old.items number) }
-    ensures ok { IfOk result (λ visit. HasStepped tables.now caches value number step blocks.old.items visit blocks.new.items) }
-    ensures err { OnErr result (HasStayed tables.now caches value number step blocks.old.items blocks.new.items) }
-    ensures succeeds { NeedsNone tables.now caches value number step blocks.old.items → IsOk result }
+    requires marked { IsMarked controllers.now (kept_at blocks.old.items number) }
+    ensures ok { IfOk result (λ visit. HasStepped controllers.now caches value number step blocks.old.items visit blocks.new.items) }
+    ensures err { OnErr result (HasStayed controllers.now caches value number step blocks.old.items blocks.new.items) }
+    ensures succeeds { NeedsNone controllers.now caches value number step blocks.old.items → IsOk result }
 {
     if let Some(block) = blocks.get_mut(number) {
-        return block.make(tables, pass, step);
+        return block.make(controllers, step);
     }
-    first_step_at(alloc, blocks, caches, value, number, tables, pass, step)
+    first_step_at(alloc, blocks, caches, value, number, controllers, step)
 }
 
 /// Makes a step at a block that isn't kept. It stands apart, as few steps come here.
@@ -134,18 +131,24 @@ fn first_step_at(
     caches: u32,
     value: u64,
     number: u32,
-    tables: &Tables,
-    pass: bool,
+    controllers: &Controllers,
     step: Step,
 ) -> Result<Visit, NoMemory>
     requires below { number < length blocks.old.items }
-    requires pass { pass ≡ true → ResponsesPass tables.now }
     requires none { kept_at blocks.old.items number ≡ None }
-    ensures ok { IfOk result (λ visit. HasStepped tables.now caches value number step blocks.old.items visit blocks.new.items) }
-    ensures err { OnErr result (HasStayed tables.now caches value number step blocks.old.items blocks.new.items) }
-    ensures succeeds { NeedsNone tables.now caches value number step blocks.old.items → IsOk result }
+    ensures ok { IfOk result (λ visit. HasStepped controllers.now caches value number step blocks.old.items visit blocks.new.items) }
+    ensures err { OnErr result (HasStayed controllers.now caches value number step blocks.old.items blocks.new.items) }
+    ensures succeeds { NeedsNone controllers.now caches value number step blocks.old.items → IsOk result }
 {
-    if let Some(outcome) = touch_opened(alloc, blocks, caches, value, number, tables, step)? {
+    if let Some(outcome) = touch_opened(
+        alloc,
+        blocks,
+        caches,
+        value,
+        number,
+        controllers.tables(),
+        step,
+    )? {
         return Ok(Visit {
             made: Made::refused(outcome),
             tested: None,
@@ -154,7 +157,7 @@ fn first_step_at(
     let Some(block) = blocks.get_mut(number) else {
         unreachable!();
     };
-    block.make(tables, pass, step)
+    block.make(controllers, step)
 }
 
 /// Makes the room that a step at one of the blocks wants.

@@ -8,7 +8,7 @@ ghost use Rattle.world.specs.inner.Holding.{kept_at};
 
 use crate::worlds::{World, opening_value};
 use base::{BlockId, CacheId, Outcome, Place, Shape, Step};
-use blocks::{Block, HeldAsks, held_asks_in, is_held_opened, opened_line};
+use blocks::{Block, HeldAsks, is_held_opened, opened_line};
 use cache_table::CacheState;
 use control::Line;
 use directory_table::DirectoryState;
@@ -194,8 +194,12 @@ impl World {
         ensures { result ≡ is_held_found self.now.tables step (slice_get self.now.state.blocks (block_of step)) }
     {
         match self.find(step.block().0) {
-            Some(Found::Kept(block)) => block.is_held(&self.tables, step),
-            Some(Found::Opened(_)) => is_held_opened(&self.tables, self.shape.caches(), step),
+            Some(Found::Kept(block)) => block.is_held(self.controllers.tables(), step),
+            Some(Found::Opened(_)) => is_held_opened(
+                self.controllers.tables(),
+                self.shape.caches(),
+                step,
+            ),
             None => false,
         }
     }
@@ -205,7 +209,7 @@ impl World {
     pub fn held_asks(&self, state: CacheState) -> HeldAsks
         ensures { (ask : Ask) → holds result ask ≡ stalls_in self.now.tables.cache ask state }
     {
-        held_asks_in(&self.tables, state)
+        self.controllers.held_asks(state)
     }
 
     /// The controller that a step goes to. There is none where cache, block or message isn't there, in a broken world too.

@@ -7,7 +7,7 @@ ghost use Rattle.blocks.specs.Tests.{tested_in};
 use crate::at_block::{ready_at, step_at};
 use crate::counts::Counts;
 use base::{NoMemory, Outcome, Shape, Step};
-use blocks::{Block, Tested, responses_pass};
+use blocks::{Block, Controllers, Tested};
 use both_tables::Tables;
 use machine::Made;
 use rows::{Sparse, TryClone};
@@ -45,9 +45,7 @@ impl From<NoMemory> for OpenFault {
 pub struct World {
     alloc: Global,
     pub(crate) shape: Shape,
-    pub(crate) tables: Tables,
-    // Whether it is known that no response is ever held under the tables.
-    pass: bool,
+    pub(crate) controllers: Controllers,
     pub(crate) opening: Vec<u64>,
     pub(crate) blocks: Sparse<Block>,
     pub(crate) counts: Counts,
@@ -61,8 +59,7 @@ impl Drop for World {
         let World {
             alloc: _,
             shape: _,
-            tables: _,
-            pass: _,
+            controllers: _,
             opening: _,
             blocks: _,
             counts: _,
@@ -73,8 +70,6 @@ impl Drop for World {
 }
 
 impl Model for World {
-    ghost use Rattle.std.specs.Prelude.{◌≡◌, true};
-    ghost use Rattle.blocks.specs.Passing.{ResponsesPass};
     ghost use Rattle.world.specs.View.{View, spaces_of, states};
     ghost use Rattle.world.specs.inner.Holding.{IsWorld};
 
@@ -82,17 +77,17 @@ impl Model for World {
 
     ghost view = { λ w. record {
       shape = w.shape;
-      tables = w.tables;
+      tables = w.controllers;
       opening = w.opening.items;
       state = record { blocks = states w.shape.caches w.opening.items w.blocks.items; broken = w.met_blank };
       spaces = spaces_of w.blocks.items;
       tested = w.tested;
     } };
 
-    ghost invariant = { λ w. IsWorld w.shape w.tables w.opening.items w.blocks.items w.counts (record {
+    ghost invariant = { λ w. IsWorld w.shape w.controllers w.opening.items w.blocks.items w.counts (record {
       blocks = states w.shape.caches w.opening.items w.blocks.items;
       broken = w.met_blank;
-    }) × (w.pass ≡ true → ResponsesPass w.tables) };
+    }) };
 }
 
 impl World {
@@ -136,8 +131,7 @@ impl World {
         Ok(World {
             alloc,
             shape,
-            tables,
-            pass: responses_pass(&tables),
+            controllers: Controllers::new(tables),
             opening,
             blocks: Sparse::open(alloc, shape.blocks()),
             counts,
@@ -196,8 +190,7 @@ impl World {
             self.shape.caches(),
             value,
             number,
-            &self.tables,
-            self.pass,
+            &self.controllers,
             step,
         )?;
         self.tested = note(&mut self.counts, self.tested, number, visit.tested);
@@ -233,7 +226,7 @@ impl World {
             self.shape.caches(),
             value,
             number,
-            &self.tables,
+            self.controllers.tables(),
             step,
         )
     }
@@ -255,8 +248,7 @@ impl World {
         Ok(World {
             alloc,
             shape: self.shape,
-            tables: self.tables,
-            pass: self.pass,
+            controllers: Controllers::new(*self.controllers.tables()),
             opening,
             blocks,
             counts,

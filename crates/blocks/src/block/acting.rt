@@ -12,6 +12,7 @@ ghost use Rattle.base.specs.declared.ids.CacheId.{CacheId};
 
 use crate::block::serving::{HeadAt, RequestAt, ResponseAt, Served};
 use crate::block::{Block, Tested, foreseen};
+use crate::controllers::Controllers;
 use base::{CacheId, CoreAsk, NoMemory, Outcome, Step};
 use both_tables::Tables;
 use cache_table::{CacheActions, CacheState};
@@ -35,7 +36,6 @@ impl Block {
     ghost use Rattle.std.specs.Prelude.{◌≡◌, [], IfOk, IsOk, OnOk, OnErr, false, true, length, take};
     ghost use Rattle.base.specs.declared.ids.CacheId.{CacheId};
     ghost use Rattle.blocks.specs.inner.Linking.{IsAtOwn, IsRelinked};
-    ghost use Rattle.blocks.specs.Passing.{ResponsesPass};
     ghost use Rattle.machine.specs.Transition.{Fits, Transition, carried_out, decision_of, messages_of, transition};
     ghost use Rattle.blocks.specs.View.{acts, lines_after, moved_to, wakes_line, HasSpaceFor};
     ghost use Rattle.blocks.specs.Marking.{marks_of};
@@ -151,44 +151,36 @@ impl Block {
         }
     }
 
-    /// Makes a step, under tables of which it may be known that no response is ever held. Where memory is refused nothing has
-    /// changed.
-    pub fn make(&mut self, tables: &Tables, pass: bool, step: Step) -> Result<Visit, NoMemory>
-        requires marks { self.old.marks ≡ marks_of tables.now self.old.state }
-        requires pass { pass ≡ true → ResponsesPass tables.now }
-        ensures ok { IfOk result (λ visit. Visits tables.now self.old step visit self.new) }
-        ensures err { OnErr result (Stays tables.now self.old self.new) }
-        ensures succeeds { WantsNone (decision_of tables.now step self.old.state) self.old.state self.old.space → IsOk result }
+    /// Makes a step. Where memory is refused nothing has changed.
+    pub fn make(&mut self, controllers: &Controllers, step: Step) -> Result<Visit, NoMemory>
+        requires { self.old.marks ≡ marks_of controllers.now self.old.state }
+        ensures ok { IfOk result (λ visit. Visits controllers.now self.old step visit self.new) }
+        ensures err { OnErr result (Stays controllers.now self.old self.new) }
+        ensures succeeds { WantsNone (decision_of controllers.now step self.old.state) self.old.state self.old.space → IsOk result }
     {
         match step {
             Step::Ask { cache, block, ask } => {
                 let core = cache;
-                self.serve(tables, pass, &CoreAsk { core, block, ask })
+                self.serve(controllers, &CoreAsk { core, block, ask })
             }
             Step::Request { block, index } => {
-                self.serve(tables, pass, &RequestAt { block, index })
+                self.serve(controllers, &RequestAt { block, index })
             }
-            Step::Forward { block, cache } => self.serve(tables, pass, &HeadAt { block, cache }),
+            Step::Forward { block, cache } => self.serve(controllers, &HeadAt { block, cache }),
             Step::Response { block, index } => {
-                self.serve(tables, pass, &ResponseAt { block, index })
+                self.serve(controllers, &ResponseAt { block, index })
             }
         }
     }
 
     /// Makes the step that serves this.
-    fn serve<S: Served>(
-        &mut self,
-        tables: &Tables,
-        pass: bool,
-        served: &S,
-    ) -> Result<Visit, NoMemory>
-        requires marks { self.old.marks ≡ marks_of tables.now self.old.state }
-        requires pass { pass ≡ true → ResponsesPass tables.now }
-        ensures ok { IfOk result (λ visit. Visits tables.now self.old (S.step served.now) visit self.new) }
-        ensures err { OnErr result (Stays tables.now self.old self.new) }
-        ensures succeeds { WantsNone (decision_of tables.now (S.step served.now) self.old.state) self.old.state self.old.space → IsOk result }
+    fn serve<S: Served>(&mut self, controllers: &Controllers, served: &S) -> Result<Visit, NoMemory>
+        requires { self.old.marks ≡ marks_of controllers.now self.old.state }
+        ensures ok { IfOk result (λ visit. Visits controllers.now self.old (S.step served.now) visit self.new) }
+        ensures err { OnErr result (Stays controllers.now self.old self.new) }
+        ensures succeeds { WantsNone (decision_of controllers.now (S.step served.now) self.old.state) self.old.state self.old.space → IsOk result }
     {
-        let decision = self.decide(tables, served);
+        let decision = self.decide(controllers.tables(), served);
         if let Decision::Refused(outcome) = decision {
             return Ok(Visit {
                 made: Made::refused(outcome),
@@ -200,7 +192,7 @@ impl Block {
             return Err(refused);
         }
         let outcome = self.carry_out(&decision);
-        let tested = self.test_after(tables, pass, others);
+        let tested = self.test_after(controllers, others);
         let acted = acted_by(&decision, self.is_crowded());
         Ok(Visit {
             made: Made { outcome, acted },

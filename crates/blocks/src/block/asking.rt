@@ -34,7 +34,7 @@ impl HeldAsks {
 }
 
 /// Which asks would be held at a line in this state.
-pub fn held_asks_in(tables: &Tables, state: CacheState) -> HeldAsks
+pub(crate) fn held_asks_in(tables: &Tables, state: CacheState) -> HeldAsks
     ensures { (ask : Ask) → holds result ask ≡ stalls_in tables.now.cache ask state }
 {
     HeldAsks {

@@ -84,9 +84,7 @@ fn homes_pass(tables: &Tables) -> bool
 }
 
 /// Whether it is known that no response is ever held under these tables, whatever the states of lines and homes are.
-// Inlined it would have the tables copied cell by cell where a world is opened.
-#[inline(never)]
-pub fn responses_pass(tables: &Tables) -> bool
+pub(crate) fn responses_pass(tables: &Tables) -> bool
     ensures { result ≡ true → ResponsesPass tables.now }
 {
     lines_pass(tables) && homes_pass(tables)

@@ -2,14 +2,14 @@
 //! where its mark is made right, or known to be right still, without that question.
 ghost use Rattle.std.specs.Prelude.{◌≡◌, true, length, slice_get};
 ghost use Rattle.network.specs.Traffic.{Traffic};
-ghost use Rattle.blocks.specs.Passing.{ResponsesPass};
 ghost use Rattle.blocks.specs.Marking.{home_stalls, line_stalls, response_stalls, links_stall, marks_of};
+ghost use Rattle.blocks.specs.inner.Asked.{AreFirstRight};
 ghost use Rattle.blocks.specs.inner.Lined.{lines_of};
 ghost use Rattle.blocks.specs.inner.Linking.{IsOwn};
 ghost use Rattle.blocks.specs.inner.Tested.{block_with, requests_stall};
 
-use crate::block::passing::is_clear;
 use crate::block::{Block, opened_line};
+use crate::controllers::Controllers;
 use base::{CacheId, Place};
 use both_tables::Tables;
 use cache_table::CacheEntry;
@@ -40,11 +40,10 @@ pub(crate) struct Others {
 }
 
 impl Block {
-    ghost use Rattle.std.specs.Prelude.{◌≡◌, true, IfSome, length};
+    ghost use Rattle.std.specs.Prelude.{◌≡◌, IfSome, length};
     ghost use Rattle.blocks.specs.inner.Asked.{AreFirstRight};
     ghost use Rattle.blocks.specs.inner.Linking.{AreRight, IsAtOwn};
     ghost use Rattle.blocks.specs.inner.Tested.{requests_stall};
-    ghost use Rattle.blocks.specs.Passing.{ResponsesPass};
     ghost use Rattle.blocks.specs.Marking.{marks_of};
     ghost use Rattle.blocks.specs.Tests.{IsFound};
 
@@ -64,33 +63,29 @@ impl Block {
         }
     }
 
-    /// Marks all messages that would be held: where no response ever is, no response is looked at.
-    fn mark_all(&mut self, tables: &Tables, pass: bool)
-        requires { pass ≡ true → ResponsesPass tables.now }
+    /// Marks all messages that would be held.
+    fn mark_all(&mut self, controllers: &Controllers)
         ensures state { self.new.state ≡ self.old.state }
         ensures space { self.new.space ≡ self.old.space }
-        ensures marks { self.new.marks ≡ marks_of tables.now self.old.state }
+        ensures marks { self.new.marks ≡ marks_of controllers.now self.old.state }
     {
-        mark_requests(tables, &self.home, &mut self.wires);
-        mark_links(tables, &self.lines, &mut self.wires);
-        mark_responses(tables, pass, &self.home, &self.lines, &mut self.wires);
+        mark_requests(controllers, &self.home, 0, &mut self.wires);
+        mark_links(controllers.tables(), &self.lines, &mut self.wires);
+        mark_responses(controllers, &self.home, &self.lines, &mut self.wires);
     }
 
     /// Marks all messages but those of which this is known, and whose marks are right.
     #[inline(always)]
-    fn mark_but(&mut self, tables: &Tables, pass: bool, others: Others)
-        requires pass { pass ≡ true → ResponsesPass tables.now }
-        requires links { AreRight tables.now self.old.state.lines self.old.state.traffic.links others.cache.0 self.old.marks.links }
+    fn mark_but(&mut self, controllers: &Controllers, others: Others)
+        requires links { AreRight controllers.now self.old.state.lines self.old.state.traffic.links others.cache.0 self.old.marks.links }
         requires requests { AreFirstRight others.requests self.old.marks.requests
-            (requests_stall tables.now.directory self.old.state.home self.old.state.traffic.requests) }
+            (requests_stall controllers.now.directory self.old.state.home self.old.state.traffic.requests) }
         ensures state { self.new.state ≡ self.old.state }
         ensures space { self.new.space ≡ self.old.space }
-        ensures marks { self.new.marks ≡ marks_of tables.now self.old.state }
+        ensures marks { self.new.marks ≡ marks_of controllers.now self.old.state }
     {
-        let home = &self.home;
-        self.wires
-            .mark_requests(u64::from(others.requests), &AtHome { tables, home });
-        let (lines, cache) = (&self.lines, others.cache);
+        mark_requests(controllers, &self.home, others.requests, &mut self.wires);
+        let (tables, lines, cache) = (controllers.tables(), &self.lines, others.cache);
         self.wires.mark_link(
             cache,
             &OnLink {
@@ -99,29 +94,24 @@ impl Block {
                 cache,
             },
         );
-        mark_responses(tables, pass, &self.home, &self.lines, &mut self.wires);
+        mark_responses(controllers, &self.home, &self.lines, &mut self.wires);
     }
 
     /// Tests all messages, or only those that a step at a line may have changed, where the rest is known.
     #[inline(always)]
-    pub(crate) fn test_after(
-        &mut self,
-        tables: &Tables,
-        pass: bool,
-        others: Option<Others>,
-    ) -> Tested
-        requires pass { pass ≡ true → ResponsesPass tables.now }
-        requires links { IfSome others (λ o. AreRight tables.now self.old.state.lines self.old.state.traffic.links o.cache.0 self.old.marks.links) }
+    pub(crate) fn test_after(&mut self, controllers: &Controllers, others: Option<Others>) -> Tested
+        requires links { IfSome others (λ o.
+            AreRight controllers.now self.old.state.lines self.old.state.traffic.links o.cache.0 self.old.marks.links) }
         requires requests { IfSome others (λ o. AreFirstRight o.requests self.old.marks.requests
-            (requests_stall tables.now.directory self.old.state.home self.old.state.traffic.requests)) }
+            (requests_stall controllers.now.directory self.old.state.home self.old.state.traffic.requests)) }
         ensures state { self.new.state ≡ self.old.state }
         ensures space { self.new.space ≡ self.old.space }
-        ensures marks { self.new.marks ≡ marks_of tables.now self.old.state }
-        ensures found { IsFound tables.now self.old.state result }
+        ensures marks { self.new.marks ≡ marks_of controllers.now self.old.state }
+        ensures found { IsFound controllers.now self.old.state result }
     {
         match others {
-            Some(others) => self.mark_but(tables, pass, others),
-            None => self.mark_all(tables, pass),
+            Some(others) => self.mark_but(controllers, others),
+            None => self.mark_all(controllers),
         }
         Tested {
             requests: self.wires.free_requests(),
@@ -262,19 +252,22 @@ fn stalls_response(tables: &Tables, home: &Home, lines: &Sparse<Line>, response:
     }
 }
 
-/// Marks all requests. Where none would be held, they aren't looked at one by one.
-fn mark_requests(tables: &Tables, home: &Home, wires: &mut Wires)
+/// Marks all requests, of which the first so many are marked right. Where none would be held, none is looked at.
+#[inline(always)]
+fn mark_requests(controllers: &Controllers, home: &Home, right: u32, wires: &mut Wires)
+    requires { AreFirstRight right wires.old.marks.requests (requests_stall controllers.now.directory home.now wires.old.traffic.requests) }
     ensures traffic { wires.new.traffic ≡ wires.old.traffic }
     ensures room { wires.new.room ≡ wires.old.room }
     ensures marks { wires.new.marks ≡ record wires.old.marks {
-      requests = requests_stall tables.now.directory home.now wires.old.traffic.requests;
+      requests = requests_stall controllers.now.directory home.now wires.old.traffic.requests;
     } }
 {
-    if wires.request_count() > 1 && is_clear(tables, home.state) {
+    if controllers.are_clear(home.state) {
         wires.unmark_requests();
-    } else {
-        wires.mark_requests(0, &AtHome { tables, home });
+        return;
     }
+    let tables = controllers.tables();
+    wires.mark_requests(u64::from(right), &AtHome { tables, home });
 }
 
 /// Marks what is on all links.
@@ -305,17 +298,17 @@ fn mark_links(tables: &Tables, lines: &Sparse<Line>, wires: &mut Wires)
 
 /// Marks all responses. Where none ever would be held, they aren't looked at.
 #[inline(always)]
-fn mark_responses(tables: &Tables, pass: bool, home: &Home, lines: &Sparse<Line>, wires: &mut Wires)
-    requires { pass ≡ true → ResponsesPass tables.now }
+fn mark_responses(controllers: &Controllers, home: &Home, lines: &Sparse<Line>, wires: &mut Wires)
     ensures traffic { wires.new.traffic ≡ wires.old.traffic }
     ensures room { wires.new.room ≡ wires.old.room }
     ensures marks { wires.new.marks ≡ record wires.old.marks {
-      responses = (marks_of tables.now (block_with lines.now.items home.now wires.old.traffic)).responses;
+      responses = (marks_of controllers.now (block_with lines.now.items home.now wires.old.traffic)).responses;
     } }
 {
-    if pass {
+    if controllers.responses_pass() {
         wires.unmark_responses();
     } else {
+        let tables = controllers.tables();
         wires.mark_responses(&AtPlaces {
             tables,
             home,

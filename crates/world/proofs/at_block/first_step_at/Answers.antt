@@ -6,7 +6,7 @@ use Rattle.world.proofs.at_block.first_step_at.Goals as goal
 use Rattle.world.proofs.at_block.first_step_at.Goals.{After-make}
 
 -- the block that was kept for the step
-kept : (c : After-make) → Kept c.args.tables.now c.args.caches c.args.value c.args.number c.args.step c.args.blocks.now.items
+kept : (c : After-make) → Kept c.args.controllers.now c.args.caches c.args.value c.args.number c.args.step c.args.blocks.now.items
     c.touch_opened.new.blocks.items c.in-Some-get_mut.block.now
 kept c =
     let there = rw c.in-Some-get_mut.is at c.get_mut.follows in
@@ -15,16 +15,16 @@ kept c =
       there = there;
       others = c.touch_opened.ensures.others;
       state = ap (state_or c.args.caches c.args.value) there ∙ c.touch_opened.ensures.state;
-      idle = λ none. c.touch_opened.ensures.idle none ∙ sym c.requires.none;
+      idle = λ none. (rw c.tables.ensures at c.touch_opened.ensures.idle) none ∙ sym c.requires.none;
       lines = λ cache. ap (λ o. has_line (space_of o) cache) there ∙ c.touch_opened.ensures.lines cache;
     }
 
 pub returns-clause-ok : goal.returns-clause-ok
 returns-clause-ok c =
-    steps-or c.args.tables.now c.args.caches c.args.value c.args.number c.args.step c.args.blocks.now.items c.touch_opened.new.blocks.items _
+    steps-or c.args.controllers.now c.args.caches c.args.value c.args.number c.args.step c.args.blocks.now.items c.touch_opened.new.blocks.items _
     c.make.new.self c.make.result (kept (goal.at.returns-clause-ok c).After-make) c.make.ensures.ok
 
 pub returns-clause-err : goal.returns-clause-err
 returns-clause-err c =
-    stays-or c.args.tables.now c.args.caches c.args.value c.args.number c.args.step c.args.blocks.now.items c.touch_opened.new.blocks.items _
+    stays-or c.args.controllers.now c.args.caches c.args.value c.args.number c.args.step c.args.blocks.now.items c.touch_opened.new.blocks.items _
     c.make.new.self c.make.result (kept (goal.at.returns-clause-err c).After-make) c.make.ensures.err c.make.ensures.succeeds

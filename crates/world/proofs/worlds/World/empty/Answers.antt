@@ -19,7 +19,7 @@ pub returns-then-not-is_quiet_nth : goal.returns-then-not-is_quiet_nth
 returns-then-not-is_quiet_nth c =
     rw (← c.self.view_is)
     (kept-not-quiet c.self.inside.shape.caches c.self.inside.opening.items c.self.inside.blocks.keys c.self.inside.blocks.items c.loop-index.index
-    (c.self.invariant.0.places ∙ sym c.self.invariant.0.opening) (omega (arith, c.loop-index-test.true, c.held-index-end.ensures.count))
+    (c.self.invariant.places ∙ sym c.self.invariant.opening) (omega (arith, c.loop-index-test.true, c.held-index-end.ensures.count))
     (λ i at e. (c.held-index-end.ensures.touched.there i at e).0) c.if-not-is_quiet_nth.ensures)
 
 pub returns : goal.returns

@@ -9,15 +9,15 @@ pub returns-in_err-spot : goal.returns-in_err-spot
 returns-in_err-spot c =
     c.from_residual.ensures
     ∙ rw (← c.self.view_is)
-    (sym (ap (λ steps. slice_get steps c.args.k) (enabled-going c.self.inside.tables
+    (sym (ap (λ steps. slice_get steps c.args.k) (enabled-going c.self.inside.controllers
     (state_of c.self.inside.shape c.self.inside.opening.items c.self.inside.blocks.items c.self.inside.met_blank) c.if-self.false)
-    ∙ spot-none c.self.inside.tables _ c.self.inside.counts c.self.invariant.0.counted c.args.k c.in_err-spot.ensures.none))
+    ∙ spot-none c.self.inside.controllers _ c.self.inside.counts c.self.invariant.counted c.args.k c.in_err-spot.ensures.none))
 
 pub returns : goal.returns
 returns c =
     c.delivery_at.ensures
     ∙ rw (← c.self.view_is)
-    (delivery-right c.self.inside.shape c.self.inside.tables c.self.inside.opening.items c.self.inside.blocks.items c.self.inside.counts _ c.args.k
-    c.in_ok-spot.spot c.self.invariant.0 refl c.in_ok-spot.ensures.some
-    ∙ ap (λ steps. slice_get steps c.args.k) (sym (enabled-going c.self.inside.tables
+    (delivery-right c.self.inside.shape c.self.inside.controllers c.self.inside.opening.items c.self.inside.blocks.items c.self.inside.counts _ c.args.k
+    c.in_ok-spot.spot c.self.invariant refl c.in_ok-spot.ensures.some
+    ∙ ap (λ steps. slice_get steps c.args.k) (sym (enabled-going c.self.inside.controllers
     (state_of c.self.inside.shape c.self.inside.opening.items c.self.inside.blocks.items c.self.inside.met_blank) c.if-self.false)))

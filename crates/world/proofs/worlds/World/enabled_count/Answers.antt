@@ -8,6 +8,6 @@ pub returns-clause-count : goal.returns-clause-count
 returns-clause-count c =
     c.total.ensures.total
     ∙ rw (← c.self.view_is)
-    (sym (ap length (enabled-going c.self.inside.tables
+    (sym (ap length (enabled-going c.self.inside.controllers
     (state_of c.self.inside.shape c.self.inside.opening.items c.self.inside.blocks.items c.self.inside.met_blank) c.if-self.false)
-    ∙ all-counted c.self.inside.tables _ c.self.inside.counts c.self.invariant.0.counted))
+    ∙ all-counted c.self.inside.controllers _ c.self.inside.counts c.self.invariant.counted))

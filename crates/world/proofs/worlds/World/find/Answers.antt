@@ -25,7 +25,7 @@ returns-in-None-clause-state c =
 pub returns-in-None-clause-there : goal.returns-in-None-clause-there
 returns-in-None-clause-there c =
     let below : c.args.number < c.self.inside.shape.blocks =
-    omega (arith, c.self.invariant.0.opening, slice_get_within c.self.inside.opening.items c.args.number c.in_ok-value.value (sym (at-2 c))) in
+    omega (arith, c.self.invariant.opening, slice_get_within c.self.inside.opening.items c.args.number c.in_ok-value.value (sym (at-2 c))) in
     rw (← c.self.view_is) ((λ e. below), (λ lt. refl))
 
 pub returns-in-Some-clause-there : goal.returns-in-Some-clause-there

@@ -25,23 +25,21 @@ at-2 c = rw (c.as_slice.ensures.value, c.block-number.ensures) at c.in-Some.ensu
 
 below : (c : goal.After-from_residual) → block_of c.args.step < length c.self.inside.blocks.items
 below c =
-    below-places c.self.inside.shape c.self.inside.tables c.self.inside.opening.items c.self.inside.blocks.items c.self.inside.counts _
-    (block_of c.args.step) c.in-Some.value c.self.invariant.0 (at c)
+    below-places c.self.inside.shape c.self.inside.controllers c.self.inside.opening.items c.self.inside.blocks.items c.self.inside.counts _
+    (block_of c.args.step) c.in-Some.value c.self.invariant (at c)
 
 below-2 : (c : After-result-1) → block_of c.args.step < length c.self.inside.blocks.items
 below-2 c =
-    below-places c.self.inside.shape c.self.inside.tables c.self.inside.opening.items c.self.inside.blocks.items c.self.inside.counts _
-    (block_of c.args.step) c.in-Some.value c.self.invariant.0 (at-2 c)
+    below-places c.self.inside.shape c.self.inside.controllers c.self.inside.opening.items c.self.inside.blocks.items c.self.inside.counts _
+    (block_of c.args.step) c.in-Some.value c.self.invariant (at-2 c)
 
 pub invariant_of-self : goal.invariant_of-self
-invariant_of-self c = (
-  world-stays c.self.inside.shape c.self.inside.tables c.self.inside.opening.items c.self.inside.blocks.items c.step_at.new.blocks.items
-      c.self.inside.counts (block_of c.args.step) c.in-Some.value c.self.inside.met_blank c.self.invariant.0 (at c)
-      (rw c.block-number.ensures at c.in_err-visit.ensures.err.visited.others)
-      (rw (c.block-number.ensures, c.caches.ensures.value) at c.in_err-visit.ensures.err.state)
-      (rw c.block-number.ensures at c.in_err-visit.ensures.err.visited.marked),
-  c.self.invariant.1,
-)
+invariant_of-self c =
+    world-stays c.self.inside.shape c.self.inside.controllers c.self.inside.opening.items c.self.inside.blocks.items c.step_at.new.blocks.items
+    c.self.inside.counts (block_of c.args.step) c.in-Some.value c.self.inside.met_blank c.self.invariant (at c)
+    (rw c.block-number.ensures at c.in_err-visit.ensures.err.visited.others)
+    (rw (c.block-number.ensures, c.caches.ensures.value) at c.in_err-visit.ensures.err.state)
+    (rw c.block-number.ensures at c.in_err-visit.ensures.err.visited.marked)
 
 pub returns-in_err-visit-clause-err : goal.returns-in_err-visit-clause-err
 returns-in_err-visit-clause-err c = on_err c.from_residual.result (record {
@@ -59,7 +57,7 @@ returns-in_err-visit-clause-err c = on_err c.from_residual.result (record {
   tested = grind (arith, common_steps);
   keeps =
       rw (← c.self.view_is, c.if-self.false)
-      (kept-as-is c.self.inside.shape c.self.inside.tables c.self.inside.opening.items c.self.inside.blocks.items c.step_at.new.blocks.items
+      (kept-as-is c.self.inside.shape c.self.inside.controllers c.self.inside.opening.items c.self.inside.blocks.items c.step_at.new.blocks.items
       c.self.inside.tested c.args.step c.in-Some.value _ (at c)
       (rw c.block-number.ensures at c.in_err-visit.ensures.err.visited.others)
       (rw (c.block-number.ensures, c.caches.ensures.value) at c.in_err-visit.ensures.err.visited.idle)
@@ -70,50 +68,48 @@ pub returns-in_err-visit-clause-succeeds : goal.returns-in_err-visit-clause-succ
 returns-in_err-visit-clause-succeeds c needs = elim needs [
   | inl room ↦
       absurd (true≢false (sym ((rw (c.block-number.ensures, c.caches.ensures.value) at c.in_err-visit.ensures.succeeds)
-      (inl (room-at c.self.inside.shape c.self.inside.tables c.self.inside.opening.items c.self.inside.blocks.items c.self.inside.tested
+      (inl (room-at c.self.inside.shape c.self.inside.controllers c.self.inside.opening.items c.self.inside.blocks.items c.self.inside.tested
       c.args.step c.in-Some.value (at c)
       (rw (← c.self.view_is, c.if-self.false) at room))))))
   | inr light ↦
       absurd (true≢false (sym ((rw (c.block-number.ensures, c.caches.ensures.value) at c.in_err-visit.ensures.succeeds)
-      (inr (light-in c.self.inside.shape c.self.inside.tables c.self.inside.opening.items c.self.inside.blocks.items c.self.inside.tested
+      (inr (light-in c.self.inside.shape c.self.inside.controllers c.self.inside.opening.items c.self.inside.blocks.items c.self.inside.tested
       c.args.step c.in-Some.value (at c)
       (rw (← c.self.view_is, c.if-self.false) at light.0) (rw (← c.self.view_is) at light.1))))))
 ]
 
 moved : (c : After-result-1) →
-    transition c.self.inside.tables c.args.step (state_or c.self.inside.shape.caches c.in-Some.value
+    transition c.self.inside.controllers c.args.step (state_or c.self.inside.shape.caches c.in-Some.value
     (kept_at c.self.inside.blocks.items (block_of c.args.step)))
     ≡ moved_to (state_or c.self.inside.shape.caches c.in-Some.value
     (kept_at c.step_at.new.blocks.items (block_of c.args.step))) c.in_ok-visit.visit.made.outcome
 moved c =
-    came-to c.self.inside.tables c.args.step _ _ c.in_ok-visit.visit.made
+    came-to c.self.inside.controllers c.args.step _ _ c.in_ok-visit.visit.made
     (rw (c.block-number.ensures, c.caches.ensures.value) at c.in_ok-visit.ensures.ok.made)
     (rw (c.block-number.ensures, c.caches.ensures.value) at c.in_ok-visit.ensures.ok.state)
 
 pub invariant_of-self-2 : goal.invariant_of-self-2
 invariant_of-self-2 c =
-    rw (c.note-self-inside.ensures.counts, c.block-number.ensures) (
-      world-stepped c.self.inside.shape c.self.inside.tables c.self.inside.opening.items c.self.inside.blocks.items c.step_at.new.blocks.items
-          c.self.inside.counts c.args.step c.in-Some.value c.in_ok-visit.visit.made.outcome c.in_ok-visit.visit.tested c.self.inside.met_blank
-          c.breaks-self-inside.result c.self.invariant.0 (at-2 c)
-          (rw c.block-number.ensures at c.in_ok-visit.ensures.ok.visited.others)
-          (moved c)
-          (rw c.block-number.ensures at c.in_ok-visit.ensures.ok.visited.marked)
-          (rw (c.block-number.ensures, c.caches.ensures.value) at c.in_ok-visit.ensures.ok.tested),
-      c.self.invariant.1,
-    )
+    rw (c.note-self-inside.ensures.counts, c.block-number.ensures)
+    (world-stepped c.self.inside.shape c.self.inside.controllers c.self.inside.opening.items c.self.inside.blocks.items c.step_at.new.blocks.items
+    c.self.inside.counts c.args.step c.in-Some.value c.in_ok-visit.visit.made.outcome c.in_ok-visit.visit.tested c.self.inside.met_blank
+    c.breaks-self-inside.result c.self.invariant (at-2 c)
+    (rw c.block-number.ensures at c.in_ok-visit.ensures.ok.visited.others)
+    (moved c)
+    (rw c.block-number.ensures at c.in_ok-visit.ensures.ok.visited.marked)
+    (rw (c.block-number.ensures, c.caches.ensures.value) at c.in_ok-visit.ensures.ok.tested))
 
 pub returns-clause-ok : goal.returns-clause-ok
 returns-clause-ok c = record {
   told = record {
     told =
         rw (← c.self.view_is, c.if-self.false)
-        (made-is c.self.inside.shape c.self.inside.tables c.self.inside.opening.items c.self.inside.blocks.items c.args.step c.in-Some.value
+        (made-is c.self.inside.shape c.self.inside.controllers c.self.inside.opening.items c.self.inside.blocks.items c.args.step c.in-Some.value
         c.in_ok-visit.visit.made (at-2 c) (rw (c.block-number.ensures, c.caches.ensures.value) at c.in_ok-visit.ensures.ok.made));
     state =
         rw (← c.self.view_is, c.if-self.false, c.breaks-self-inside.ensures)
         (ap (λ (n : Next). n.state)
-        (sym (next-is c.self.inside.shape c.self.inside.tables c.self.inside.opening.items c.self.inside.blocks.items c.step_at.new.blocks.items
+        (sym (next-is c.self.inside.shape c.self.inside.controllers c.self.inside.opening.items c.self.inside.blocks.items c.step_at.new.blocks.items
         c.args.step c.in-Some.value c.in_ok-visit.visit.made.outcome (at-2 c) (below-2 c)
         (rw c.block-number.ensures at c.in_ok-visit.ensures.ok.visited.others) (moved c))));
   };
@@ -122,17 +118,17 @@ returns-clause-ok c = record {
   opening = grind (arith, common_steps);
   tests_what_it_sends =
       rw (c.note-self-inside.ensures.tested, ← c.self.view_is, c.if-self.false)
-      (tests-sent c.self.inside.shape c.self.inside.tables c.self.inside.opening.items c.self.inside.blocks.items c.args.step c.in-Some.value
+      (tests-sent c.self.inside.shape c.self.inside.controllers c.self.inside.opening.items c.self.inside.blocks.items c.args.step c.in-Some.value
       c.self.inside.tested _ (at-2 c)
       (rw (c.block-number.ensures, c.caches.ensures.value) at c.in_ok-visit.ensures.ok.sent));
   tests_its_block =
       rw (c.note-self-inside.ensures.tested, ← c.self.view_is)
-      (tests-block c.self.inside.shape c.self.inside.tables c.self.inside.opening.items c.step_at.new.blocks.items c.breaks-self-inside.result
+      (tests-block c.self.inside.shape c.self.inside.controllers c.self.inside.opening.items c.step_at.new.blocks.items c.breaks-self-inside.result
       (block_of c.args.step) c.in-Some.value c.self.inside.tested _ c.in_ok-visit.visit.tested (at-2 c)
       (rw (c.block-number.ensures, c.caches.ensures.value) at c.in_ok-visit.ensures.ok.tested));
   keeps =
       rw (← c.self.view_is, c.if-self.false)
-      (kept-as-is c.self.inside.shape c.self.inside.tables c.self.inside.opening.items c.self.inside.blocks.items c.step_at.new.blocks.items
+      (kept-as-is c.self.inside.shape c.self.inside.controllers c.self.inside.opening.items c.self.inside.blocks.items c.step_at.new.blocks.items
       c.self.inside.tested c.args.step c.in-Some.value _ (at-2 c)
       (rw c.block-number.ensures at c.in_ok-visit.ensures.ok.visited.others)
       (rw (c.block-number.ensures, c.caches.ensures.value) at c.in_ok-visit.ensures.ok.visited.idle)
@@ -152,7 +148,7 @@ returns-then-self-clause-ok c = record {
 
 pub returns-in_default-clause-ok : goal.returns-in_default-clause-ok
 returns-in_default-clause-ok c =
-    let tables = c.self.inside.tables in
+    let tables = c.self.inside.controllers in
     let state = state_of c.self.inside.shape c.self.inside.opening.items c.self.inside.blocks.items false in
     let tested = c.self.inside.tested in
     let none : None ≡ slice_get state.blocks (block_of c.args.step) =

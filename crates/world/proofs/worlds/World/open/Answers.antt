@@ -18,13 +18,11 @@ opened-state c =
     (states-opened c.args.shape.caches c.args.opening.items c.open-2.result.items c.blocks-4.result c.open-2.ensures.items)
 
 pub invariant_of-result : goal.invariant_of-result
-invariant_of-result c = (
-  world-opened c.args.shape c.args.tables c.args.opening.items c.open-2.result.items c.in-Ok.counts c.blocks-2.ensures.within (one_each c)
-      (c.open-2.ensures.items ∙ ap (λ n. replicate n None) c.blocks-4.ensures.value)
-      (rw c.blocks-3.ensures.value at c.in-Ok.ensures.requests) (rw c.blocks-3.ensures.value at c.in-Ok.ensures.heads)
-      (rw c.blocks-3.ensures.value at c.in-Ok.ensures.responses),
-  c.responses_pass.ensures,
-)
+invariant_of-result c =
+    rw c.new.ensures (world-opened c.args.shape c.args.tables c.args.opening.items c.open-2.result.items c.in-Ok.counts c.blocks-2.ensures.within (one_each c)
+    (c.open-2.ensures.items ∙ ap (λ n. replicate n None) c.blocks-4.ensures.value)
+    (rw c.blocks-3.ensures.value at c.in-Ok.ensures.requests) (rw c.blocks-3.ensures.value at c.in-Ok.ensures.heads)
+    (rw c.blocks-3.ensures.value at c.in-Ok.ensures.responses))
 
 pub returns-clause-state : goal.returns-clause-state
 returns-clause-state c = opened-state c

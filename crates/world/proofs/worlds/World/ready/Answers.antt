@@ -14,18 +14,16 @@ at c = rw (c.as_slice.ensures.value, c.block-number.ensures) at c.in-Some.ensure
 
 below : (c : goal.After-ready_at) → block_of c.args.step < length c.self.inside.blocks.items
 below c =
-    below-places c.self.inside.shape c.self.inside.tables c.self.inside.opening.items c.self.inside.blocks.items c.self.inside.counts _
-    (block_of c.args.step) c.in-Some.value c.self.invariant.0 (at c)
+    below-places c.self.inside.shape c.self.inside.controllers c.self.inside.opening.items c.self.inside.blocks.items c.self.inside.counts _
+    (block_of c.args.step) c.in-Some.value c.self.invariant (at c)
 
 pub invariant_of-self : goal.invariant_of-self
-invariant_of-self c = (
-  world-stays c.self.inside.shape c.self.inside.tables c.self.inside.opening.items c.self.inside.blocks.items c.ready_at.new.blocks.items
-      c.self.inside.counts (block_of c.args.step) c.in-Some.value c.self.inside.met_blank c.self.invariant.0 (at c)
-      (rw c.block-number.ensures at c.ready_at.ensures.others)
-      (rw (c.block-number.ensures, c.caches.ensures.value) at c.ready_at.ensures.state)
-      ((rw c.block-number.ensures at c.ready_at.ensures.marked) (c.self.invariant.0.marked (block_of c.args.step))),
-  c.self.invariant.1,
-)
+invariant_of-self c =
+    world-stays c.self.inside.shape c.self.inside.controllers c.self.inside.opening.items c.self.inside.blocks.items c.ready_at.new.blocks.items
+    c.self.inside.counts (block_of c.args.step) c.in-Some.value c.self.inside.met_blank c.self.invariant (at c)
+    (rw c.block-number.ensures at c.ready_at.ensures.others)
+    (rw (c.block-number.ensures, c.caches.ensures.value) at c.ready_at.ensures.state)
+    ((rw (c.block-number.ensures, c.tables.ensures) at c.ready_at.ensures.marked) (c.self.invariant.marked (block_of c.args.step)))
 
 stay : (c : goal.After-ready_at) → states c.self.inside.shape.caches c.self.inside.opening.items c.ready_at.new.blocks.items
     ≡ states c.self.inside.shape.caches c.self.inside.opening.items c.self.inside.blocks.items
@@ -43,29 +41,29 @@ returns-clause-state c =
 pub returns-clause-outcome : goal.returns-clause-outcome
 returns-clause-outcome c =
     IfOk-weaker c.ready_at.result _ _ (λ what comes.
-    comes ∙ rw (← c.self.view_is, c.if-self.false) (sym (outcome-is c.self.inside.shape c.self.inside.tables c.self.inside.opening.items
+    comes ∙ rw (← c.self.view_is, c.if-self.false) (sym (outcome-is c.self.inside.shape c.self.inside.controllers c.self.inside.opening.items
     c.self.inside.blocks.items c.args.step c.in-Some.value (at c))))
-    (rw (c.block-number.ensures, c.caches.ensures.value) at c.ready_at.ensures.outcome)
+    (rw (c.block-number.ensures, c.caches.ensures.value, c.tables.ensures) at c.ready_at.ensures.outcome)
 
 pub returns-clause-room : goal.returns-clause-room
 returns-clause-room c =
     let same = rw (c.block-number.ensures, c.caches.ensures.value) at c.ready_at.ensures.state in
     on_ok_weaker c.ready_at.result (λ room.
-    room-back c.self.inside.shape c.self.inside.tables c.self.inside.opening.items c.ready_at.new.blocks.items c.self.inside.met_blank
+    room-back c.self.inside.shape c.self.inside.controllers c.self.inside.opening.items c.ready_at.new.blocks.items c.self.inside.met_blank
     c.self.inside.tested c.args.step c.in-Some.value (at c) (rw (← same) at room))
-    (rw (c.block-number.ensures, c.caches.ensures.value) at c.ready_at.ensures.room)
+    (rw (c.block-number.ensures, c.caches.ensures.value, c.tables.ensures) at c.ready_at.ensures.room)
 
 pub returns-clause-succeeds : goal.returns-clause-succeeds
 returns-clause-succeeds c h =
-    (rw (c.block-number.ensures, c.caches.ensures.value) at c.ready_at.ensures.succeeds)
-    (room-at c.self.inside.shape c.self.inside.tables c.self.inside.opening.items c.self.inside.blocks.items c.self.inside.tested
+    (rw (c.block-number.ensures, c.caches.ensures.value, c.tables.ensures) at c.ready_at.ensures.succeeds)
+    (room-at c.self.inside.shape c.self.inside.controllers c.self.inside.opening.items c.self.inside.blocks.items c.self.inside.tested
     c.args.step c.in-Some.value (at c)
     (rw (← c.self.view_is, c.if-self.false) at h))
 
 pub returns-clause-sends_nothing : goal.returns-clause-sends_nothing
 returns-clause-sends_nothing c s w =
-    (rw (c.block-number.ensures, c.caches.ensures.value) at c.ready_at.ensures.light)
-    (light-in c.self.inside.shape c.self.inside.tables c.self.inside.opening.items c.self.inside.blocks.items c.self.inside.tested
+    (rw (c.block-number.ensures, c.caches.ensures.value, c.tables.ensures) at c.ready_at.ensures.light)
+    (light-in c.self.inside.shape c.self.inside.controllers c.self.inside.opening.items c.self.inside.blocks.items c.self.inside.tested
     c.args.step c.in-Some.value (at c)
     (rw (← c.self.view_is, c.if-self.false) at s) (rw (← c.self.view_is) at w))
 
@@ -141,8 +139,8 @@ ready_at-requires c = grind (arith, elements)
 pub returns-clause-keeps : goal.returns-clause-keeps
 returns-clause-keeps c =
     rw (← c.self.view_is, c.if-self.false)
-    (kept-as-is c.self.inside.shape c.self.inside.tables c.self.inside.opening.items c.self.inside.blocks.items c.ready_at.new.blocks.items
+    (kept-as-is c.self.inside.shape c.self.inside.controllers c.self.inside.opening.items c.self.inside.blocks.items c.ready_at.new.blocks.items
     c.self.inside.tested c.args.step c.in-Some.value _ (at c)
     (rw c.block-number.ensures at c.ready_at.ensures.others)
-    (rw (c.block-number.ensures, c.caches.ensures.value) at c.ready_at.ensures.idle)
+    (rw (c.block-number.ensures, c.caches.ensures.value, c.tables.ensures) at c.ready_at.ensures.idle)
     (λ cache apart. (rw c.block-number.ensures at c.ready_at.ensures.lines) cache) refl)

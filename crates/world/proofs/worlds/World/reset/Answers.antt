@@ -5,12 +5,10 @@ use Rattle.world.proofs.Openings.{world-valued}
 use Rattle.world.proofs.worlds.World.reset.Goals as goal
 
 pub invariant_of-self : goal.invariant_of-self
-invariant_of-self c = (
-  world-valued c.self.inside.shape c.self.inside.tables c.self.inside.opening.items c.copy_from_slice.new.self.items c.self.inside.blocks.items
-      c.self.inside.counts c.self.inside.met_blank c.self.invariant.0
-      (ap length c.copy_from_slice.ensures.items ∙ c.requires ∙ ap (λ (w : View). w.shape.blocks) (sym c.self.view_is) ∙ sym c.self.invariant.0.opening),
-  c.self.invariant.1,
-)
+invariant_of-self c =
+    world-valued c.self.inside.shape c.self.inside.controllers c.self.inside.opening.items c.copy_from_slice.new.self.items c.self.inside.blocks.items
+    c.self.inside.counts c.self.inside.met_blank c.self.invariant
+    (ap length c.copy_from_slice.ensures.items ∙ c.requires ∙ ap (λ (w : View). w.shape.blocks) (sym c.self.view_is) ∙ sym c.self.invariant.opening)
 
 pub returns-clause-state : goal.returns-clause-state
 returns-clause-state c =

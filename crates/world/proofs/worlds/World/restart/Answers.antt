@@ -14,8 +14,8 @@ use Rattle.world.proofs.worlds.World.restart.Goals.{After-self-2-1}
 
 each-lined : (c : After-self-2-1) → AreLined c.self.inside.shape.caches c.self.inside.blocks.items
 each-lined c =
-    lined c.self.inside.shape.caches c.self.inside.opening.items c.self.inside.blocks.items (c.self.invariant.0.places ∙ sym c.self.invariant.0.opening)
-    c.self.invariant.0.shaped.lines
+    lined c.self.inside.shape.caches c.self.inside.opening.items c.self.inside.blocks.items (c.self.invariant.places ∙ sym c.self.invariant.opening)
+    c.self.invariant.shaped.lines
 
 again : (c : After-self-2-1) → (i v : ℕ) → slice_get c.self.inside.opening.items i ≡ Some v →
     IsOpened c.self.inside.shape.caches v (kept_at c.reset_all.new.blocks.items i)
@@ -30,16 +30,14 @@ opened-state c =
     (states-reset c.self.inside.shape.caches c.self.inside.opening.items c.reset_all.new.blocks.items (again c))
 
 counted : (c : After-self-2-1) → length c.self.inside.counts.requests ≡ c.self.inside.shape.blocks
-counted c = ap length c.self.invariant.0.counted.of_requests ∙ length-map _ _ ∙ c.self.invariant.0.shaped.blocks
+counted c = ap length c.self.invariant.counted.of_requests ∙ length-map _ _ ∙ c.self.invariant.shaped.blocks
 
 pub invariant_of-self : goal.invariant_of-self
-invariant_of-self c = (
-  world-reset c.self.inside.shape c.self.inside.tables c.self.inside.opening.items c.reset_all.new.blocks.items c.clear.new.self
-      c.self.invariant.0.shaped.within c.self.invariant.0.opening (c.reset_all.ensures.count ∙ c.self.invariant.0.places) (again c)
-      (c.clear.ensures.requests ∙ ap (λ n. replicate n 0) (counted c)) (c.clear.ensures.heads ∙ ap (λ n. replicate n 0) (counted c))
-      (c.clear.ensures.responses ∙ ap (λ n. replicate n 0) (counted c)),
-  c.self.invariant.1,
-)
+invariant_of-self c =
+    world-reset c.self.inside.shape c.self.inside.controllers c.self.inside.opening.items c.reset_all.new.blocks.items c.clear.new.self
+    c.self.invariant.shaped.within c.self.invariant.opening (c.reset_all.ensures.count ∙ c.self.invariant.places) (again c)
+    (c.clear.ensures.requests ∙ ap (λ n. replicate n 0) (counted c)) (c.clear.ensures.heads ∙ ap (λ n. replicate n 0) (counted c))
+    (c.clear.ensures.responses ∙ ap (λ n. replicate n 0) (counted c))
 
 pub returns-clause-state : goal.returns-clause-state
 returns-clause-state c = rw (← c.self.view_is) (opened-state c)
@@ -53,13 +51,13 @@ pub returns-clause-lines : goal.returns-clause-lines
 returns-clause-lines c = λ block cache.
     ap (λ o. has_line o cache) (space-at c.reset_all.new.blocks.items block)
     ∙ lines-reset c.self.inside.opening.items c.self.inside.shape.caches c.reset_all.new.blocks.items
-    (c.reset_all.ensures.count ∙ c.self.invariant.0.places ∙ sym c.self.invariant.0.opening) (again c) block cache
+    (c.reset_all.ensures.count ∙ c.self.invariant.places ∙ sym c.self.invariant.opening) (again c) block cache
 
 pub returns-clause-history : goal.returns-clause-history
-returns-clause-history c = rw (opened-state c) (record { opens = c.self.invariant.0.opening; leads = refl })
+returns-clause-history c = rw (opened-state c) (record { opens = c.self.invariant.opening; leads = refl })
 
 pub returns-clause-safe : goal.returns-clause-safe
-returns-clause-safe c = been-safe _ _ _ c.self.invariant.0.shaped.within
+returns-clause-safe c = been-safe _ _ _ c.self.invariant.shaped.within
 
 pub returns-clause-unstuck : goal.returns-clause-unstuck
-returns-clause-unstuck c = not-stuck _ _ _ c.self.invariant.0.shaped.within
+returns-clause-unstuck c = not-stuck _ _ _ c.self.invariant.shaped.within

@@ -19,7 +19,7 @@ returns-clause-history_so_far c =
 
 -- the shape was within the limits, and is the same
 within-after : (c : goal.After-advance_all) → IsWithinLimits c.advance_all.new.self.shape
-within-after c = rw c.advance_all.ensures.shape (subst (λ (world : View). IsWithinLimits world.shape) c.self.view_is c.self.invariant.0.shaped.within)
+within-after c = rw c.advance_all.ensures.shape (subst (λ (world : View). IsWithinLimits world.shape) c.self.view_is c.self.invariant.shaped.within)
 
 pub returns-clause-safe : goal.returns-clause-safe
 returns-clause-safe c = been-safe _ _ _ (within-after c)

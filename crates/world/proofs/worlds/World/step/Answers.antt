@@ -17,19 +17,19 @@ returns-clause-history c opening before h =
 
 pub returns-clause-safe : goal.returns-clause-safe
 returns-clause-safe c = been-safe _ _ _ (rw c.in_ok-made.ensures.ok.shape
-    (subst (λ (world : View). IsWithinLimits world.shape) c.self.view_is c.self.invariant.0.shaped.within))
+    (subst (λ (world : View). IsWithinLimits world.shape) c.self.view_is c.self.invariant.shaped.within))
 
 pub returns-in_err-made-clause-safe : goal.returns-in_err-made-clause-safe
 returns-in_err-made-clause-safe c = been-safe _ _ _ (rw c.in_err-made.ensures.err.shape
-    (subst (λ (world : View). IsWithinLimits world.shape) c.self.view_is c.self.invariant.0.shaped.within))
+    (subst (λ (world : View). IsWithinLimits world.shape) c.self.view_is c.self.invariant.shaped.within))
 
 pub returns-clause-unstuck : goal.returns-clause-unstuck
 returns-clause-unstuck c = not-stuck _ _ _ (rw c.in_ok-made.ensures.ok.shape
-    (subst (λ (world : View). IsWithinLimits world.shape) c.self.view_is c.self.invariant.0.shaped.within))
+    (subst (λ (world : View). IsWithinLimits world.shape) c.self.view_is c.self.invariant.shaped.within))
 
 pub returns-in_err-made-clause-unstuck : goal.returns-in_err-made-clause-unstuck
 returns-in_err-made-clause-unstuck c = not-stuck _ _ _ (rw c.in_err-made.ensures.err.shape
-    (subst (λ (world : View). IsWithinLimits world.shape) c.self.view_is c.self.invariant.0.shaped.within))
+    (subst (λ (world : View). IsWithinLimits world.shape) c.self.view_is c.self.invariant.shaped.within))
 
 pub returns-clause-shape : goal.returns-clause-shape
 returns-clause-shape c = c.in_ok-made.ensures.ok.shape

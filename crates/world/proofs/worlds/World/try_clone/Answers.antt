@@ -8,13 +8,13 @@ use Rattle.std.specs.Option.{option_map}
 use Rattle.std.proofs.lemmas.List.{length-map}
 use Rattle.world.proofs.worlds.World.try_clone.Goals as goal
 
-items : (c : goal.After-result-2-1) → map (option_map seen) c.in_ok-blocks.blocks.items ≡ map (option_map seen) c.self.inside.blocks.items
+items : (c : goal.After-new) → map (option_map seen) c.in_ok-blocks.blocks.items ≡ map (option_map seen) c.self.inside.blocks.items
 items c = ap (λ (s : record { items : List (Option Seen); keys : List ℕ }). s.items) c.in_ok-blocks.ensures
 
-opening : (c : goal.After-result-2-1) → c.in_ok-opening.opening.items ≡ c.self.inside.opening.items
+opening : (c : goal.After-new) → c.in_ok-opening.opening.items ≡ c.self.inside.opening.items
 opening c = c.in_ok-opening.ensures.items ∙ c.as_slice.ensures.value
 
-blocks : (c : goal.After-result-2-1) → states c.self.inside.shape.caches c.in_ok-opening.opening.items c.in_ok-blocks.blocks.items
+blocks : (c : goal.After-new) → states c.self.inside.shape.caches c.in_ok-opening.opening.items c.in_ok-blocks.blocks.items
     ≡ states c.self.inside.shape.caches c.self.inside.opening.items c.self.inside.blocks.items
 blocks c =
     ap (λ vs. states c.self.inside.shape.caches vs c.in_ok-blocks.blocks.items) (opening c)
@@ -22,18 +22,15 @@ blocks c =
 
 pub invariant_of-result : goal.invariant_of-result
 invariant_of-result c =
-    rw (blocks c, opening c, c.in_ok-counts.ensures) (
-      record {
-        shaped = c.self.invariant.0.shaped;
-        opening = c.self.invariant.0.opening;
-        places =
-            sym (length-map c.in_ok-blocks.blocks.items (option_map seen)) ∙ ap length (items c)
-            ∙ length-map c.self.inside.blocks.items (option_map seen) ∙ c.self.invariant.0.places;
-        marked = marked-copied c.self.inside.tables c.in_ok-blocks.blocks.items c.self.inside.blocks.items (items c) c.self.invariant.0.marked;
-        counted = c.self.invariant.0.counted;
-      },
-      c.self.invariant.1,
-    )
+    rw (blocks c, opening c, c.in_ok-counts.ensures, c.new.ensures, c.tables.ensures) (record {
+      shaped = c.self.invariant.shaped;
+      opening = c.self.invariant.opening;
+      places =
+          sym (length-map c.in_ok-blocks.blocks.items (option_map seen)) ∙ ap length (items c)
+          ∙ length-map c.self.inside.blocks.items (option_map seen) ∙ c.self.invariant.places;
+      marked = marked-copied c.self.inside.controllers c.in_ok-blocks.blocks.items c.self.inside.blocks.items (items c) c.self.invariant.marked;
+      counted = c.self.invariant.counted;
+    })
 
 pub returns-clause-kept : goal.returns-clause-kept
 returns-clause-kept c = λ block before.
