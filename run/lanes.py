@@ -35,6 +35,26 @@ def copy_into(top):
     return top
 
 
+def below(name, named):
+    """A crate and all that it stands on, where each of these crates names some."""
+    found, left = {}, [name]
+    while left:
+        it = left.pop()
+        if it not in found:
+            found[it] = True
+            left += named[it]
+    return [*found]
+
+
+def bring(names, source, target):
+    """Has a copy of the repository begin with what rt kept in another of these crates, in out/, where it keeps it for the next run."""
+    for name in names:
+        kept, place = source / "crates" / name / "out", target / "crates" / name / "out"
+        if kept.is_dir():
+            shutil.rmtree(place, ignore_errors=True)
+            shutil.copytree(kept, place, symlinks=True)
+
+
 class Ended(Exception):
     """No call begins any more."""
 
