@@ -65,6 +65,7 @@ impl<T> Sparse<T> {
     }
 
     /// The item at a place, if it has one. Beyond the row there is none.
+    #[inline(always)]
     pub fn get(&self, at: u32) -> Option<&T>
         ensures { option_copied result ≡ item self.now at }
     {
@@ -73,6 +74,15 @@ impl<T> Sparse<T> {
                 return Some(item);
             }
         }
+        self.seek(at)
+    }
+
+    /// The same, where no hint helps. It stands apart, as most look-ups need it not.
+    #[cold]
+    #[inline(never)]
+    fn seek(&self, at: u32) -> Option<&T>
+        ensures { option_copied result ≡ item self.now at }
+    {
         self.held.get(&at)
     }
 
@@ -192,6 +202,17 @@ fn index_of<T>(held: &IndexMap<u32, T>, hints: &[u16; 64], at: u32) -> Option<us
             return Some(hint);
         }
     }
+    seek_index(held, at)
+}
+
+/// The same, where no hint helps. It stands apart, as most look-ups need it not.
+#[cold]
+#[inline(never)]
+fn seek_index<T>(held: &IndexMap<u32, T>, at: u32) -> Option<usize>
+    ensures key { IfSome result (λ index. slice_get (keys held.now) index ≡ Some at) }
+    ensures value { IfSome result (λ index. slice_get (values held.now) index ≡ get nat_eq held.now at) }
+    ensures none { IfNone result (get nat_eq held.now at ≡ None) }
+{
     held.get_index_of(&at)
 }
 

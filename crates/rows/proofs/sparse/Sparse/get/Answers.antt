@@ -8,7 +8,3 @@ returns-then-held-at g c =
     rw (← c.self.view_is)
     (sym c.in-Some.ensures.value ∙ ap (λ k. get nat_eq c.self.inside.held k) c.if-held-at.true
     ∙ sym (items-at c.self.inside.held.entries c.self.inside.places c.args.at c.self.invariant))
-
-pub returns : goal.returns
-returns g c =
-    rw (← c.self.view_is) (c.get.ensures.value ∙ sym (items-at c.self.inside.held.entries c.self.inside.places c.args.at c.self.invariant))
