@@ -35,6 +35,7 @@ impl Step {
 }
 
 /// The step that the first words of a line spell, and what follows the blank behind them, if there is one.
+#[inline(always)]
 fn step_in_front(line: &[u8]) -> Option<(Step, Option<&[u8]>)>
     ensures { MatchOption result (IsNoStepFirst (words line.now)) (λ found. words line.now ≡ step_words found.0 ++ words_behind found.1) }
 {
@@ -54,6 +55,7 @@ fn step_in_front(line: &[u8]) -> Option<(Step, Option<&[u8]>)>
 }
 
 /// The step that a line spells behind the word `ask`, and what follows it.
+#[inline(always)]
 fn ask_in_front(line: &[u8]) -> Option<(Step, Option<&[u8]>)>
     ensures { MatchOption result
         (IsNoStepFirst (codes "ask" ∷ words line.now))
@@ -71,6 +73,7 @@ fn ask_in_front(line: &[u8]) -> Option<(Step, Option<&[u8]>)>
 }
 
 /// What a core asks, in the first words of a line, and what follows them.
+#[inline(always)]
 fn what_is_asked(line: &[u8]) -> Option<(Ask, Option<&[u8]>)>
     ensures { MatchOption result
         (IsNoAskFirst (words line.now))
@@ -88,6 +91,7 @@ fn what_is_asked(line: &[u8]) -> Option<(Ask, Option<&[u8]>)>
 }
 
 /// The step that a line spells behind the word `request`, and what follows it.
+#[inline(always)]
 fn request_in_front(line: &[u8]) -> Option<(Step, Option<&[u8]>)>
     ensures { MatchOption result
         (IsNoStepFirst (codes "request" ∷ words line.now))
@@ -103,6 +107,7 @@ fn request_in_front(line: &[u8]) -> Option<(Step, Option<&[u8]>)>
 }
 
 /// The step that a line spells behind the word `forward`, and what follows it.
+#[inline(always)]
 fn forward_in_front(line: &[u8]) -> Option<(Step, Option<&[u8]>)>
     ensures { MatchOption result
         (IsNoStepFirst (codes "forward" ∷ words line.now))
@@ -118,6 +123,7 @@ fn forward_in_front(line: &[u8]) -> Option<(Step, Option<&[u8]>)>
 }
 
 /// The step that a line spells behind the word `response`, and what follows it.
+#[inline(always)]
 fn response_in_front(line: &[u8]) -> Option<(Step, Option<&[u8]>)>
     ensures { MatchOption result
         (IsNoStepFirst (codes "response" ∷ words line.now))
