@@ -13,6 +13,7 @@ impl Step {
     /// The step that a line is the text of: words with exactly one blank between two and none at the ends.
     ///
     /// `None` comes for every line that is the text of no step.
+    #[inline(always)]
     pub fn read(line: &[u8]) -> Option<Step>
         ensures { MatchOption result (IsNoStep line.now) (λ s. IsStepLine line.now s) }
     {
@@ -26,6 +27,7 @@ impl Step {
     /// The step that the first words of a line spell, and what follows the blank behind them.
     ///
     /// `None` comes for every line that isn't the text of a step, a blank and something else.
+    #[inline(always)]
     pub fn read_front(line: &[u8]) -> Option<(Step, &[u8])>
         ensures { MatchOption result (HasNoStepInFront line.now) (λ found. words line.now ≡ step_words found.0 ++ words found.1.now) }
     {
