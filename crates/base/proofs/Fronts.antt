@@ -1,5 +1,6 @@
 -- What stands in front of a line.
-use Rattle.std.proofs.Common.{◌≡◌, Option, Some, zero, suc, ◌≤◌, ◌<◌, ◌-◌, ◌^◌, ℕ, List, [], ◌∷◌, ◌++◌, true, false, cond, eqb, length, get_or, take, drop, refl, ap, sym, ◌∙◌, arith, length-append, length-drop, take-append-drop}
+use Rattle.std.proofs.Common.{◌≡◌, Option, Some, zero, suc, ◌≤◌, ◌<◌, ◌-◌, ◌^◌, ℕ, List, [], ◌∷◌, ◌++◌, true, false, cond, eqb, length, get_or, take}
+use Rattle.std.proofs.Common.{drop, refl, ap, sym, ◌∙◌, arith, length-append, length-drop, take-append-drop}
 use Rattle.std.specs.List.{onto_first, join_with_byte}
 use Rattle.std.proofs.lemmas.List.{append-nil, take_all, length-take}
 use Rattle.std.proofs.lemmas.List.Splits.{length-slice_split, join_with_byte-slice_split, slice_split_none}
@@ -115,7 +116,8 @@ number-then line n end within digits is some blank =
     let behind = take (length line - end) (drop end line) in
     let same : behind ≡ drop end line = take_all (length line - end) (drop end line) (omega (arith, length-drop {A = ℕ} end line)) in
     let whole : line ≡ take end line ++ behind = sym (take-append-drop end line) ∙ ap (λ l. take end line ++ l) (sym same) in
-    then-more line (take end line) behind (one-number (take end line) digits) whole some blank ∙ ap (λ w. w ∷ words (take (length behind - 1) (drop 1 behind))) is
+    then-more line (take end line) behind (one-number (take end line) digits) whole some blank
+    ∙ ap (λ w. w ∷ words (take (length behind - 1) (drop 1 behind))) is
 
 one-digit : (x d : ℕ) → d ≡ digit_value x → d < 10 → x ∷ [] ≡ decimal d
 one-digit x d is small = is-number (x ∷ []) d (omega (arith, is, small), tt) (omega arith) (λ zero. refl) (omega (arith, is)) (omega (arith, small))

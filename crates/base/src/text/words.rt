@@ -1,4 +1,5 @@
-ghost use Rattle.std.specs.Prelude.{◌≡◌, ◌≢◌, ◌≤◌, ◌<◌, ◌^◌, ℕ, List, length, ◌==◌, false, true, slice_index_or, take, drop, [], ◌∷◌, ◌++◌, IfSome, IfNone, MatchOption};
+ghost use Rattle.std.specs.Prelude.{◌≡◌, ◌≢◌, ◌≤◌, ◌<◌, ◌^◌, ℕ, List, length, ◌==◌, false, true, slice_index_or, take, drop, [], ◌∷◌, ◌++◌};
+ghost use Rattle.std.specs.Prelude.{IfSome, IfNone, MatchOption};
 ghost use Rattle.std.specs.List.{position_or_len};
 ghost use Rattle.std.specs.Fmt.{decimal};
 ghost use Rattle.std.specs.Char.{digit_value};
