@@ -118,6 +118,15 @@ impl Stage {
     }
 }
 
+/// Has no entry made any more. It stands apart, as what it writes is as large as a world.
+#[cold]
+#[inline(never)]
+fn refuse(stage: &mut Stage, fault: ReplayFault)
+    ensures { stage.new ≡ Stage.Refused fault }
+{
+    *stage = Stage::Refused(fault);
+}
+
 /// Entries of which each is made as it is read, and none is kept.
 #[derive(Drop)]
 pub(crate) struct MadeEntries {
@@ -189,7 +198,7 @@ impl Entries for MadeEntries {
             return;
         };
         if let Err(fault) = run.make(number, told.entry) {
-            self.stage = Stage::Refused(fault);
+            refuse(&mut self.stage, fault);
         }
     }
 }
