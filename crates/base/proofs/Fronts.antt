@@ -1,5 +1,6 @@
 -- What stands in front of a line.
-use Rattle.std.proofs.Common.{◌≡◌, Option, Some, zero, suc, ◌≤◌, ◌<◌, ◌-◌, ◌^◌, ℕ, List, [], ◌∷◌, ◌++◌, true, false, cond, eqb, length, get_or, take, drop, refl, ap, sym, ◌∙◌, arith, length-append, length-drop, take-append-drop}
+use Rattle.std.proofs.Common.{◌≡◌, Option, Some, zero, suc, ◌≤◌, ◌<◌, ◌-◌, ◌^◌, ℕ, List, [], ◌∷◌, ◌++◌, true, false, cond, eqb, length, get_or, take}
+use Rattle.std.proofs.Common.{drop, refl, ap, sym, ◌∙◌, arith, length-append, length-drop, take-append-drop}
 use Rattle.std.specs.List.{onto_first, join_with_byte}
 use Rattle.std.proofs.lemmas.List.{append-nil, take_all, length-take}
 use Rattle.std.proofs.lemmas.List.Splits.{length-slice_split, join_with_byte-slice_split, slice_split_none}
@@ -13,6 +14,8 @@ use Rattle.std.proofs.lemmas.Fmt.{decimal_injective}
 use Rattle.base.specs.Spelling.{words, joined, spaced, IsNoPair}
 use Rattle.base.specs.inner.Behind.{IsNoNumberFirst, words_behind}
 use Rattle.base.proofs.Lines.{not_two}
+use Rattle.base.proofs.Numbers.{is-number}
+use Rattle.std.specs.Char.{digit_value}
 use Rattle.std.specs.Borrow.{Bor}
 
 -- words with a blank between two
@@ -113,7 +116,28 @@ number-then line n end within digits is some blank =
     let behind = take (length line - end) (drop end line) in
     let same : behind ≡ drop end line = take_all (length line - end) (drop end line) (omega (arith, length-drop {A = ℕ} end line)) in
     let whole : line ≡ take end line ++ behind = sym (take-append-drop end line) ∙ ap (λ l. take end line ++ l) (sym same) in
-    then-more line (take end line) behind (one-number (take end line) digits) whole some blank ∙ ap (λ w. w ∷ words (take (length behind - 1) (drop 1 behind))) is
+    then-more line (take end line) behind (one-number (take end line) digits) whole some blank
+    ∙ ap (λ w. w ∷ words (take (length behind - 1) (drop 1 behind))) is
+
+one-digit : (x d : ℕ) → d ≡ digit_value x → d < 10 → x ∷ [] ≡ decimal d
+one-digit x d is small = is-number (x ∷ []) d (omega (arith, is, small), tt) (omega arith) (λ zero. refl) (omega (arith, is)) (omega (arith, small))
+
+-- a line that is a digit
+pub digit-alone : (line : List ℕ) (d : ℕ) → 1 ≤ length line → length line < 2 → d ≡ digit_value (get_or line 0 0) → d < 10 → words line ≡ decimal d ∷ []
+digit-alone [] d some one is small = absurd (omega (arith, some))
+digit-alone (x ∷ []) d some one is small =
+    one-number (x ∷ []) (omega (arith, is, small), tt) ∙ ap (λ w. w ∷ []) (one-digit x d is small)
+digit-alone (x ∷ y ∷ rest) d some one is small = absurd (omega (arith, one))
+
+-- a line that is a digit, a blank and what follows
+pub digit-then : (line : List ℕ) (d : ℕ) → 2 ≤ length line → get_or line 1 0 ≡ 32 → d ≡ digit_value (get_or line 0 0) → d < 10 →
+    words line ≡ decimal d ∷ words (take (length line - 2) (drop 2 line))
+digit-then [] d some blank is small = absurd (omega (arith, some))
+digit-then (x ∷ []) d some blank is small = absurd (omega (arith, some))
+digit-then (x ∷ y ∷ rest) d some blank is small =
+    then-more (x ∷ y ∷ rest) (x ∷ []) (y ∷ rest) (one-number (x ∷ []) (omega (arith, is, small), tt)) refl (omega arith) blank
+    ∙ ap (λ w. w ∷ words (take (length (y ∷ rest) - 1) rest)) (one-digit x d is small)
+    ∙ ap (λ n. decimal d ∷ words (take n rest)) (omega arith)
 
 -- a number that is too high isn't another below 2 ^ 32
 pub too-high : (line rest : List (List ℕ)) (n : ℕ) → line ≡ decimal n ∷ rest → n < 2 ^ 64 → (n < 2 ^ 32 → ⊥) → IsNoNumberFirst 32 line

@@ -16,7 +16,9 @@ use Rattle.base.specs.declared.step.Step.TheVariants as step
 use Rattle.base.specs.declared.step.Outcome.{Outcome}
 use Rattle.base.specs.declared.step.Outcome.TheVariants.{Sent, Moved, Held, Absent, Idle, Blank, Broken}
 use Rattle.base.specs.declared.step.Outcome.TheVariants as outcome
-use Rattle.base.specs.inner.Behind.{words_behind, IsNoNumberFirst, IsNoStepFirst}
+use Rattle.base.specs.inner.Behind.{kind_word, words_behind, IsNoKindFirst, IsNoNumberFirst, IsNoStepFirst}
+use Rattle.base.specs.declared.text.steps.Kind.{Kind}
+use Rattle.base.specs.declared.text.steps.Kind.TheVariants as kind
 use Rattle.base.proofs.Fronts.{spelled}
 use Rattle.base.specs.Spelling.{words, outcome_words, IsNoOutcome, IsNoOutcomeWord, IsOutcomeWord, IsOutcomeLine, ask_words, step_words, FitsAsk, FitsStep}
 
@@ -97,24 +99,66 @@ no_ask line behind first is none (Request b i) others fits = λ e. absurd cc
 no_ask line behind first is none (Forward b c) others fits = λ e. absurd cc
 no_ask line behind first is none (Response b i) others fits = λ e. absurd cc
 
--- the same of the other steps
-pub no_request : (line behind : List (List ℕ)) (first : List ℕ) → line ≡ first ∷ behind → IsNoNumberFirst 64 behind → IsNoStepFirst (codes "request" ∷ line)
-no_request line behind first is none (step.Ask c b a) others fits = λ e. absurd cc
-no_request line behind first is none (Request b i) others fits = λ e. none i others fits.1 cc
-no_request line behind first is none (Forward b c) others fits = λ e. let first : 114 ≡ 102 = ap first_byte e in absurd (omega (arith, first))
-no_request line behind first is none (Response b i) others fits = λ e. absurd cc
+-- what is below the last number of a step that serves such a message
+abbrev below_last : Kind → ℕ → Type 0
+below_last kind.Request n = n < 2 ^ 64
+below_last kind.Forward n = n < 2 ^ 32
+below_last kind.Response n = n < 2 ^ 64
 
-pub no_forward : (line behind : List (List ℕ)) (first : List ℕ) → line ≡ first ∷ behind → IsNoNumberFirst 32 behind → IsNoStepFirst (codes "forward" ∷ line)
-no_forward line behind first is none (step.Ask c b a) others fits = λ e. absurd cc
-no_forward line behind first is none (Request b i) others fits = λ e. let first : 102 ≡ 114 = ap first_byte e in absurd (omega (arith, first))
-no_forward line behind first is none (Forward b c) others fits = λ e. none c.0 others fits.1 cc
-no_forward line behind first is none (Response b i) others fits = λ e. absurd cc
+-- the words of a step behind the word for a kind of messages
+record AreTwoNumbers (kind : Kind) (line others : List (List ℕ)) : Type 0 where
+  block : ℕ
+  number : ℕ
+  spelled : line ≡ decimal block ∷ decimal number ∷ others
+  small : block < 2 ^ 32
+  below : below_last kind number
 
-pub no_response : (line behind : List (List ℕ)) (first : List ℕ) → line ≡ first ∷ behind → IsNoNumberFirst 64 behind → IsNoStepFirst (codes "response" ∷ line)
-no_response line behind first is none (step.Ask c b a) others fits = λ e. absurd cc
-no_response line behind first is none (Request b i) others fits = λ e. absurd cc
-no_response line behind first is none (Forward b c) others fits = λ e. absurd cc
-no_response line behind first is none (Response b i) others fits = λ e. none i others fits.1 cc
+two_numbers : (kind : Kind) (line : List (List ℕ)) (s : Step) (others : List (List ℕ)) → FitsStep s → kind_word kind ∷ line ≡ step_words s ++ others →
+    AreTwoNumbers kind line others
+two_numbers kind.Request line (step.Ask c b a) others fits e = absurd cc
+two_numbers kind.Request line (Request b i) others fits e = record { block = b.0; number = i; spelled = cc; small = fits.0; below = fits.1 }
+two_numbers kind.Request line (Forward b c) others fits e = let first : 114 ≡ 102 = ap first_byte e in absurd (omega (arith, first))
+two_numbers kind.Request line (Response b i) others fits e = absurd cc
+two_numbers kind.Forward line (step.Ask c b a) others fits e = absurd cc
+two_numbers kind.Forward line (Request b i) others fits e = let first : 102 ≡ 114 = ap first_byte e in absurd (omega (arith, first))
+two_numbers kind.Forward line (Forward b c) others fits e = record { block = b.0; number = c.0; spelled = cc; small = fits.0; below = fits.1 }
+two_numbers kind.Forward line (Response b i) others fits e = absurd cc
+two_numbers kind.Response line (step.Ask c b a) others fits e = absurd cc
+two_numbers kind.Response line (Request b i) others fits e = absurd cc
+two_numbers kind.Response line (Forward b c) others fits e = absurd cc
+two_numbers kind.Response line (Response b i) others fits e = record { block = b.0; number = i; spelled = cc; small = fits.0; below = fits.1 }
+
+below-64 : (kind : Kind) (n : ℕ) → below_last kind n → n < 2 ^ 64
+below-64 kind.Request n low = low
+below-64 kind.Forward n low = omega (arith, low)
+below-64 kind.Response n low = low
+
+-- behind such a word and a first one, no number
+pub no_number : (kind : Kind) (line behind : List (List ℕ)) (first : List ℕ) → line ≡ first ∷ behind → IsNoNumberFirst 64 behind →
+    IsNoStepFirst (kind_word kind ∷ line)
+no_number kind line behind first is none s others fits e =
+    let two = two_numbers kind line s others fits e in
+    let spelled = two.spelled in
+    none two.number others (below-64 kind two.number two.below) cc
+
+-- a number that is too high for a cache
+pub no_cache : (line : List (List ℕ)) (first : List ℕ) (n : ℕ) (behind : List (List ℕ)) → line ≡ first ∷ decimal n ∷ behind → n < 2 ^ 64 →
+    (n < 2 ^ 32 → ⊥) → IsNoStepFirst (kind_word kind.Forward ∷ line)
+no_cache line first n behind is small high s others fits e =
+    let two = two_numbers kind.Forward line s others fits e in
+    let spelled = two.spelled in
+    let below : two.number < 2 ^ 32 = two.below in
+    let same : decimal two.number ≡ decimal n = cc in
+    let equal = decimal_injective two.number n (omega (arith, below)) small same in
+    high (omega (arith, equal, below))
+
+-- with neither `ask` nor such a word in front, no step
+pub no_step : (line : List (List ℕ)) → ((first : List ℕ) (others : List (List ℕ)) → line ≢ codes "ask" ∷ first ∷ others) → IsNoKindFirst line →
+    IsNoStepFirst line
+no_step line ask none (step.Ask c b a) others fits = ask (decimal c.0) (decimal b.0 ∷ ask_words a ++ others)
+no_step line ask none (Request b i) others fits = none kind.Request (decimal b.0) (decimal i ∷ others)
+no_step line ask none (Forward b c) others fits = none kind.Forward (decimal b.0) (decimal c.0 ∷ others)
+no_step line ask none (Response b i) others fits = none kind.Response (decimal b.0) (decimal i ∷ others)
 
 -- a line that is one of these words is an outcome
 pub bare : (line : List ℕ) (o : Outcome) → line ∷ [] ≡ outcome_words o → words line ≡ outcome_words o

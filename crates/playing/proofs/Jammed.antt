@@ -1,5 +1,6 @@
 -- A world without a delivery, in which messages are on their way, shows that messages get stuck.
-use Rattle.std.proofs.Common.{◌≡◌, ◌∙◌, ℕ, suc, List, [], ◌∷◌, ◌++◌, length, Some, Bool, true, false, ◌&&◌, slice_get, IsTrue, refl, sym, ap, subst, append_assoc, arith}
+use Rattle.std.proofs.Common.{◌≡◌, ◌∙◌, ℕ, suc, List, [], ◌∷◌, ◌++◌, length, Some, Bool, true, false, ◌&&◌, slice_get, IsTrue, refl, sym, ap}
+use Rattle.std.proofs.Common.{subst, append_assoc, arith}
 use Rattle.std.proofs.lemmas.List.{append-nil}
 use Rattle.base.specs.Extent.{IsWithinLimits}
 use Rattle.base.specs.declared.ids.BlockId.{BlockId}

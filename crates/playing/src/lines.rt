@@ -40,13 +40,19 @@ impl<R: Read + Drop> Lines<R> {
     ///
     /// Of a longer line only the first `MOST_BYTES + 1` bytes are read.
     pub fn advance(&mut self) -> io::Result<bool> {
+        Ok(self.advance_ahead() || self.read()?)
+    }
+
+    /// Goes on to the next line where all of it was read ahead, and answers whether it was. It reads nothing.
+    #[inline(always)]
+    pub fn advance_ahead(&mut self) -> bool {
         self.reader.consume(self.held);
         self.held = self.read_ahead();
-        if self.held == 0 && !self.read()? {
-            return Ok(false);
+        if self.held == 0 {
+            return false;
         }
         self.number = self.number.saturating_add(1);
-        Ok(true)
+        true
     }
 
     /// How many of the bytes that were read ahead are the next line and its LF: 0 where not all of it was, or it is too long.
@@ -68,6 +74,7 @@ impl<R: Read + Drop> Lines<R> {
         if self.line.last() == Some(&b'\n') {
             let _ = self.line.pop();
         }
+        self.number = self.number.saturating_add(1);
         Ok(true)
     }
 

@@ -8,6 +8,7 @@ use base::{NoMemory, Outcome, Shape, Step};
 use both_tables::Tables;
 use monitor::Watch;
 use std::alloc::Global;
+use std::io;
 use std::io::{Read, Write};
 use world::{OpenFault, World};
 
@@ -75,11 +76,9 @@ fn play_all<I: Read + Drop, O: Write + Drop, E: Write>(
     printer: &mut Printer<O>,
     complaints: &mut Complaints<'_, E>,
 ) -> Result<Finding, Fault> {
+    let mut text = Text::new();
     for _ in 0..u64::MAX {
-        if lines.may_wait() {
-            printer.flush();
-        }
-        if printer.has_failed() || !lines.advance()? {
+        if printer.has_failed() || !(lines.advance_ahead() || read_line(lines, printer)?) {
             break;
         }
         if lines.line().is_empty() {
@@ -90,11 +89,24 @@ fn play_all<I: Read + Drop, O: Write + Drop, E: Write>(
             complaints.refuse(lines)?;
             continue;
         };
-        if play_one(world, watch, step, printer)? == Finding::Violation {
+        if play_one(world, watch, step, &mut text, printer)? == Finding::Violation {
             return Ok(Finding::Violation);
         }
     }
     Ok(Finding::Nothing)
+}
+
+/// Reads the next line. What was printed is put out first where the line may have to be waited for.
+#[cold]
+#[inline(never)]
+fn read_line<I: Read + Drop, O: Write + Drop>(
+    lines: &mut Lines<I>,
+    printer: &mut Printer<O>,
+) -> io::Result<bool> {
+    if lines.may_wait() {
+        printer.flush();
+    }
+    Ok(!printer.has_failed() && lines.advance()?)
 }
 
 /// Makes a step, and prints its outcome and its violation, if it has one.
@@ -102,10 +114,11 @@ fn play_one<O: Write + Drop>(
     world: &mut World,
     watch: &mut Watch,
     step: Step,
+    text: &mut Text,
     printer: &mut Printer<O>,
 ) -> Result<Finding, NoMemory> {
     let made = world.make(step)?;
-    print_outcome(made.outcome, printer);
+    print_outcome(made.outcome, text, printer);
     let Some(violation) = watch.see_made(world, step, &made) else {
         return Ok(Finding::Nothing);
     };
@@ -113,8 +126,9 @@ fn play_one<O: Write + Drop>(
     Ok(Finding::Violation)
 }
 
-fn print_outcome<O: Write + Drop>(outcome: Outcome, printer: &mut Printer<O>) {
-    let mut text = Text::new();
+/// Prints an outcome by a text that is used again for each.
+fn print_outcome<O: Write + Drop>(outcome: Outcome, text: &mut Text, printer: &mut Printer<O>) {
+    text.clear();
     text.push_outcome(outcome);
     text.push(b"\n");
     printer.bytes(text.as_slice());

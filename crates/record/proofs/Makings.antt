@@ -1,6 +1,7 @@
 -- What is kept of entries that are made as they are read.
-use Rattle.std.proofs.Common.{◌≡◌, ◌≢◌, ◌<◌, ℕ, zero, suc, List, [], ◌∷◌, ◌++◌, Option, Some, length, take, slice_get, get_or, refl, ap, sym, subst, ◌∙◌, arith}
-use Rattle.std.proofs.lemmas.List.{length_push, map_push, take-append-le}
+use Rattle.std.proofs.Common.{◌≡◌, ◌≢◌, ◌<◌, ℕ, zero, suc, List, [], ◌∷◌, ◌++◌, Option, Some, length, take, slice_get, get_or, refl, ap, sym, subst, ◌∙◌}
+use Rattle.std.proofs.Common.{arith, length-append}
+use Rattle.std.proofs.lemmas.List.{map_push, take-append-le}
 use Rattle.std.proofs.lemmas.Option.{slice_get_within}
 use Rattle.std.proofs.Math.Seq.{take-append_seam}
 use Rattle.base.specs.declared.step.Outcome.{Outcome}
@@ -15,51 +16,59 @@ use Rattle.record.specs.declared.making.Stage.TheVariants.{Closed, Same, Refused
 use Rattle.record.specs.declared.recording.Entry.{Entry}
 use Rattle.record.specs.declared.replaying.ReplayFault.{ReplayFault}
 use Rattle.record.specs.declared.replaying.ReplayFault.TheVariants.{Differs, NoMemory}
-use Rattle.record.specs.View.{RecordingView, found_by, steps_of, told_by, with_owned}
+use Rattle.base.specs.Extent.{Extent}
+use Rattle.both_tables.specs.Tables.{Tables}
+use Rattle.record.specs.View.{RecordingView, found_by, opened_of, steps_of, told_by, with_owned}
 use Rattle.record.specs.Replaying.{FaultOf, IsFirstToDiffer}
-use Rattle.record.specs.inner.Making.{HasCome}
+use Rattle.record.specs.inner.Making.{HasCome, HasMadeFirst}
 use Rattle.record.specs.inner.SoFar.{IsSoFar}
 use Rattle.record.proofs.Replays.{differs-here, outcomes-push, push-so-far}
 
 -- with an entry more to come, those so far are made
-to-come : (r : RecordingView) (e : Entry) (owner : Option ℕ) (done : List Entry) (world : View) (watch : List ℕ) (violation : Option (ℕ × Violation)) →
-    IsSoFar r done world watch violation → IsSoFar (with_owned r e owner) done world watch violation
-to-come r e owner done world watch violation h =
+pub to-come : (r : RecordingView) (e : Entry) (owner : Option ℕ) (done : List Entry) (run : Run) → HasMadeFirst r done run →
+    HasMadeFirst (with_owned r e owner) done run
+to-come r e owner done run h =
     record { shape = h.shape; tables = h.tables; state = h.state; seen = h.seen; legal = h.legal; first = h.first }
 
--- one entry more, whose outcome is as told
-pub made-more : (r : RecordingView) (e : Entry) (owner : Option ℕ) (world new : View) (old_watch watch : List ℕ)
-    (violation v : Option (ℕ × Violation)) (seen : Option Violation) (what : Outcome) (n : ℕ) →
-    v ≡ first_seen violation n seen → n ≡ length r.entries → IsSoFar r r.entries world old_watch violation →
-    next world.tables world.state e.step ≡ stepped new.state what → new.shape ≡ world.shape → new.tables ≡ world.tables → what ≡ e.outcome →
-    AnswersHistory new old_watch e.step what seen → SeesNext new old_watch e.step what watch →
-    IsSoFar (with_owned r e owner) (r.entries ++ e ∷ []) new watch v
-made-more r e owner world new old_watch watch violation v seen what n first is h made shape tables told answers sees =
-    let s : RecordingView = with_owned r e owner in
-    subst (λ (x : Option (ℕ × Violation)). IsSoFar s (r.entries ++ e ∷ []) new watch x) (sym first)
-    (push-so-far s r.entries e world new old_watch watch violation seen what n is (to-come r e owner r.entries world old_watch violation h) made shape tables
-    told answers sees)
+-- before the first entry none is made
+pub none-made : (r : RecordingView) (shape : Extent) (tables : Tables) (opening : List ℕ) (run : Run) → shape ≡ r.shape → tables ≡ r.tables →
+    opening ≡ r.opening → HasMadeFirst (opened_of 0 shape tables opening) [] run → HasMadeFirst r [] run
+none-made r shape tables opening run same_shape same_tables same_opening h =
+    let made =
+    subst (λ (x : Extent). HasMadeFirst (opened_of 0 x r.tables r.opening) [] run) same_shape
+    (subst (λ (x : Tables). HasMadeFirst (opened_of 0 shape x r.opening) [] run) same_tables
+    (subst (λ (x : List ℕ). HasMadeFirst (opened_of 0 shape tables x) [] run) same_opening h)) in
+    record { shape = made.shape; tables = made.tables; state = made.state; seen = made.seen; legal = made.legal; first = made.first }
 
-get-last : (xs : List Entry) (e : Entry) → get_or (xs ++ e ∷ []) (length xs) e ≡ e
-get-last [] e = refl
-get-last (x ∷ xs) e = get-last xs e
+-- one entry more, whose outcome is as told
+pub made-more : (r : RecordingView) (done : List Entry) (e : Entry) (world new : View) (old_watch watch : List ℕ)
+    (violation v : Option (ℕ × Violation)) (seen : Option Violation) (what : Outcome) (n : ℕ) →
+    v ≡ first_seen violation n seen → n ≡ length done → IsSoFar r done world old_watch violation →
+    next world.tables world.state e.step ≡ stepped new.state what → new.shape ≡ world.shape → new.tables ≡ world.tables → what ≡ e.outcome →
+    AnswersHistory new old_watch e.step what seen → SeesNext new old_watch e.step what watch → IsSoFar r (done ++ e ∷ []) new watch v
+made-more r done e world new old_watch watch violation v seen what n first is h made shape tables told answers sees =
+    subst (λ (x : Option (ℕ × Violation)). IsSoFar r (done ++ e ∷ []) new watch x) (sym first)
+    (push-so-far r done e world new old_watch watch violation seen what n is h made shape tables told answers sees)
+
+get-behind : (xs rest : List Entry) (e : Entry) → get_or (xs ++ e ∷ rest) (length xs) e ≡ e
+get-behind [] rest e = refl
+get-behind (x ∷ xs) rest e = get-behind xs rest e
 
 -- one entry more, which is the first that differs
-pub differs-more : (r : RecordingView) (e : Entry) (owner : Option ℕ) (world new : View) (watch : List ℕ) (violation : Option (ℕ × Violation))
-    (what : Outcome) (n : ℕ) → n ≡ length r.entries → IsSoFar r r.entries world watch violation →
-    next world.tables world.state e.step ≡ stepped new.state what → what ≢ e.outcome → IsFirstToDiffer (with_owned r e owner) n e.outcome what
-differs-more r e owner world new watch violation what n is h made other =
-    let s : RecordingView = with_owned r e owner in
-    let k : ℕ = length r.entries in
-    let last : get_or s.entries k e ≡ e = get-last r.entries e in
-    let so_far : IsSoFar s (take k s.entries) world watch violation =
-    subst (λ (done : List Entry). IsSoFar s done world watch violation) (sym (take-append_seam r.entries (e ∷ [])))
-    (to-come r e owner r.entries world watch violation h) in
-    subst (λ (m : ℕ). IsFirstToDiffer s m e.outcome what) (sym is)
-    (subst (λ (x : Entry). IsFirstToDiffer s k x.outcome what) last
-    (differs-here s k e world new watch violation what (omega (arith, length_push r.entries e)) so_far
-    (subst (λ (x : Entry). next world.tables world.state x.step ≡ stepped new.state what) (sym last) made)
-    (subst (λ (x : Entry). what ≢ x.outcome) (sym last) other)))
+pub differs-more : (r : RecordingView) (done rest : List Entry) (e : Entry) (world new : View) (watch : List ℕ) (violation : Option (ℕ × Violation))
+    (what : Outcome) (n : ℕ) → n ≡ length done → IsSoFar r done world watch violation → r.entries ≡ done ++ e ∷ rest →
+    next world.tables world.state e.step ≡ stepped new.state what → what ≢ e.outcome → IsFirstToDiffer r n e.outcome what
+differs-more r done rest e world new watch violation what n is h all made other =
+    let k : ℕ = length done in
+    let here : get_or r.entries k e ≡ e = ap (λ (es : List Entry). get_or es k e) all ∙ get-behind done rest e in
+    let front : take k r.entries ≡ done = ap (take k) all ∙ take-append_seam done (e ∷ rest) in
+    let so_far : IsSoFar r (take k r.entries) world watch violation =
+    subst (λ (first : List Entry). IsSoFar r first world watch violation) (sym front) h in
+    subst (λ (m : ℕ). IsFirstToDiffer r m e.outcome what) (sym is)
+    (subst (λ (x : Entry). IsFirstToDiffer r k x.outcome what) here
+    (differs-here r k e world new watch violation what (omega (arith, ap length all, length-append done (e ∷ rest))) so_far
+    (subst (λ (x : Entry). next world.tables world.state x.step ≡ stepped new.state what) (sym here) made)
+    (subst (λ (x : Entry). what ≢ x.outcome) (sym here) other)))
 
 -- ---- behind the first that differs
 

@@ -1,7 +1,7 @@
 -- What a replay keeps, entry by entry.
-use Rattle.std.proofs.Common.{◌≡◌, ◌≢◌, ◌<◌, ◌+◌, ℕ, zero, suc, List, [], ◌∷◌, ◌++◌, Option, Some, length, take, map, slice_get, get_or, refl, ap}
+use Rattle.std.proofs.Common.{◌≡◌, ◌≢◌, ◌<◌, ℕ, zero, suc, List, [], ◌∷◌, ◌++◌, Option, Some, length, take, map, slice_get, get_or, refl, ap}
 use Rattle.std.proofs.Common.{sym, subst, ◌∙◌, arith}
-use Rattle.std.proofs.lemmas.List.{take_more, map_push, take-map, length-map, length-take-le}
+use Rattle.std.proofs.lemmas.List.{map_push, take-map, length-map}
 use Rattle.base.specs.Extent.{Extent}
 use Rattle.base.specs.declared.step.Step.{Step}
 use Rattle.base.specs.declared.step.Outcome.{Outcome}
@@ -108,50 +108,3 @@ push-so-far r done e world new old_watch watch violation seen what n is h made s
       first = subst (λ (l : List Step). AnswersFirst r.shape r.tables r.opening l (first_seen violation n seen)) (sym steps)
           (first-push r.shape r.tables r.opening (steps_in done) e.step n violation seen (is ∙ sym (length-map done (λ (e : Entry). e.step))) h.first scene);
     }
-
-pub one-more : (r : RecordingView) (k : ℕ) (d : Entry) (world new : View) (old_watch watch : List ℕ)
-    (violation : Option (ℕ × Violation)) (seen : Option Violation) (what : Outcome) →
-    k < length r.entries → IsSoFar r (take k r.entries) world old_watch violation → next world.tables world.state
-    (get_or r.entries k d).step ≡ stepped new.state what → new.shape ≡ world.shape → new.tables ≡ world.tables → what ≡
-    (get_or r.entries k d).outcome →
-    AnswersHistory new old_watch (get_or r.entries k d).step what seen → SeesNext new old_watch (get_or r.entries k d).step what watch →
-    IsSoFar r (take (k + 1) r.entries) new watch (first_seen violation k seen)
-one-more r k d world new old_watch watch violation seen what low h made shape tables told answers sees =
-    subst
-    (λ (done : List Entry). IsSoFar r done new watch (first_seen violation k seen))
-    (sym (take_more r.entries k d low))
-    (push-so-far r (take k r.entries) (get_or r.entries k d) world new old_watch watch violation seen what k
-    (sym (length-take-le k r.entries (omega (arith, low)))) h made shape tables told answers sees)
-
--- the same, of equal entries
-pub differs-told : (r : RecordingView) (told : List Entry) → told ≡ r.entries →
-    (k : ℕ) (d : Entry) (world new : View) (watch : List ℕ) (violation : Option (ℕ × Violation)) (what : Outcome) →
-    k < length told → IsSoFar r (take k told) world watch violation →
-    next world.tables world.state (get_or told k d).step ≡ stepped new.state what → what ≢ (get_or told k d).outcome →
-    IsFirstToDiffer r k (get_or told k d).outcome what
-differs-told r told is =
-    subst
-    (λ (told : List Entry). (k : ℕ) (d : Entry) (world new : View) (watch : List ℕ) (violation : Option (ℕ × Violation))
-    (what : Outcome) → k < length told → IsSoFar r (take k told) world watch violation → next world.tables world.state
-    (get_or told k d).step ≡ stepped new.state what → what ≢ (get_or told k d).outcome → IsFirstToDiffer r k (get_or told k d).outcome what)
-    (sym is) (differs-here r)
-
-pub one-more-told : (r : RecordingView) (told : List Entry) → told ≡ r.entries →
-    (k : ℕ) (d : Entry) (world new : View) (old_watch watch : List ℕ) (violation : Option (ℕ × Violation))
-    (seen : Option Violation) (what : Outcome) →
-    k < length told → IsSoFar r (take k told) world old_watch violation → next world.tables world.state
-    (get_or told k d).step ≡ stepped new.state what → new.shape ≡ world.shape → new.tables ≡ world.tables → what ≡ (get_or told k d).outcome →
-    AnswersHistory new old_watch (get_or told k d).step what seen → SeesNext new old_watch (get_or told k d).step what watch →
-    IsSoFar r (take (k + 1) told) new watch (first_seen violation k seen)
-one-more-told r told is =
-    subst
-    (λ (told : List Entry). (k : ℕ) (d : Entry) (world new : View) (old_watch watch : List ℕ)
-    (violation : Option (ℕ × Violation)) (seen : Option Violation) (what : Outcome) →
-    k < length told → IsSoFar r (take k told) world old_watch violation → next world.tables world.state
-    (get_or told k d).step ≡ stepped new.state what → new.shape ≡ world.shape → new.tables ≡ world.tables → what ≡ (get_or told k d).outcome →
-    AnswersHistory new old_watch (get_or told k d).step what seen → SeesNext new old_watch (get_or told k d).step what watch →
-    IsSoFar r (take (k + 1) told) new watch (first_seen violation k seen)) (sym is) (one-more r)
-
-pub same-so-far : (r : RecordingView) (done : List Entry) (world : View) (watch : List ℕ) (violation v : Option (ℕ × Violation)) →
-    v ≡ violation → IsSoFar r done world watch violation → IsSoFar r done world watch v
-same-so-far r done world watch violation v f h = subst (λ (x : Option (ℕ × Violation)). IsSoFar r done world watch x) (sym f) h

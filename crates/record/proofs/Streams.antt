@@ -1,8 +1,9 @@
 -- Bytes that come from a source, with those that were pulled and aren't taken yet.
 use Rattle.std.proofs.Common.{◌≡◌, Bool, true, false, ℕ, ◌+◌, ◌-◌, ◌<◌, ◌≤◌, List, [], ◌∷◌, ◌++◌, Option, Some, None, length, take, drop, get_or, suc, refl, ap}
 use Rattle.std.proofs.Common.{◌≢◌, inl, inr, sym, ◌∙◌, subst, arith, append_assoc, length-append, length-drop, take-append-drop}
-use Rattle.std.proofs.lemmas.List.{drop_more, drop-drop, drop-take, append-nil, get_or-drop, get_or-take, length-take, length-take-le}
+use Rattle.std.proofs.lemmas.List.{drop_more, drop-drop, drop-take, append-nil, get_or-drop, get_or-take, length-take-le}
 use Rattle.std.proofs.lemmas.List.{take-append-le, take-take}
+use Rattle.std.proofs.Math.Seq.{take-add}
 use Rattle.std.proofs.lemmas.Bool.{cases_lt}
 use Rattle.std.proofs.lemmas.List.Elements.{All-append, All-take}
 use Rattle.std.specs.Bool.{Decides}
@@ -78,41 +79,35 @@ held-behind buffer at end count few =
 pub held-length : (buffer : List ℕ) (at end : ℕ) → end ≤ length buffer → length (take (end - at) (drop at buffer)) ≡ end - at
 held-length buffer at end fits = length-take-le (end - at) (drop at buffer) (omega (arith, length-drop {A = ℕ} at buffer))
 
--- the first of the bytes that are held, as a part of the buffer
-pub held-front : (buffer : List ℕ) (at end count : ℕ) → count ≤ end - at → take ((at + count) - at) (drop at buffer) ≡ take count
-    (take (end - at) (drop at buffer))
-held-front buffer at end count few =
-    let n : (at + count) - at ≡ count = omega arith in
-    ap (λ k. take k (drop at buffer)) n ∙ sym (take-take count (end - at) (drop at buffer) few)
+-- the bytes that stand in front of a place
+pub standing-length : (buffer : List ℕ) (at count : ℕ) → count ≤ at → at ≤ length buffer → length (take count (drop (at - count) buffer)) ≡ count
+standing-length buffer at count behind fits =
+    length-take-le count (drop (at - count) buffer) (omega (arith, behind, fits, length-drop {A = ℕ} (at - count) buffer))
 
--- these bytes, moved to the line
-pub front-moved : (buffer line new : List ℕ) (at end count : ℕ) → count ≤ end - at → new ≡ line ++ take ((at + count) - at) (drop at buffer) →
+-- the first of the bytes that are held, with those that stand in front of them
+pub grown : (kept buffer : List ℕ) (at end standing count : ℕ) → standing ≤ at → count ≤ end - at →
+    kept ++ take (standing + count) (drop ((at + count) - (standing + count)) buffer) ≡
+    (kept ++ take standing (drop (at - standing) buffer)) ++ take count (take (end - at) (drop at buffer))
+grown kept buffer at end standing count behind few =
+    let from : (at + count) - (standing + count) ≡ at - standing = omega arith in
+    let back : (at - standing) + standing ≡ at = omega (arith, behind) in
+    let front = take standing (drop (at - standing) buffer) in
+    ap (λ n. kept ++ take (standing + count) (drop n buffer)) from ∙ ap (λ l. kept ++ l) (take-add standing count (drop (at - standing) buffer))
+    ∙ ap (λ l. kept ++ (front ++ take count l)) (drop-drop standing (at - standing) buffer ∙ ap (λ n. drop n buffer) back)
+    ∙ ap (λ l. kept ++ (front ++ l)) (sym (take-take count (end - at) (drop at buffer) few)) ∙ sym (append_assoc kept front _)
+
+-- the first of the bytes that are held, moved to the line
+pub front-moved : (buffer line new : List ℕ) (at end count : ℕ) → count ≤ end - at → new ≡ line ++ take count (take (end - at) (drop at buffer)) →
     new ++ take (end - (at + count)) (drop (at + count) buffer) ≡ line ++ take (end - at) (drop at buffer)
 front-moved buffer line new at end count few is =
     let held = take (end - at) (drop at buffer) in
-    ap (λ l. l ++ take (end - (at + count)) (drop (at + count) buffer)) (is ∙ ap (λ l. line ++ l) (held-front buffer at end count few))
+    ap (λ l. l ++ take (end - (at + count)) (drop (at + count) buffer)) is
     ∙ append_assoc line (take count held) (take (end - (at + count)) (drop (at + count) buffer))
     ∙ ap (λ l. line ++ (take count held ++ l)) (sym (held-behind buffer at end count few)) ∙ ap (λ l. line ++ l) (take-append-drop count held)
 
--- and the line isn't too long still
-pub still-short : (most : ℕ) (buffer line new : List ℕ) (at count : ℕ) → new ≡ line ++ take ((at + count) - at) (drop at buffer) → length line ≤ most →
-    count ≤ most - length line → length new ≤ most
-still-short most buffer line new at count is short few =
-    omega (
-      arith,
-      ap length is,
-      length-append line (take ((at + count) - at) (drop at buffer)),
-      length-take {A = ℕ} ((at + count) - at) (drop at buffer),
-      short,
-      few,
-    )
-
 -- and the line has no end still
-pub still-open : (buffer line new : List ℕ) (at end count : ℕ) → count ≤ end - at → new ≡ line ++ take ((at + count) - at) (drop at buffer) → HasNoEnd line →
-    HasNoEnd (take count (take (end - at) (drop at buffer))) → HasNoEnd new
-still-open buffer line new at end count few is none lasting =
-    subst HasNoEnd (sym (is ∙ ap (λ l. line ++ l) (held-front buffer at end count few)))
-    (All-append (λ b. b ≢ 10) line (take count (take (end - at) (drop at buffer))) none lasting)
+pub still-open : (line front new : List ℕ) → new ≡ line ++ front → HasNoEnd line → HasNoEnd front → HasNoEnd new
+still-open line front new is none lasting = subst HasNoEnd (sym is) (All-append (λ b. b ≢ 10) line front none lasting)
 
 -- what is held behind the bytes of a line: its end, or nothing
 pub held-whole : (whole : Bool) (buffer : List ℕ) (at end count : ℕ) → end ≤ length buffer → count ≤ length (take (end - at) (drop at buffer)) →

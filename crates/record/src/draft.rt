@@ -242,6 +242,7 @@ fn entry_count_due(line: &[u8], form: Form) -> Result<Due, ReadKind>
 }
 
 /// The entry that a line tells where one is due, of so many seats.
+#[inline(always)]
 fn told_due(line: &[u8], seats: u32) -> Result<Told, ReadKind>
     requires few { seats ≤ 64 }
     ensures fits { IfOk result (FitsTold seats) }
@@ -256,6 +257,8 @@ fn told_due(line: &[u8], seats: u32) -> Result<Told, ReadKind>
 }
 
 /// Whether this is the last line.
+#[cold]
+#[inline(never)]
 fn end_due(line: &[u8], form: Form) -> Result<Due, ReadKind>
     requires few { form.seats ≤ 64 }
     ensures ok { IfOk result (Leads (due.EndLine form) (words line.now)) }

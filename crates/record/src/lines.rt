@@ -23,21 +23,28 @@ pub(crate) struct Lines {
     buffer: [u8; MOST_PULLED],
     at: usize,
     end: usize,
+    /// How many bytes in front of `at` are the line, where it lies whole in the buffer.
+    held: usize,
+    /// The line, where it doesn't.
     line: Vec<u8>,
     number: u64,
 }
 
 impl Model for Lines {
-    ghost use Rattle.std.specs.Prelude.{◌≤◌, ◌-◌, take, drop, length};
+    ghost use Rattle.std.specs.Prelude.{◌≤◌, ◌-◌, ◌++◌, take, drop, length};
     ghost use Rattle.std.specs.Vec.{vec_capacity};
     ghost use Rattle.record.specs.Refused.{HasNoEnd};
     ghost use Rattle.record.specs.inner.Reading.{Gathered, AreGathered};
 
     ghost Value = { Gathered };
 
-    ghost view = { λ s. record { line = s.line.items; ahead = take (s.end - s.at) (drop s.at s.buffer); number = s.number } };
+    ghost view = { λ s. record {
+      line = s.line.items ++ take s.held (drop (s.at - s.held) s.buffer);
+      ahead = take (s.end - s.at) (drop s.at s.buffer);
+      number = s.number;
+    } };
 
-    ghost invariant = { λ s. AreGathered s.at s.end s.line.items (vec_capacity s.line) };
+    ghost invariant = { λ s. AreGathered s.at s.end s.held s.line.items (take s.held (drop (s.at - s.held) s.buffer)) (vec_capacity s.line) };
 }
 
 impl Lines {
@@ -50,6 +57,7 @@ impl Lines {
             buffer: [0; MOST_PULLED],
             at: 0,
             end: 0,
+            held: 0,
             line,
             number: 0,
         })
@@ -59,7 +67,10 @@ impl Lines {
     pub(crate) fn line(&self) -> &[u8]
         ensures { result.now ≡ self.now.line }
     {
-        self.line.as_slice()
+        if self.held == 0 {
+            return self.line.as_slice();
+        }
+        &self.buffer[self.at - self.held..self.at]
     }
 
     /// How many lines were taken off.
@@ -91,12 +102,21 @@ impl Lines {
         ensures short { length self.new.line ≤ most }
     {
         let count = self.bytes_of_line();
-        if count > most - self.line.len() {
+        if count > most - (self.line.len() + self.held) {
             return Err(ReadKind::OverLimit);
         }
-        let from = self.at;
         self.at += count;
-        append(&mut self.line, &mut self.buffer, from, self.at);
+        self.held += count;
+        if self.line.is_empty() && self.at < self.end {
+            return Ok(true);
+        }
+        append(
+            &mut self.line,
+            &mut self.buffer,
+            self.at - self.held,
+            self.at,
+        );
+        self.held = 0;
         Ok(self.at < self.end)
     }
 
@@ -135,6 +155,7 @@ impl Lines {
         ensures { IsTakenOff self.old self.new }
     {
         self.line.clear();
+        self.held = 0;
         self.at += 1;
         self.number += 1;
     }

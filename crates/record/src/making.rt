@@ -1,5 +1,8 @@
 //! Entries that are made as they are read.
 
+ghost use Rattle.std.specs.Prelude.{◌≡◌, Some};
+ghost use Rattle.std.specs.Option.{option_or, option_zip};
+
 use crate::entries::Entries;
 use crate::recording::Entry;
 use crate::replaying::ReplayFault;
@@ -19,13 +22,18 @@ pub(crate) struct Run {
 }
 
 impl Run {
-    ghost use Rattle.std.specs.Prelude.{◌≡◌, ℕ, Option, IfOk, IfErr, OnOk, length};
+    ghost use Rattle.std.specs.Prelude.{◌≡◌, ◌∷◌, ◌++◌, [], ℕ, List, IfOk, IfErr, OnOk, length};
     ghost use Rattle.record.specs.Replaying.{FaultOf};
-    ghost use Rattle.record.specs.View.{RecordingView, opened_of, with_owned};
-    ghost use Rattle.record.specs.inner.Making.{HasMade};
+    ghost use Rattle.record.specs.View.{RecordingView, opened_of};
+    ghost use Rattle.record.specs.inner.Making.{HasMade, HasMadeFirst};
 
     /// A replay of no step yet.
-    fn open(alloc: Global, shape: Shape, tables: Tables, opening: &[u64]) -> Result<Run, NoMemory>
+    pub(crate) fn open(
+        alloc: Global,
+        shape: Shape,
+        tables: Tables,
+        opening: &[u64],
+    ) -> Result<Run, NoMemory>
         ensures { IfOk result (λ run. (seats : ℕ) → HasMade (opened_of seats shape tables opening.now) run) }
     {
         let values = Vec::from_slice(alloc, opening)?;
@@ -41,17 +49,17 @@ impl Run {
     }
 
     /// Makes the step of the entry of this number, and sees whether it has the outcome that is told.
-    fn make(&mut self, number: u64, entry: Entry) -> Result<(), ReplayFault>
-        ensures ok { (r : RecordingView) (owner : Option ℕ) → number ≡ length r.entries → HasMade r self.old →
-            OnOk result (HasMade (with_owned r entry owner) self.new) }
-        ensures differs { (r : RecordingView) (owner : Option ℕ) → number ≡ length r.entries → HasMade r self.old →
-            IfErr result (FaultOf (with_owned r entry owner)) }
+    pub(crate) fn make(&mut self, number: u64, entry: Entry) -> Result<(), ReplayFault>
+        ensures ok { (r : RecordingView) (done : List Entry) → number ≡ length done → HasMadeFirst r done self.old →
+            OnOk result (HasMadeFirst r (done ++ entry ∷ []) self.new) }
+        ensures differs { (r : RecordingView) (done rest : List Entry) → number ≡ length done → HasMadeFirst r done self.old →
+            r.entries ≡ done ++ entry ∷ rest → IfErr result (FaultOf r) }
     {
         let Ok(made) = self.world.make(entry.step) else {
             return Err(ReplayFault::NoMemory);
         };
         let seen = self.watch.see_made(&self.world, entry.step, &made);
-        self.violation = self.violation.or(Some(number).zip(seen));
+        note(&mut self.violation, number, seen);
         let found = made.outcome;
         if found != entry.outcome {
             return Err(ReplayFault::Differs {
@@ -61,6 +69,25 @@ impl Run {
             });
         }
         Ok(())
+    }
+
+    /// The first violation, with the number of its step.
+    pub(crate) fn first_violation(&self) -> Option<(u64, Violation)>
+        ensures { result ≡ self.now.violation }
+    {
+        self.violation
+    }
+}
+
+/// Notes what was seen at the step of this number, unless something was seen before.
+#[inline(always)]
+fn note(first: &mut Option<(u64, Violation)>, number: u64, seen: Option<Violation>)
+    ensures { first.new ≡ option_or first.old (option_zip (Some number) seen) }
+{
+    if let Some(violation) = seen
+        && first.is_none()
+    {
+        *first = Some((number, violation));
     }
 }
 
@@ -89,6 +116,15 @@ impl Stage {
             Err(NoMemory) => Stage::Refused(ReplayFault::NoMemory),
         }
     }
+}
+
+/// Has no entry made any more. It stands apart, as what it writes is as large as a world.
+#[cold]
+#[inline(never)]
+fn refuse(stage: &mut Stage, fault: ReplayFault)
+    ensures { stage.new ≡ Stage.Refused fault }
+{
+    *stage = Stage::Refused(fault);
 }
 
 /// Entries of which each is made as it is read, and none is kept.
@@ -162,7 +198,7 @@ impl Entries for MadeEntries {
             return;
         };
         if let Err(fault) = run.make(number, told.entry) {
-            self.stage = Stage::Refused(fault);
+            refuse(&mut self.stage, fault);
         }
     }
 }

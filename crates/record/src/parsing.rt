@@ -210,6 +210,7 @@ pub(crate) fn opening_of(values: &mut Vec<u64>, line: &[u8], blocks: u32) -> Res
 }
 
 /// The entry that the line of an entry spells.
+#[inline(always)]
 pub(crate) fn entry_of(line: &[u8]) -> Result<Entry, ReadKind>
     ensures fits { IfOk result FitsEntry }
     ensures ok { IfOk result (λ entry. words line.now ≡ entry_words entry) }
@@ -225,6 +226,7 @@ pub(crate) fn entry_of(line: &[u8]) -> Result<Entry, ReadKind>
 }
 
 /// The entry that a line tells, where there are so many seats.
+#[inline(always)]
 pub(crate) fn told_of(line: &[u8], seats: u32) -> Result<Told, ReadKind>
     requires few { seats ≤ 64 }
     ensures fits { IfOk result (FitsTold seats) }
@@ -241,6 +243,7 @@ pub(crate) fn told_of(line: &[u8], seats: u32) -> Result<Told, ReadKind>
 }
 
 /// Whose the entry of a line is, where there are so many seats, and the entry's own text.
+#[inline(always)]
 fn owner_in_front(line: &[u8], seats: u32) -> Option<(Option<u32>, &[u8])>
     requires few { seats ≤ 64 }
     ensures fits { IfSome result (λ found. IsOwner seats found.0) }
@@ -254,6 +257,7 @@ fn owner_in_front(line: &[u8], seats: u32) -> Option<(Option<u32>, &[u8])>
 }
 
 /// The seat behind the word `by`, one of so many, and what follows it.
+#[inline(never)]
 fn seat_in_front(line: &[u8], seats: u32) -> Option<(u32, &[u8])>
     requires some { 1 ≤ seats }
     ensures fits { IfSome result (λ found. found.0 < seats) }
@@ -273,6 +277,7 @@ fn seat_in_front(line: &[u8], seats: u32) -> Option<(u32, &[u8])>
 }
 
 /// The step in front of an equals sign, and what follows the sign's blank.
+#[inline(always)]
 fn step_at_front(line: &[u8]) -> Option<(Step, &[u8])>
     ensures fits { IfSome result (λ found. FitsStep found.0) }
     ensures step { MatchOption result (HasNoStep (words line.now)) (λ found. words line.now ≡ step_words found.0 ++ codes "=" ∷ words found.1.now) }

@@ -4,16 +4,15 @@ ghost use Rattle.machine.specs.Restraint.{AreRestrained};
 ghost use Rattle.record.specs.View.{IsLegal, steps_of};
 ghost use Rattle.monitor.specs.Violations.{AnswersFirst};
 ghost use Rattle.record.specs.Replaying.{FaultOf};
+ghost use Rattle.record.specs.inner.Making.{HasMadeFirst};
 ghost use Rattle.record.specs.inner.SoFar.{IsSoFar};
 
+use crate::making::Run;
 use crate::recording::{Entry, Recording};
 use base::Outcome;
-use monitor::{
-    Violation, Watch, no_violation_under_restrained_tables, violations_are_what_isnt_safe,
-};
+use monitor::{Violation, no_violation_under_restrained_tables, violations_are_what_isnt_safe};
 use std::alloc::Global;
 use thiserror::Error;
-use world::World;
 
 /// What the replay of a recording found.
 #[derive(Drop)]
@@ -79,45 +78,27 @@ pub fn first_violation(
 {
     violations_are_what_isnt_safe();
     no_violation_under_restrained_tables();
-    let opening = recording.opening();
-    let Ok(values) = Vec::from_slice(alloc, opening) else {
+    let opened = Run::open(
+        alloc,
+        recording.shape(),
+        recording.tables(),
+        recording.opening(),
+    );
+    let Ok(mut run) = opened else {
         return Err(ReplayFault::NoMemory);
     };
-    let Ok(mut world) = World::open(alloc, recording.shape(), recording.tables(), values) else {
-        return Err(ReplayFault::NoMemory);
-    };
-    let Ok(mut watch) = Watch::open(alloc, opening) else {
-        return Err(ReplayFault::NoMemory);
-    };
-    replay_in(&mut world, &mut watch, recording)
+    make_all(&mut run, recording)
 }
 
-/// Makes the steps of a recording in a world that was opened for it, and answers the first violation.
-fn replay_in(
-    world: &mut World,
-    watch: &mut Watch,
-    recording: &Recording,
-) -> Result<Option<(u64, Violation)>, ReplayFault>
-    requires { IsSoFar recording.now [] world.old watch.old None }
-    ensures ok { IfOk result (λ violation. IsSoFar recording.now recording.now.entries world.new watch.new violation) }
+/// Makes the steps of a recording by a replay of no step yet, and answers the first violation.
+fn make_all(run: &mut Run, recording: &Recording) -> Result<Option<(u64, Violation)>, ReplayFault>
+    requires { HasMadeFirst recording.now [] run.old }
+    ensures ok { IfOk result (λ violation. IsSoFar recording.now recording.now.entries run.new.world run.new.watch violation) }
     ensures differs { IfErr result (FaultOf recording.now) }
 {
     let told = recording.entries();
-    let mut violation = None;
     for (number, entry) in told.iter().enumerate() {
-        let Ok(made) = world.make(entry.step) else {
-            return Err(ReplayFault::NoMemory);
-        };
-        let seen = watch.see_made(world, entry.step, &made);
-        violation = violation.or(Some(number as u64).zip(seen));
-        let found = made.outcome;
-        if found != entry.outcome {
-            return Err(ReplayFault::Differs {
-                entry: number as u64,
-                told: entry.outcome,
-                found,
-            });
-        }
+        run.make(number as u64, *entry)?;
     }
-    Ok(violation)
+    Ok(run.first_violation())
 }

@@ -1,9 +1,11 @@
-use Rattle.std.specs.Prelude.{◌≢◌, ℕ, ◌≤◌, ◌<◌, ◌^◌, List, [], ◌∷◌, ◌++◌, Option, Some, None, length, map}
+use Rattle.std.specs.Prelude.{◌≢◌, ℕ, ◌≤◌, ◌<◌, ◌^◌, List, [], ◌∷◌, ◌++◌, Option, Some, None, codes, length, map}
 use Rattle.std.specs.Fmt.{decimal}
 use Rattle.std.specs.Borrow.{Bor}
 use Rattle.base.specs.Spelling.{words, ask_words, step_words, FitsAsk, FitsStep}
 use Rattle.base.specs.declared.step.Ask.{Ask}
 use Rattle.base.specs.declared.step.Step.{Step}
+use Rattle.base.specs.declared.text.steps.Kind.{Kind}
+use Rattle.base.specs.declared.text.steps.Kind.TheVariants.{Request, Forward, Response}
 
 -- the words behind a blank, if there is one
 abbrev pub words_behind : Option (Bor (List ℕ)) → List (List ℕ)
@@ -25,3 +27,13 @@ IsNoStepFirst line = (s : Step) (others : List (List ℕ)) → FitsStep s → li
 -- these words don't begin with what a core asks
 abbrev pub IsNoAskFirst : List (List ℕ) → Type 0
 IsNoAskFirst line = (ask : Ask) (others : List (List ℕ)) → FitsAsk ask → line ≢ ask_words ask ++ others
+
+-- the word for a kind of messages
+abbrev pub kind_word : Kind → List ℕ
+kind_word Request = codes "request"
+kind_word Forward = codes "forward"
+kind_word Response = codes "response"
+
+-- the first of these words, with another behind it, is for no kind of messages
+abbrev pub IsNoKindFirst : List (List ℕ) → Type 0
+IsNoKindFirst line = (kind : Kind) (first : List ℕ) (others : List (List ℕ)) → line ≢ kind_word kind ∷ first ∷ others

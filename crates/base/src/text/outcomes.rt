@@ -11,6 +11,7 @@ impl Outcome {
     /// The outcome that a line is the text of: words with exactly one blank between two and none at the ends.
     ///
     /// `None` comes for every line that is the text of no outcome.
+    #[inline(always)]
     pub fn read(line: &[u8]) -> Option<Outcome>
         ensures { MatchOption result (IsNoOutcome line.now) (λ o. IsOutcomeLine line.now o) }
     {
@@ -59,6 +60,7 @@ impl Outcome {
 
 impl Text {
     /// Adds an outcome's text at the end.
+    #[inline(always)]
     pub fn push_outcome(&mut self, outcome: Outcome)
         requires { length self.old + 50 ≤ 192 }
         ensures text { self.new ≡ self.old ++ joined (outcome_words outcome) }

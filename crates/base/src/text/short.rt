@@ -33,6 +33,13 @@ impl Text {
         }
     }
 
+    /// Takes off all of the text.
+    pub fn clear(&mut self)
+        ensures { self.new ≡ [] }
+    {
+        self.len = 0;
+    }
+
     /// Adds a text at the end.
     pub fn push(&mut self, text: &[u8])
         requires { length self.old + length text.now ≤ 192 }

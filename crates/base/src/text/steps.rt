@@ -1,7 +1,7 @@
 ghost use Rattle.std.specs.Prelude.{◌≡◌, ◌≤◌, ◌+◌, ◌∷◌, ◌++◌, MatchOption, codes, length};
 ghost use Rattle.base.specs.Spelling.{words, joined, spaced, ask_words, step_words, FitsAsk, FitsStep};
 ghost use Rattle.base.specs.Spelling.{HasNoStepInFront, IsNoStep, IsStepLine, SpellsOneStep};
-ghost use Rattle.base.specs.inner.Behind.{words_behind, IsNoAskFirst, IsNoStepFirst};
+ghost use Rattle.base.specs.inner.Behind.{kind_word, words_behind, IsNoAskFirst, IsNoKindFirst, IsNoStepFirst};
 
 use crate::ids::{BlockId, CacheId};
 use crate::step::{Ask, Step};
@@ -13,6 +13,7 @@ impl Step {
     /// The step that a line is the text of: words with exactly one blank between two and none at the ends.
     ///
     /// `None` comes for every line that is the text of no step.
+    #[inline(always)]
     pub fn read(line: &[u8]) -> Option<Step>
         ensures { MatchOption result (IsNoStep line.now) (λ s. IsStepLine line.now s) }
     {
@@ -26,6 +27,7 @@ impl Step {
     /// The step that the first words of a line spell, and what follows the blank behind them.
     ///
     /// `None` comes for every line that isn't the text of a step, a blank and something else.
+    #[inline(always)]
     pub fn read_front(line: &[u8]) -> Option<(Step, &[u8])>
         ensures { MatchOption result (HasNoStepInFront line.now) (λ found. words line.now ≡ step_words found.0 ++ words found.1.now) }
     {
@@ -35,25 +37,19 @@ impl Step {
 }
 
 /// The step that the first words of a line spell, and what follows the blank behind them, if there is one.
+#[inline(always)]
 fn step_in_front(line: &[u8]) -> Option<(Step, Option<&[u8]>)>
     ensures { MatchOption result (IsNoStepFirst (words line.now)) (λ found. words line.now ≡ step_words found.0 ++ words_behind found.1) }
 {
     if let Some(rest) = behind_word(line, b"ask") {
         return ask_in_front(rest);
     }
-    if let Some(rest) = behind_word(line, b"request") {
-        return request_in_front(rest);
-    }
-    if let Some(rest) = behind_word(line, b"forward") {
-        return forward_in_front(rest);
-    }
-    if let Some(rest) = behind_word(line, b"response") {
-        return response_in_front(rest);
-    }
-    None
+    let (kind, rest) = kind_in_front(line)?;
+    served_in_front(kind, rest)
 }
 
 /// The step that a line spells behind the word `ask`, and what follows it.
+#[inline(always)]
 fn ask_in_front(line: &[u8]) -> Option<(Step, Option<&[u8]>)>
     ensures { MatchOption result
         (IsNoStepFirst (codes "ask" ∷ words line.now))
@@ -71,6 +67,7 @@ fn ask_in_front(line: &[u8]) -> Option<(Step, Option<&[u8]>)>
 }
 
 /// What a core asks, in the first words of a line, and what follows them.
+#[inline(always)]
 fn what_is_asked(line: &[u8]) -> Option<(Ask, Option<&[u8]>)>
     ensures { MatchOption result
         (IsNoAskFirst (words line.now))
@@ -87,47 +84,55 @@ fn what_is_asked(line: &[u8]) -> Option<(Ask, Option<&[u8]>)>
     Some((Ask::Replace, rest))
 }
 
-/// The step that a line spells behind the word `request`, and what follows it.
-fn request_in_front(line: &[u8]) -> Option<(Step, Option<&[u8]>)>
-    ensures { MatchOption result
-        (IsNoStepFirst (codes "request" ∷ words line.now))
-        (λ found. codes "request" ∷ words line.now ≡ step_words found.0 ++ words_behind found.1) }
-{
-    let (block, rest) = small_in_front(line)?;
-    let (index, rest) = number_in_front(rest?)?;
-    let step = Step::Request {
-        block: BlockId(block),
-        index,
-    };
-    Some((step, rest))
+/// The kinds of messages of which a step serves one.
+#[derive(Clone, Copy)]
+enum Kind {
+    Request,
+    Forward,
+    Response,
 }
 
-/// The step that a line spells behind the word `forward`, and what follows it.
-fn forward_in_front(line: &[u8]) -> Option<(Step, Option<&[u8]>)>
-    ensures { MatchOption result
-        (IsNoStepFirst (codes "forward" ∷ words line.now))
-        (λ found. codes "forward" ∷ words line.now ≡ step_words found.0 ++ words_behind found.1) }
+/// The kind of messages whose word a line begins with, and what follows the word's blank.
+#[inline(always)]
+fn kind_in_front(line: &[u8]) -> Option<(Kind, &[u8])>
+    ensures { MatchOption result (IsNoKindFirst (words line.now)) (λ found. words line.now ≡ kind_word found.0 ∷ words found.1.now) }
 {
-    let (block, rest) = small_in_front(line)?;
-    let (cache, rest) = small_in_front(rest?)?;
-    let step = Step::Forward {
-        block: BlockId(block),
-        cache: CacheId(cache),
-    };
-    Some((step, rest))
+    if let Some(rest) = behind_word(line, b"request") {
+        return Some((Kind::Request, rest));
+    }
+    if let Some(rest) = behind_word(line, b"forward") {
+        return Some((Kind::Forward, rest));
+    }
+    let rest = behind_word(line, b"response")?;
+    Some((Kind::Response, rest))
 }
 
-/// The step that a line spells behind the word `response`, and what follows it.
-fn response_in_front(line: &[u8]) -> Option<(Step, Option<&[u8]>)>
+/// The step that a line spells behind the word for a kind of messages, and what follows it: two numbers for each kind.
+#[inline(always)]
+fn served_in_front(kind: Kind, line: &[u8]) -> Option<(Step, Option<&[u8]>)>
     ensures { MatchOption result
-        (IsNoStepFirst (codes "response" ∷ words line.now))
-        (λ found. codes "response" ∷ words line.now ≡ step_words found.0 ++ words_behind found.1) }
+        (IsNoStepFirst (kind_word kind ∷ words line.now))
+        (λ found. kind_word kind ∷ words line.now ≡ step_words found.0 ++ words_behind found.1) }
 {
     let (block, rest) = small_in_front(line)?;
-    let (index, rest) = number_in_front(rest?)?;
-    let step = Step::Response {
-        block: BlockId(block),
-        index,
+    let (number, rest) = number_in_front(rest?)?;
+    let block = BlockId(block);
+    let step = match kind {
+        Kind::Request => Step::Request {
+            block,
+            index: number,
+        },
+        Kind::Forward => {
+            let Ok(cache) = u32::try_from(number) else {
+                return None;
+            };
+            let cache = CacheId(cache);
+            Step::Forward { block, cache }
+        }
+        Kind::Response => Step::Response {
+            block,
+            index: number,
+        },
     };
     Some((step, rest))
 }

@@ -1,4 +1,5 @@
-ghost use Rattle.std.specs.Prelude.{◌≡◌, ◌≢◌, ◌≤◌, ◌<◌, ◌^◌, ℕ, List, length, ◌==◌, false, true, slice_index_or, take, drop, [], ◌∷◌, ◌++◌, IfSome, IfNone, MatchOption};
+ghost use Rattle.std.specs.Prelude.{◌≡◌, ◌≢◌, ◌≤◌, ◌<◌, ◌^◌, ℕ, List, length, ◌==◌, false, true, slice_index_or, take, drop, [], ◌∷◌, ◌++◌};
+ghost use Rattle.std.specs.Prelude.{IfSome, IfNone, MatchOption};
 ghost use Rattle.std.specs.List.{position_or_len};
 ghost use Rattle.std.specs.Fmt.{decimal};
 ghost use Rattle.std.specs.Char.{digit_value};
@@ -165,9 +166,37 @@ fn digits_in_front(text: &[u8]) -> (u64, usize)
     (value, end)
 }
 
+/// The one digit that is the first word of a line, and what follows the blank behind it.
+///
+/// `None` comes for every line whose first word is longer or no number.
+#[inline(always)]
+fn digit_in_front(line: &[u8]) -> Option<(u64, Option<&[u8]>)>
+    ensures small { IfSome result (λ found. found.0 < 10) }
+    ensures word { IfSome result (λ found. words line.now ≡ decimal found.0 ∷ words_behind found.1) }
+{
+    match line {
+        [byte] => Some((digit_of(*byte)?, None)),
+        [byte, b' ', rest @ ..] => Some((digit_of(*byte)?, Some(rest))),
+        _ => None,
+    }
+}
+
 /// The number below 2^64 that is the first word of a line, and what follows the blank behind it.
 #[inline(always)]
 pub(crate) fn number_in_front(line: &[u8]) -> Option<(u64, Option<&[u8]>)>
+    ensures { MatchOption result
+        (IsNoNumberFirst 64 (words line.now))
+        (λ found. words line.now ≡ decimal found.0 ∷ words_behind found.1) }
+{
+    match digit_in_front(line) {
+        Some(found) => Some(found),
+        None => digits_as_number(line),
+    }
+}
+
+/// The same, where the first word may be of any length.
+#[inline(never)]
+fn digits_as_number(line: &[u8]) -> Option<(u64, Option<&[u8]>)>
     ensures { MatchOption result
         (IsNoNumberFirst 64 (words line.now))
         (λ found. words line.now ≡ decimal found.0 ∷ words_behind found.1) }
@@ -202,7 +231,20 @@ pub(crate) fn small_in_front(line: &[u8]) -> Option<(u32, Option<&[u8]>)>
         (IsNoNumberFirst 32 (words line.now))
         (λ found. words line.now ≡ decimal found.0 ∷ words_behind found.1) }
 {
-    let (number, rest) = number_in_front(line)?;
+    match digit_in_front(line) {
+        Some((digit, rest)) => Some((digit as u32, rest)),
+        None => digits_as_small(line),
+    }
+}
+
+/// The same, where the first word may be of any length.
+#[inline(never)]
+fn digits_as_small(line: &[u8]) -> Option<(u32, Option<&[u8]>)>
+    ensures { MatchOption result
+        (IsNoNumberFirst 32 (words line.now))
+        (λ found. words line.now ≡ decimal found.0 ∷ words_behind found.1) }
+{
+    let (number, rest) = digits_as_number(line)?;
     match u32::try_from(number) {
         Ok(number) => Some((number, rest)),
         Err(_) => None,

@@ -1,16 +1,21 @@
 -- How far the entries of a text have been made. Only private clauses cite this file.
-use Rattle.std.specs.Prelude.{◌≡◌, ℕ, Option, Some, None, length}
+use Rattle.std.specs.Prelude.{◌≡◌, ℕ, List, Option, Some, None, length}
 use Rattle.record.specs.Replaying.{FaultOf}
 use Rattle.record.specs.View.{RecordingView}
 use Rattle.record.specs.declared.making.MadeEntries.{MadeEntries}
 use Rattle.record.specs.declared.making.Run.{Run}
 use Rattle.record.specs.declared.making.Stage.{Stage}
+use Rattle.record.specs.declared.recording.Entry.{Entry}
 use Rattle.record.specs.declared.making.Stage.TheVariants.{Closed, Same, Refused}
 use Rattle.record.specs.inner.SoFar.{IsSoFar}
 
--- all entries of a recording have been made as they are told
+-- the first entries of a recording have been made as they are told
+abbrev pub HasMadeFirst : RecordingView → List Entry → Run → Type 0
+HasMadeFirst r done run = IsSoFar r done run.world run.watch run.violation
+
+-- all of them have
 abbrev pub HasMade : RecordingView → Run → Type 0
-HasMade r run = IsSoFar r r.entries run.world run.watch run.violation
+HasMade r run = HasMadeFirst r r.entries run
 
 -- so far the entries of a recording have been made; behind the first that differs none is
 abbrev pub HasCome : RecordingView → Stage → Type 0

@@ -50,12 +50,16 @@ abbrev pub IsWholeIf : Bool → List ℕ → Type 0
 IsWholeIf true ahead = BeginsWithEnd ahead
 IsWholeIf false ahead = ahead ≡ []
 
--- the bytes ahead stand between two ends of a buffer, and a line has no end, isn't too long and has its room
-pub record AreGathered (at end : ℕ) (line : List ℕ) (capacity : ℕ) : Type 0 where
+-- the bytes ahead stand between two ends of a buffer; a line has no end, isn't too long and has its room; and either all of it is
+-- kept apart, or all of it stands in the buffer and is whole
+pub record AreGathered (at end held : ℕ) (kept standing : List ℕ) (capacity : ℕ) : Type 0 where
   pub in_order : at ≤ end
   pub within : end ≤ 4096
-  pub no_end : HasNoEnd line
-  pub short : length line ≤ 1400000
+  pub behind : held ≤ at
+  pub apart : 0 < held → kept ≡ []
+  pub whole : 0 < held → at < end
+  pub no_end : HasNoEnd (kept ++ standing)
+  pub short : length kept + held ≤ 1400000
   pub room : 1400000 ≤ capacity
 
 -- why a line of words isn't a count of this name up to this number

@@ -13,7 +13,8 @@ returns-then-not-begins_with c = λ others is.
 
 pub returns-in-empty : goal.returns-in-empty
 returns-in-empty c =
-    alone c.args.line.now c.args.word.now _ c.requires (with-behind c.args.line.now c.args.word.now (c.if-not-begins_with.ensures.yes refl)) c.in-empty.len_below
+    alone c.args.line.now c.args.word.now _ c.requires (with-behind c.args.line.now c.args.word.now (c.if-not-begins_with.ensures.yes refl))
+    c.in-empty.len_below
 
 pub returns-in-len1-up : goal.returns-in-len1-up
 returns-in-len1-up c =

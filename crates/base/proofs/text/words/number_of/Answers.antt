@@ -49,5 +49,6 @@ returns-clause-some c =
     let end = c.loop-i-test.false in
     let last = c.loop-i.auto.i-end in
     let all = take_all c.loop-i.i text (omega (arith, end, last)) in
-    is-number text c.loop-i.n (subst (AllDigits 10) all c.loop-i.invariant.digits) (c.if-not-has_first_digit.ensures.some refl) (c.if-not-has_first_digit.ensures.first refl)
+    is-number text c.loop-i.n (subst (AllDigits 10) all c.loop-i.invariant.digits) (c.if-not-has_first_digit.ensures.some refl)
+    (c.if-not-has_first_digit.ensures.first refl)
     (c.loop-i.invariant.value ∙ ap (digits_value 10) all) c.loop-i.invariant.small

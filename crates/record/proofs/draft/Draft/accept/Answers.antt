@@ -22,7 +22,9 @@ returns-in-Header-clause-ok g c r =
 pub accept_protocol-requires : goal.accept_protocol-requires
 accept_protocol-requires g c =
     let at = ProtocolLine in
-    record { read = read-in_front g.N.Entries.tells c.args.due at c.args.self.now c.args.entries.now c.requires.read.0 c.in-ProtocolLine.is tt c.requires.read.1 }
+    record {
+      read = read-in_front g.N.Entries.tells c.args.due at c.args.self.now c.args.entries.now c.requires.read.0 c.in-ProtocolLine.is tt c.requires.read.1;
+    }
 
 pub returns-in-ProtocolLine-clause-ok : goal.returns-in-ProtocolLine-clause-ok
 returns-in-ProtocolLine-clause-ok g c r =

@@ -2,9 +2,6 @@ use Rattle.std.proofs.Common.{arith}
 use Rattle.std.proofs.lemmas.Grind.{common_steps}
 use Rattle.record.proofs.lines.Lines.pull.Goals as goal
 
-pub invariant_of-self : goal.invariant_of-self
-invariant_of-self g c = grind (arith, common_steps)
-
 pub returns-in_err-self-inside-clause-bytes : goal.returns-in_err-self-inside-clause-bytes
 returns-in_err-self-inside-clause-bytes g c = grind (arith, common_steps)
 
@@ -28,9 +25,6 @@ returns-in_err-self-inside-clause-number g c = grind (arith, common_steps)
 
 pub returns-in_err-self-inside-clause-mark : goal.returns-in_err-self-inside-clause-mark
 returns-in_err-self-inside-clause-mark g c = grind (arith, common_steps)
-
-pub invariant_of-self-2 : goal.invariant_of-self-2
-invariant_of-self-2 g c = grind (arith, common_steps)
 
 pub returns-clause-bytes : goal.returns-clause-bytes
 returns-clause-bytes g c = grind (arith, common_steps)

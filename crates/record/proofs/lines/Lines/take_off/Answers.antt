@@ -1,4 +1,4 @@
-use Rattle.std.proofs.Common.{◌+◌, ap, sym, ◌∙◌, rules}
+use Rattle.std.proofs.Common.{◌+◌, ◌++◌, [], ap, sym, ◌∙◌, rules}
 use Rattle.record.specs.inner.Reading.{Gathered}
 use Rattle.record.proofs.Streams.{held-begins}
 use Rattle.record.proofs.lines.Lines.take_off.Goals as goal
@@ -7,7 +7,7 @@ pub returns : goal.returns
 returns c =
     let ahead = ap (λ (g : Gathered). g.ahead) c.self.view_is in
     record {
-      line = c.clear.ensures.items;
+      line = ap (λ l. l ++ []) c.clear.ensures.items;
       ahead =
           sym ahead
           ∙ (held-begins c.self.inside.buffer c.requires.whole.0 10 c.self.inside.at c.self.inside.end (search rules) (ahead ∙ c.requires.whole.1)).1;

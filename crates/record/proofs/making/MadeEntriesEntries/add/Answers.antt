@@ -1,7 +1,8 @@
-use Rattle.std.proofs.Common.{subst, ◌∙◌, arith}
+use Rattle.std.proofs.Common.{sym, [], refl, subst, ◌∙◌, arith}
 use Rattle.std.proofs.lemmas.List.{length_push}
 use Rattle.record.specs.inner.Making.{HasCome, HasMade}
-use Rattle.record.proofs.Makings.{stays-refused}
+use Rattle.record.specs.View.{with_owned}
+use Rattle.record.proofs.Makings.{stays-refused, to-come}
 use Rattle.record.proofs.making.MadeEntriesEntries.add.Goals as goal
 
 pub returns-in_default : goal.returns-in_default
@@ -17,12 +18,15 @@ pub returns-in-Err-clause-told : goal.returns-in-Err-clause-told
 returns-in-Err-clause-told c r h =
     let came : HasMade r c.in-Same.run' = subst (HasCome r) c.in-Same.is h.1 in (
       omega (arith, h.0, length_push r.entries c.args.told.entry),
-      c.in-Err.ensures.differs r c.args.told.owner (c.from-number.ensures ∙ h.0) came,
+      subst (HasCome (with_owned r c.args.told.entry c.args.told.owner)) (sym c.refuse.ensures)
+          (c.in-Err.ensures.differs (with_owned r c.args.told.entry c.args.told.owner) r.entries [] (c.from-number.ensures ∙ h.0)
+          (to-come r c.args.told.entry c.args.told.owner r.entries c.in-Same.run' came) refl),
     )
 
 pub returns-in_default-make-clause-told : goal.returns-in_default-make-clause-told
 returns-in_default-make-clause-told c r h =
     let came : HasMade r c.in-Same.run' = subst (HasCome r) c.in-Same.is h.1 in (
       omega (arith, h.0, length_push r.entries c.args.told.entry),
-      c.in_default-make.ensures.ok r c.args.told.owner (c.from-number.ensures ∙ h.0) came,
+      c.in_default-make.ensures.ok (with_owned r c.args.told.entry c.args.told.owner) r.entries (c.from-number.ensures ∙ h.0)
+          (to-come r c.args.told.entry c.args.told.owner r.entries c.in-Same.run' came),
     )

@@ -1,7 +1,7 @@
 use Rattle.std.proofs.Common.{take, refl, rules}
 use Rattle.base.proofs.Fronts.{number-alone, number-then}
 use Rattle.base.proofs.Numbers.{is-number}
-use Rattle.base.proofs.text.words.number_in_front.Goals as goal
+use Rattle.base.proofs.text.words.digits_as_number.Goals as goal
 
 pub returns-in-empty : goal.returns-in-empty
 returns-in-empty c =
