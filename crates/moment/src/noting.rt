@@ -19,7 +19,11 @@ pub(crate) fn note(cores: &mut Cores, step: Step, outcome: Outcome) -> bool
 {
     let issued = issue(cores, step, outcome);
     let finished = finish(cores, step, outcome);
-    issued != finished
+    match (issued, finished) {
+        (None, None) => false,
+        (Some(issued), Some(finished)) => issued.0 != finished.0,
+        _ => true,
+    }
 }
 
 /// Issues what a step put, and answers for which core.
@@ -28,7 +32,9 @@ fn issue(cores: &mut Cores, step: Step, outcome: Outcome) -> Option<CacheId>
     ensures noted { cores.new ≡ spec.with_issued (spec.put_by step outcome) cores.old }
     ensures who { map (λ a. a.core) (spec.put_by step outcome) ≡ cores_in result }
 {
-    let put = put_by(step, outcome)?;
+    let Some(put) = put_by(step, outcome) else {
+        return None;
+    };
     cores.issue(put.core, put.ask);
     Some(put.core)
 }
@@ -39,13 +45,17 @@ fn finish(cores: &mut Cores, step: Step, outcome: Outcome) -> Option<CacheId>
     ensures noted { cores.new ≡ spec.with_finished (completed_by step outcome) cores.old }
     ensures who { map (λ c. c.cache) (completed_by step outcome) ≡ cores_in result }
 {
-    let cache = match outcome {
-        Outcome::Load { cache, .. } => cache,
-        Outcome::Store { cache, .. } => cache,
-        _ => return None,
-    };
-    cores.finish(cache);
-    Some(cache)
+    match outcome {
+        Outcome::Load { cache, .. } => {
+            cores.finish(cache);
+            Some(cache)
+        }
+        Outcome::Store { cache, .. } => {
+            cores.finish(cache);
+            Some(cache)
+        }
+        _ => None,
+    }
 }
 
 /// The load or store that a step put to its cache, if a cell acted on it.

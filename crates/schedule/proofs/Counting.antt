@@ -1,7 +1,7 @@
 -- What marking and counting lanes again makes of them.
 use Rattle.std.proofs.Common.{◌≡◌, ◌≢◌, ℕ, zero, suc, ◌+◌, ◌<◌, ◌≤◌, ◌^◌, ◌⊎◌, ◌==◌, inl, inr, Bool, true, false}
 use Rattle.std.proofs.Common.{not, ◌&&◌, if◌then◌else◌, List, [], ◌∷◌, ◌++◌, length, map}
-use Rattle.std.proofs.Common.{Option, None, Some, IfSome, get_or, set, slice_get, refl, sym, ap, ◌∙◌, subst, arith}
+use Rattle.std.proofs.Common.{Option, Some, IfSome, get_or, set, slice_get, refl, sym, ap, ◌∙◌, subst, arith}
 use Rattle.std.specs.List.{Contains}
 use Rattle.std.proofs.lemmas.List.{length-set, get_or_default, get_or_past, get_or-set_same, get_or-set_other, set-get_or}
 use Rattle.std.proofs.lemmas.Bool.{cases_eq, cases_lt}
@@ -24,8 +24,7 @@ use Rattle.schedule.specs.Listed.{IsMarked, Listed, is_unheld, nothing_listed}
 use Rattle.schedule.specs.inner.Marks.{AreHeldAt, all_marked, is_at, mark_by, marked_by, marks_by, offers_by}
 use Rattle.schedule.specs.inner.Changes.{Agree, AgreeBut, AreCountedAt, AreMarked, ChangesCounts, IsCountedAt, IsCountedIf, IsMarkedIn, KeepsOthers}
 use Rattle.schedule.specs.inner.Changes.{ChangesMarks}
-use Rattle.schedule.specs.inner.Changes.{TakesFrom, WereReady, count_by, counted_at, marked_in}
-use Rattle.schedule.specs.inner.Owned.{IsMarkedIf}
+use Rattle.schedule.specs.inner.Changes.{WereReady, count_by, counted_at, marked_in}
 use Rattle.schedule.specs.declared.choosing.Choice.TheVariants.{Offer}
 use Rattle.schedule.proofs.Marking.{by-held, by-marks, held-here, marks_at}
 use Rattle.schedule.proofs.Touched.{asked, held-by-line}
@@ -476,58 +475,6 @@ all-counted tables before now cb cn but at old mid once new were marks right fir
 
     there : (lane : ℕ) → lane < length new.trees → lane < length mid.trees
     there lane low = subst (λ ts. lane < length ts) (ap (λ (l : Laned). l.trees) second.same ∙ ap (λ (l : Laned). l.trees) first.same) low
-
--- ---- what was right before an offer was taken
-
--- where none was
-pub were-same : (tables : Tables) (before now : State) (cb : List Core) (l : Laned) → before.broken ≡ false → AreReady tables before cb l →
-    WereReady tables before cb now None l
-were-same tables before now cb l sb ready = record {
-  marked = λ at low. inr (ready.marked sb at low);
-  still = λ at low ne. ready.marked sb at low;
-  counted = λ at low ne. ready.counted sb at low;
-}
-
--- where one was, of a lane that was then marked, or offers the same
-pub were-taken : (tables : Tables) (before now : State) (cb : List Core) (anew : Bool) (lane offer : ℕ) (old new : Laned) → before.broken ≡ false →
-    AreReady tables before cb old → TakesFrom lane offer old new → IsMarkedIf tables now anew (listed_at old lane) (listed_at new lane) →
-    WereReady tables before cb now (if anew then Some lane else None) new
-were-taken tables before now cb anew lane offer old new sb ready t marks = by anew marks
-  where
-    low-old : (at : ℕ) → at < length new.trees → at < length old.trees
-    low-old at low = subst (λ n. at < n) t.others.count low
-
-    was : (at : ℕ) → at < length new.trees → listed_at new at ≡ listed_at old at → IsMarked tables before (listed_at new at)
-    was at low same = subst (IsMarked tables before) (sym same) (ready.marked sb at (low-old at low))
-
-    count : (at : ℕ) → at < length new.trees → listed_at new at ≡ listed_at old at →
-        get_or new.ready at 0 ≡ puttable tables before cb (offers_at new at)
-    count at low same =
-        ap (λ ns. get_or ns at 0) t.others.ready ∙ ready.counted sb at (low-old at low) ∙ ap (λ (l : Listed). puttable tables before cb l.asks) (sym same)
-
-    other : (at : ℕ) → Some lane ≢ Some at → at ≢ lane
-    other at ne e = ne (ap Some (sym e))
-
-    by : (anew : Bool) → IsMarkedIf tables now anew (listed_at old lane) (listed_at new lane) →
-        WereReady tables before cb now (if anew then Some lane else None) new
-    by true marked = record {
-      marked = λ at low. elim (cases_eq at lane) [
-        | inl e ↦ inl (subst (λ n. IsMarked tables now (listed_at new n)) (sym e) marked)
-        | inr ne ↦ inr (was at low (t.others.same at ne))
-      ];
-      still = λ at low ne. was at low (t.others.same at (other at ne));
-      counted = λ at low ne. count at low (t.others.same at (other at ne));
-    }
-    by false left =
-        let same : (at : ℕ) → listed_at new at ≡ listed_at old at = (λ at. elim (cases_eq at lane) [
-          | inl e ↦ subst (λ n. listed_at new n ≡ listed_at old n) (sym e) left
-          | inr ne ↦ t.others.same at ne
-        ]) in
-        record {
-          marked = λ at low. inr (was at low (same at));
-          still = λ at low ne. was at low (same at);
-          counted = λ at low ne. count at low (same at);
-        }
 
 -- what is asked of a sound world alone
 pub where-sound : (tables : Tables) (state : State) (cores : List Core) (l : Laned) → (state.broken ≡ false → AreReady tables state cores l) →
