@@ -5,7 +5,7 @@ use base::{NoMemory, Step};
 use cores::Cores;
 use machine::Made;
 use scenario::Scenario;
-use schedule::Lanes;
+use schedule::{Holding, Lanes};
 use std::alloc::{Allocator, Global};
 use std::marker::Model;
 use world::World;
@@ -17,6 +17,8 @@ pub struct Moment<'s, A: Allocator, B: Allocator> {
     world: World,
     cores: Cores,
     lanes: Lanes<'s, A, B>,
+    // What the world's lines would hold.
+    holding: Holding,
     // Whether it isn't spoilt.
     usable: bool,
 }
@@ -30,11 +32,11 @@ impl<'s, A: Allocator, B: Allocator> Model for Moment<'s, A, B> {
 
     ghost coded = { Prim.hlevel (codes, tree_code) };
 
-    ghost use Rattle.moment.specs.inner.Holding.{HoldsWhereUsable, seen};
+    ghost use Rattle.moment.specs.inner.Holding.{IsSound, seen};
 
     ghost view = { seen };
 
-    ghost invariant = { HoldsWhereUsable };
+    ghost invariant = { IsSound };
 }
 
 impl<'s, A: Allocator, B: Allocator> Drop for Moment<'s, A, B> {
@@ -44,6 +46,7 @@ impl<'s, A: Allocator, B: Allocator> Drop for Moment<'s, A, B> {
             world: _,
             cores: _,
             lanes: _,
+            holding: _,
             usable: _,
         } = self;
     }
@@ -69,10 +72,12 @@ impl<'s, A: Allocator, B: Allocator + Clone> Moment<'s, A, B> {
         let caches = world.shape().caches();
         let cores = Cores::open(alloc, caches)?;
         let lanes = Lanes::open(alloc, scenario, caches, &world, &cores)?;
+        let holding = Holding::of(&world);
         Ok(Moment {
             world,
             cores,
             lanes,
+            holding,
             usable: true,
         })
     }
@@ -110,9 +115,10 @@ impl<'s, A: Allocator, B: Allocator + Clone> Moment<'s, A, B> {
             self.usable = false;
             return Err(NoMemory);
         };
-        note(&mut self.cores, step, made.outcome);
-        let (world, cores) = (&self.world, &self.cores);
-        let Ok(()) = self.lanes.follow(alloc, pick, &made, world, cores) else {
+        let turned = note(&mut self.cores, step, made.outcome);
+        let (holding, world, cores) = (&self.holding, &self.world, &self.cores);
+        let lanes = &mut self.lanes;
+        let Ok(()) = lanes.follow(alloc, pick, &made, turned, holding, world, cores) else {
             self.usable = false;
             return Err(NoMemory);
         };

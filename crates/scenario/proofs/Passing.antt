@@ -99,19 +99,23 @@ turn-low : {A B : Type 0} (p : Part A B) (n : ℕ) (t : Bor (Scenario A)) (i : �
     → i < length (offers (part_left p)) → i < length (offers (tree.Times n (plain t.now)))
 turn-low p n t i at over low = subst (λ q. i < length (offers (behind q))) at (low-behind p i (turn-none p n t at over) low)
 
+-- in turns of a choice the tree is one
+pub turn-choice : {A B : Type 0} (p : Part A B) (n : ℕ) (t : Bor (Scenario A)) → place_of p ≡ place.InTimes n t → chooses p ≡ true
+    → is_choice (plain t.now) ≡ true
+turn-choice p n t at choice = ap chooses_at (sym at) ∙ sym (chooses-place p) ∙ choice
+  where
+    chooses-place : {A B : Type 0} (p : Part A B) → chooses p ≡ chooses_at (place_of p)
+    chooses-place (Fresh at) = refl
+    chooses-place (Begun' at shape row) = refl
+
 pub passes-turn : {A B : Type 0} (p : Part A B) (n : ℕ) (t : Bor (Scenario A)) (i : ℕ) (new : Progress) → place_of p ≡ place.InTimes n t
     → first_part (parts_of p) ≡ Nothing → chooses p ≡ true → i < length (offers (part_left p))
     → new ≡ progress_at (place.InTimes (n - 1) t) (parts_of p) → MovesTo (part_left p) i (wants (progress p)) new
 passes-turn p n t i new at over choice low is =
     let now : new ≡ InTimes Nothing (n - 1) (plain t.now) = is ∙ ap (λ q. InTimes q (n - 1) (plain t.now)) over in
-    let there : is_choice (plain t.now) ≡ true = ap chooses_at (sym at) ∙ sym (chooses-place p) ∙ choice in
-    let leads = moves-choice n (plain t.now) i there (turn-low p n t i at over low) in
+    let leads = moves-choice n (plain t.now) i (turn-choice p n t at choice) (turn-low p n t i at over low) in
     passes-behind p i new (turn-none p n t at over) low
     (subst (λ q. MovesTo (behind q) i (wants_behind q) new) (sym at) (rw now leads))
-  where
-    chooses-place : {A B : Type 0} (p : Part A B) → chooses p ≡ chooses_at (place_of p)
-    chooses-place (Fresh at) = refl
-    chooses-place (Begun' at shape row) = refl
 
 -- an ask of the row that a part is in, or of the row that is its whole tree
 pub passes-row : {A B : Type 0} (p : Part A B) (ts : Bor (List (Scenario A))) (i : ℕ) (new : Progress) → place_of p ≡ place.InSeq ts

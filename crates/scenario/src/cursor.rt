@@ -3,7 +3,9 @@
 ghost use Rattle.std.specs.Prelude.{◌≡◌, true};
 ghost use Rattle.scenario.specs.inner.Turns.{chooses};
 
-use crate::part::{Part, Place, is_in_turns, part_next, part_repeats, pass_at_once, take_from};
+use crate::part::{
+    Part, Place, chooses, part_next, part_repeats, pass_at_once, pass_turn, take_from,
+};
 use crate::telling::Next;
 use crate::tree::Scenario;
 use base::NoMemory;
@@ -88,7 +90,7 @@ impl<'t, A: Allocator, B: Allocator + Clone> Cursor<'t, A, B> {
         ensures fits { (tree : Tree) → FitsIn self.old tree → FitsIn self.new tree }
         ensures used { most_used (standing self.new) ≤ most_used (standing self.old) }
     {
-        if pass_at_once(&mut self.root, self.in_turns, at) {
+        if pass_at_once(&mut self.root, at) {
             return Ok(());
         }
         self.in_turns = false;
@@ -109,10 +111,12 @@ impl<'t, A: Allocator, B: Allocator + Clone> Cursor<'t, A, B> {
         ensures fits { (tree : Tree) → FitsIn self.old tree → FitsIn self.new tree }
         ensures used { most_used (standing self.new) ≤ most_used (standing self.old) }
     {
-        let repeats = part_repeats(&self.root, self.in_turns);
-        if repeats && is_in_turns(&self.root) {
+        let in_turns = self.in_turns || chooses(&self.root);
+        if in_turns && pass_turn(&mut self.root) {
             self.in_turns = true;
+            return Ok(true);
         }
+        let repeats = part_repeats(&self.root);
         self.pass(alloc, at)?;
         Ok(repeats)
     }

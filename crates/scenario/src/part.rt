@@ -9,8 +9,8 @@ mod telling;
 
 use crate::tree::Scenario;
 pub(crate) use looking::part_may_end;
-pub(crate) use passing::pass_at_once;
-pub(crate) use repeating::{is_in_turns, part_repeats};
+pub(crate) use passing::{pass_at_once, pass_turn};
+pub(crate) use repeating::{chooses, part_repeats};
 use std::alloc::{AllocError, Allocator};
 pub(crate) use taking::take_from;
 pub(crate) use telling::part_next;

@@ -19,9 +19,9 @@ use Rattle.cores.specs.Cores.{Core, is_free}
 use Rattle.scenario.specs.Tree.{Seq, Nil}
 use Rattle.scenario.specs.Taking as taking
 use Rattle.schedule.specs.Choices.{can_be_put, offers_from}
-use Rattle.schedule.specs.Lanes.{AreReady, IsKept, IsLevel, IsListed, Laned, lanes_of, listed_at, offers_at, puttable}
+use Rattle.schedule.specs.Lanes.{AreAsFree, AreReady, IsKept, IsLevel, IsListed, Laned, lanes_of, listed_at, offers_at, puttable}
 use Rattle.schedule.specs.Listed.{IsMarked, Listed, is_unheld, nothing_listed}
-use Rattle.schedule.specs.inner.Marks.{AreHeldAt, all_marked, is_at, mark_by, marked_by, marks_by}
+use Rattle.schedule.specs.inner.Marks.{AreHeldAt, all_marked, is_at, mark_by, marked_by, marks_by, offers_by}
 use Rattle.schedule.specs.inner.Changes.{Agree, AgreeBut, AreCountedAt, AreMarked, ChangesCounts, IsCountedAt, IsCountedIf, IsMarkedIn, KeepsOthers}
 use Rattle.schedule.specs.inner.Changes.{ChangesMarks}
 use Rattle.schedule.specs.inner.Changes.{WereReady, count_by, counted_at, marked_in}
@@ -403,9 +403,9 @@ counted-at-all cores at old new counts each core lane is low there =
     ]
 
 -- a lane that was counted need not be counted again
-pub counted-already : (cores : List Core) (lane other : ℕ) (taken : Option ℕ) (l : Laned) → taken ≡ Some lane →
-    get_or l.ready lane 0 ≡ count_by cores (listed_at l lane) → IsCountedIf cores taken l l other
-counted-already cores lane other taken l is counted = elim (cases_eq other lane) [
+pub counted-already : (cores : List Core) (lane other : ℕ) (anew : Option ℕ) (l : Laned) → anew ≡ Some lane →
+    get_or l.ready lane 0 ≡ count_by cores (listed_at l lane) → IsCountedIf cores anew l l other
+counted-already cores lane other anew l is counted = elim (cases_eq other lane) [
   | inl q ↦ inl (subst (λ n. get_or l.ready n 0 ≡ count_by cores (listed_at l n)) (sym q) counted)
   | inr ne ↦ inr (refl, λ some. ne (same-number other lane (sym (sym is ∙ some))))
 ]
@@ -413,14 +413,43 @@ counted-already cores lane other taken l is counted = elim (cases_eq other lane)
     same-number : (a b : ℕ) → Some a ≡ Some b → a ≡ b
     same-number a b e = cc e
 
--- the counts are right behind it all: of the lanes that have an ask of the core and of the one that an offer was taken from anew, and of the others
--- as they were
-pub all-counted : (tables : Tables) (before now : State) (cb cn : List Core) (but : Option ℕ) (at : Option Place) (block : ℕ) (old mid once new : Laned) →
-    IsKept old → before.broken ≡ false → WereReady tables before cb now but old → ChangesMarks old mid →
+-- what can be put of a lane that isn't counted again is what could be
+abbrev pub Stays : Tables → State → State → List Core → List Core → Option ℕ → Option Place → Laned → Type 0
+Stays tables before now cb cn but at l = (lane : ℕ) → lane < length l.trees → but ≢ Some lane →
+    ((core : CacheId) → at ≡ Some (Cache core) → ¬ Contains (lanes_of l.reached core.0) lane) →
+    puttable tables before cb (offers_at l lane) ≡ puttable tables now cn (offers_at l lane)
+
+-- so it is where the lanes were counted that have an ask of the core
+pub stays-agreed : (tables : Tables) (before now : State) (cb cn : List Core) (but : Option ℕ) (at : Option Place) (block : ℕ) (l : Laned) → IsKept l →
+    before.broken ≡ false → now.broken ≡ false → AgreeBut at block before now cb cn → Stays tables before now cb cn but at l
+stays-agreed tables before now cb cn but at block l kept sb sn agree lane low ne apart =
+    same-count tables before now cb cn 0 (offers_at l lane) sb sn
+    (λ i ask is. agree.cores ask.core (λ c. apart ask.core c ((kept.listed lane low).reached i ask is)))
+
+free-alike : (cb cn : List Core) (i : ℕ) (asks : List CoreAsk) (marks : List Bool) → AreAsFree cb cn → offers_by cb i asks marks ≡ offers_by cn i asks marks
+free-alike cb cn i [] marks same = refl
+free-alike cb cn i (ask ∷ asks) [] same = refl
+free-alike cb cn i (ask ∷ asks) (m ∷ marks) same =
+    ap (λ b. (if b && m then Offer i ask ∷ [] else []) ++ offers_by cb (i + 1) asks marks) (sym (same ask.core.0))
+    ∙ ap (λ later. (if is_free cn ask.core.0 && m then Offer i ask ∷ [] else []) ++ later) (free-alike cb cn (i + 1) asks marks same)
+
+-- and where marks are as they were, and cores free where they were
+pub stays-quiet : (tables : Tables) (before now : State) (cb cn : List Core) (but : Option ℕ) (at : Option Place) (l : Laned) →
+    WereReady tables before cb now but l → AreMarked tables now l → AreAsFree cb cn → Stays tables before now cb cn but at l
+stays-quiet tables before now cb cn but at l were right free lane low ne apart =
+    let asks = offers_at l lane in
+    let marks = (listed_at l lane).unheld in
+    ap length (sym (by-marks tables before cb 0 asks marks (were.still lane low ne)) ∙ free-alike cb cn 0 asks marks free
+    ∙ by-marks tables now cn 0 asks marks (right lane low))
+
+-- the counts are right behind it all: of the lanes that have an ask of the core and of the one that was listed anew, and of the others as they were
+pub all-counted : (tables : Tables) (before now : State) (cb cn : List Core) (but : Option ℕ) (at : Option Place) (old mid once new : Laned) →
+    WereReady tables before cb now but old → ChangesMarks old mid →
     (now.broken ≡ false → AreMarked tables now mid) → ChangesCounts mid once →
     ((lane : ℕ) → lane < length mid.trees → IsCountedAt cn at mid once lane) → ChangesCounts once new →
-    ((lane : ℕ) → lane < length once.trees → IsCountedIf cn but once new lane) → AgreeBut at block before now cb cn → AreReady tables now cn new
-all-counted tables before now cb cn but at block old mid once new kept sb were marks right first each second last agree = record {
+    ((lane : ℕ) → lane < length once.trees → IsCountedIf cn but once new lane) →
+    (now.broken ≡ false → Stays tables before now cb cn but at old) → AreReady tables now cn new
+all-counted tables before now cb cn but at old mid once new were marks right first each second last stays = record {
   marked = λ sn lane low. subst (λ ls. IsMarked tables now (get_or ls lane nothing_listed)) (sym listings) (right sn lane (there lane low));
   counted = λ sn lane low.
       let here = there lane low in
@@ -435,8 +464,7 @@ all-counted tables before now cb cn but at block old mid once new kept sb were m
           | inr f ↦
               let low-old : lane < length old.trees = subst (λ ts. lane < length ts) marks.trees here in
               h.0 ∙ f.0 ∙ ap (λ ns. get_or ns lane 0) marks.ready ∙ were.counted lane low-old h.1
-              ∙ same-count tables before now cb cn 0 (offers_at old lane) sb sn (λ i ask is. agree.cores ask.core (λ c.
-              f.1 ask.core c (subst (λ rs. Contains (lanes_of rs ask.core.0) lane) (sym marks.reached) ((kept.listed lane low-old).reached i ask is))))
+              ∙ stays sn lane low-old h.1 (λ core is has. f.1 core is (subst (λ rs. Contains (lanes_of rs core.0) lane) (sym marks.reached) has))
               ∙ ap (puttable tables now cn) (sym same)
         ]
       ];

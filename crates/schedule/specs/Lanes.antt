@@ -100,6 +100,10 @@ pub record AreReady (tables : Tables) (state : State) (cores : List Core) (l : L
   pub marked : state.broken ≡ false → (lane : ℕ) → lane < length l.trees → IsMarked tables state (listed_at l lane)
   pub counted : state.broken ≡ false → (lane : ℕ) → lane < length l.trees → slice_index l.ready lane ≡ puttable tables state cores (offers_at l lane)
 
+-- the cores that are free are those that were
+abbrev pub AreAsFree : List Core → List Core → Type 0
+AreAsFree before behind = (core : ℕ) → is_free behind core ≡ is_free before core
+
 -- a step has led from a moment to another, and it is told what it came to; but for the core of the cache whose cell acted, if one's did, cores
 -- are free where they were
 pub record Follows (tables : Tables) (step : Step) (made : Made) (before behind : State) (cores_before cores_behind : List Core) : Type 0 where

@@ -1,4 +1,5 @@
 pub mod Choices
+pub mod Holding
 pub mod Listed
 pub mod Lanes
 pub mod Fitting

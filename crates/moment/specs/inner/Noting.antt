@@ -1,5 +1,6 @@
 -- When a step can be noted in the cores.
-use Rattle.std.specs.Prelude.{◌≡◌, true, false, All, List}
+use Rattle.std.specs.Prelude.{◌≡◌, true, false, All, List, [], ◌∷◌, Option, Some, None}
+use Rattle.base.specs.declared.ids.CacheId.{CacheId}
 use Rattle.base.specs.declared.step.CoreAsk.{CoreAsk}
 use Rattle.base.specs.declared.step.Step.{Step}
 use Rattle.base.specs.declared.step.Outcome.{Outcome}
@@ -19,3 +20,8 @@ AreBusy done cores = All (λ c. is_free cores c.cache.0 ≡ false) done
 pub record CanBeNoted (step : Step) (outcome : Outcome) (cores : List Core) : Type 0 where
   pub asks : AreFree (put_by step outcome) cores
   pub completes : AreBusy (completed_by step outcome) (with_issued (put_by step outcome) cores)
+
+-- the core that there is, if there is one
+abbrev pub cores_in : Option CacheId → List CacheId
+cores_in None = []
+cores_in (Some core) = core ∷ []

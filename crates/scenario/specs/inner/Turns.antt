@@ -39,16 +39,3 @@ chooses_at (place.InBoth n) = false
 abbrev pub chooses : {A B : Type 0} → Part A B → Bool
 chooses (Fresh at) = chooses_at at
 chooses (Begun' at shape row) = chooses_at at
-
--- a place is in turns
-abbrev pub is_turns : {A : Type 0} → Place A → Bool
-is_turns place.Nothing = false
-is_turns (place.Whole t) = false
-is_turns (place.InSeq ts) = false
-is_turns (place.InTimes n t) = true
-is_turns (place.InBoth n) = false
-
--- and a part is there
-abbrev pub in_turns : {A B : Type 0} → Part A B → Bool
-in_turns (Fresh at) = is_turns at
-in_turns (Begun' at shape row) = is_turns at

@@ -1,7 +1,8 @@
 //! Passing an offer that a place alone tells of, without a look for the tree that has it and without new parts.
 
-ghost use Rattle.std.specs.Prelude.{◌≡◌, ◌<◌, false, length, true};
+ghost use Rattle.std.specs.Prelude.{◌≡◌, ◌<◌, ℕ, false, length, true};
 ghost use Rattle.scenario.specs.Cursors.{Nothing, first_part, progress};
+ghost use Rattle.scenario.specs.Repeats.{Repeats};
 ghost use Rattle.scenario.specs.Stock.{room_in_turn, stock, wants};
 ghost use Rattle.scenario.specs.inner.Parts.{MovesTo, part_left, parts_of, place_of};
 ghost use Rattle.scenario.specs.Taking.{offers};
@@ -14,32 +15,41 @@ use super::{Part, Place};
 use crate::tree::Scenario;
 use std::alloc::Allocator;
 
-/// Passes an offer where that is done by a look at the place: one of a choice of asks that is made turn by turn, where it is known
-/// to be one, or an ask that comes next in a row. Else it answers `false`, and nothing has changed.
+/// Passes an offer of a choice of asks that is made turn by turn, whichever it is, where more turns are left than one; the same is
+/// offered again then. Else it answers `false`, and nothing has changed.
 #[tactic(auto, using(crate::proofs::Cursors::parts))]
-pub(crate) fn pass_at_once<A: Allocator, B: Allocator>(
-    part: &mut Part<'_, A, B>,
-    known: bool,
-    at: usize,
-) -> bool
-    requires offer { at < length (offers (part_left part.old)) }
-    requires known { known ≡ true → chooses part.old ≡ true }
+pub(crate) fn pass_turn<A: Allocator, B: Allocator>(part: &mut Part<'_, A, B>) -> bool
+    requires { chooses part.old ≡ true }
+    ensures repeats { result ≡ true → Repeats (part_left part.old) }
+    ensures passed { result ≡ true → (at : ℕ) → at < length (offers (part_left part.old)) →
+        MovesTo (part_left part.old) at (wants (progress part.old)) (progress part.new) }
+    ensures same { result ≡ false → progress part.new ≡ progress part.old }
+    ensures chooses { chooses part.new ≡ true }
+    ensures held { stock part.new ≡ stock part.old }
+{
+    let Place::InTimes(turns, child) = part.place() else {
+        return false;
+    };
+    if turns <= 1 || !first_is_over(part) {
+        return false;
+    }
+    part.move_to(Place::InTimes(turns - 1, child));
+    true
+}
+
+/// Passes an offer where it is an ask that comes next in a row. Else it answers `false`, and nothing has changed.
+#[tactic(auto, using(crate::proofs::Cursors::parts))]
+pub(crate) fn pass_at_once<A: Allocator, B: Allocator>(part: &mut Part<'_, A, B>, at: usize) -> bool
+    requires { at < length (offers (part_left part.old)) }
     ensures passed { result ≡ true → MovesTo (part_left part.old) at (wants (progress part.old)) (progress part.new) }
     ensures same { result ≡ false → progress part.new ≡ progress part.old }
     ensures chooses { chooses part.new ≡ chooses part.old }
     ensures held { stock part.new ≡ stock part.old }
 {
     match part.place() {
-        Place::InTimes(turns, child) => {
-            if !known || !first_is_over(part) {
-                return false;
-            }
-            part.move_to(Place::InTimes(turns - 1, child));
-            true
-        }
         Place::InSeq(others) => first_is_over(part) && pass_ask(part, others, at),
         Place::Whole(Scenario::Seq(children)) => pass_ask(part, children.as_slice(), at),
-        Place::Nothing | Place::Whole(_) | Place::InBoth(_) => false,
+        Place::Nothing | Place::Whole(_) | Place::InTimes(..) | Place::InBoth(_) => false,
     }
 }
 

@@ -5,33 +5,32 @@ ghost use Rattle.scenario.specs.Cursors.{Nothing, first_part, progress};
 ghost use Rattle.scenario.specs.inner.Parts.{part_left, parts_of};
 ghost use Rattle.scenario.specs.Repeats.{Repeats};
 ghost use Rattle.scenario.specs.Tree.{plain, plain_all};
-ghost use Rattle.scenario.specs.inner.Turns.{all_asks, chooses, in_turns, is_ask, is_choice};
+ghost use Rattle.scenario.specs.inner.Turns.{all_asks, chooses, is_ask, is_choice};
 
 use super::{Part, Place};
 use crate::tree::Scenario;
 use std::alloc::Allocator;
 
-/// Whether the same is offered again, whichever offer is taken. `false` promises nothing. It may be known already that the part
-/// is in turns of a choice of asks.
+/// Whether the same is offered again, whichever offer is taken, as the part is all of a tree that says so. `false` promises nothing.
 #[tactic(auto, using(crate::proofs::Cursors::parts))]
-pub(crate) fn part_repeats<A: Allocator, B: Allocator>(part: &Part<'_, A, B>, known: bool) -> bool
-    requires { known ≡ true → chooses part.now ≡ true }
-    ensures repeats { result ≡ true → Repeats (part_left part.now) }
-    ensures chooses { result ≡ true → in_turns part.now ≡ true → chooses part.now ≡ true }
+pub(crate) fn part_repeats<A: Allocator, B: Allocator>(part: &Part<'_, A, B>) -> bool
+    ensures { result ≡ true → Repeats (part_left part.now) }
 {
     match part.place() {
         Place::Whole(tree) => tree_repeats(tree),
-        Place::InTimes(turns, child) => repeats_turns(turns, child, known) && first_is_over(part),
-        Place::Nothing | Place::InSeq(_) | Place::InBoth(_) => false,
+        Place::Nothing | Place::InSeq(_) | Place::InTimes(..) | Place::InBoth(_) => false,
     }
 }
 
-/// Whether a part is in turns.
+/// Whether a part is in turns of a choice of asks.
 #[tactic(auto, using(crate::proofs::Cursors::parts))]
-pub(crate) fn is_in_turns<A: Allocator, B: Allocator>(part: &Part<'_, A, B>) -> bool
-    ensures { result ≡ in_turns part.now }
+pub(crate) fn chooses<A: Allocator, B: Allocator>(part: &Part<'_, A, B>) -> bool
+    ensures { result ≡ chooses part.now }
 {
-    matches!(part.place(), Place::InTimes(..))
+    match part.place() {
+        Place::InTimes(_, child) => is_choice(child),
+        Place::Nothing | Place::Whole(_) | Place::InSeq(_) | Place::InBoth(_) => false,
+    }
 }
 
 /// Whether nothing is left of the first part.
@@ -60,18 +59,17 @@ fn tree_repeats<A: Allocator>(tree: &Scenario<A>) -> bool
     ensures { result ≡ true → Repeats (plain tree.now) }
 {
     match tree {
-        Scenario::Times(turns, child) => repeats_turns(*turns, child, false),
+        Scenario::Times(turns, child) => repeats_turns(*turns, child),
         _ => false,
     }
 }
 
-/// Whether so many turns of a tree offer the same again, as it is a choice of asks. That may be known already.
-fn repeats_turns<A: Allocator>(turns: u32, child: &Scenario<A>, known: bool) -> bool
-    requires { known ≡ true → is_choice (plain child.now) ≡ true }
+/// Whether so many turns of a tree offer the same again, as it is a choice of asks.
+fn repeats_turns<A: Allocator>(turns: u32, child: &Scenario<A>) -> bool
     ensures turns { result ≡ true → 1 < turns }
     ensures choice { result ≡ true → is_choice (plain child.now) ≡ true }
 {
-    turns > 1 && (known || is_choice(child))
+    turns > 1 && is_choice(child)
 }
 
 /// Whether a tree is one ask, or a choice of asks.

@@ -83,17 +83,18 @@ AreCountedAt cores at l = (core : CacheId) (lane : ℕ) → at ≡ Some (Cache c
 
 -- the count of a lane is that by its marks; or it is as it was, and this isn't the lane
 abbrev pub IsCountedIf : List Core → Option ℕ → Laned → Laned → ℕ → Type 0
-IsCountedIf cores taken old new lane =
+IsCountedIf cores anew old new lane =
     (slice_index new.ready lane ≡ count_by cores (listed_at old lane))
-    ⊎ ((slice_index new.ready lane ≡ slice_index old.ready lane) × (taken ≢ Some lane))
+    ⊎ ((slice_index new.ready lane ≡ slice_index old.ready lane) × (anew ≢ Some lane))
 
 -- the marks of each lane are right
 abbrev pub AreMarked : Tables → State → Laned → Type 0
 AreMarked tables state l = (lane : ℕ) → lane < length l.trees → IsMarked tables state (listed_at l lane)
 
--- the marks of each lane are right, or were right before; and but for one lane at most the counts were right before
+-- the marks of each lane are right, or were right before; and but for one lane at most these and the counts were right before
 pub record WereReady (tables : Tables) (before : State) (cores_before : List Core) (now : State) (but : Option ℕ) (l : Laned) : Type 0 where
   pub marked : (lane : ℕ) → lane < length l.trees → IsMarked tables now (listed_at l lane) ⊎ IsMarked tables before (listed_at l lane)
+  pub still : (lane : ℕ) → lane < length l.trees → but ≢ Some lane → IsMarked tables before (listed_at l lane)
   pub counted : (lane : ℕ) → lane < length l.trees → but ≢ Some lane → slice_index l.ready lane ≡ puttable tables before cores_before (offers_at l lane)
 
 -- two moments agree on a core: on whether it is free, and on the lines of its cache

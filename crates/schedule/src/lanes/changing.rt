@@ -1,14 +1,16 @@
 //! Keeping lanes up to date.
 
-ghost use Rattle.std.specs.Prelude.{◌≡◌, ◌≢◌, ◌≤◌, ◌<◌, ◌-◌, ℕ, Some, OnOk, IfSome, IfNone, true, length, map, min, slice_get};
+ghost use Rattle.std.specs.Prelude.{◌≡◌, ◌≢◌, ◌≤◌, ◌<◌, ◌-◌, ◌⊎◌, ℕ, None, Some, OnOk, IfSome, IfNone, false, true, if◌then◌else◌, length, map, min, slice_get};
 ghost use Rattle.std.specs.List.{Contains};
 ghost use Rattle.base.specs.declared.ids.CacheId.{CacheId};
 ghost use Rattle.base.specs.declared.ids.Place.TheVariants.{Cache};
 ghost use Rattle.base.specs.declared.step.CoreAsk.{CoreAsk};
+ghost use Rattle.machine.specs.Made.{place_of};
 ghost use Rattle.schedule.specs.Lanes.{lanes_of};
 ghost use Rattle.schedule.specs.inner.Changes.{IsCountedIn};
 
 use super::{Lane, Lanes};
+use crate::holding::Holding;
 use crate::picking::Pick;
 use base::{CacheId, CoreAsk, NoMemory, Place};
 use cores::Cores;
@@ -16,15 +18,6 @@ use machine::Made;
 use rows::Sums;
 use std::alloc::Allocator;
 use world::World;
-
-/// What taking an offer did, if one was taken.
-#[derive(Clone, Copy)]
-struct Taken {
-    /// The lane that had it.
-    lane: Option<usize>,
-    /// That lane, where it was marked anew.
-    marked: Option<usize>,
-}
 
 impl<'s, A: Allocator, B: Allocator + Clone> Lanes<'s, A, B> {
     ghost use Rattle.std.specs.Prelude.{◌≡◌, ◌<◌, ◌+◌, ℕ, List, OnOk, IfOk, IfSome, false, length, take};
@@ -35,7 +28,8 @@ impl<'s, A: Allocator, B: Allocator + Clone> Lanes<'s, A, B> {
     ghost use Rattle.scenario.specs.Tree.{Tree};
     ghost use Rattle.schedule.specs.Choices.{chosen_step, rest_after};
     ghost use Rattle.schedule.specs.Fitting.{LanesFit};
-    ghost use Rattle.schedule.specs.Lanes.{AreReady, Follows, IsKept, IsLevel, IsListed, laned, lanes_of, listed_at, offers_at, whole};
+    ghost use Rattle.schedule.specs.Holding.{IsHolding};
+    ghost use Rattle.schedule.specs.Lanes.{AreAsFree, AreReady, Follows, IsKept, IsLevel, IsListed, laned, lanes_of, listed_at, offers_at, whole};
     ghost use Rattle.schedule.specs.Picks.{IsPicked, choice_of};
     ghost use Rattle.schedule.specs.inner.Changes.{AreCountedAt, ChangesCounts, IsCountedAt, IsCountedIf, IsCountedIn, KeepsOthers};
     ghost use Rattle.schedule.specs.inner.Changes.{TakesFrom, WereReady, counted_at};
@@ -43,7 +37,8 @@ impl<'s, A: Allocator, B: Allocator + Clone> Lanes<'s, A, B> {
     ghost use Rattle.schedule.specs.inner.Owned.{IsMarkedIf};
 
     /// Follows a pick that was made, by a step that came to this: an offer is taken, what is made anew for it is `alloc`'s, and the
-    /// lanes that this and the step changed are marked and counted again.
+    /// lanes that this and the step changed are marked and counted again. It is told whether a core may have turned: whether one
+    /// is free that wasn't, or the other way round.
     ///
     /// Where memory is refused, the lanes are of no more use.
     pub fn follow(
@@ -51,48 +46,53 @@ impl<'s, A: Allocator, B: Allocator + Clone> Lanes<'s, A, B> {
         alloc: B,
         pick: Pick,
         made: &Made,
+        turned: bool,
+        holding: &Holding,
         world: &World,
         cores: &Cores,
     ) -> Result<(), NoMemory>
         requires kept { IsKept (laned self.old) }
         requires picked { IsPicked pick (laned self.old) }
+        requires holding { IsHolding world.now.tables holding.now }
         ensures rest { OnOk result (Alike (whole (laned self.new)) (rest_after (choice_of (laned self.old) pick) (whole (laned self.old)))) }
         ensures kept { OnOk result (IsKept (laned self.new)) }
         ensures ready { OnOk result ((before : State) (cores_before : List Core) → AreReady world.now.tables before cores_before (laned self.old) →
             Follows world.now.tables (chosen_step (choice_of (laned self.old) pick)) made.now before world.now.state cores_before cores.now →
-            AreReady world.now.tables world.now.state cores.now (laned self.new)) }
+            (turned ≡ false → AreAsFree cores_before cores.now) → AreReady world.now.tables world.now.state cores.now (laned self.new)) }
         ensures fits { (tree : Tree) → LanesFit self.old tree → LanesFit self.new tree }
     {
-        let taken = self.take_picked(alloc, pick, world)?;
-        self.mark_again(taken.marked, made, pick.step().block(), world);
-        let at = made.place();
+        let anew = self.take_picked(alloc, pick, world)?;
+        let marked = self.mark_again(anew, made, pick.step().block(), holding);
+        let at = changed_at(turned, marked, made);
         self.count_at(at, cores);
-        self.count_taken(taken.lane, at, cores);
+        self.count_anew(anew, at, cores);
         Ok(())
     }
 
-    /// Takes the offer that was picked, where the pick is one.
-    fn take_picked(&mut self, alloc: B, pick: Pick, world: &World) -> Result<Taken, NoMemory>
+    /// Takes the offer that was picked, where the pick is one, and answers the lane that was listed and marked anew, if one was.
+    fn take_picked(
+        &mut self,
+        alloc: B,
+        pick: Pick,
+        world: &World,
+    ) -> Result<Option<usize>, NoMemory>
         requires kept { IsKept (laned self.old) }
         requires picked { IsPicked pick (laned self.old) }
         ensures rest { OnOk result (Alike (whole (laned self.new)) (rest_after (choice_of (laned self.old) pick) (whole (laned self.old)))) }
         ensures kept { OnOk result (IsKept (laned self.new)) }
-        ensures there { IfOk result (λ taken. IfSome taken.lane (λ lane. lane < length (laned self.new).trees)) }
-        ensures marked { IfOk result (λ taken. IfSome taken.marked (λ lane. IsMarked world.now.tables world.now.state (listed_at (laned self.new) lane))) }
-        ensures were { IfOk result (λ taken. (before : State) (cores_before : List Core) → before.broken ≡ false →
+        ensures there { IfOk result (λ anew. IfSome anew (λ lane. lane < length (laned self.new).trees)) }
+        ensures marked { IfOk result (λ anew. IfSome anew (λ lane. IsMarked world.now.tables world.now.state (listed_at (laned self.new) lane))) }
+        ensures were { IfOk result (λ anew. (before : State) (cores_before : List Core) → before.broken ≡ false →
             AreReady world.now.tables before cores_before (laned self.old) →
-            WereReady world.now.tables before cores_before world.now.state taken.lane (laned self.new)) }
+            WereReady world.now.tables before cores_before world.now.state anew (laned self.new)) }
         ensures fits { (tree : Tree) → LanesFit self.old tree → LanesFit self.new tree }
     {
         match pick {
             Pick::Offer { lane, place, .. } => {
                 let anew = self.take_at(alloc, lane, place, world)?;
-                Ok(taken_from(lane, anew))
+                Ok(lane_if(anew, lane))
             }
-            Pick::Deliver(_) => Ok(Taken {
-                lane: None,
-                marked: None,
-            }),
+            Pick::Deliver(_) => Ok(None),
         }
     }
 
@@ -109,18 +109,18 @@ impl<'s, A: Allocator, B: Allocator + Clone> Lanes<'s, A, B> {
         }
     }
 
-    /// Counts again what can be put of a lane, if there is one, but where it was counted with those of the core whose cache a step
-    /// went to.
-    fn count_taken(&mut self, taken: Option<usize>, at: Option<Place>, cores: &Cores)
+    /// Counts what can be put of a lane that was listed anew, if there is one, but where it was counted with those of the core whose
+    /// cache a step went to.
+    fn count_anew(&mut self, anew: Option<usize>, at: Option<Place>, cores: &Cores)
         requires kept { IsKept (laned self.old) }
-        requires there { IfSome taken (λ lane. lane < length (laned self.old).trees) }
+        requires there { IfSome anew (λ lane. lane < length (laned self.old).trees) }
         requires counted { AreCountedAt cores.now at (laned self.old) }
         ensures kept { IsKept (laned self.new) }
         ensures counts { ChangesCounts (laned self.old) (laned self.new) }
         ensures each { (lane : ℕ) → lane < length (laned self.old).trees →
-            IsCountedIf cores.now taken (laned self.old) (laned self.new) lane }
+            IsCountedIf cores.now anew (laned self.old) (laned self.new) lane }
     {
-        let Some(lane) = taken else {
+        let Some(lane) = anew else {
             return;
         };
         if self.is_reached(at, lane) {
@@ -248,21 +248,22 @@ fn cache_of(at: Option<Place>) -> Option<CacheId>
     }
 }
 
-/// An offer was taken from this lane, which was marked anew, or wasn't.
-fn taken_from(lane: usize, is_marked: bool) -> Taken
-    ensures lane { result.lane ≡ Some lane }
-    ensures marked { IfSome result.marked (λ marked. (is_marked ≡ true) × (marked ≡ lane)) }
+/// This lane, where it was marked anew.
+fn lane_if(is_marked: bool, lane: usize) -> Option<usize>
+    ensures { result ≡ (if is_marked then Some lane else None) }
 {
-    if is_marked {
-        return Taken {
-            lane: Some(lane),
-            marked: Some(lane),
-        };
+    if is_marked { Some(lane) } else { None }
+}
+
+/// The controller whose cell acted in a step, if one did, where a core may have turned or lanes were marked again. Else nothing that is
+/// counted has changed.
+fn changed_at(turned: bool, marked: bool, made: &Made) -> Option<Place>
+    ensures { (result ≡ place_of made.now) ⊎ ((result ≡ None) × (turned ≡ false) × (marked ≡ false)) }
+{
+    if turned || marked {
+        return made.place();
     }
-    Taken {
-        lane: Some(lane),
-        marked: None,
-    }
+    None
 }
 
 /// Counts anew what can be put of each of these lanes.

@@ -8,6 +8,7 @@ ghost use Rattle.schedule.specs.inner.Changes.{IsMarkedIn};
 
 use super::changing::row_of;
 use super::{Lane, Lanes};
+use crate::holding::Holding;
 use base::{BlockId, CacheId};
 use blocks::HeldAsks;
 use machine::{Actor, Made};
@@ -19,32 +20,34 @@ impl<'s, A: Allocator, B: Allocator + Clone> Lanes<'s, A, B> {
     ghost use Rattle.base.specs.Steps.{block_of};
     ghost use Rattle.base.specs.declared.step.Step.{Step};
     ghost use Rattle.cores.specs.Cores.{Core};
+    ghost use Rattle.both_tables.specs.Tables.{Tables};
     ghost use Rattle.machine.specs.Machine.{State};
+    ghost use Rattle.schedule.specs.Holding.{IsHolding};
     ghost use Rattle.schedule.specs.Lanes.{Follows, IsKept, laned, lanes_of, listed_at};
     ghost use Rattle.schedule.specs.Listed.{IsMarked};
     ghost use Rattle.schedule.specs.inner.Changes.{AreMarked, IsMarkedIn, ChangesMarks, WereReady, marked_in};
 
     /// Marks again what a step about a block changed, of which it is told what it came to, but for a lane that is marked already, if
-    /// there is one. Where no line holds other asks than before there is nothing to mark.
+    /// there is one, and answers whether it did. Where no line holds other asks than before there is nothing to mark.
     pub(super) fn mark_again(
         &mut self,
         done: Option<usize>,
         made: &Made,
         block: BlockId,
-        world: &World,
-    )
-        requires kept { IsKept (laned self.old) }
-        requires done { IfSome done (λ lane. IsMarked world.now.tables world.now.state (listed_at (laned self.old) lane)) }
+        holding: &Holding,
+    ) -> bool
+        requires { IsKept (laned self.old) }
         ensures kept { IsKept (laned self.new) }
         ensures same { ChangesMarks (laned self.old) (laned self.new) }
-        ensures marked { (step : Step) (before : State) (cores_before cores_now : List Core) (but : Option ℕ) → before.broken ≡ false →
-            world.now.state.broken ≡ false → block.0 ≡ block_of step →
-            Follows world.now.tables step made.now before world.now.state cores_before cores_now →
-            WereReady world.now.tables before cores_before world.now.state but (laned self.old) →
-            AreMarked world.now.tables world.now.state (laned self.new) }
+        ensures left { result ≡ false → laned self.new ≡ laned self.old }
+        ensures marked { (tables : Tables) (now : State) (step : Step) (before : State) (cores_before cores_now : List Core) (but : Option ℕ) →
+            IsHolding tables holding.now → IfSome done (λ lane. IsMarked tables now (listed_at (laned self.old) lane)) →
+            before.broken ≡ false → now.broken ≡ false → block.0 ≡ block_of step →
+            Follows tables step made.now before now cores_before cores_now → WereReady tables before cores_before now but (laned self.old) →
+            AreMarked tables now (laned self.new) }
     {
         let Some(acted) = made.acted else {
-            return;
+            return false;
         };
         let Actor::Line {
             cache,
@@ -52,13 +55,14 @@ impl<'s, A: Allocator, B: Allocator + Clone> Lanes<'s, A, B> {
             after,
         } = acted.by
         else {
-            return;
+            return false;
         };
-        let held = world.held_asks(after);
-        if held == world.held_asks(before) {
-            return;
+        let held = holding.at(after);
+        if held == holding.at(before) {
+            return false;
         }
         self.mark_core(done, cache, block, held);
+        true
     }
 
     /// Marks anew all that a lane offers, if it isn't marked already.
