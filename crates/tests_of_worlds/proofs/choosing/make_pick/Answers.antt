@@ -20,4 +20,4 @@ returns-clause-ready g c =
       told = subst (λ (s : Step). IsTold new.tables old.state s made new.state) (c.step.ensures lanes)
           (subst (λ (t : Tables). IsTold t old.state c.step.result made new.state) (sym steps.tables) steps.told);
       free = λ core apart. refl;
-    })
+    }) (λ unturned core. refl)
