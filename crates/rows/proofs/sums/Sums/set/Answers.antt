@@ -37,7 +37,7 @@ loop-node-init c =
 pub overflow_sub-index : goal.overflow_sub-index
 overflow_sub-index c =
     let over = read-over c.loop-node.self-inside.tree.items c.loop-node.self-inside.first c.loop-node.node c.index-before.result.now c.args.value
-    c.index.result.now c.loop-node.invariant.rising c.loop-node-test.true c.loop-node.invariant.inside
+    c.index.result.now c.loop-node.invariant.rising (omega (arith, c.loop-node-test.true)) c.loop-node.invariant.inside
     (let long = c.loop-node.invariant.long ∙ length-set c.self.inside.tree.items (c.self.inside.first + c.args.at) c.args.value in
     omega (arith, long, c.self.invariant.long, c.loop-node.invariant.first)) c.ranges.value.fits c.index.ensures in
     omega (arith, over.0, over.1.less)
@@ -45,7 +45,7 @@ overflow_sub-index c =
 pub overflow_add-index : goal.overflow_add-index
 overflow_add-index c =
     let over = read-over c.loop-node.self-inside.tree.items c.loop-node.self-inside.first c.loop-node.node c.index-before.result.now c.args.value
-    c.index.result.now c.loop-node.invariant.rising c.loop-node-test.true c.loop-node.invariant.inside
+    c.index.result.now c.loop-node.invariant.rising (omega (arith, c.loop-node-test.true)) c.loop-node.invariant.inside
     (let long = c.loop-node.invariant.long ∙ length-set c.self.inside.tree.items (c.self.inside.first + c.args.at) c.args.value in
     omega (arith, long, c.self.invariant.long, c.loop-node.invariant.first)) c.ranges.value.fits c.index.ensures in
     omega (arith, over.0, over.1.fits)
@@ -54,7 +54,7 @@ pub loop-node-preserved : goal.loop-node-preserved
 loop-node-preserved c =
     let tree = c.loop-node.self-inside.tree.items in
     let over = read-over tree c.loop-node.self-inside.first c.loop-node.node c.index-before.result.now c.args.value
-    c.index.result.now c.loop-node.invariant.rising c.loop-node-test.true c.loop-node.invariant.inside
+    c.index.result.now c.loop-node.invariant.rising (omega (arith, c.loop-node-test.true)) c.loop-node.invariant.inside
     (let long = c.loop-node.invariant.long ∙ length-set c.self.inside.tree.items (c.self.inside.first + c.args.at) c.args.value in
     omega (arith, long, c.self.invariant.long, c.loop-node.invariant.first)) c.ranges.value.fits c.index.ensures in
     rw over.0
@@ -82,7 +82,7 @@ set-whole c =
     let same = c.loop-node.invariant.first in
     let summed : IsSummed new c.loop-node.self-inside.first =
     rising-end new c.loop-node.self-inside.first c.loop-node.node c.index-before.result.now c.args.value c.loop-node.invariant.rising
-    c.loop-node-test.false in
+    (omega (arith, c.loop-node-test.false)) in
     written tree new first levels count c.args.at c.args.value c.self.invariant inside c.ranges.value.fits
     (c.loop-node.invariant.long ∙ length-set tree _ c.args.value)
     (λ i h. c.loop-node.invariant.leaves i (rw same h))
