@@ -415,7 +415,7 @@ room-on_links k from actions home room sender owner sharers =
     elim (cases_eq k from.0) [
       | inl e ↦ rw e sender
       | inr ne ↦ elim (cases_Bool (owns home.owner (cache k))) [
-        | inl o ↦ owner k o
+        | inl o ↦ owner k o ne
         | inr o ↦ elim (cases_Bool (shares home.sharers k)) [
           | inl s ↦ sharers k o ne s
           | inr s ↦ omega (arith, unnamed k from actions home o ne s)

@@ -4,3 +4,4 @@ pub mod HomeCounts
 pub mod HomeLinks
 pub mod Shared
 pub mod Fronts
+pub mod Reaching

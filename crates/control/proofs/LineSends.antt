@@ -1,4 +1,4 @@
-use Rattle.std.proofs.Common.{◌≡◌, ℕ, ◌+◌, ◌<◌, List, [], ◌∷◌, ◌++◌, length, get_or, drop, refl, zero, suc, arith, Option, Some, None}
+use Rattle.std.proofs.Common.{◌≡◌, ℕ, ◌+◌, ◌<◌, ◌≤◌, List, [], ◌∷◌, ◌++◌, length, get_or, drop, refl, zero, suc, arith, Option, Some, None}
 use Rattle.base.specs.declared.ids.CacheId.{CacheId}
 use Rattle.network.specs.Room.{requests_in, responses_in, forwards_in}
 use Rattle.network.proofs.Sending.{requests_in-append, responses_in-append, forwards_in-append}
@@ -87,3 +87,37 @@ forwards-by k cache value to (a ∷ actions) =
       forwards-of k cache value to a,
       forwards-by k cache value to actions,
     )
+
+-- each action sends one request or one response at most
+pub requests-few : (actions : List CacheAction) → requests_by actions ≤ length actions
+requests-few [] = omega arith
+requests-few (a ∷ actions) = omega (arith, one a, requests-few actions)
+  where
+    one : (a : CacheAction) → requests_of a ≤ 1
+    one action.GetS = omega arith
+    one action.GetM = omega arith
+    one action.PutS = omega arith
+    one action.PutM = omega arith
+    one action.InvAck = omega arith
+    one action.DataReq = omega arith
+    one action.DataDir = omega arith
+
+pub responses-few : (to : Option CacheId) (actions : List CacheAction) → responses_by to actions ≤ length actions
+responses-few to [] = omega arith
+responses-few to (a ∷ actions) = omega (arith, one to a, responses-few to actions)
+  where
+    one : (to : Option CacheId) (a : CacheAction) → responses_of to a ≤ 1
+    one None action.GetS = omega arith
+    one None action.GetM = omega arith
+    one None action.PutS = omega arith
+    one None action.PutM = omega arith
+    one None action.InvAck = omega arith
+    one None action.DataReq = omega arith
+    one None action.DataDir = omega arith
+    one (Some c) action.GetS = omega arith
+    one (Some c) action.GetM = omega arith
+    one (Some c) action.PutS = omega arith
+    one (Some c) action.PutM = omega arith
+    one (Some c) action.InvAck = omega arith
+    one (Some c) action.DataReq = omega arith
+    one (Some c) action.DataDir = omega arith

@@ -1,6 +1,6 @@
 ghost use Rattle.std.specs.Prelude.{◌≡◌, ◌≤◌, length};
 ghost use Rattle.control.specs.Events.{owns};
-ghost use Rattle.control.specs.inner.Counting.{invalidates, replies_by, is_sent_to, owner_left, sharer_left, forwards_to};
+ghost use Rattle.control.specs.inner.Counting.{invalidates, reaches_owner, reaches_sender, replies_by, is_sent_to, owner_left, sharer_left, forwards_to};
 
 use crate::home::Home;
 use base::CacheId;
@@ -23,16 +23,55 @@ pub(crate) fn replies(actions: &[DirectoryAction]) -> usize
     count
 }
 
-/// Whether the actions send to the sharers.
-pub(crate) fn invalidates(actions: &[DirectoryAction]) -> bool
-    ensures { result ≡ invalidates actions.now }
+/// What the actions of a home may send on a request, and to whom.
+#[derive(Clone, Copy)]
+pub(crate) struct Reach {
+    /// How many responses.
+    pub(crate) replies: usize,
+    /// Whether anything on the link to the sender.
+    pub(crate) sender: bool,
+    /// Whether anything on the link to an owner that isn't the sender.
+    pub(crate) owner: bool,
+    /// Whether anything on the link to a sharer that is neither.
+    pub(crate) sharers: bool,
+}
+
+/// What the actions may send, by one look at each.
+#[inline(always)]
+pub(crate) fn reach_of(actions: &[DirectoryAction]) -> Reach
+    requires { length actions.now ≤ 8 }
+    ensures replies { result.replies ≡ replies_by actions.now }
+    ensures sender { result.sender ≡ reaches_sender actions.now }
+    ensures owner { result.owner ≡ reaches_owner actions.now }
+    ensures sharers { result.sharers ≡ invalidates actions.now }
 {
+    let mut replies: usize = 0;
+    let mut sender = false;
+    let mut owner = false;
+    let mut sharers = false;
     for action in actions {
-        if let DirectoryAction::InvSharers = action {
-            return true;
+        match action {
+            DirectoryAction::DataReq | DirectoryAction::DataAcks | DirectoryAction::DataExcl => {
+                replies += 1;
+            }
+            DirectoryAction::FwdGetS | DirectoryAction::FwdGetM => {
+                sender = true;
+                owner = true;
+            }
+            DirectoryAction::InvSharers => {
+                owner = true;
+                sharers = true;
+            }
+            DirectoryAction::PutAck => sender = true,
+            _ => {}
         }
     }
-    false
+    Reach {
+        replies,
+        sender,
+        owner,
+        sharers,
+    }
 }
 
 pub(crate) fn is_owner(owner: Option<CacheId>, cache: CacheId) -> bool

@@ -1,11 +1,11 @@
 ghost use Rattle.std.specs.Prelude.{◌≡◌, ◌<◌, ◌≤◌, ℕ, [], IsOk, OnOk, length, true};
 ghost use Rattle.network.specs.Room.{HasRoomFor, UsesRoomFor};
 ghost use Rattle.control.specs.HomeEffect.{sender_of, home_sends, IsBelow, NamesBelow};
-ghost use Rattle.control.specs.inner.Counting.{HasRoomOnLink, HasRoomToReply, HasRoomToOwner, HasRoomToSharers};
+ghost use Rattle.control.specs.inner.Counting.{HasRoomOnLink, HasRoomToReply, HasRoomToOwner, HasRoomToSharers, invalidates, reaches_owner, reaches_sender};
 ghost use Rattle.control.specs.Sharing.{shares};
 
 use crate::home::{Home, HomeInput};
-use crate::home_counts::{forwards_to, invalidates, replies};
+use crate::home_counts::{forwards_to, reach_of};
 use base::{CacheId, NoMemory};
 use directory_table::{DirectoryAction, DirectoryActions};
 use network::Wires;
@@ -56,20 +56,48 @@ fn reserve_for(
     ensures ok { OnOk result (HasRoomToReply from actions.now home.now wires.new.room) }
     ensures succeeds { HasRoomToReply from actions.now home.now wires.old.room → IsOk result }
 {
-    wires.reserve_ends(0, replies(actions))?;
-    wires.reserve_link(from, forwards_to(from, from, actions, home))?;
-    reserve_for_owner(home, from, actions, wires)?;
-    reserve_for_sharers(home, from, actions, wires)
+    let reach = reach_of(actions);
+    wires.reserve_ends(0, reach.replies)?;
+    reserve_for_sender(reach.sender, home, from, actions, wires)?;
+    reserve_for_owner(reach.owner, home, from, actions, wires)?;
+    reserve_for_sharers(reach.sharers, home, from, actions, wires)
 }
 
-/// Room on the owner's link, if there is an owner.
-fn reserve_for_owner(
+/// Room on the sender's link, where the actions reach it.
+#[inline(always)]
+fn reserve_for_sender(
+    reached: bool,
     home: &Home,
     from: CacheId,
     actions: &[DirectoryAction],
     wires: &mut Wires,
 ) -> Result<(), NoMemory>
     requires few { length actions.now ≤ 8 }
+    requires reached { reached ≡ reaches_sender actions.now }
+    requires link { from.0 < length wires.old.traffic.links }
+    ensures traffic { wires.new.traffic ≡ wires.old.traffic }
+    ensures marks { wires.new.marks ≡ wires.old.marks }
+    ensures ok { OnOk result (HasRoomOnLink from.0 from actions.now home.now wires.new.room) }
+    ensures succeeds { HasRoomOnLink from.0 from actions.now home.now wires.old.room → IsOk result }
+    ensures room { UsesRoomFor [] wires.old.room wires.new.room }
+{
+    if !reached {
+        return Ok(());
+    }
+    wires.reserve_link(from, forwards_to(from, from, actions, home))
+}
+
+/// Room on the link of an owner that isn't the sender, where the actions reach it.
+#[inline(always)]
+fn reserve_for_owner(
+    reached: bool,
+    home: &Home,
+    from: CacheId,
+    actions: &[DirectoryAction],
+    wires: &mut Wires,
+) -> Result<(), NoMemory>
+    requires few { length actions.now ≤ 8 }
+    requires reached { reached ≡ reaches_owner actions.now }
     requires link { IsBelow home.now.owner (length wires.old.traffic.links) }
     ensures traffic { wires.new.traffic ≡ wires.old.traffic }
     ensures marks { wires.new.marks ≡ wires.old.marks }
@@ -77,20 +105,28 @@ fn reserve_for_owner(
     ensures succeeds { HasRoomToOwner from actions.now home.now wires.old.room → IsOk result }
     ensures room { UsesRoomFor [] wires.old.room wires.new.room }
 {
+    if !reached {
+        return Ok(());
+    }
     match home.owner {
-        Some(owner) => wires.reserve_link(owner, forwards_to(owner, from, actions, home)),
-        None => Ok(()),
+        Some(owner) if owner != from => {
+            wires.reserve_link(owner, forwards_to(owner, from, actions, home))
+        }
+        _ => Ok(()),
     }
 }
 
-/// Room on the link to each sharer that is neither the owner nor the sender: only invalidations go there.
+/// Room on the link to each sharer that is neither the owner nor the sender, where the actions reach them: only invalidations
+/// go there.
 fn reserve_for_sharers(
+    reached: bool,
     home: &Home,
     from: CacheId,
     actions: &[DirectoryAction],
     wires: &mut Wires,
 ) -> Result<(), NoMemory>
     requires few { length actions.now ≤ 8 }
+    requires reached { reached ≡ invalidates actions.now }
     requires links { (k : ℕ) → shares home.now.sharers k ≡ true → k < length wires.old.traffic.links }
     ensures traffic { wires.new.traffic ≡ wires.old.traffic }
     ensures marks { wires.new.marks ≡ wires.old.marks }
@@ -98,7 +134,7 @@ fn reserve_for_sharers(
     ensures succeeds { ((k : ℕ) → HasRoomOnLink k from actions.now home.now wires.old.room) → IsOk result }
     ensures room { UsesRoomFor [] wires.old.room wires.new.room }
 {
-    if !invalidates(actions) {
+    if !reached {
         return Ok(());
     }
     // No cache has the largest number, so the number after a sharer's fits.

@@ -88,6 +88,26 @@ pub fn line_reserve(
     ensures ok { OnOk result ((cache : CacheId) (line : Line) → HasRoomFor (line_sends cache input actions line) wires.new.room) }
     ensures succeeds { (cache : CacheId) (line : Line) → HasRoomFor (line_sends cache input actions line) wires.old.room → IsOk result }
 {
+    // An action sends one request or one response at most, so mostly nothing has to be counted.
+    if wires.ends_have_room(actions.len()) {
+        return Ok(());
+    }
+    reserve_counted(input, actions, wires)
+}
+
+/// Makes the room that is counted, where there isn't room for one of each by each action. It stands apart, as few steps come here.
+#[cold]
+#[inline(never)]
+fn reserve_counted(
+    input: LineInput,
+    actions: CacheActions,
+    wires: &mut Wires,
+) -> Result<(), NoMemory>
+    ensures traffic { wires.new.traffic ≡ wires.old.traffic }
+    ensures marks { wires.new.marks ≡ wires.old.marks }
+    ensures ok { OnOk result ((cache : CacheId) (line : Line) → HasRoomFor (line_sends cache input actions line) wires.new.room) }
+    ensures succeeds { (cache : CacheId) (line : Line) → HasRoomFor (line_sends cache input actions line) wires.old.room → IsOk result }
+{
     let needs = line_needs(input, actions);
     wires.reserve_ends(needs.requests, needs.responses)?;
     Ok(())

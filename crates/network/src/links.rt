@@ -1,5 +1,5 @@
 ghost use Rattle.std.specs.Prelude.{◌≡◌, ◌+◌, ◌*◌, ◌-◌, ◌^◌, ◌<◌, ◌≤◌, ◌∷◌, ◌++◌, ◌↔◌, [], IsOk, IsSome, IfOk, OnOk, OnErr, IfErr, IfNone, IfSome};
-ghost use Rattle.std.specs.Prelude.{length, map, remove, replicate};
+ghost use Rattle.std.specs.Prelude.{false, length, map, remove, replicate};
 ghost use Rattle.std.specs.Prelude.{slice_get, slice_index, slice_index_or, slice_set};
 ghost use Rattle.std.specs.List.{sum_by};
 ghost use Rattle.network.specs.Traffic.{all_nil};
@@ -152,6 +152,21 @@ impl Links {
         ensures { result ≡ slice_get (messages_in (slice_index_or self.now.sent cache.0 [])) index }
     {
         self.links.get(cache.0)?.get(index)
+    }
+
+    /// Takes the marks of all messages on a link back. Where none is set it looks at no message.
+    #[inline(always)]
+    pub fn unmark(&mut self, cache: CacheId)
+        ensures sent { self.new.sent ≡ slice_set self.old.sent cache.0 (remarked (λ forward. false) (slice_index_or self.old.sent cache.0 [])) }
+        ensures room { self.new.room ≡ self.old.room }
+    {
+        if !self.waiting.contains(cache.0) {
+            return;
+        }
+        if let Some(link) = self.links.get_mut(cache.0) {
+            link.unmark();
+            self.free.set(cache.0, link.has_free_head());
+        }
     }
 
     /// Marks the messages on a link, each as is told of it.

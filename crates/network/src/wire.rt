@@ -1,5 +1,5 @@
 ghost use Rattle.std.specs.Prelude.{◌≡◌, ◌+◌, ◌<◌, ◌≤◌, ◌^◌, ◌∷◌, ◌++◌, [], IsOk, OnOk, OnErr, IfOk, IfErr, false};
-ghost use Rattle.std.specs.Prelude.{length, not, remove, slice_get, slice_index_or, vec_len};
+ghost use Rattle.std.specs.Prelude.{length, not, remove, slice_get, slice_index_or, true, vec_len};
 ghost use Rattle.std.specs.Vec.{vec_capacity};
 ghost use Rattle.network.specs.Marks.{is_stopped, unmarked, unmarked_count};
 ghost use Rattle.network.specs.inner.Links.{held_count, marks_in, messages_in, one, remarked, remarked_from, unmarked_one};
@@ -76,6 +76,14 @@ impl<M: Copy> Wire<M> {
         ensures { result ≡ length self.now.sent }
     {
         self.marked.len() as u32
+    }
+
+    /// Whether there is room for so many more messages.
+    #[inline(always)]
+    pub fn has_room(&self, count: usize) -> bool
+        ensures { result ≡ true → count ≤ self.now.room }
+    {
+        count <= self.marked.capacity().min(MOST) - self.marked.len()
     }
 
     /// How many messages have no mark.

@@ -49,6 +49,30 @@ abbrev pub replies_by : List DirectoryAction → ℕ
 replies_by [] = 0
 replies_by (a ∷ actions) = replies_of a + replies_by actions
 
+-- whether an action of a home may send on the link to the sender of its request
+abbrev pub may_reach_sender : DirectoryAction → Bool
+may_reach_sender action.FwdGetS = true
+may_reach_sender action.FwdGetM = true
+may_reach_sender action.PutAck = true
+may_reach_sender other = false
+
+-- whether one of the actions may
+abbrev pub reaches_sender : List DirectoryAction → Bool
+reaches_sender [] = false
+reaches_sender (a ∷ actions) = may_reach_sender a || reaches_sender actions
+
+-- whether it may send on the link to an owner that isn't the sender
+abbrev pub may_reach_owner : DirectoryAction → Bool
+may_reach_owner action.FwdGetS = true
+may_reach_owner action.FwdGetM = true
+may_reach_owner action.InvSharers = true
+may_reach_owner other = false
+
+-- whether one of the actions may
+abbrev pub reaches_owner : List DirectoryAction → Bool
+reaches_owner [] = false
+reaches_owner (a ∷ actions) = may_reach_owner a || reaches_owner actions
+
 -- whether an action of a home is the one that sends to the sharers
 abbrev pub is_invalidation : DirectoryAction → Bool
 is_invalidation action.InvSharers = true
@@ -96,9 +120,9 @@ forwards_to cache from actions home = forwards_by (nat_lt cache.0 (length home.s
 abbrev pub HasRoomOnLink : ℕ → CacheId → List DirectoryAction → Home → Room → Type 0
 HasRoomOnLink k from actions home room = forwards_to (record { 0 = k }) from actions home ≤ slice_index room.links k
 
--- there is on the owner's, if there is an owner
+-- there is on the owner's, if there is an owner that isn't the sender
 abbrev pub HasRoomToOwner : CacheId → List DirectoryAction → Home → Room → Type 0
-HasRoomToOwner from actions home room = (k : ℕ) → owns home.owner (record { 0 = k }) ≡ true → HasRoomOnLink k from actions home room
+HasRoomToOwner from actions home room = (k : ℕ) → owns home.owner (record { 0 = k }) ≡ true → k ≢ from.0 → HasRoomOnLink k from actions home room
 
 -- there is on that of each sharer that is neither the owner nor the sender
 abbrev pub HasRoomToSharers : CacheId → List DirectoryAction → Home → Room → Type 0

@@ -26,6 +26,14 @@ impl Wires {
         self.links.mark(cache, marker);
     }
 
+    /// Takes the marks of all messages on the link to a cache back. Where none is set it looks at no message.
+    #[inline(always)]
+    pub fn unmark_link(&mut self, cache: CacheId)
+        ensures { self.new ≡ link_marked cache.0 (λ forward. false) self.old }
+    {
+        self.links.unmark(cache);
+    }
+
     /// Marks all responses, each as is told of it.
     pub fn mark_responses<K: Marker<Response>>(&mut self, marker: &K)
         ensures { self.new ≡ responses_marked (K.told marker.now) self.old }

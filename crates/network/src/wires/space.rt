@@ -1,7 +1,7 @@
 //! Room for messages that are still to be sent.
 
 ghost use Rattle.std.specs.Prelude.{◌≡◌, ◌<◌, ◌≤◌, [], IsOk, OnOk};
-ghost use Rattle.std.specs.Prelude.{length, slice_index};
+ghost use Rattle.std.specs.Prelude.{length, slice_index, true};
 ghost use Rattle.network.specs.Room.{AllBelow, HasPlaces, UsesRoomFor, times};
 
 use crate::wires::Wires;
@@ -29,6 +29,15 @@ impl Wires {
             self.reserve_link(*link, times_listed(links, *link))?;
         }
         Ok(())
+    }
+
+    /// Whether there is room for so many more requests and for so many more responses.
+    #[inline(always)]
+    pub fn ends_have_room(&self, count: usize) -> bool
+        ensures requests { result ≡ true → count ≤ self.now.room.requests }
+        ensures responses { result ≡ true → count ≤ self.now.room.responses }
+    {
+        self.requests.has_room(count) && self.responses.has_room(count)
     }
 
     /// Room for so many more requests and responses. Where it is refused no list has changed.

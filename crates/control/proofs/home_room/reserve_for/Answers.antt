@@ -10,21 +10,20 @@ returns-clause-ok c =
     (λ sharers. record {
       responses = omega (
         arith,
-        c.replies.ensures,
+        c.reach_of-reach.ensures.replies,
         c.in_ok-reserve_ends.ensures.ok,
-        c.reserve_link.ensures.room.responses,
+        c.reserve_for_sender.ensures.room.responses,
         c.reserve_for_owner.ensures.room.responses,
         c.reserve_for_sharers.ensures.room.responses,
       );
       links = λ k. room-on_links k c.args.from c.args.actions.now c.args.home.now c.reserve_for_sharers.new.wires.room
           (omega (
             arith,
-            c.forwards_to.ensures.count,
-            c.in_ok-reserve_link.ensures.ok,
+            c.in_ok-reserve_for_sender.ensures.ok,
             c.reserve_for_owner.ensures.room.links c.args.from.0,
             c.reserve_for_sharers.ensures.room.links c.args.from.0,
           ))
-          (λ k owner. omega (arith, c.in_ok-reserve_for_owner.ensures.ok k owner, c.reserve_for_sharers.ensures.room.links k)) sharers;
+          (λ k owner ne. omega (arith, c.in_ok-reserve_for_owner.ensures.ok k owner ne, c.reserve_for_sharers.ensures.room.links k)) sharers;
     })
     c.reserve_for_sharers.ensures.ok
 
@@ -40,17 +39,17 @@ returns-in_err-reserve_ends-clause-ok c = grind (arith, common_steps)
 pub returns-in_err-reserve_ends-clause-succeeds : goal.returns-in_err-reserve_ends-clause-succeeds
 returns-in_err-reserve_ends-clause-succeeds c = grind (arith, common_steps)
 
-pub returns-in_err-reserve_link-clause-traffic : goal.returns-in_err-reserve_link-clause-traffic
-returns-in_err-reserve_link-clause-traffic c = grind (arith, common_steps)
+pub returns-in_err-reserve_for_sender-clause-traffic : goal.returns-in_err-reserve_for_sender-clause-traffic
+returns-in_err-reserve_for_sender-clause-traffic c = grind (arith, common_steps)
 
-pub returns-in_err-reserve_link-clause-marks : goal.returns-in_err-reserve_link-clause-marks
-returns-in_err-reserve_link-clause-marks c = grind (arith, common_steps)
+pub returns-in_err-reserve_for_sender-clause-marks : goal.returns-in_err-reserve_for_sender-clause-marks
+returns-in_err-reserve_for_sender-clause-marks c = grind (arith, common_steps)
 
-pub returns-in_err-reserve_link-clause-ok : goal.returns-in_err-reserve_link-clause-ok
-returns-in_err-reserve_link-clause-ok c = grind (arith, common_steps)
+pub returns-in_err-reserve_for_sender-clause-ok : goal.returns-in_err-reserve_for_sender-clause-ok
+returns-in_err-reserve_for_sender-clause-ok c = grind (arith, common_steps)
 
-pub returns-in_err-reserve_link-clause-succeeds : goal.returns-in_err-reserve_link-clause-succeeds
-returns-in_err-reserve_link-clause-succeeds c = grind (arith, common_steps)
+pub returns-in_err-reserve_for_sender-clause-succeeds : goal.returns-in_err-reserve_for_sender-clause-succeeds
+returns-in_err-reserve_for_sender-clause-succeeds c = grind (arith, common_steps)
 
 pub returns-in_err-reserve_for_owner-clause-ok : goal.returns-in_err-reserve_for_owner-clause-ok
 returns-in_err-reserve_for_owner-clause-ok c = grind (arith, common_steps)

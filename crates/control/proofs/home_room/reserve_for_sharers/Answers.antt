@@ -28,18 +28,18 @@ loop-next-preserved c =
       };
     }
 
-pub returns-then-not-invalidates-clause-ok : goal.returns-then-not-invalidates-clause-ok
-returns-then-not-invalidates-clause-ok c =
-    room-unsent c.args.from c.args.actions.now c.args.home.now c.args.wires.now.room (sym c.invalidates.ensures ∙ c.if-not-invalidates.true)
+pub returns-then-not-reached-clause-ok : goal.returns-then-not-reached-clause-ok
+returns-then-not-reached-clause-ok c =
+    room-unsent c.args.from c.args.actions.now c.args.home.now c.args.wires.now.room (sym c.requires.reached ∙ c.if-not-reached.true)
 
-pub returns-then-not-invalidates-clause-traffic : goal.returns-then-not-invalidates-clause-traffic
-returns-then-not-invalidates-clause-traffic c = grind (arith, common_steps)
+pub returns-then-not-reached-clause-traffic : goal.returns-then-not-reached-clause-traffic
+returns-then-not-reached-clause-traffic c = grind (arith, common_steps)
 
-pub returns-then-not-invalidates-clause-marks : goal.returns-then-not-invalidates-clause-marks
-returns-then-not-invalidates-clause-marks c = grind (arith, common_steps)
+pub returns-then-not-reached-clause-marks : goal.returns-then-not-reached-clause-marks
+returns-then-not-reached-clause-marks c = grind (arith, common_steps)
 
-pub returns-then-not-invalidates-clause-room : goal.returns-then-not-invalidates-clause-room
-returns-then-not-invalidates-clause-room c = grind (arith, common_steps)
+pub returns-then-not-reached-clause-room : goal.returns-then-not-reached-clause-room
+returns-then-not-reached-clause-room c = grind (arith, common_steps)
 
 pub loop-next-init : goal.loop-next-init
 loop-next-init c = grind (arith, common_steps)

@@ -1,0 +1,43 @@
+use Rattle.std.proofs.Common.{[], ◌≡◌, Bool, Some, ap, arith, false, get_or, map, not, set, sym, ◌∙◌}
+use Rattle.std.proofs.lemmas.List.{length-map}
+use Rattle.network.specs.inner.Links.{marks_in, on_link, remarked, room_on}
+use Rattle.network.specs.Marks.{is_stopped}
+use Rattle.network.specs.declared.message.Forward.{Forward}
+use Rattle.network.proofs.Linked.{linked-marked, linked-same, nil-is, parts-at, parts-set, parts-set_same, set-same, used-below, waiting-at}
+use Rattle.rows.specs.Flags.{is_set}
+use Rattle.network.proofs.links.Links.unmark.Goals as goal
+
+abbrev none : Forward → Bool
+none f = false
+
+pub invariant_of-self : goal.invariant_of-self
+invariant_of-self c =
+    let items = c.self.inside.links.items in
+    let i = c.args.cache.0 in
+    let ls = map on_link items in
+    let here : get_or ls i [] ≡ c.in-Some.link.now.sent = parts-at on_link items i ∙ ap on_link (sym c.in-Some.ensures.item) in
+    let made : c.unmark.new.self.sent ≡ remarked none (get_or ls i []) = c.unmark.ensures.sent ∙ ap (remarked none) (sym here) in
+    let within = used-below items i c.in-Some.link.now c.in-Some.ensures.item in
+    rw (c.set.ensures ∙ ap (set c.self.inside.free i) (c.has_free_head.ensures ∙ ap (λ xs. not (is_stopped (marks_in xs))) made))
+    (linked-same _ _ _ _ _
+    (parts-set on_link items i (Some c.in-Some.link.now) c.unmark.new.self (remarked none) c.in-Some.ensures.item c.unmark.ensures.sent)
+    (linked-marked ls i none c.self.inside.waiting c.self.inside.free c.self.inside.count (omega (arith, length-map items on_link)) c.self.invariant))
+
+pub returns-in-Some-clause-sent : goal.returns-in-Some-clause-sent
+returns-in-Some-clause-sent c =
+    rw (← c.self.view_is)
+    (parts-set on_link c.self.inside.links.items c.args.cache.0 (Some c.in-Some.link.now) c.unmark.new.self (remarked none)
+    c.in-Some.ensures.item c.unmark.ensures.sent)
+
+pub returns-in-Some-clause-room : goal.returns-in-Some-clause-room
+returns-in-Some-clause-room c =
+    rw (← c.self.view_is)
+    (parts-set_same room_on c.self.inside.links.items c.args.cache.0 (Some c.in-Some.link.now) c.unmark.new.self c.in-Some.ensures.item c.unmark.ensures.room)
+
+pub returns-then-not-contains-clause-sent : goal.returns-then-not-contains-clause-sent
+returns-then-not-contains-clause-sent c =
+    let ls = map on_link c.self.inside.links.items in
+    let empty = nil-is (get_or ls c.args.cache.0 []) (sym (ap (λ fs. is_set fs c.args.cache.0) c.self.invariant.waiting ∙ waiting-at ls c.args.cache.0)
+    ∙ sym c.contains.ensures ∙ c.if-not-contains.true) in
+    rw (← c.self.view_is)
+    (sym (set-same ls c.args.cache.0 (remarked none (get_or ls c.args.cache.0 [])) [] (empty ∙ ap (remarked none) (sym empty))))
