@@ -18,7 +18,7 @@ pub use deciding::{decide_opened, opened_line};
 use directory_table::DirectoryState;
 pub use looking::{foreseen, is_held_opened};
 use network::Wires;
-pub(crate) use passing::{is_clear, responses_pass};
+pub(crate) use passing::{forwards_pass, is_clear, responses_pass};
 use rows::{Sparse, TryClone};
 use std::alloc::Global;
 use std::marker::Model;

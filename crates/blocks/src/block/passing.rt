@@ -4,7 +4,7 @@ ghost use Rattle.std.specs.Prelude.{◌≡◌, true, false};
 ghost use Rattle.cache_table.specs.Table as cache_table;
 ghost use Rattle.directory_table.specs.Table as directory_table;
 ghost use Rattle.blocks.specs.Marking.{is_stall};
-ghost use Rattle.blocks.specs.Passing.{IsClear, ResponsesPass, RowPasses};
+ghost use Rattle.blocks.specs.Passing.{ForwardsPass, IsClear, ResponsesPass, RowPasses};
 
 use both_tables::Tables;
 use cache_table::{CacheEntry, CacheEvent, CacheState};
@@ -41,6 +41,16 @@ pub(crate) fn is_clear(tables: &Tables, state: DirectoryState) -> bool
         && !stalls_at_home(tables, state, DirectoryEvent::PutMOwner)
         && !stalls_at_home(tables, state, DirectoryEvent::PutMNonOwner)
         && !stalls_at_home(tables, state, DirectoryEvent::Data)
+}
+
+/// Whether a line in this state holds nothing that comes on its link.
+pub(crate) fn forwards_pass(tables: &Tables, state: CacheState) -> bool
+    ensures { result ≡ true → ForwardsPass tables.now.cache state }
+{
+    !stalls_at_line(tables, state, CacheEvent::FwdGetS)
+        && !stalls_at_line(tables, state, CacheEvent::FwdGetM)
+        && !stalls_at_line(tables, state, CacheEvent::Inv)
+        && !stalls_at_line(tables, state, CacheEvent::PutAck)
 }
 
 /// Whether a line in this state holds no response.

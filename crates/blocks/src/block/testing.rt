@@ -1,7 +1,9 @@
 //! Tests of messages. A message is tested when it is asked whether the cell that it goes to is a stall. It counts as tested too
 //! where its mark is made right, or known to be right still, without that question.
 ghost use Rattle.std.specs.Prelude.{◌≡◌, true, length, slice_get};
+ghost use Rattle.network.specs.Marking.{link_marked};
 ghost use Rattle.network.specs.Traffic.{Traffic};
+ghost use Rattle.control.specs.declared.line.LineInput.TheVariants as line_input;
 ghost use Rattle.blocks.specs.Marking.{home_stalls, line_stalls, response_stalls, links_stall, marks_of};
 ghost use Rattle.blocks.specs.inner.Asked.{AreFirstRight};
 ghost use Rattle.blocks.specs.inner.Lined.{lines_of};
@@ -70,7 +72,7 @@ impl Block {
         ensures marks { self.new.marks ≡ marks_of controllers.now self.old.state }
     {
         mark_requests(controllers, &self.home, 0, &mut self.wires);
-        mark_links(controllers.tables(), &self.lines, &mut self.wires);
+        mark_links(controllers, &self.lines, &mut self.wires);
         mark_responses(controllers, &self.home, &self.lines, &mut self.wires);
     }
 
@@ -270,12 +272,35 @@ fn mark_requests(controllers: &Controllers, home: &Home, right: u32, wires: &mut
     wires.mark_requests(u64::from(right), &AtHome { tables, home });
 }
 
+/// Marks what is on the link to a cache. Where its line holds nothing that comes there, it isn't looked at but for marks.
+#[inline(always)]
+fn mark_link(controllers: &Controllers, lines: &Sparse<Line>, cache: CacheId, wires: &mut Wires)
+    ensures { wires.new ≡ link_marked cache.0 (λ forward. line_stalls controllers.now.cache (slice_get (lines_of lines.now.items) cache.0)
+        (line_input.Forward forward)) wires.old }
+{
+    if let Some(line) = lines.get(cache.0)
+        && controllers.forwards_pass(line.state)
+    {
+        wires.unmark_link(cache);
+        return;
+    }
+    let tables = controllers.tables();
+    wires.mark_link(
+        cache,
+        &OnLink {
+            tables,
+            lines,
+            cache,
+        },
+    );
+}
+
 /// Marks what is on all links.
-fn mark_links(tables: &Tables, lines: &Sparse<Line>, wires: &mut Wires)
+fn mark_links(controllers: &Controllers, lines: &Sparse<Line>, wires: &mut Wires)
     ensures traffic { wires.new.traffic ≡ wires.old.traffic }
     ensures room { wires.new.room ≡ wires.old.room }
     ensures marks { wires.new.marks ≡ record wires.old.marks {
-      links = links_stall tables.now.cache (lines_of lines.now.items) 0 wires.old.traffic.links;
+      links = links_stall controllers.now.cache (lines_of lines.now.items) 0 wires.old.traffic.links;
     } }
 {
     let mut from = 0;
@@ -284,14 +309,7 @@ fn mark_links(tables: &Tables, lines: &Sparse<Line>, wires: &mut Wires)
         let Some(cache) = wires.next_waiting(from) else {
             return;
         };
-        wires.mark_link(
-            cache,
-            &OnLink {
-                tables,
-                lines,
-                cache,
-            },
-        );
+        mark_link(controllers, lines, cache, wires);
         from = cache.0 + 1;
     }
 }

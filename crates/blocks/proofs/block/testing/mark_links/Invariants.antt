@@ -9,7 +9,7 @@ invariant-loop-from l = record {
   traffic : l.wires.traffic ≡ l.fn.wires.traffic;
   room : l.wires.room ≡ l.fn.wires.room;
   marks : l.wires.marks ≡ record l.fn.wires.marks {
-    links = written (links_stall l.tables.cache (lines_of l.lines.items) 0 l.fn.wires.traffic.links) l.fn.wires.marks.links l.from;
+    links = written (links_stall l.controllers.cache (lines_of l.lines.items) 0 l.fn.wires.traffic.links) l.fn.wires.marks.links l.from;
   };
 }
 
