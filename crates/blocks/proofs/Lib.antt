@@ -14,3 +14,4 @@ pub mod Asked
 pub mod LinkMarks
 pub mod OwnLine
 pub mod Performed
+pub mod Putting

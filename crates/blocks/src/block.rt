@@ -5,6 +5,7 @@ mod deciding;
 mod free;
 mod looking;
 mod passing;
+mod putting;
 mod serving;
 mod testing;
 

@@ -2,7 +2,7 @@
 
 use crate::block::Block;
 use crate::block::deciding::at_ask;
-use base::{BlockId, CacheId, CoreAsk, Step};
+use base::{BlockId, Step};
 use both_tables::Tables;
 use machine::Decision;
 
@@ -26,29 +26,11 @@ pub(crate) struct RequestAt {
     pub(crate) index: u64,
 }
 
-/// The first message on the link to a cache.
-#[derive(Clone, Copy)]
-pub(crate) struct HeadAt {
-    pub(crate) block: BlockId,
-    pub(crate) cache: CacheId,
-}
-
 /// The response at a place.
 #[derive(Clone, Copy)]
 pub(crate) struct ResponseAt {
     pub(crate) block: BlockId,
     pub(crate) index: u64,
-}
-
-impl Served for CoreAsk {
-    ghost use Rattle.base.specs.declared.step.Step.TheVariants as step;
-
-    ghost step = { λ ask. step.Ask ask.core ask.block ask.ask };
-
-    #[inline(always)]
-    fn decision(&self, block: &Block, tables: &Tables) -> Decision {
-        at_ask(tables, self.core, self.ask, block.line(self.core))
-    }
 }
 
 impl Served for RequestAt {
@@ -59,17 +41,6 @@ impl Served for RequestAt {
     #[inline(always)]
     fn decision(&self, block: &Block, tables: &Tables) -> Decision {
         block.at_request(tables, self.index)
-    }
-}
-
-impl Served for HeadAt {
-    ghost use Rattle.base.specs.declared.step.Step.TheVariants as step;
-
-    ghost step = { λ at. step.Forward at.block at.cache };
-
-    #[inline(always)]
-    fn decision(&self, block: &Block, tables: &Tables) -> Decision {
-        block.at_forward(tables, self.cache)
     }
 }
 
