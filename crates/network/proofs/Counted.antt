@@ -1,5 +1,5 @@
 -- How many marks are set, once one is set, added or taken, and once all are taken back; and the messages that have none.
-use Rattle.std.proofs.Common.{◌≡◌, ◌≤◌, ◌<◌, ◌+◌, ◌∷◌, ◌-◌, ◌^◌, [], ℕ, zero, suc, List, Bool, true, false, Option, None, Some, remove, set, get_or}
+use Rattle.std.proofs.Common.{◌≡◌, ◌≤◌, ◌<◌, ◌+◌, ◌∷◌, ◌^◌, [], ℕ, zero, suc, List, Bool, true, false, Option, None, Some, remove, set, get_or}
 use Rattle.std.proofs.Common.{slice_get, length, ap, refl, ◌∙◌, arith}
 use Rattle.std.proofs.lemmas.List.Sums.{sum_by-cons, sum_by-set, count_by-le-length}
 use Rattle.std.proofs.lemmas.List.{get_or-map, length-map, length-set}

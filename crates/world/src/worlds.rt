@@ -172,6 +172,8 @@ impl World {
     }
 
     /// Makes one step as [`step`](World::step) does, and answers what it came to: what a cell did, if one acted, too.
+    // Whoever makes steps does so in a loop, and a call hands the step and what it came to through memory.
+    #[inline(always)]
     pub fn make(&mut self, step: Step) -> Result<Made, NoMemory>
         ensures ok { IfOk result (λ made. Steps self.old step made self.new) }
         ensures err { OnErr result (IsAsBefore self.old step self.new) }
