@@ -1,6 +1,6 @@
 -- Bytes that come from a source, with those that were pulled and aren't taken yet.
-use Rattle.std.proofs.Common.{◌≡◌, Bool, true, false, ℕ, ◌+◌, ◌-◌, ◌<◌, ◌≤◌, List, [], ◌∷◌, ◌++◌, Option, Some, None, length, take, drop, get_or, zero, suc, refl}
-use Rattle.std.proofs.Common.{ap, ◌≢◌, inl, inr, sym, ◌∙◌, subst, arith, append_assoc, length-append, length-drop, take-append-drop}
+use Rattle.std.proofs.Common.{◌≡◌, Bool, true, false, ℕ, ◌+◌, ◌-◌, ◌<◌, ◌≤◌, List, [], ◌∷◌, ◌++◌, Option, Some, None, length, take, drop, get_or, zero, suc}
+use Rattle.std.proofs.Common.{refl, ap, ◌≢◌, inl, inr, sym, ◌∙◌, subst, arith, append_assoc, length-append, length-drop, take-append-drop}
 use Rattle.std.proofs.lemmas.List.{drop_more, drop-drop, drop-take, append-nil, get_or-drop, get_or-take, length-take-le}
 use Rattle.std.proofs.lemmas.List.{drop_at, take-append-le, take-take}
 use Rattle.std.proofs.Math.Seq.{take-add}
