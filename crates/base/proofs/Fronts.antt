@@ -159,3 +159,20 @@ third line first second rest more behind last some also is next = λ a b low sma
     let here : words_behind rest ≡ words behind.now = ap words_behind some in
     let there : words_behind more ≡ words last.now = ap words_behind also in
     not_two (λ b. eqb b 32) last.now (words line) first second (decimal a) (decimal b) cc
+
+-- a line that is a digit, another byte and what follows
+pub digit-ahead : (line : List ℕ) (d end : ℕ) → 2 ≤ length line → get_or line 1 0 ≡ end → d ≡ digit_value (get_or line 0 0) → d < 10 →
+    line ≡ decimal d ++ end ∷ take (length line - 2) (drop 2 line)
+digit-ahead [] d end some next is small = absurd (omega (arith, some))
+digit-ahead (x ∷ []) d end some next is small = absurd (omega (arith, some))
+digit-ahead (x ∷ y ∷ rest) d end some next is small =
+    ap (λ b. x ∷ b ∷ rest) next ∙ ap (λ w. w ++ end ∷ rest) (one-digit x d is small)
+    ∙ ap (λ l. decimal d ++ end ∷ l) (sym (take_all (length (x ∷ y ∷ rest) - 2) rest (omega arith)))
+
+-- a line that is a number, a byte and what follows
+pub number-ahead : (line behind : List ℕ) (n count end : ℕ) → take count line ≡ decimal n → count ≤ length line →
+    take (length line - count) (drop count line) ≡ end ∷ behind → line ≡ decimal n ++ end ∷ behind
+number-ahead line behind n count end is within follows =
+    let same : take (length line - count) (drop count line) ≡ drop count line =
+    take_all (length line - count) (drop count line) (omega (arith, length-drop {A = ℕ} count line)) in
+    sym (take-append-drop count line) ∙ ap (λ l. l ++ drop count line) is ∙ ap (λ l. decimal n ++ l) (sym same ∙ follows)

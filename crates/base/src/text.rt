@@ -1,5 +1,6 @@
 //! Steps and outcomes as text, which is words with one blank between two.
 
+mod ahead;
 mod outcomes;
 mod short;
 mod steps;

@@ -1,3 +1,4 @@
+pub mod Ahead
 pub mod Alike
 pub mod Changed
 pub mod Completing

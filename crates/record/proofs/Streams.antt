@@ -1,8 +1,8 @@
 -- Bytes that come from a source, with those that were pulled and aren't taken yet.
-use Rattle.std.proofs.Common.{◌≡◌, Bool, true, false, ℕ, ◌+◌, ◌-◌, ◌<◌, ◌≤◌, List, [], ◌∷◌, ◌++◌, Option, Some, None, length, take, drop, get_or, suc, refl, ap}
-use Rattle.std.proofs.Common.{◌≢◌, inl, inr, sym, ◌∙◌, subst, arith, append_assoc, length-append, length-drop, take-append-drop}
+use Rattle.std.proofs.Common.{◌≡◌, Bool, true, false, ℕ, ◌+◌, ◌-◌, ◌<◌, ◌≤◌, List, [], ◌∷◌, ◌++◌, Option, Some, None, length, take, drop, get_or, zero, suc}
+use Rattle.std.proofs.Common.{refl, ap, ◌≢◌, inl, inr, sym, ◌∙◌, subst, arith, append_assoc, length-append, length-drop, take-append-drop}
 use Rattle.std.proofs.lemmas.List.{drop_more, drop-drop, drop-take, append-nil, get_or-drop, get_or-take, length-take-le}
-use Rattle.std.proofs.lemmas.List.{take-append-le, take-take}
+use Rattle.std.proofs.lemmas.List.{drop_at, take-append-le, take-take}
 use Rattle.std.proofs.Math.Seq.{take-add}
 use Rattle.std.proofs.lemmas.Bool.{cases_lt}
 use Rattle.std.proofs.lemmas.List.Elements.{All-append, All-take}
@@ -104,6 +104,22 @@ front-moved buffer line new at end count few is =
     ap (λ l. l ++ take (end - (at + count)) (drop (at + count) buffer)) is
     ∙ append_assoc line (take count held) (take (end - (at + count)) (drop (at + count) buffer))
     ∙ ap (λ l. line ++ (take count held ++ l)) (sym (held-behind buffer at end count few)) ∙ ap (λ l. line ++ l) (take-append-drop count held)
+
+-- what stands behind a front of the bytes that are held
+pub left-behind : (buffer front rest : List ℕ) (at end : ℕ) → end ≤ length buffer → at ≤ end → take (end - at) (drop at buffer) ≡ front ++ rest →
+    take (end - (end - length rest)) (drop (end - length rest) buffer) ≡ rest
+left-behind buffer front rest at end fits low is =
+    let all = held-length buffer at end fits in
+    let whole : length front + length rest ≡ end - at = sym (length-append front rest) ∙ sym (ap length is) ∙ all in
+    let behind : end - length rest ≡ at + length front = omega (arith, whole, low) in
+    ap (λ k. take (end - k) (drop k buffer)) behind ∙ sym (held-behind buffer at end (length front) (omega (arith, whole)))
+    ∙ ap (drop (length front)) is ∙ drop_at front rest (length front) refl
+
+-- where nothing is kept and nothing is held there is no line
+pub no-line : (kept buffer : List ℕ) (at held : ℕ) → length kept ≡ 0 → held ≤ 0 → kept ++ take held (drop (at - held) buffer) ≡ []
+no-line [] buffer at zero none low = refl
+no-line [] buffer at (suc held) none low = absurd (omega (arith, low))
+no-line (x ∷ kept) buffer at held none low = absurd (omega (arith, none))
 
 -- and the line has no end still
 pub still-open : (line front new : List ℕ) → new ≡ line ++ front → HasNoEnd line → HasNoEnd front → HasNoEnd new

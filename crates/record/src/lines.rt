@@ -1,11 +1,14 @@
-ghost use Rattle.std.specs.Prelude.{◌≡◌, ◌≤◌, ◌<◌, ◌+◌, ◌-◌, ◌^◌, ◌∷◌, ◌++◌, [], drop, slice_index_or, length, take, IfOk, IfErr, OnOk, OnErr};
+ghost use Rattle.std.specs.Prelude.{◌≡◌, ◌≤◌, ◌<◌, ◌+◌, ◌-◌, ◌^◌, ◌∷◌, ◌++◌, [], drop, slice_index_or, length, take, IfSome, IfNone, IfOk, IfErr, OnOk, OnErr};
 ghost use Rattle.std.specs.Io.KnownBytes.{Consumes, IsAtEnd};
 ghost use Rattle.std.specs.Vec.{vec_capacity};
 ghost use Rattle.base.specs.Ends.{MarksFault};
+ghost use Rattle.record.specs.Grammar.{FitsEntry};
 ghost use Rattle.record.specs.Refused.{HasNoEnd, IsTooLong};
-ghost use Rattle.record.specs.inner.Reading.{Gathered, AreSomeIf, BeginsWithEnd, IsTakenOff, IsWholeIf, pending};
+ghost use Rattle.record.specs.inner.Reading.{Gathered, AreSomeIf, BeginsWithEnd, IsEntryTakenOff, IsTakenOff, IsWholeIf, pending};
 
 use crate::fault::ReadKind;
+use crate::parsing::entry_ahead;
+use crate::recording::Entry;
 use base::{Failed, NoMemory, Source};
 use memchr::memchr;
 use std::alloc::Global;
@@ -146,6 +149,23 @@ impl Lines {
         self.end = 0;
         self.end = source.pull(&mut self.buffer)?;
         Ok(self.end > 0)
+    }
+
+    /// Takes off the next line where no part of it was gathered, all of it was pulled and it is found to be an entry's.
+    #[inline(always)]
+    pub(crate) fn take_entry(&mut self) -> Option<Entry>
+        requires few { self.old.number < 2 ^ 60 }
+        ensures fits { IfSome result FitsEntry }
+        ensures some { IfSome result (λ entry. IsEntryTakenOff entry self.old self.new) }
+        ensures none { IfNone result (self.new ≡ self.old) }
+    {
+        if self.held > 0 || !self.line.is_empty() {
+            return None;
+        }
+        let (entry, rest) = entry_ahead(&self.buffer[self.at..self.end])?;
+        self.at = self.end - rest.len();
+        self.number += 1;
+        Some(entry)
     }
 
     /// Takes off the line, which is whole.

@@ -49,6 +49,7 @@ impl Run {
     }
 
     /// Makes the step of the entry of this number, and sees whether it has the outcome that is told.
+    #[inline(always)]
     pub(crate) fn make(&mut self, number: u64, entry: Entry) -> Result<(), ReplayFault>
         ensures ok { (r : RecordingView) (done : List Entry) → number ≡ length done → HasMadeFirst r done self.old →
             OnOk result (HasMadeFirst r (done ++ entry ∷ []) self.new) }
@@ -191,6 +192,7 @@ impl Entries for MadeEntries {
         self.stage = Stage::open(self.alloc, shape, tables, opening);
     }
 
+    #[inline(always)]
     fn add(&mut self, told: Told) {
         let number = u64::from(self.count);
         self.count += 1;

@@ -6,7 +6,7 @@ ghost use Rattle.std.specs.Fmt.{decimal};
 ghost use Rattle.std.specs.Vec.{vec_capacity};
 ghost use Rattle.base.specs.Extent.{Extent};
 ghost use Rattle.record.specs.Versions.{protocol_words, IsShapeIn};
-ghost use Rattle.base.specs.Spelling.{words, step_words, FitsStep};
+ghost use Rattle.base.specs.Spelling.{words, joined, step_words, FitsStep};
 ghost use Rattle.record.specs.Text.{by_words, header_words, shape_words, opening_words, end_words, entry_words, told_words};
 ghost use Rattle.record.specs.Grammar.{FitsEntry, FitsTold, IsOwner};
 ghost use Rattle.record.specs.Refused.{IsNumber};
@@ -223,6 +223,22 @@ pub(crate) fn entry_of(line: &[u8]) -> Result<Entry, ReadKind>
         Some(outcome) => Ok(Entry { step, outcome }),
         None => Err(ReadKind::BadOutcome),
     }
+}
+
+/// The entry of a line that bytes begin with, and what follows the line's end.
+///
+/// It finds those that are spelled as most are, and `None` doesn't say that there is none.
+#[inline(always)]
+pub(crate) fn entry_ahead(bytes: &[u8]) -> Option<(Entry, &[u8])>
+    ensures fits { IfSome result (λ found. FitsEntry found.0) }
+    ensures text { IfSome result (λ found. bytes.now ≡ joined (entry_words found.0) ++ 10 ∷ found.1.now) }
+{
+    let (step, rest) = Step::read_ahead(bytes, b' ')?;
+    let [b'=', b' ', rest @ ..] = rest else {
+        return None;
+    };
+    let (outcome, rest) = Outcome::read_ahead(rest, b'\n')?;
+    Some((Entry { step, outcome }, rest))
 }
 
 /// The entry that a line tells, where there are so many seats.

@@ -1,11 +1,11 @@
-ghost use Rattle.std.specs.Prelude.{◌≡◌, ◌≢◌, ◌≤◌, ◌+◌, ◌↔◌, ◌∷◌, [], ℕ, List, Option, None, IfOk, IfErr, OnOk, OnErr, IsTrue, true};
+ghost use Rattle.std.specs.Prelude.{◌≡◌, ◌≢◌, ◌≤◌, ◌<◌, ◌+◌, ◌↔◌, ◌∷◌, [], ℕ, List, Option, None, IfOk, IfErr, OnOk, OnErr, IsTrue, true, false};
 ghost use Rattle.std.specs.Io.KnownBytes.{IsAtEnd};
 ghost use Rattle.base.specs.Spelling.{words};
 ghost use Rattle.record.specs.declared.due.Due.TheVariants as due;
 ghost use Rattle.record.specs.Refused.{IsFaultOfLine, IsFaultOfRest, IsRefused, IsWellFormed};
-ghost use Rattle.record.specs.inner.Drafts.{Kept, recorded, HasRead, HasTakenLine};
+ghost use Rattle.record.specs.inner.Drafts.{Kept, recorded, lines_left, HasRead, HasTakenLine};
 ghost use Rattle.record.specs.inner.Holding.{holds};
-ghost use Rattle.record.specs.inner.Readers.{HasPulled, HasWholeLine, IsReading, IsReadWhole, IsReady};
+ghost use Rattle.record.specs.inner.Readers.{HasPulled, HasReadSome, HasWholeLine, IsReading, IsReadWhole, IsReady, StillReads};
 ghost use Rattle.record.specs.inner.Reading.{pending, IsTakenOff};
 
 use crate::draft::Draft;
@@ -14,6 +14,7 @@ use crate::entries::{Entries, KeptEntries};
 use crate::fault::ReadKind;
 use crate::lines::{Lines, MOST_PULLED};
 use crate::recording::Recording;
+use crate::told::Told;
 use base::{NoMemory, Source};
 use std::alloc::Global;
 
@@ -69,10 +70,48 @@ impl<N: Entries> Reader<N> {
         ensures few { self.new.lines.number ≤ 1000194 }
     {
         while !self.is_done() {
+            self.accept_entries();
             self.gather(source)?;
             self.accept()?;
         }
         self.end(source)
+    }
+
+    /// Takes the entries that are due, as far as they were pulled and are found at once.
+    fn accept_entries(&mut self)
+        requires ready { IsReady N.has_room self.old }
+        requires read { HasReadSome N.tells self.old }
+        ensures reads { StillReads N.tells self.old self.new }
+        ensures ready { IsReady N.has_room self.new }
+        ensures fewer { lines_left self.new.due ≤ lines_left self.old.due }
+        ensures more { self.old.due ≢ due.Nothing → self.new.due ≢ due.Nothing }
+    {
+        while self.accept_ahead() {}
+    }
+
+    /// Takes the entry that is due, if it has no owner, was pulled and is found at once; and answers whether it did.
+    #[inline(always)]
+    fn accept_ahead(&mut self) -> bool
+        requires ready { IsReady N.has_room self.old }
+        requires read { HasReadSome N.tells self.old }
+        ensures reads { StillReads N.tells self.old self.new }
+        ensures ready { IsReady N.has_room self.new }
+        ensures fewer { result ≡ true → lines_left self.new.due < lines_left self.old.due }
+        ensures same { result ≡ false → self.new ≡ self.old }
+        ensures more { self.old.due ≢ due.Nothing → self.new.due ≢ due.Nothing }
+    {
+        let Due::EntryLine(form, left) = self.due else {
+            return false;
+        };
+        if form.seats > 0 {
+            return false;
+        }
+        let Some(entry) = self.lines.take_entry() else {
+            return false;
+        };
+        self.entries.add(Told { owner: None, entry });
+        self.due = Due::entries(form, left - 1);
+        true
     }
 
     /// Gathers the line that is due.

@@ -86,7 +86,7 @@ fn what_is_asked(line: &[u8]) -> Option<(Ask, Option<&[u8]>)>
 
 /// The kinds of messages of which a step serves one.
 #[derive(Clone, Copy)]
-enum Kind {
+pub(crate) enum Kind {
     Request,
     Forward,
     Response,

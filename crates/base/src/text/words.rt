@@ -55,7 +55,7 @@ pub fn number_of(text: &[u8]) -> Option<u64>
 }
 
 /// Whether a text has a first byte, and one that a number may begin with: a zero only where it is all.
-fn has_first_digit(text: &[u8]) -> bool
+pub(crate) fn has_first_digit(text: &[u8]) -> bool
     ensures some { result ≡ true → 0 < length text.now }
     ensures first { result ≡ true → slice_index_or text.now 0 0 ≡ 48 → length text.now ≡ 1 }
     ensures none { result ≡ false → (n : ℕ) → n < 2 ^ 64 → text.now ≢ decimal n }
@@ -70,7 +70,7 @@ fn has_first_digit(text: &[u8]) -> bool
 }
 
 /// The value of a decimal digit.
-fn digit_of(byte: u8) -> Option<u64>
+pub(crate) fn digit_of(byte: u8) -> Option<u64>
     ensures some { IfSome result (λ digit. (digit ≡ digit_value byte) × (digit < 10)) }
     ensures none { IfNone result (10 ≤ digit_value byte) }
 {
@@ -116,7 +116,7 @@ pub(crate) fn after_word<'a>(line: &'a [u8], word: &[u8]) -> Option<Option<&'a [
 
 /// Whether a line begins with a word, byte by byte: for words as short as these `starts_with` costs more.
 #[inline(always)]
-fn begins_with(line: &[u8], word: &[u8]) -> bool
+pub(crate) fn begins_with(line: &[u8], word: &[u8]) -> bool
     ensures bound { result ≡ true → length word.now ≤ length line.now }
     ensures yes { result ≡ true → line.now ≡ word.now ++ drop (length word.now) line.now }
     ensures no { result ≡ false → (rest : List ℕ) → line.now ≢ word.now ++ rest }
@@ -145,7 +145,7 @@ pub(crate) fn behind_word<'a>(line: &'a [u8], word: &[u8]) -> Option<&'a [u8]>
 
 /// The digits at the front of a text, nineteen at most: their value, and how many they are.
 #[inline(always)]
-fn digits_in_front(text: &[u8]) -> (u64, usize)
+pub(crate) fn digits_in_front(text: &[u8]) -> (u64, usize)
     ensures within { result.1 ≤ length text.now }
     ensures few { result.1 ≤ 19 }
     ensures digits { AllDigits 10 (take result.1 text.now) }

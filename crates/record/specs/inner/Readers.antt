@@ -54,3 +54,11 @@ pub record HasWholeLine {N : Type 0} (reader : Reader N) : Type 0 where
   pub whole : BeginsWithEnd reader.lines.ahead
   pub no_end : HasNoEnd reader.lines.line
   pub short : length reader.lines.line ≤ limit reader.due
+
+-- whatever has been read so far, more of it has been read now, and nothing was pulled
+abbrev pub StillReads : {N : Type 0} → (N → Option RecordingView → Type 0) → Reader N → Reader N → Type 0
+StillReads tells old new = (before left : Option (List ℕ)) → IsReading tells before left old → IsReading tells before left new
+
+-- of some source so much has been read
+abbrev pub HasReadSome : {N : Type 0} → (N → Option RecordingView → Type 0) → Reader N → Type 0
+HasReadSome tells reader = (before : Option (List ℕ)) × (left : Option (List ℕ)) × IsReading tells before left reader

@@ -7,11 +7,12 @@ use Rattle.base.specs.declared.controller.protocol.Protocol.{Protocol}
 use Rattle.record.specs.declared.version.Version.{Version}
 use Rattle.record.specs.Versions.{protocol_words, IsShapeIn}
 use Rattle.record.specs.Grammar.{IsOwner}
-use Rattle.base.specs.Spelling.{step_words, FitsStep}
+use Rattle.base.specs.Spelling.{joined, step_words, FitsStep}
 use Rattle.base.specs.declared.step.Step.{Step}
 use Rattle.record.specs.declared.cells.Cell.{Cell}
 use Rattle.record.specs.Cells.{cell_words, FitsCell}
-use Rattle.record.specs.Text.{by_words, end_words, shape_words, opening_words}
+use Rattle.record.specs.Text.{by_words, end_words, entry_words, shape_words, opening_words}
+use Rattle.record.specs.declared.recording.Entry.{Entry}
 use Rattle.record.specs.declared.fault.ReadKind.{ReadKind}
 use Rattle.record.specs.declared.fault.ReadKind.TheVariants.{OverLimit, BadLine, BadOutcome, CountDiffers, UnknownProtocol}
 use Rattle.record.specs.Refused.{HasNoEnd, IsHigherCount, IsOtherShape, HasNoOutcome, HasOtherName}
@@ -38,6 +39,13 @@ BeginsWithEnd bytes = (behind : List ℕ) × (bytes ≡ 10 ∷ behind)
 pub record IsTakenOff (old new : Gathered) : Type 0 where
   pub line : new.line ≡ []
   pub ahead : old.ahead ≡ 10 ∷ new.ahead
+  pub number : new.number ≡ old.number + 1
+
+-- the line of this entry, no part of which was gathered, was taken off with its end
+pub record IsEntryTakenOff (entry : Entry) (old new : Gathered) : Type 0 where
+  pub none : old.line ≡ []
+  pub ahead : old.ahead ≡ joined (entry_words entry) ++ 10 ∷ new.ahead
+  pub line : new.line ≡ []
   pub number : new.number ≡ old.number + 1
 
 -- whether there are bytes

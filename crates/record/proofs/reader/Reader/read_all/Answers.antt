@@ -14,23 +14,27 @@ returns-in_err-gather-clause-fault g c =
     let left = g.S.Source.left c.gather.new.source in
     let kind = c.in_err-gather.field-0.0 in
     let new = c.gather.new.self in
-    let taken = then-gathered g.N.Entries.tells _ _ left c.loop-self.self new c.loop-self.invariant.reading c.gather.ensures.pulled in
+    let reading = c.accept_entries.ensures.reads _ _ c.loop-self.invariant.reading in
+    let taken = then-gathered g.N.Entries.tells _ _ left c.accept_entries.new.self new reading c.gather.ensures.pulled in
     handed-on c.from_residual.result _ _ _ c.from_residual.ensures.1
     (then-refused g.N.Entries.tells _ left new kind taken
     (subst (λ d. IsFaultOfRest d (pending new.lines) left kind) (sym c.gather.ensures.pulled.due) c.in_err-gather.ensures.err))
 
 pub loop-self-smaller : goal.loop-self-smaller
 loop-self-smaller g c =
-    let taken =
-    then-gathered g.N.Entries.tells _ _ (g.S.Source.left c.gather.new.source) c.loop-self.self c.gather.new.self c.loop-self.invariant.reading
-    c.gather.ensures.pulled in
+    let left = g.S.Source.left c.gather.new.source in
+    let reading = c.accept_entries.ensures.reads _ _ c.loop-self.invariant.reading in
+    let taken = then-gathered g.N.Entries.tells _ _ left c.accept_entries.new.self c.gather.new.self reading c.gather.ensures.pulled in
+    let less : lines_left c.accept.new.self.due < lines_left c.accept_entries.new.self.due =
     subst (λ d. lines_left c.accept.new.self.due < lines_left d) c.gather.ensures.pulled.due
-    (fewer-left c.gather.new.self.due _ c.accept.new.self.due (c.in_ok-accept.ensures.ok taken.recording taken.read).taken.leads)
+    (fewer-left c.gather.new.self.due _ c.accept.new.self.due (c.in_ok-accept.ensures.ok taken.recording taken.read).taken.leads) in
+    omega (arith, less, c.accept_entries.ensures.fewer)
 
 pub loop-self-preserved : goal.loop-self-preserved
 loop-self-preserved g c =
     let left = g.S.Source.left c.gather.new.source in
-    let taken = then-gathered g.N.Entries.tells _ _ left c.loop-self.self c.gather.new.self c.loop-self.invariant.reading c.gather.ensures.pulled in
+    let reading = c.accept_entries.ensures.reads _ _ c.loop-self.invariant.reading in
+    let taken = then-gathered g.N.Entries.tells _ _ left c.accept_entries.new.self c.gather.new.self reading c.gather.ensures.pulled in
     record {
       reading =
           then-taken g.N.Entries.tells _ left c.gather.new.self c.accept.new.self taken (c.in_ok-accept.ensures.ok taken.recording taken.read)
@@ -44,7 +48,8 @@ returns-in_err-accept-clause-fault g c =
     let kind = c.in_err-accept.field-0.0 in
     let new = c.gather.new.self in
     let line = c.in_ok-gather.ensures.ok in
-    let taken = then-gathered g.N.Entries.tells _ _ left c.loop-self.self new c.loop-self.invariant.reading c.gather.ensures.pulled in
+    let reading = c.accept_entries.ensures.reads _ _ c.loop-self.invariant.reading in
+    let taken = then-gathered g.N.Entries.tells _ _ left c.accept_entries.new.self new reading c.gather.ensures.pulled in
     handed-on c.from_residual-in_err-accept.result _ _ _ c.from_residual-in_err-accept.ensures.1
     (subst (λ (l : Gathered). IsRefused (g.S.Source.left c.args.source.now) left 0 Header (l.number + 1) kind) (sym c.in_err-accept.ensures.lines)
     (then-refused g.N.Entries.tells _ left new kind taken
@@ -110,7 +115,10 @@ returns-clause-few g c = grind (arith, common_steps)
 
 pub accept-requires-clause-read : goal.accept-requires-clause-read
 accept-requires-clause-read g c =
-    let taken =
-    then-gathered g.N.Entries.tells _ _ (g.S.Source.left c.gather.new.source) c.loop-self.self c.gather.new.self c.loop-self.invariant.reading
-    c.gather.ensures.pulled in
+    let left = g.S.Source.left c.gather.new.source in
+    let reading = c.accept_entries.ensures.reads _ _ c.loop-self.invariant.reading in
+    let taken = then-gathered g.N.Entries.tells _ _ left c.accept_entries.new.self c.gather.new.self reading c.gather.ensures.pulled in
     (taken.recording, taken.read)
+
+pub accept_entries-requires-clause-read : goal.accept_entries-requires-clause-read
+accept_entries-requires-clause-read g c = (_, _, c.loop-self.invariant.reading)
