@@ -1,3 +1,4 @@
+use base::Step;
 use memchr::memchr;
 use std::alloc::Global;
 use std::io;
@@ -53,6 +54,19 @@ impl<R: Read + Drop> Lines<R> {
         }
         self.number = self.number.saturating_add(1);
         true
+    }
+
+    /// Goes on to the next line where all of it was read ahead and it is found at once to be a step's, and answers the step.
+    #[inline(always)]
+    pub fn step_ahead(&mut self) -> Option<Step> {
+        let ahead = self.reader.buffer();
+        let next = &ahead[self.held.min(ahead.len())..];
+        let (step, rest) = Step::read_ahead(next, b'\n')?;
+        let held = next.len() - rest.len();
+        self.reader.consume(self.held);
+        self.held = held;
+        self.number = self.number.saturating_add(1);
+        Some(step)
     }
 
     /// How many of the bytes that were read ahead are the next line and its LF: 0 where not all of it was, or it is too long.

@@ -1,3 +1,6 @@
+ghost use Rattle.std.specs.Prelude.{◌≡◌, ◌∷◌, ◌++◌, []};
+ghost use Rattle.base.specs.Spelling.{joined, outcome_words};
+
 use crate::complaining::Complaints;
 use crate::fault::Fault;
 use crate::finding::Finding;
@@ -78,22 +81,53 @@ fn play_all<I: Read + Drop, O: Write + Drop, E: Write>(
 ) -> Result<Finding, Fault> {
     let mut text = Text::new();
     for _ in 0..u64::MAX {
-        if printer.has_failed() || !(lines.advance_ahead() || read_line(lines, printer)?) {
+        if printer.has_failed() {
             break;
         }
-        if lines.line().is_empty() {
-            continue;
-        }
-        let Some(step) = step_of(lines.line()) else {
-            printer.flush();
-            complaints.refuse(lines)?;
-            continue;
+        let step = match lines.step_ahead() {
+            Some(step) => step,
+            None => match next_line(lines, printer, complaints)? {
+                Line::Step(step) => step,
+                Line::Passed => continue,
+                Line::End => break,
+            },
         };
         if play_one(world, watch, step, &mut text, printer)? == Finding::Violation {
             return Ok(Finding::Violation);
         }
     }
     Ok(Finding::Nothing)
+}
+
+/// What a line of the input is.
+#[derive(Clone, Copy)]
+enum Line {
+    Step(Step),
+    /// It is empty, or it was refused and told of.
+    Passed,
+    /// There is none any more.
+    End,
+}
+
+/// The next line, of which all may still have to be read.
+#[inline(never)]
+fn next_line<I: Read + Drop, O: Write + Drop, E: Write>(
+    lines: &mut Lines<I>,
+    printer: &mut Printer<O>,
+    complaints: &mut Complaints<'_, E>,
+) -> Result<Line, Fault> {
+    if !(lines.advance_ahead() || read_line(lines, printer)?) {
+        return Ok(Line::End);
+    }
+    if lines.line().is_empty() {
+        return Ok(Line::Passed);
+    }
+    let Some(step) = step_of(lines.line()) else {
+        printer.flush();
+        complaints.refuse(lines)?;
+        return Ok(Line::Passed);
+    };
+    Ok(Line::Step(step))
 }
 
 /// Reads the next line. What was printed is put out first where the line may have to be waited for.
@@ -126,12 +160,29 @@ fn play_one<O: Write + Drop>(
     Ok(Finding::Violation)
 }
 
-/// Prints an outcome by a text that is used again for each.
+/// Prints an outcome: most at once, the others by a text that is used again for each.
+#[inline(always)]
 fn print_outcome<O: Write + Drop>(outcome: Outcome, text: &mut Text, printer: &mut Printer<O>) {
-    text.clear();
-    text.push_outcome(outcome);
-    text.push(b"\n");
-    printer.bytes(text.as_slice());
+    match outcome {
+        Outcome::Sent => print_line(outcome, b"sent\n", printer),
+        Outcome::Moved => print_line(outcome, b"moved\n", printer),
+        Outcome::Idle => print_line(outcome, b"idle\n", printer),
+        Outcome::Held => print_line(outcome, b"held\n", printer),
+        _ => {
+            text.clear();
+            text.push_outcome(outcome);
+            text.push(b"\n");
+            print_line(outcome, text.as_slice(), printer);
+        }
+    }
+}
+
+/// Prints the line of an outcome.
+#[inline(always)]
+fn print_line<O: Write + Drop>(_outcome: Outcome, line: &[u8], printer: &mut Printer<O>)
+    requires { line.now ≡ joined (outcome_words _outcome) ++ 10 ∷ [] }
+{
+    printer.bytes(line);
 }
 
 /// The step that a line is.

@@ -37,6 +37,7 @@ impl<O: Write + Drop> Printer<O> {
     }
 
     /// Prints these bytes as they are.
+    #[inline(always)]
     pub fn bytes(&mut self, bytes: &[u8]) {
         if !self.has_failed() {
             let written = self.output.write_all(bytes);
