@@ -5,7 +5,7 @@ use base::{NoMemory, Step};
 use cores::Cores;
 use machine::Made;
 use scenario::Scenario;
-use schedule::{Holding, Lanes};
+use schedule::Lanes;
 use std::alloc::{Allocator, Global};
 use std::marker::Model;
 use world::World;
@@ -17,8 +17,6 @@ pub struct Moment<'s, A: Allocator, B: Allocator> {
     world: World,
     cores: Cores,
     lanes: Lanes<'s, A, B>,
-    // What the world's lines would hold.
-    holding: Holding,
     // Whether it isn't spoilt.
     usable: bool,
 }
@@ -46,7 +44,6 @@ impl<'s, A: Allocator, B: Allocator> Drop for Moment<'s, A, B> {
             world: _,
             cores: _,
             lanes: _,
-            holding: _,
             usable: _,
         } = self;
     }
@@ -72,12 +69,10 @@ impl<'s, A: Allocator, B: Allocator + Clone> Moment<'s, A, B> {
         let caches = world.shape().caches();
         let cores = Cores::open(alloc, caches)?;
         let lanes = Lanes::open(alloc, scenario, caches, &world, &cores)?;
-        let holding = Holding::of(&world);
         Ok(Moment {
             world,
             cores,
             lanes,
-            holding,
             usable: true,
         })
     }
@@ -116,9 +111,9 @@ impl<'s, A: Allocator, B: Allocator + Clone> Moment<'s, A, B> {
             return Err(NoMemory);
         };
         let turned = note(&mut self.cores, step, made.outcome);
-        let (holding, world, cores) = (&self.holding, &self.world, &self.cores);
+        let (world, cores) = (&self.world, &self.cores);
         let lanes = &mut self.lanes;
-        let Ok(()) = lanes.follow(alloc, pick, &made, turned, holding, world, cores) else {
+        let Ok(()) = lanes.follow(alloc, pick, &made, turned, world, cores) else {
             self.usable = false;
             return Err(NoMemory);
         };

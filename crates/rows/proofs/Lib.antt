@@ -4,6 +4,7 @@ pub mod Counted
 pub mod Fronts
 pub mod Held
 pub mod Lowest
+pub mod Put
 pub mod Rising
 pub mod Tree
 pub mod Words

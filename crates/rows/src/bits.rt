@@ -1,4 +1,4 @@
-ghost use Rattle.std.specs.Prelude.{◌≡◌, ℕ, ◌+◌, ◌*◌, ◌<◌, ◌≤◌, ◌^◌, ◌↔◌, ◌/◌, ◌%◌, false, true, IfNone};
+ghost use Rattle.std.specs.Prelude.{◌≡◌, ℕ, ◌+◌, ◌*◌, ◌<◌, ◌≤◌, ◌^◌, ◌↔◌, ◌/◌, ◌%◌, ◌==◌, if◌then◌else◌, false, true, IfNone};
 ghost use Rattle.std.specs.Prelude.{IfOk, IfSome, IsSome, OnErr, OnOk, length, replicate, slice_set};
 ghost use Rattle.std.specs.Int.{bit_at};
 ghost use Rattle.rows.specs.Flags.{is_set, set_count, IsFirstFrom, IsKth, NoneFrom};
@@ -98,6 +98,22 @@ impl Bits {
             self.words[index] = word & !bit;
             self.ones -= 1;
         }
+    }
+
+    /// Makes flags of a row of at most 64 as told: at these places, by a bit for each.
+    #[inline(always)]
+    pub fn put(&mut self, places: u64, told: u64)
+        requires few { length self.old ≤ 64 }
+        requires inside { (k : ℕ) → bit_at places k ≡ 1 → k < length self.old }
+        ensures long { length self.new ≡ length self.old }
+        ensures each { (k : ℕ) → is_set self.new k ≡ (if bit_at places k == 1 then bit_at told k == 1 else is_set self.old k) }
+    {
+        let Some(first) = self.words.first() else {
+            return;
+        };
+        let word = (*first & !places) | (told & places);
+        self.words[0] = word;
+        self.ones = word.count_ones();
     }
 
     /// Takes all flags back.

@@ -1,5 +1,4 @@
 pub mod Choices
-pub mod Holding
 pub mod Listed
 pub mod Lanes
 pub mod Fitting

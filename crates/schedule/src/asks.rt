@@ -13,7 +13,7 @@ ghost use Rattle.schedule.specs.inner.Owned.{AreOf};
 ghost use Rattle.schedule.specs.declared.choosing.Choice.TheVariants.{Offer};
 
 use crate::choosing::step_of;
-use crate::groups::{group, mark_places, row_of};
+use crate::groups::Groups;
 use base::{BlockId, CacheId, CoreAsk, NoMemory};
 use blocks::HeldAsks;
 use cores::Cores;
@@ -35,7 +35,7 @@ pub(crate) struct Asks {
     core: Option<CacheId>,
     // Where the asks about a block are, if they are grouped.
     grouped: bool,
-    places: [u64; 16],
+    groups: Groups,
     // Where what is offered next is listed.
     next: Vec<CoreAsk>,
 }
@@ -50,7 +50,7 @@ impl Model for Asks {
 
     ghost view = { λ a. record { asks = a.asks.items; unheld = a.unheld } };
 
-    ghost invariant = { λ a. AreKept a.asks.items a.unheld a.core × (a.grouped ≡ true → Cover a.places a.asks.items) };
+    ghost invariant = { λ a. AreKept a.asks.items a.unheld a.core × (a.grouped ≡ true → Cover a.groups a.asks.items) };
 }
 
 impl Asks {
@@ -71,7 +71,7 @@ impl Asks {
             unheld,
             core: None,
             grouped: false,
-            places: [0; 16],
+            groups: Groups::none(),
             next: Vec::new(alloc),
         })
     }
@@ -112,7 +112,7 @@ impl Asks {
             &mut self.unheld,
         )?;
         self.core = core_of(self.asks.as_slice());
-        self.grouped = group(self.asks.as_slice(), &mut self.places);
+        self.grouped = self.groups.group(self.asks.as_slice());
         Ok(true)
     }
 
@@ -144,13 +144,12 @@ impl Asks {
     pub(crate) fn mark(&mut self, held: HeldAsks, core: CacheId, block: BlockId)
         ensures { self.new ≡ marked_by held core block self.old }
     {
+        let asks = self.asks.as_slice();
         if self.grouped {
-            let places = self.places[row_of(block)];
-            let asks = self.asks.as_slice();
-            mark_places(held, core, block, places, asks, &mut self.unheld);
+            self.groups.mark(held, core, block, asks, &mut self.unheld);
             return;
         }
-        mark_at(held, core, block, self.asks.as_slice(), &mut self.unheld);
+        mark_at(held, core, block, asks, &mut self.unheld);
     }
 
     /// How many asks can be put, by their marks.

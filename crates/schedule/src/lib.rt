@@ -5,14 +5,12 @@ mod asks;
 mod choosing;
 mod dice;
 mod groups;
-mod holding;
 mod lanes;
 mod laws;
 mod picking;
 
 pub use choosing::{Choice, choices};
 pub use dice::Dice;
-pub use holding::Holding;
 pub use lanes::Lanes;
 pub use laws::{
     alike_trees_give_the_same_choices, draws_follow_the_words, first_words, lanes_stay_small,

@@ -3,7 +3,6 @@ use Rattle.std.specs.Prelude.{◌≡◌, true, List, Some, None, if◌then◌els
 use Rattle.both_tables.specs.Tables.{Tables}
 use Rattle.machine.specs.Machine.{State}
 use Rattle.cores.specs.Cores.{Core}
-use Rattle.schedule.specs.Holding.{IsHolding}
 use Rattle.schedule.specs.Lanes.{AreReady, IsKept, Laned, laned, whole}
 use Rattle.moment.specs.Seen.{Seen}
 use Rattle.moment.specs.declared.moments.Moment.TheInside.{Inside}
@@ -15,9 +14,9 @@ pub record Holds (tables : Tables) (state : State) (cores : List Core) (lanes : 
   pub ready : AreReady tables state cores lanes
   pub tracked : IsTracked state cores
 
--- so it is of a moment that isn't spoilt; and what lines would hold is always told right
+-- so it is of a moment that isn't spoilt
 abbrev pub IsSound : {A B : Type 0} → Inside A B → Type 0
-IsSound m = (m.usable ≡ true → Holds m.world.tables m.world.state m.cores (laned m.lanes)) × IsHolding m.world.tables m.holding
+IsSound m = m.usable ≡ true → Holds m.world.tables m.world.state m.cores (laned m.lanes)
 
 -- a moment, as contracts see it
 abbrev pub seen : {A B : Type 0} → Inside A B → Seen

@@ -10,7 +10,6 @@ ghost use Rattle.schedule.specs.Lanes.{lanes_of};
 ghost use Rattle.schedule.specs.inner.Changes.{IsCountedIn};
 
 use super::{Lane, Lanes};
-use crate::holding::Holding;
 use crate::picking::Pick;
 use base::{CacheId, CoreAsk, NoMemory, Place};
 use cores::Cores;
@@ -28,7 +27,6 @@ impl<'s, A: Allocator, B: Allocator + Clone> Lanes<'s, A, B> {
     ghost use Rattle.scenario.specs.Tree.{Tree};
     ghost use Rattle.schedule.specs.Choices.{chosen_step, rest_after};
     ghost use Rattle.schedule.specs.Fitting.{LanesFit};
-    ghost use Rattle.schedule.specs.Holding.{IsHolding};
     ghost use Rattle.schedule.specs.Lanes.{AreAsFree, AreReady, Follows, IsKept, IsLevel, IsListed, laned, lanes_of, listed_at, offers_at, whole};
     ghost use Rattle.schedule.specs.Picks.{IsPicked, choice_of};
     ghost use Rattle.schedule.specs.inner.Changes.{AreCountedAt, ChangesCounts, IsCountedAt, IsCountedIf, IsCountedIn, KeepsOthers};
@@ -47,13 +45,11 @@ impl<'s, A: Allocator, B: Allocator + Clone> Lanes<'s, A, B> {
         pick: Pick,
         made: &Made,
         turned: bool,
-        holding: &Holding,
         world: &World,
         cores: &Cores,
     ) -> Result<(), NoMemory>
         requires kept { IsKept (laned self.old) }
         requires picked { IsPicked pick (laned self.old) }
-        requires holding { IsHolding world.now.tables holding.now }
         ensures rest { OnOk result (Alike (whole (laned self.new)) (rest_after (choice_of (laned self.old) pick) (whole (laned self.old)))) }
         ensures kept { OnOk result (IsKept (laned self.new)) }
         ensures ready { OnOk result ((before : State) (cores_before : List Core) → AreReady world.now.tables before cores_before (laned self.old) →
@@ -62,7 +58,7 @@ impl<'s, A: Allocator, B: Allocator + Clone> Lanes<'s, A, B> {
         ensures fits { (tree : Tree) → LanesFit self.old tree → LanesFit self.new tree }
     {
         let anew = self.take_picked(alloc, pick, world)?;
-        let marked = self.mark_again(anew, made, pick.step().block(), holding);
+        let marked = self.mark_again(anew, made, pick.step().block(), world);
         let at = changed_at(turned, marked, made);
         self.count_at(at, cores);
         self.count_anew(anew, at, cores);

@@ -27,6 +27,8 @@ impl<'s, A: Allocator, B: Allocator> Lanes<'s, A, B> {
     }
 
     /// The k-th choice of that list, counted from 0, if it has so many: of an offer the lane that has it and its place there.
+    // Its answer isn't handed up by memory where it is inlined.
+    #[inline(always)]
     pub fn pick(&self, world: &World, cores: &Cores, k: u64) -> Option<Pick>
         requires kept { IsKept (laned self.now) }
         requires ready { AreReady world.now.tables world.now.state cores.now (laned self.now) }

@@ -8,7 +8,6 @@ ghost use Rattle.schedule.specs.inner.Changes.{IsMarkedIn};
 
 use super::changing::row_of;
 use super::{Lane, Lanes};
-use crate::holding::Holding;
 use base::{BlockId, CacheId};
 use blocks::HeldAsks;
 use machine::{Actor, Made};
@@ -22,7 +21,6 @@ impl<'s, A: Allocator, B: Allocator + Clone> Lanes<'s, A, B> {
     ghost use Rattle.cores.specs.Cores.{Core};
     ghost use Rattle.both_tables.specs.Tables.{Tables};
     ghost use Rattle.machine.specs.Machine.{State};
-    ghost use Rattle.schedule.specs.Holding.{IsHolding};
     ghost use Rattle.schedule.specs.Lanes.{Follows, IsKept, laned, lanes_of, listed_at};
     ghost use Rattle.schedule.specs.Listed.{IsMarked};
     ghost use Rattle.schedule.specs.inner.Changes.{AreMarked, IsMarkedIn, ChangesMarks, WereReady, marked_in};
@@ -34,17 +32,17 @@ impl<'s, A: Allocator, B: Allocator + Clone> Lanes<'s, A, B> {
         done: Option<usize>,
         made: &Made,
         block: BlockId,
-        holding: &Holding,
+        world: &World,
     ) -> bool
         requires { IsKept (laned self.old) }
         ensures kept { IsKept (laned self.new) }
         ensures same { ChangesMarks (laned self.old) (laned self.new) }
         ensures left { result ≡ false → laned self.new ≡ laned self.old }
-        ensures marked { (tables : Tables) (now : State) (step : Step) (before : State) (cores_before cores_now : List Core) (but : Option ℕ) →
-            IsHolding tables holding.now → IfSome done (λ lane. IsMarked tables now (listed_at (laned self.old) lane)) →
+        ensures marked { (now : State) (step : Step) (before : State) (cores_before cores_now : List Core) (but : Option ℕ) →
+            IfSome done (λ lane. IsMarked world.now.tables now (listed_at (laned self.old) lane)) →
             before.broken ≡ false → now.broken ≡ false → block.0 ≡ block_of step →
-            Follows tables step made.now before now cores_before cores_now → WereReady tables before cores_before now but (laned self.old) →
-            AreMarked tables now (laned self.new) }
+            Follows world.now.tables step made.now before now cores_before cores_now →
+            WereReady world.now.tables before cores_before now but (laned self.old) → AreMarked world.now.tables now (laned self.new) }
     {
         let Some(acted) = made.acted else {
             return false;
@@ -57,8 +55,8 @@ impl<'s, A: Allocator, B: Allocator + Clone> Lanes<'s, A, B> {
         else {
             return false;
         };
-        let held = holding.at(after);
-        if held == holding.at(before) {
+        let held = world.held_asks(after);
+        if held == world.held_asks(before) {
             return false;
         }
         self.mark_core(done, cache, block, held);

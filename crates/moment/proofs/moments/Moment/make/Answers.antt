@@ -1,8 +1,6 @@
 use Rattle.std.proofs.Common.{◌≡◌, ◌<◌, refl, sym, subst, length, true}
 use Rattle.both_tables.specs.Tables.{Tables}
 use Rattle.base.specs.declared.step.Step.{Step}
-use Rattle.schedule.specs.declared.holding.Holding.{Holding}
-use Rattle.schedule.specs.Holding.{IsHolding}
 use Rattle.schedule.specs.Lanes.{AreReady, Follows, laned, whole}
 use Rattle.schedule.specs.Picks.{choice_of}
 use Rattle.moment.specs.Moments.{Moment}
@@ -19,51 +17,34 @@ note-turned-requires g c =
     let usable : c.self.inside.usable ≡ true =
     usable-told c.self.inside.usable w.tables _ c.args.k (subst (λ (s : Seen). c.args.k < length (choices_in s)) (sym c.self.view_is) c.requires) in
     can-be-noted w.tables w.state c.self.inside.cores (whole lanes) c.args.k (choice_of lanes c.in-Some.pick) c.step-step.result c.in-Ok.made
-    c.make.new.self.state (c.self.invariant.0 usable).tracked (sym c.in-Some.ensures.choice) (c.step-step.ensures lanes) c.in-Ok.ensures.ok.told
-
--- what lines would hold is told of the world behind a step, as its tables are the same
-told : (tables behind : Tables) (holding : Holding) → behind ≡ tables → IsHolding tables holding → IsHolding behind holding
-told tables behind holding same h = subst (λ (t : Tables). IsHolding t holding) (sym same) h
-
-pub follow-requires-clause-holding : goal.follow-requires-clause-holding
-follow-requires-clause-holding g c =
-    told c.self.inside.world.tables c.make.new.self.tables c.self.inside.holding c.in-Ok.ensures.ok.tables c.self.invariant.1
+    c.make.new.self.state (c.self.invariant usable).tracked (sym c.in-Some.ensures.choice) (c.step-step.ensures lanes) c.in-Ok.ensures.ok.told
 
 pub invariant_of-self : goal.invariant_of-self
-invariant_of-self g c = (
-  λ spoilt. absurd (cc spoilt),
-  told c.self.inside.world.tables c.make.new.self.tables c.self.inside.holding c.in_default-make.ensures.err.tables c.self.invariant.1,
-)
+invariant_of-self g c spoilt = absurd (cc spoilt)
 
 pub invariant_of-self-in_default-follow : goal.invariant_of-self-in_default-follow
-invariant_of-self-in_default-follow g c = (
-  λ spoilt. absurd (cc spoilt),
-  told c.self.inside.world.tables c.make.new.self.tables c.self.inside.holding c.in-Ok.ensures.ok.tables c.self.invariant.1,
-)
+invariant_of-self-in_default-follow g c spoilt = absurd (cc spoilt)
 
 pub invariant_of-self-in-Ok-follow : goal.invariant_of-self-in-Ok-follow
-invariant_of-self-in-Ok-follow g c = (
-  λ usable.
-      let w = c.self.inside.world in
-      let cores = c.self.inside.cores in
-      let lanes = laned c.self.inside.lanes in
-      let new = c.make.new.self in
-      let steps = c.in-Ok.ensures.ok in
-      let holds = c.self.invariant.0 usable in
-      record {
-        kept = c.in-Ok-follow.ensures.kept;
-        ready =
-            c.in-Ok-follow.ensures.ready w.state cores (subst (λ (t : Tables). AreReady t w.state cores lanes) (sym steps.tables) holds.ready)
-            (subst (λ (s : Step). Follows new.tables s c.in-Ok.made w.state new.state cores c.note-turned.new.cores) (c.step-step.ensures lanes)
-            (subst (λ (t : Tables). Follows t c.step-step.result c.in-Ok.made w.state new.state cores c.note-turned.new.cores) (sym steps.tables)
-            (follows-noted w.tables c.step-step.result c.in-Ok.made w.state new.state cores c.note-turned.new.cores steps.told c.note-turned.ensures.noted)))
-            c.note-turned.ensures.turned;
-        tracked =
-            stays-tracked w.tables w.state cores (whole lanes) c.args.k (choice_of lanes c.in-Some.pick) c.step-step.result c.in-Ok.made new.state
-            holds.tracked (sym c.in-Some.ensures.choice) (c.step-step.ensures lanes) steps.told c.note-turned.new.cores c.note-turned.ensures.noted;
-      },
-  told c.self.inside.world.tables c.make.new.self.tables c.self.inside.holding c.in-Ok.ensures.ok.tables c.self.invariant.1,
-)
+invariant_of-self-in-Ok-follow g c usable =
+    let w = c.self.inside.world in
+    let cores = c.self.inside.cores in
+    let lanes = laned c.self.inside.lanes in
+    let new = c.make.new.self in
+    let steps = c.in-Ok.ensures.ok in
+    let holds = c.self.invariant usable in
+    record {
+      kept = c.in-Ok-follow.ensures.kept;
+      ready =
+          c.in-Ok-follow.ensures.ready w.state cores (subst (λ (t : Tables). AreReady t w.state cores lanes) (sym steps.tables) holds.ready)
+          (subst (λ (s : Step). Follows new.tables s c.in-Ok.made w.state new.state cores c.note-turned.new.cores) (c.step-step.ensures lanes)
+          (subst (λ (t : Tables). Follows t c.step-step.result c.in-Ok.made w.state new.state cores c.note-turned.new.cores) (sym steps.tables)
+          (follows-noted w.tables c.step-step.result c.in-Ok.made w.state new.state cores c.note-turned.new.cores steps.told c.note-turned.ensures.noted)))
+          c.note-turned.ensures.turned;
+      tracked =
+          stays-tracked w.tables w.state cores (whole lanes) c.args.k (choice_of lanes c.in-Some.pick) c.step-step.result c.in-Ok.made new.state
+          holds.tracked (sym c.in-Some.ensures.choice) (c.step-step.ensures lanes) steps.told c.note-turned.new.cores c.note-turned.ensures.noted;
+    }
 
 pub returns-clause-ok : goal.returns-clause-ok
 returns-clause-ok g c =
@@ -85,7 +66,7 @@ returns-clause-ok g c =
       leads = record {
         rest = whole (laned c.follow.new.self);
         now = now-made w.tables w.state cores (whole lanes) c.args.k choice c.step-step.result c.in-Ok.made c.make.new.self.state
-            (c.self.invariant.0 usable).tracked (sym c.in-Some.ensures.choice) (c.step-step.ensures lanes) steps.told c.note-turned.new.cores
+            (c.self.invariant usable).tracked (sym c.in-Some.ensures.choice) (c.step-step.ensures lanes) steps.told c.note-turned.new.cores
             (whole (laned c.follow.new.self)) c.self.inside.usable c.note-turned.ensures.noted usable;
         alike = c.in-Ok-follow.ensures.rest;
       };

@@ -26,7 +26,7 @@ returns-clause-ready g c before cb ready follows free =
     let sound = was-sound world.tables before step (ap (λ (s : State). s.broken) (sym follows.told.state) ∙ sn) in
     let were = c.in_ok-anew.ensures.were before cb sound ready in
     let right : world.state.broken ≡ false → AreMarked world.tables world.state marked =
-    (λ now. c.mark_again-marked.ensures.marked world.tables world.state step before cb cores anew c.requires.holding c.in_ok-anew.ensures.marked
+    (λ now. c.mark_again-marked.ensures.marked world.state step before cb cores anew c.in_ok-anew.ensures.marked
     sound now here follows were) in
     all-counted world.tables before world.state cb cores anew at taken marked (laned c.count_at.new.self) (laned c.count_anew.new.self)
     were c.mark_again-marked.ensures.same right c.count_at.ensures.counts c.count_at.ensures.each c.count_anew.ensures.counts c.count_anew.ensures.each
