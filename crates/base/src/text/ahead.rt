@@ -4,7 +4,7 @@
 
 ghost use Rattle.std.specs.Prelude.{◌≡◌, ◌∷◌, ◌++◌, IfSome, codes};
 ghost use Rattle.std.specs.Fmt.{decimal};
-ghost use Rattle.base.specs.Spelling.{joined, spaced, ask_words, outcome_words, step_words};
+ghost use Rattle.base.specs.Spelling.{joined, ask_words, outcome_words, step_words};
 ghost use Rattle.base.specs.inner.Behind.{kind_word};
 
 use crate::ids::{BlockId, CacheId};
