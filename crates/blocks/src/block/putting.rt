@@ -2,11 +2,10 @@
 
 ghost use Rattle.std.specs.Prelude.{◌≡◌, IfOk, IsOk, None, OnErr, OnOk, Some};
 ghost use Rattle.network.specs.Room.{HasRoomFor};
-ghost use Rattle.network.specs.Traffic.{all_sent};
 ghost use Rattle.control.specs.LineEffect.{line_after, line_completes, line_sends};
 ghost use Rattle.control.specs.declared.line.Line.{Line};
 ghost use Rattle.machine.specs.Block.{BlockState};
-ghost use Rattle.machine.specs.Transition.{IsThere, messages_of, without};
+ghost use Rattle.machine.specs.Transition.{IsThere, messages_of};
 ghost use Rattle.rows.specs.Row.{item};
 ghost use Rattle.blocks.specs.inner.Putting.{HasSent, IsPut, is_idle_input, put_at, receiver_of};
 
@@ -40,10 +39,9 @@ pub(crate) enum Put {
 }
 
 impl Block {
-    ghost use Rattle.std.specs.Prelude.{◌≡◌, IfOk, IsOk, OnErr, slice_get};
+    ghost use Rattle.std.specs.Prelude.{◌≡◌, IfOk, IsOk, OnErr};
     ghost use Rattle.base.specs.declared.step.Step.TheVariants as step;
     ghost use Rattle.network.specs.Room.{HasRoomFor};
-    ghost use Rattle.control.specs.declared.line.Line.{Line};
     ghost use Rattle.machine.specs.Transition.{IsThere, decision_of, messages_of};
     ghost use Rattle.blocks.specs.Marking.{marks_of};
     ghost use Rattle.blocks.specs.Steps.{Visits, Stays, WantsNone};
@@ -163,7 +161,8 @@ impl Block {
         self.serve(controllers, &step)
     }
 
-    /// Puts an input to the line of a cache, and says who may read and write the block from then on, and what its last store was.
+    /// Puts an input to the line of a cache, and notes who may read and write the block from then on, and what its last store was.
+    // (The step is handed in for the contract alone.)
     #[inline(always)]
     fn put(
         &mut self,

@@ -1,4 +1,5 @@
-//! What a step serves. A step of each kind is made by code of its own, in which nothing of the other kinds is asked.
+//! What a step serves that isn't put to a line that is kept: requests, responses to the home, and whatever else may be asked of a block.
+//! A step of each kind is made by code of its own, in which nothing of the other kinds is asked.
 
 use crate::block::Block;
 use crate::block::deciding::at_ask;
@@ -6,7 +7,7 @@ use base::{BlockId, Step};
 use both_tables::Tables;
 use machine::Decision;
 
-/// What a step serves: an ask, or a message of one of the three kinds.
+/// What a step serves: a message at a place of its wire, or whatever the step says.
 pub(crate) trait Served {
     ghost use Rattle.std.specs.Prelude.{◌≡◌};
     ghost use Rattle.base.specs.declared.step.Step.{Step};

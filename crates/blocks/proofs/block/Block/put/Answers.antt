@@ -19,11 +19,11 @@ use Rattle.blocks.proofs.Lines.{line-kept}
 use Rattle.blocks.proofs.Performed.{after-state, kept-put, lines-put}
 use Rattle.blocks.proofs.block.Block.put.Goals as goal
 
--- the room that a decision wants is there for what was put
-room-put : (found : Option Line) (d : Decision) (P : Type 0) (b : BlockState) (at : Line → Decision) →
-    (found ≡ None → P) → ((line : Line) → found ≡ Some line → d ≡ at line) → ((line : Line) → found ≡ Some line → at line ≡ d → P) → P
-room-put None d P b at none is some = none refl
-room-put (Some line) d P b at none is some = some line refl (sym (is line refl))
+-- by whether the line is kept, and where it is, by what the step comes to there
+by-line : (found : Option Line) (d : Decision) (P : Type 0) (at : Line → Decision) → (found ≡ None → P) →
+    ((line : Line) → found ≡ Some line → d ≡ at line) → ((line : Line) → found ≡ Some line → at line ≡ d → P) → P
+by-line None d P at none is some = none refl
+by-line (Some line) d P at none is some = some line refl (sym (is line refl))
 
 pub returns-in-Err-clause-succeeds : goal.returns-in-Err-clause-succeeds
 returns-in-Err-clause-succeeds c has =
@@ -35,7 +35,7 @@ returns-in-Err-clause-succeeds c has =
     subst (λ (k : BlockView). IsDecidedAt tables c.args.step c.args.cache c.args.input c.args.from k.state) (sym c.self.view_is) c.requires.decided in
     let room : HasRoomFor (messages_of (decision_of tables c.args.step old) old) c.self.inside.wires.room =
     subst (λ (k : BlockView). HasRoomFor (messages_of (decision_of tables c.args.step k.state) k.state) k.space.wires) (sym c.self.view_is) has in
-    room-put (item c.self.inside.lines c.args.cache.0) (decision_of tables c.args.step old) _ old (put_at tables.cache c.args.cache c.args.input c.args.from)
+    by-line (item c.self.inside.lines c.args.cache.0) (decision_of tables c.args.step old) _ (put_at tables.cache c.args.cache c.args.input c.args.from)
     c.in-Err.ensures.unkept
     (λ line is. decided line (line-kept items c.args.cache.0 line (sym is)))
     (λ line is same. c.in-Err.ensures.succeeds old line is (subst (λ e. HasRoomFor (messages_of e old) c.self.inside.wires.room) (sym same) room))
