@@ -14,4 +14,3 @@ pub mod Asked
 pub mod LinkMarks
 pub mod OwnLine
 pub mod Performed
-pub mod Putting

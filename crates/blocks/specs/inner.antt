@@ -5,4 +5,3 @@ pub mod Linking
 pub mod Asked
 pub mod OwnLine
 pub mod Told
-pub mod Putting

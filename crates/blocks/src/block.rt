@@ -5,7 +5,6 @@ mod deciding;
 mod free;
 mod looking;
 mod passing;
-mod putting;
 mod serving;
 mod testing;
 

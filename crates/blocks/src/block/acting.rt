@@ -10,10 +10,10 @@ ghost use Rattle.blocks.specs.inner.Linking.{IsOwn, IsRelinked};
 ghost use Rattle.machine.specs.Made.{acted_by};
 ghost use Rattle.base.specs.declared.ids.CacheId.{CacheId};
 
-use crate::block::serving::{RequestAt, Served};
+use crate::block::serving::{HeadAt, RequestAt, ResponseAt, Served};
 use crate::block::{Block, Tested, foreseen};
 use crate::controllers::Controllers;
-use base::{CacheId, NoMemory, Outcome, Step};
+use base::{CacheId, CoreAsk, NoMemory, Outcome, Step};
 use both_tables::Tables;
 use cache_table::{CacheActions, CacheState};
 use control::{
@@ -159,23 +159,22 @@ impl Block {
         ensures succeeds { WantsNone (decision_of controllers.now step self.old.state) self.old.state self.old.space → IsOk result }
     {
         match step {
-            Step::Ask { cache, ask, .. } => {
-                self.serve_line(controllers, step, cache, LineInput::Ask(ask), Origin::Core)
+            Step::Ask { cache, block, ask } => {
+                let core = cache;
+                self.serve(controllers, &CoreAsk { core, block, ask })
             }
             Step::Request { block, index } => {
                 self.serve(controllers, &RequestAt { block, index })
             }
-            Step::Forward { block, cache } => self.serve_head(controllers, block, cache),
-            Step::Response { block, index } => self.serve_response(controllers, block, index),
+            Step::Forward { block, cache } => self.serve(controllers, &HeadAt { block, cache }),
+            Step::Response { block, index } => {
+                self.serve(controllers, &ResponseAt { block, index })
+            }
         }
     }
 
     /// Makes the step that serves this.
-    pub(crate) fn serve<S: Served>(
-        &mut self,
-        controllers: &Controllers,
-        served: &S,
-    ) -> Result<Visit, NoMemory>
+    fn serve<S: Served>(&mut self, controllers: &Controllers, served: &S) -> Result<Visit, NoMemory>
         requires { self.old.marks ≡ marks_of controllers.now self.old.state }
         ensures ok { IfOk result (λ visit. Visits controllers.now self.old (S.step served.now) visit self.new) }
         ensures err { OnErr result (Stays controllers.now self.old self.new) }
@@ -296,7 +295,7 @@ fn perform_first(
 
 /// Takes the message that is served off its wire.
 #[inline(always)]
-pub(crate) fn take(wires: &mut Wires, from: Origin)
+fn take(wires: &mut Wires, from: Origin)
     requires { IsThere from wires.old.traffic }
     ensures traffic { wires.new.traffic ≡ without from wires.old.traffic }
     ensures room { UsesRoomFor [] wires.old.room wires.new.room }
@@ -341,7 +340,7 @@ pub(crate) fn completion_outcome(
     }
 }
 
-pub(crate) fn latest_value(done: Option<LineCompletion>, before: u64) -> u64
+fn latest_value(done: Option<LineCompletion>, before: u64) -> u64
     ensures { result ≡ latest_after done before }
 {
     match done {

@@ -26,7 +26,7 @@ pub fn opened_line(cache: CacheId, caches: u32) -> Option<Line>
 
 /// What an input comes to at a line.
 #[inline(always)]
-pub(crate) fn at_line(
+fn at_line(
     tables: &Tables,
     cache: CacheId,
     input: LineInput,

@@ -1,13 +1,12 @@
-//! What a step serves that isn't put to a line that is kept: requests, responses to the home, and whatever else may be asked of a block.
-//! A step of each kind is made by code of its own, in which nothing of the other kinds is asked.
+//! What a step serves. A step of each kind is made by code of its own, in which nothing of the other kinds is asked.
 
 use crate::block::Block;
 use crate::block::deciding::at_ask;
-use base::{BlockId, Step};
+use base::{BlockId, CacheId, CoreAsk, Step};
 use both_tables::Tables;
 use machine::Decision;
 
-/// What a step serves: a message at a place of its wire, or whatever the step says.
+/// What a step serves: an ask, or a message of one of the three kinds.
 pub(crate) trait Served {
     ghost use Rattle.std.specs.Prelude.{◌≡◌};
     ghost use Rattle.base.specs.declared.step.Step.{Step};
@@ -27,11 +26,29 @@ pub(crate) struct RequestAt {
     pub(crate) index: u64,
 }
 
+/// The first message on the link to a cache.
+#[derive(Clone, Copy)]
+pub(crate) struct HeadAt {
+    pub(crate) block: BlockId,
+    pub(crate) cache: CacheId,
+}
+
 /// The response at a place.
 #[derive(Clone, Copy)]
 pub(crate) struct ResponseAt {
     pub(crate) block: BlockId,
     pub(crate) index: u64,
+}
+
+impl Served for CoreAsk {
+    ghost use Rattle.base.specs.declared.step.Step.TheVariants as step;
+
+    ghost step = { λ ask. step.Ask ask.core ask.block ask.ask };
+
+    #[inline(always)]
+    fn decision(&self, block: &Block, tables: &Tables) -> Decision {
+        at_ask(tables, self.core, self.ask, block.line(self.core))
+    }
 }
 
 impl Served for RequestAt {
@@ -42,6 +59,17 @@ impl Served for RequestAt {
     #[inline(always)]
     fn decision(&self, block: &Block, tables: &Tables) -> Decision {
         block.at_request(tables, self.index)
+    }
+}
+
+impl Served for HeadAt {
+    ghost use Rattle.base.specs.declared.step.Step.TheVariants as step;
+
+    ghost step = { λ at. step.Forward at.block at.cache };
+
+    #[inline(always)]
+    fn decision(&self, block: &Block, tables: &Tables) -> Decision {
+        block.at_forward(tables, self.cache)
     }
 }
 
