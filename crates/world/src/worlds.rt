@@ -277,6 +277,7 @@ fn breaks(outcome: Outcome) -> bool
 }
 
 /// Notes what a step's test found, if it made one, and answers how many messages were tested so far.
+#[inline(always)]
 fn note(counts: &mut Counts, tested: u64, number: u32, found: Option<Tested>) -> u64
     requires { number < length counts.old.requests }
     ensures counts { counts.new ≡ counted found number counts.old }
