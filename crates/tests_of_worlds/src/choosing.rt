@@ -7,7 +7,7 @@ use base::{Ask, BlockId, CacheId, CoreAsk, Step};
 use both_tables::Tables;
 use cores::Cores;
 use scenario::{Cursor, Rest, Scenario};
-use schedule::{Choice, Dice, Holding, Lanes, choices};
+use schedule::{Choice, Dice, Lanes, choices};
 use std::alloc::Global;
 use std::process::Abort;
 use world::World;
@@ -145,9 +145,8 @@ fn make_pick(
 {
     let pick = lanes.pick(world, cores, 0)?;
     let made = world.make(pick.step()).expect(rt, "memory");
-    let holding = Holding::of(world);
     lanes
-        .follow(alloc, pick, &made, true, &holding, world, cores)
+        .follow(alloc, pick, &made, true, world, cores)
         .expect(rt, "memory");
     Some(pick.step())
 }
