@@ -1,23 +1,22 @@
 -- What a step makes of its block, and when it can't fail.
 use Rattle.std.specs.Prelude.{◌≡◌, ◌≤◌, ◌⊎◌, [], false, length}
 use Rattle.base.specs.declared.step.Step.{Step}
+use Rattle.network.specs.Traffic.{message_count}
 use Rattle.both_tables.specs.Tables.{Tables}
 use Rattle.machine.specs.declared.decision.Decision.{Decision}
+use Rattle.machine.specs.declared.made.Made.{Made}
 use Rattle.machine.specs.Block.{BlockState}
 use Rattle.machine.specs.Made.{made_at}
 use Rattle.machine.specs.Transition.{decision_of, messages_of, transition}
-use Rattle.blocks.specs.declared.block.acting.Visit.{Visit}
 use Rattle.blocks.specs.Marking.{marks_of}
-use Rattle.blocks.specs.Tests.{IsTested, tested_in}
 use Rattle.blocks.specs.View.{BlockView, HasSpaceFor, Space, acts, lines_after, wakes_line}
 
--- a block has made a step, which came to this: all marks are right behind it, and its test counted what there is
-pub record Visits (tables : Tables) (old : BlockView) (step : Step) (visit : Visit) (new : BlockView) : Type 0 where
-  pub made : visit.made ≡ made_at tables step old.state
+-- a block has made a step, which came to this: all marks are right behind it, and what it sent is on the wires
+pub record Makes (tables : Tables) (old : BlockView) (step : Step) (made : Made) (new : BlockView) : Type 0 where
+  pub told : made ≡ made_at tables step old.state
   pub state : new.state ≡ (transition tables step old.state).block
   pub marks : new.marks ≡ marks_of tables new.state
-  pub tested : IsTested tables old.state new.state visit.tested
-  pub sent : length (messages_of (decision_of tables step old.state) old.state) ≤ tested_in visit.tested
+  pub sent : length (messages_of (decision_of tables step old.state) old.state) ≤ message_count new.state.traffic
   pub lines : new.space.lines ≡ lines_after (decision_of tables step old.state) old.space.lines
   pub idle : acts (decision_of tables step old.state) ≡ false → new.space ≡ old.space
 

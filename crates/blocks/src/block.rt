@@ -9,7 +9,6 @@ mod serving;
 mod testing;
 
 use access::Access;
-pub use acting::Visit;
 pub use asking::HeldAsks;
 pub(crate) use asking::held_asks_in;
 use base::{CacheId, NoMemory};

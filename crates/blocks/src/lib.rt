@@ -5,6 +5,6 @@ mod block;
 mod controllers;
 
 pub use block::{
-    Block, HeldAsks, Tested, Visit, decide_opened, foreseen, is_held_opened, opened_line,
+    Block, HeldAsks, Tested, decide_opened, foreseen, is_held_opened, opened_line,
 };
 pub use controllers::Controllers;

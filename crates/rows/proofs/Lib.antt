@@ -3,6 +3,7 @@ pub mod Copied
 pub mod Counted
 pub mod Fronts
 pub mod Held
+pub mod Hints
 pub mod Lowest
 pub mod Put
 pub mod Rising

@@ -1,11 +1,11 @@
-ghost use Rattle.std.specs.Prelude.{◌≡◌, ◌<◌, ◌≤◌, ◌+◌, ◌++◌, ◌∷◌, [], None, Some, IsOk, IsSome, IfErr, IfOk, IfSome};
-ghost use Rattle.std.specs.Prelude.{OnErr, OnOk};
-ghost use Rattle.std.specs.Prelude.{IfNone, length, map, nat_eq, replicate, slice_get, slice_set};
+ghost use Rattle.std.specs.Prelude.{◌≡◌, ◌≢◌, ℕ, ◌<◌, ◌≤◌, ◌+◌, ◌%◌, ◌++◌, ◌∷◌, [], None, Some, IsOk, IsSome, IfErr, IfOk, IfSome};
+ghost use Rattle.std.specs.Prelude.{OnErr, OnOk, true};
+ghost use Rattle.std.specs.Prelude.{IfNone, length, map, nat_eq, replicate, slice_get, slice_index, slice_set};
 ghost use Rattle.std.specs.Borrow.{sem};
 ghost use Rattle.std.specs.Option.{option_copied, option_copied_mut, option_map};
 ghost use Rattle.rows.specs.Lends.{lends_item};
-ghost use Rattle.indexmap.specs.IndexMap.{IsEmpty, get, keys, values};
-ghost use Rattle.rows.specs.inner.Items.{seen_entries};
+ghost use Rattle.indexmap.specs.IndexMap.{IsEmpty, get, index_map_len, keys, values};
+ghost use Rattle.rows.specs.inner.Items.{AreHinted, seen_entries};
 ghost use Rattle.rows.specs.Row.{item, keys_with, AreTouched, UsesOnePlace};
 
 use crate::try_clone::TryClone;
@@ -22,18 +22,20 @@ pub struct Sparse<T> {
     held: IndexMap<u32, T>,
     // For the places with the same last six bits where one of them was found last. Another may stand there by now.
     hints: [u16; 64],
+    // Whether each place that has an item is known to stand where its hint says.
+    exact: bool,
 }
 
 impl<T> Model for Sparse<T> {
     ghost use Rattle.indexmap.specs.IndexMap.{keys, spare};
     ghost use Rattle.rows.specs.Row.{Row};
-    ghost use Rattle.rows.specs.inner.Items.{IsWithin, items_of};
+    ghost use Rattle.rows.specs.inner.Items.{IsKept, items_of};
 
     ghost Value = { Row T };
 
     ghost view = { λ s. record { items = items_of s.held.entries s.places; keys = keys s.held; spare = spare s.held } };
 
-    ghost invariant = { λ s. IsWithin s.held.entries s.places };
+    ghost invariant = { λ s. IsKept s.held.entries s.places s.hints s.exact };
 }
 
 impl<T> Sparse<T> {
@@ -46,6 +48,7 @@ impl<T> Sparse<T> {
             places,
             held: IndexMap::new(alloc),
             hints: [0; 64],
+            exact: true,
         }
     }
 
@@ -69,10 +72,11 @@ impl<T> Sparse<T> {
     pub fn get(&self, at: u32) -> Option<&T>
         ensures { option_copied result ≡ item self.now at }
     {
-        if let Some((held, item)) = self.held.get_index(hint_of(&self.hints, at)) {
-            if *held == at {
-                return Some(item);
-            }
+        if let Some(item) = hinted(&self.held, &self.hints, at) {
+            return Some(item);
+        }
+        if self.exact {
+            return None;
         }
         self.seek(at)
     }
@@ -92,11 +96,8 @@ impl<T> Sparse<T> {
         ensures* writes_back { sem 𝓛 (lends_item T.row self.entry at result) }
         ensures item { option_copied_mut result ≡ item self.old at }
     {
-        match index_of(&self.held, &self.hints, at) {
-            Some(index) => {
-                remember(&mut self.hints, at, index);
-                self.held.get_index_mut(index)
-            }
+        match index_of(&self.held, &mut self.hints, self.exact, at) {
+            Some(index) => self.held.get_index_mut(index),
             None => None,
         }
     }
@@ -137,9 +138,11 @@ impl<T> Sparse<T> {
         ensures room { self.old.spare ≤ self.new.spare + 1 }
     {
         let index = self.held.len();
+        let exact = stays_exact(&self.held, &self.hints, self.exact, at);
         match self.held.insert(at, value) {
             Ok(_) => {
                 remember(&mut self.hints, at, index);
+                self.exact = exact;
                 Ok(())
             }
             Err(failed) => Err(failed.value.1),
@@ -176,44 +179,110 @@ impl<T> Sparse<T> {
         ensures room { length self.old.keys + self.old.spare ≤ self.new.spare }
     {
         self.held.clear();
+        self.exact = true;
     }
 }
 
 /// Where a place may stand in the map.
-fn hint_of(hints: &[u16; 64], at: u32) -> usize {
+#[inline(always)]
+fn hint_of(hints: &[u16; 64], at: u32) -> usize
+    ensures { result ≡ slice_index hints.now (at % 64) }
+{
     usize::from(hints[(at % 64) as usize])
 }
 
 /// Keeps where a place stands in the map.
-fn remember(hints: &mut [u16; 64], at: u32, index: usize) {
+#[inline(always)]
+fn remember(hints: &mut [u16; 64], at: u32, index: usize)
+    ensures { hints.new ≡ slice_set hints.old (at % 64) (index % 65536) }
+{
     hints[(at % 64) as usize] = (index % 65536) as u16;
+}
+
+/// The item of a place, where it stands as its hint says.
+#[inline(always)]
+fn hinted<'a, T>(held: &'a IndexMap<u32, T>, hints: &[u16; 64], at: u32) -> Option<&'a T>
+    ensures some { IfSome result (λ item. get nat_eq held.now at ≡ Some item.now) }
+    ensures none { IfNone result (AreHinted (keys held.now) hints.now → get nat_eq held.now at ≡ None) }
+{
+    match held.get_index(hint_of(hints, at)) {
+        Some((held, item)) => { if *held == at { Some(item) } else { None } }
+        None => None,
+    }
+}
+
+/// Where a place stands in the map, if it stands as its hint says.
+#[inline(always)]
+fn hinted_index<T>(held: &IndexMap<u32, T>, hints: &[u16; 64], at: u32) -> Option<usize>
+    ensures key { IfSome result (λ index. slice_get (keys held.now) index ≡ Some at) }
+    ensures value { IfSome result (λ index. slice_get (values held.now) index ≡ get nat_eq held.now at) }
+    ensures none { IfNone result (AreHinted (keys held.now) hints.now → get nat_eq held.now at ≡ None) }
+{
+    let hint = hint_of(hints, at);
+    match held.get_index(hint) {
+        Some((held, _)) => { if *held == at { Some(hint) } else { None } }
+        None => None,
+    }
+}
+
+/// Whether no place that has an item has the same hint as another, where each stands as its hint says.
+fn has_own_hint<T>(held: &IndexMap<u32, T>, hints: &[u16; 64], at: u32) -> bool
+    ensures { result ≡ true → AreHinted (keys held.now) hints.now → (i other : ℕ) → slice_get (keys held.now) i ≡ Some other →
+        other % 64 ≢ at % 64 }
+{
+    match held.get_index(hint_of(hints, at)) {
+        Some((other, _)) => *other % 64 != at % 64,
+        None => true,
+    }
+}
+
+/// Whether each place is known to stand where its hint says once this one stands behind all others.
+fn stays_exact<T>(held: &IndexMap<u32, T>, hints: &[u16; 64], exact: bool, at: u32) -> bool
+    requires { exact ≡ true → AreHinted (keys held.now) hints.now }
+    ensures { result ≡ true → AreHinted (keys held.now ++ at ∷ []) (slice_set hints.now (at % 64) (index_map_len held.now % 65536)) }
+{
+    if !exact || held.len() >= 65536 {
+        return false;
+    }
+    has_own_hint(held, hints, at)
 }
 
 /// Where a place stands in the map, if it does.
 #[inline(always)]
-fn index_of<T>(held: &IndexMap<u32, T>, hints: &[u16; 64], at: u32) -> Option<usize>
+fn index_of<T>(
+    held: &IndexMap<u32, T>,
+    hints: &mut [u16; 64],
+    exact: bool,
+    at: u32,
+) -> Option<usize>
+    requires { exact ≡ true → AreHinted (keys held.now) hints.old }
     ensures key { IfSome result (λ index. slice_get (keys held.now) index ≡ Some at) }
     ensures value { IfSome result (λ index. slice_get (values held.now) index ≡ get nat_eq held.now at) }
     ensures none { IfNone result (get nat_eq held.now at ≡ None) }
+    ensures hinted { exact ≡ true → AreHinted (keys held.now) hints.new }
 {
-    let hint = hint_of(hints, at);
-    if let Some((held, _)) = held.get_index(hint) {
-        if *held == at {
-            return Some(hint);
-        }
+    if let Some(index) = hinted_index(held, hints, at) {
+        return Some(index);
     }
-    seek_index(held, at)
+    if exact {
+        return None;
+    }
+    seek_index(held, hints, at)
 }
 
 /// The same, where no hint helps. It stands apart, as most look-ups need it not.
 #[cold]
 #[inline(never)]
-fn seek_index<T>(held: &IndexMap<u32, T>, at: u32) -> Option<usize>
+fn seek_index<T>(held: &IndexMap<u32, T>, hints: &mut [u16; 64], at: u32) -> Option<usize>
     ensures key { IfSome result (λ index. slice_get (keys held.now) index ≡ Some at) }
     ensures value { IfSome result (λ index. slice_get (values held.now) index ≡ get nat_eq held.now at) }
     ensures none { IfNone result (get nat_eq held.now at ≡ None) }
 {
-    held.get_index_of(&at)
+    let found = held.get_index_of(&at);
+    if let Some(index) = found {
+        remember(hints, at, index);
+    }
+    found
 }
 
 impl<T: TryClone + Drop> TryClone for Sparse<T> {
@@ -232,6 +301,7 @@ impl<T: TryClone + Drop> TryClone for Sparse<T> {
             places: self.places,
             held,
             hints: self.hints,
+            exact: self.exact,
         })
     }
 }

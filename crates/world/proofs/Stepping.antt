@@ -25,7 +25,7 @@ use Rattle.blocks.specs.declared.block.testing.Tested.{Tested}
 use Rattle.world.specs.inner.Counts.{Rows}
 use Rattle.world.specs.inner.Holding.{kept_at, IsLight, IsWorld, OthersStay}
 use Rattle.world.specs.inner.Tests.{counted, IsMarked}
-use Rattle.blocks.specs.Tests.{IsTested, tested_in}
+use Rattle.world.specs.inner.Tests.{IsTested, tested_in}
 use Rattle.world.proofs.Counted.{counted-set}
 use Rattle.world.proofs.Keeping.{shaped-stepped, space-at, state-there, states-changed, states-stay, steps-at, world-changed}
 

@@ -9,16 +9,15 @@ use Rattle.both_tables.specs.Tables.{Tables}
 use Rattle.machine.specs.Made.{made_at}
 use Rattle.machine.specs.Transition.{decision_of, messages_of, transition}
 use Rattle.rows.specs.Flags.{is_set}
-use Rattle.blocks.specs.declared.block.acting.Visit.{Visit}
 use Rattle.blocks.specs.Marking.{marks_of}
-use Rattle.blocks.specs.Steps.{Stays, Visits, WantsNone}
-use Rattle.blocks.specs.Tests.{IsTested, tested_in}
+use Rattle.blocks.specs.Steps.{Stays, WantsNone}
 use Rattle.blocks.specs.View.{BlockView, acts, acts_at_line, wakes_line}
 use Rattle.world.specs.Keeping.{has_line}
 use Rattle.world.specs.View.{space_of, state_or}
-use Rattle.world.specs.inner.AtBlock.{HasStayed, HasStepped, IsVisited, NeedsNone}
+use Rattle.world.specs.inner.AtBlock.{HasStayed, HasStepped, IsVisited, NeedsNone, Visits}
 use Rattle.world.specs.inner.Holding.{kept_at, state_at, OthersStay}
-use Rattle.world.specs.inner.Tests.{IsMarked}
+use Rattle.world.specs.inner.Tests.{IsMarked, IsTested, tested_in}
+use Rattle.world.specs.declared.at_block.Visit.{Visit}
 use Rattle.world.proofs.Touching.{idle-wants, line-left, others-set, wants-at}
 
 -- a row in which a block was kept, if it wasn't before: all else is as it was

@@ -5,17 +5,26 @@ ghost use Rattle.machine.specs.Made.{made_at};
 ghost use Rattle.blocks.specs.View.{acts, acts_at_line};
 ghost use Rattle.world.specs.Keeping.{has_line};
 ghost use Rattle.world.specs.View.{HasSpaceAt, space_of};
-ghost use Rattle.world.specs.inner.AtBlock.{HasStayed, HasStepped, NeedsNone};
+ghost use Rattle.world.specs.inner.AtBlock.{HasStayed, HasStepped, NeedsNone, Visits};
 ghost use Rattle.world.specs.inner.Holding.{kept_at, state_at, IsLight, OthersStay};
 ghost use Rattle.world.specs.inner.Tests.{IsMarked};
-ghost use Rattle.blocks.specs.Tests.{IsTested, tested_in};
+ghost use Rattle.blocks.specs.Marking.{marks_of};
+ghost use Rattle.blocks.specs.Steps.{Stays, WantsNone};
 
 use base::{NoMemory, Outcome, Step};
-use blocks::{Block, Controllers, Visit, decide_opened};
+use blocks::{Block, Controllers, Tested, decide_opened};
 use both_tables::Tables;
 use machine::{Decision, Made};
 use rows::Sparse;
 use std::alloc::Global;
+
+/// What a step came to at its block.
+#[derive(Clone, Copy)]
+pub struct Visit {
+    pub made: Made,
+    /// What a test of the block's messages finds behind it, where a cell acted.
+    pub tested: Option<Tested>,
+}
 
 /// Keeps a block that a step acts at, or answers the outcome of a step that no cell acts on there.
 ///
@@ -117,7 +126,7 @@ pub fn step_at(
     ensures succeeds { NeedsNone controllers.now caches value number step blocks.old.items → IsOk result }
 {
     if let Some(block) = blocks.get_mut(number) {
-        return block.make(controllers, step);
+        return made_at(block, controllers, step);
     }
     first_step_at(alloc, blocks, caches, value, number, controllers, step)
 }
@@ -157,7 +166,27 @@ fn first_step_at(
     let Some(block) = blocks.get_mut(number) else {
         unreachable!();
     };
-    block.make(controllers, step)
+    made_at(block, controllers, step)
+}
+
+/// Makes a step at this block.
+#[inline(always)]
+fn made_at(
+    block: &mut Block,
+    controllers: &Controllers,
+    step: Step,
+) -> Result<Visit, NoMemory>
+    requires { block.old.marks ≡ marks_of controllers.now block.old.state }
+    ensures ok { IfOk result (λ visit. Visits controllers.now block.old step visit block.new) }
+    ensures err { OnErr result (Stays controllers.now block.old block.new) }
+    ensures succeeds { WantsNone (decision_of controllers.now step block.old.state) block.old.state block.old.space → IsOk result }
+{
+    let made = block.make(controllers, step)?;
+    if made.acted.is_none() {
+        return Ok(Visit { made, tested: None });
+    }
+    let tested = Some(block.tested());
+    Ok(Visit { made, tested })
 }
 
 /// Makes the room that a step at one of the blocks wants.

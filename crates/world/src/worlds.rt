@@ -2,7 +2,7 @@ ghost use Rattle.std.specs.Prelude.{◌≡◌, ◌<◌, length, slice_get};
 ghost use Rattle.machine.specs.Machine.{is_blank};
 ghost use Rattle.world.specs.Messages.{raised};
 ghost use Rattle.world.specs.inner.Tests.{counted};
-ghost use Rattle.blocks.specs.Tests.{tested_in};
+ghost use Rattle.world.specs.inner.Tests.{tested_in};
 
 use crate::at_block::{ready_at, step_at};
 use crate::counts::Counts;

@@ -11,7 +11,7 @@ ghost use Rattle.machine.specs.Made.{acted_by};
 ghost use Rattle.base.specs.declared.ids.CacheId.{CacheId};
 
 use crate::block::serving::{HeadAt, RequestAt, ResponseAt, Served};
-use crate::block::{Block, Tested, foreseen};
+use crate::block::{Block, foreseen};
 use crate::controllers::Controllers;
 use base::{CacheId, CoreAsk, NoMemory, Outcome, Step};
 use both_tables::Tables;
@@ -24,14 +24,6 @@ use machine::{Acted, Actor, Decision, Made, Origin};
 use network::Wires;
 use rows::Sparse;
 
-/// What a step came to at its block.
-#[derive(Clone, Copy)]
-pub struct Visit {
-    pub made: Made,
-    /// What the test of the block's messages found, where a cell acted.
-    pub tested: Option<Tested>,
-}
-
 impl Block {
     ghost use Rattle.std.specs.Prelude.{◌≡◌, [], IfOk, IsOk, OnOk, OnErr, false, true, length, take};
     ghost use Rattle.base.specs.declared.ids.CacheId.{CacheId};
@@ -41,7 +33,7 @@ impl Block {
     ghost use Rattle.blocks.specs.Marking.{marks_of};
     ghost use Rattle.blocks.specs.inner.Named.{DecisionNames};
     ghost use Rattle.blocks.specs.inner.OwnLine.{IsAboutLine};
-    ghost use Rattle.blocks.specs.Steps.{Visits, Stays, WantsNone};
+    ghost use Rattle.blocks.specs.Steps.{Makes, Stays, WantsNone};
 
     /// Makes the room that a decision wants. Where it is refused nothing has changed.
     #[inline(always)]
@@ -152,9 +144,9 @@ impl Block {
     }
 
     /// Makes a step. Where memory is refused nothing has changed.
-    pub fn make(&mut self, controllers: &Controllers, step: Step) -> Result<Visit, NoMemory>
+    pub fn make(&mut self, controllers: &Controllers, step: Step) -> Result<Made, NoMemory>
         requires { self.old.marks ≡ marks_of controllers.now self.old.state }
-        ensures ok { IfOk result (λ visit. Visits controllers.now self.old step visit self.new) }
+        ensures ok { IfOk result (λ made. Makes controllers.now self.old step made self.new) }
         ensures err { OnErr result (Stays controllers.now self.old self.new) }
         ensures succeeds { WantsNone (decision_of controllers.now step self.old.state) self.old.state self.old.space → IsOk result }
     {
@@ -174,30 +166,24 @@ impl Block {
     }
 
     /// Makes the step that serves this.
-    fn serve<S: Served>(&mut self, controllers: &Controllers, served: &S) -> Result<Visit, NoMemory>
+    fn serve<S: Served>(&mut self, controllers: &Controllers, served: &S) -> Result<Made, NoMemory>
         requires { self.old.marks ≡ marks_of controllers.now self.old.state }
-        ensures ok { IfOk result (λ visit. Visits controllers.now self.old (S.step served.now) visit self.new) }
+        ensures ok { IfOk result (λ made. Makes controllers.now self.old (S.step served.now) made self.new) }
         ensures err { OnErr result (Stays controllers.now self.old self.new) }
         ensures succeeds { WantsNone (decision_of controllers.now (S.step served.now) self.old.state) self.old.state self.old.space → IsOk result }
     {
         let decision = self.decide(controllers.tables(), served);
         if let Decision::Refused(outcome) = decision {
-            return Ok(Visit {
-                made: Made::refused(outcome),
-                tested: None,
-            });
+            return Ok(Made::refused(outcome));
         }
         let others = self.others(&decision);
         if let Err(refused) = self.prepare(&decision) {
             return Err(refused);
         }
         let outcome = self.carry_out(&decision);
-        let tested = self.test_after(controllers, others);
+        self.mark_after(controllers, others);
         let acted = acted_by(&decision, self.is_crowded());
-        Ok(Visit {
-            made: Made { outcome, acted },
-            tested: Some(tested),
-        })
+        Ok(Made { outcome, acted })
     }
 }
 

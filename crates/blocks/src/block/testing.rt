@@ -47,6 +47,7 @@ impl Block {
     ghost use Rattle.blocks.specs.inner.Linking.{AreRight, IsAtOwn};
     ghost use Rattle.blocks.specs.inner.Tested.{requests_stall};
     ghost use Rattle.blocks.specs.Marking.{marks_of};
+    ghost use Rattle.both_tables.specs.Tables.{Tables};
     ghost use Rattle.blocks.specs.Tests.{IsFound};
 
     /// What a decision leaves as it is: it has a cell act at a line, on an input that is no request and is from no link but the
@@ -99,9 +100,9 @@ impl Block {
         mark_responses(controllers, &self.home, &self.lines, &mut self.wires);
     }
 
-    /// Tests all messages, or only those that a step at a line may have changed, where the rest is known.
+    /// Marks all messages, or only those that a step at a line may have changed, where the rest is known.
     #[inline(always)]
-    pub(crate) fn test_after(&mut self, controllers: &Controllers, others: Option<Others>) -> Tested
+    pub(crate) fn mark_after(&mut self, controllers: &Controllers, others: Option<Others>)
         requires links { IfSome others (λ o.
             AreRight controllers.now self.old.state.lines self.old.state.traffic.links o.cache.0 self.old.marks.links) }
         requires requests { IfSome others (λ o. AreFirstRight o.requests self.old.marks.requests
@@ -109,12 +110,18 @@ impl Block {
         ensures state { self.new.state ≡ self.old.state }
         ensures space { self.new.space ≡ self.old.space }
         ensures marks { self.new.marks ≡ marks_of controllers.now self.old.state }
-        ensures found { IsFound controllers.now self.old.state result }
     {
         match others {
             Some(others) => self.mark_but(controllers, others),
             None => self.mark_all(controllers),
         }
+    }
+
+    /// What a test of all messages finds, where their marks are right.
+    #[inline(always)]
+    pub fn tested(&self) -> Tested
+        ensures { (tables : Tables) → self.now.marks ≡ marks_of tables self.now.state → IsFound tables self.now.state result }
+    {
         Tested {
             requests: self.wires.free_requests(),
             heads: self.wires.free_heads(),

@@ -4,13 +4,23 @@ use Rattle.base.specs.declared.step.Step.{Step}
 use Rattle.both_tables.specs.Tables.{Tables}
 use Rattle.machine.specs.Made.{made_at}
 use Rattle.machine.specs.Transition.{decision_of, messages_of, transition}
-use Rattle.blocks.specs.declared.block.acting.Visit.{Visit}
-use Rattle.blocks.specs.Tests.{IsTested, tested_in}
-use Rattle.blocks.specs.View.{BlockView, acts, acts_at_line}
+use Rattle.blocks.specs.Marking.{marks_of}
+use Rattle.blocks.specs.View.{BlockView, acts, acts_at_line, lines_after}
 use Rattle.world.specs.Keeping.{has_line}
 use Rattle.world.specs.View.{HasSpaceAt, space_of}
 use Rattle.world.specs.inner.Holding.{kept_at, state_at, IsLight, OthersStay}
-use Rattle.world.specs.inner.Tests.{IsMarked}
+use Rattle.world.specs.inner.Tests.{IsMarked, IsTested, tested_in}
+use Rattle.world.specs.declared.at_block.Visit.{Visit}
+
+-- a block has made a step, which came to this: all marks are right behind it, and a test found what there is
+pub record Visits (tables : Tables) (old : BlockView) (step : Step) (visit : Visit) (new : BlockView) : Type 0 where
+  pub made : visit.made ≡ made_at tables step old.state
+  pub state : new.state ≡ (transition tables step old.state).block
+  pub marks : new.marks ≡ marks_of tables new.state
+  pub tested : IsTested tables old.state new.state visit.tested
+  pub sent : length (messages_of (decision_of tables step old.state) old.state) ≤ tested_in visit.tested
+  pub lines : new.space.lines ≡ lines_after (decision_of tables step old.state) old.space.lines
+  pub idle : acts (decision_of tables step old.state) ≡ false → new.space ≡ old.space
 
 -- no other block than the one of this number has changed, that one has true marks, and where no cell acts it keeps its room
 pub record IsVisited (tables : Tables) (caches value number : ℕ) (step : Step) (old new : List (Option BlockView)) : Type 0 where

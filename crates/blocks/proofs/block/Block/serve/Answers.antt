@@ -10,7 +10,6 @@ use Rattle.machine.specs.Made.{acted_by, is_crowded}
 use Rattle.machine.specs.Transition.{Transition, carried_out, decision_of, messages_of}
 use Rattle.blocks.specs.Marking.{marks_of}
 use Rattle.network.specs.Traffic.{message_count}
-use Rattle.blocks.specs.Tests.{IsFound}
 use Rattle.blocks.specs.View.{Space, acts, lines_after}
 use Rattle.blocks.proofs.Asked.{first-right-after}
 use Rattle.blocks.proofs.Going.{acting}
@@ -32,11 +31,10 @@ returns-in-Refused-clause-ok g c =
     let was : Refused c.in-Refused.outcome ≡ decision_of c.args.controllers.now (g.S.Served.step c.args.served.now) b = sym c.in-Refused.is
     ∙ (decided c.args.controllers.now c.tables.result.now (g.S.Served.step c.args.served.now) c.args.self.now.state c.decide-decision.ensures.decision c.tables.ensures) in
     record {
-      made = c.refused.ensures ∙ ap (λ e. made_by e b) was;
+      told = c.refused.ensures ∙ ap (λ e. made_by e b) was;
       state = ap (λ e. (carried_out e b).block) was;
       marks = c.requires;
-      tested = refl;
-      sent = subst (λ e. length (messages_of e b) ≤ 0) was (omega arith);
+      sent = subst (λ e. length (messages_of e b) ≤ message_count b.traffic) was (omega arith);
       lines = ap (λ e. lines_after e c.args.self.now.space.lines) was;
       idle = λ none. refl;
     }
@@ -60,28 +58,26 @@ returns-clause-ok g c =
     let before = c.args.self.now.state in
     let is = (decided c.args.controllers.now c.tables.result.now (g.S.Served.step c.args.served.now) c.args.self.now.state c.decide-decision.ensures.decision c.tables.ensures) in
     let tables = c.args.controllers.now in
-    let after = c.test_after-tested.new.self in
+    let after = c.mark_after.new.self in
     let counted = sends-counted d before c.decide-decision.ensures.among c.decide-decision.ensures.fits in
     let done = ap (carried_out d) (sym c.prepare.ensures.state) ∙ c.carry_out-outcome.ensures.done in
-    let same = ap (λ (t : Transition). message_count t.block.traffic) done in
-    let stays = sym c.test_after-tested.ensures.state in
-    let block : after.state ≡ (carried_out d before).block = c.test_after-tested.ensures.state ∙ sym (ap (λ (t : Transition). t.block) done) in
+    let stays = sym c.mark_after.ensures.state in
+    let block : after.state ≡ (carried_out d before).block = c.mark_after.ensures.state ∙ sym (ap (λ (t : Transition). t.block) done) in
     let what : c.carry_out-outcome.result ≡ (carried_out d before).outcome = sym (ap (λ (t : Transition). t.outcome) done) in
     let acted = c.acted_by-acted.ensures ∙ ap (acted_by d) (c.is_crowded.ensures ∙ ap is_crowded block) in
     record {
-      made = (λ i. record { outcome = what i; acted = acted i }) ∙ ap (λ e. made_by e before) is;
+      told = (λ i. record { outcome = what i; acted = acted i }) ∙ ap (λ e. made_by e before) is;
       state = block ∙ ap (λ e. (carried_out e before).block) is;
-      marks = c.test_after-tested.ensures.marks ∙ ap (marks_of tables) stays;
-      tested = subst (λ b. IsFound tables b c.test_after-tested.result) stays c.test_after-tested.ensures.found;
-      sent = subst (λ e. length (messages_of e before) ≤ c.test_after-tested.result.messages) is
-          (omega (arith, counted, same, c.test_after-tested.ensures.found.messages));
-      lines = ap (λ (s : Space). s.lines) c.test_after-tested.ensures.space ∙ c.carry_out-outcome.ensures.lines ∙ ap (lines_after d) c.prepare.ensures.lines
+      marks = c.mark_after.ensures.marks ∙ ap (marks_of tables) stays;
+      sent = subst (λ e. length (messages_of e before) ≤ message_count after.state.traffic) is
+          (omega (arith, counted, ap (λ (b : BlockState). message_count b.traffic) block));
+      lines = ap (λ (s : Space). s.lines) c.mark_after.ensures.space ∙ c.carry_out-outcome.ensures.lines ∙ ap (lines_after d) c.prepare.ensures.lines
           ∙ ap (λ e. lines_after e c.args.self.now.space.lines) is;
       idle = λ none. absurd (true≢false (sym (acting d c.in_default.not-Refused) ∙ ap acts is ∙ none));
     }
 
-pub test_after-tested-requires : goal.test_after-tested-requires
-test_after-tested-requires g c =
+pub mark_after-requires : goal.mark_after-requires
+mark_after-requires g c =
     let before = c.args.self.now.state in
     let marks = c.args.self.now.marks in
     let after = c.carry_out-outcome.new.self in

@@ -1,7 +1,8 @@
 use Rattle.std.proofs.Common.{refl, sym, ◌∙◌}
 use Rattle.indexmap.proofs.CallerLemmas.{keys-with_value_at}
 use Rattle.indexmap.specs.IndexMap.{spare, with_value_at}
-use Rattle.rows.proofs.Held.{items-at, items-set, same_loan, updates-there, within-same_keys}
+use Rattle.rows.proofs.Held.{items-at, items-set, same_loan, updates-there}
+use Rattle.rows.proofs.Hints.{kept-same_keys}
 use Rattle.rows.proofs.sparse.Sparse.get_mut.Goals as goal
 
 pub invariant_of-self-lent : goal.invariant_of-self-lent
@@ -9,9 +10,9 @@ invariant_of-self-lent g c =
     let held = c.self.inside.held in
     let index = c.in-Some.index in
     λ r. (
-      λ w. within-same_keys held.entries (with_value_at held index w).entries c.self.inside.places c.self.invariant
-          (keys-with_value_at held index w),
-      c.self.invariant,
+      λ w. kept-same_keys held.entries (with_value_at held index w).entries c.self.inside.places _ _ c.self.invariant.within
+          c.index_of.ensures.hinted (keys-with_value_at held index w),
+      record { within = c.self.invariant.within; hinted = c.index_of.ensures.hinted },
     )
 
 pub returns-in-Some : goal.returns-in-Some
@@ -29,7 +30,7 @@ returns-in-Some g c =
             spare = spare held;
           })
           refl,
-      record { writes_back = tt; item = value ∙ sym (items-at held.entries places c.args.at c.self.invariant) },
+      record { writes_back = tt; item = value ∙ sym (items-at held.entries places c.args.at c.self.invariant.within) },
     )
 
 pub returns-in-None : goal.returns-in-None
@@ -38,6 +39,6 @@ returns-in-None g c =
       refl,
       record {
         writes_back = tt;
-        item = sym (items-at c.self.inside.held.entries c.self.inside.places c.args.at c.self.invariant ∙ c.in-None.ensures.none);
+        item = sym (items-at c.self.inside.held.entries c.self.inside.places c.args.at c.self.invariant.within ∙ c.in-None.ensures.none);
       },
     )

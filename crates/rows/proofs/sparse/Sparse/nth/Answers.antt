@@ -5,7 +5,7 @@ use Rattle.rows.proofs.sparse.Sparse.nth.Goals as goal
 
 pub returns-clause-item : goal.returns-clause-item
 returns-clause-item g c =
-    rw (← c.self.view_is) (items-at c.self.inside.held.entries c.self.inside.places c.in_ok-at.at.now c.self.invariant ∙ c.in_ok-at.ensures.value)
+    rw (← c.self.view_is) (items-at c.self.inside.held.entries c.self.inside.places c.in_ok-at.at.now c.self.invariant.within ∙ c.in_ok-at.ensures.value)
 
 pub returns-in_err-at-clause-item : goal.returns-in_err-at-clause-item
 returns-in_err-at-clause-item g c = grind (arith, common_steps)

@@ -1,0 +1,74 @@
+-- Where hints say exactly where places stand, a look at one place tells what is found.
+use Rattle.std.proofs.Common.{◌≡◌, ◌≢◌, ℕ, ◌+◌, ◌-◌, ◌%◌, ◌<◌, ◌≤◌, List, [], ◌∷◌, ◌++◌, Option, None, Some, Bool, true}
+use Rattle.std.proofs.Common.{length, set, refl, sym, ap, ◌∙◌, subst, zero, suc, arith, inl, inr, nat_eq, slice_get, slice_index, is_some, IfSome}
+use Rattle.std.specs.Map.{keys_of, lookup}
+use Rattle.std.specs.Option.{IsSome}
+use Rattle.std.proofs.lemmas.Bool.{cases_eq, cases_lt}
+use Rattle.std.proofs.lemmas.List.{get_or-set_other, get_or-set_same}
+use Rattle.rows.specs.inner.Items.{AreHinted, IsKept, IsWithin}
+use Rattle.rows.proofs.Bridge.{get_behind_by, get_front}
+use Rattle.rows.proofs.Held.{listed, within-same_keys}
+
+-- a key has an entry
+entry_of : {T : Type 0} (held : List (ℕ × T)) (i at : ℕ) → slice_get (keys_of held) i ≡ Some at →
+    (v : T) × (slice_get held i ≡ Some (at, v))
+entry_of [] i at h = absurd cc
+entry_of (e ∷ es) zero at h =
+    let same : e.0 ≡ at = cc in
+    (e.1, λ j. Some (same j, e.1))
+entry_of (e ∷ es) (suc i) at h = entry_of es i at h
+
+-- where another or nothing stands as the hint for a place says, it isn't there
+pub missing : {T : Type 0} (held : List (ℕ × T)) (hints : List ℕ) (at index : ℕ) → AreHinted (keys_of held) hints →
+    index ≡ slice_index hints (at % 64) → (o : Option (ℕ × T)) → o ≡ slice_get held index → IfSome o (λ e. e.0 ≢ at) →
+    lookup (nat_eq at) held ≡ None
+missing {T} held hints at index hinted hint o there other = by (lookup (nat_eq at) held) refl
+  where
+    same_key : (o : Option (ℕ × T)) → IfSome o (λ e. e.0 ≢ at) → (v : T) → o ≡ Some (at, v) → ⊥
+    same_key None other v e = absurd cc
+    same_key (Some x) other v e = other cc
+
+    by : (found : Option T) → lookup (nat_eq at) held ≡ found → lookup (nat_eq at) held ≡ None
+    by None e = e
+    by (Some x) e =
+        let p = listed held at (ap is_some e) in
+        let entry = entry_of held p.0 at p.1 in
+        let same : index ≡ p.0 = hint ∙ hinted.each p.0 at p.1 in
+        absurd (same_key o other entry.0 (there ∙ ap (λ i. slice_get held i) same ∙ entry.1))
+
+-- where no key has the hint of a place that comes behind all, hints stay exact
+pub hinted-more : (ks hints : List ℕ) (at : ℕ) → AreHinted ks hints → ((i other : ℕ) → slice_get ks i ≡ Some other → other % 64 ≢ at % 64) →
+    length hints ≡ 64 → length ks < 65536 → AreHinted (ks ++ at ∷ []) (set hints (at % 64) (length ks % 65536))
+hinted-more ks hints at hinted alone long few = record { each = each }
+  where
+    only : (j k : ℕ) → slice_get (at ∷ []) j ≡ Some k → (j ≡ 0) × (k ≡ at)
+    only zero k h = (refl, cc)
+    only (suc j) k h = absurd cc
+
+    each : (i k : ℕ) → slice_get (ks ++ at ∷ []) i ≡ Some k → slice_index (set hints (at % 64) (length ks % 65536)) (k % 64) ≡ i
+    each i k h =
+        elim (cases_lt i (length ks)) [
+          | inl below ↦
+              let there : slice_get ks i ≡ Some k = sym (get_front ks (at ∷ []) i below) ∙ h in
+              get_or-set_other hints (at % 64) (k % 64) (length ks % 65536) 0 (alone i k there) ∙ hinted.each i k there
+          | inr behind ↦
+              let last = only (i - length ks) k (sym (get_behind_by ks (at ∷ []) i behind) ∙ h) in
+              let inside : at % 64 < length hints = omega arith in
+              ap (λ n. slice_index (set hints (at % 64) (length ks % 65536)) (n % 64)) last.1
+              ∙ get_or-set_same hints (at % 64) (length ks % 65536) 0 inside ∙ omega (arith, last.0)
+        ]
+
+-- what is kept is so of the same keys with other items
+pub kept-same_keys : {T : Type 0} (old new : List (ℕ × T)) (places : ℕ) (hints : List ℕ) (exact : Bool) → IsWithin old places →
+    (exact ≡ true → AreHinted (keys_of old) hints) → keys_of new ≡ keys_of old → IsKept new places hints exact
+kept-same_keys old new places hints exact within hinted same = record {
+  within = within-same_keys old new places within same;
+  hinted = λ e. subst (λ ks. AreHinted ks hints) (sym same) (hinted e);
+}
+
+-- nothing is hinted of no key
+pub hinted-none : (ks hints : List ℕ) → ks ≡ [] → AreHinted ks hints
+hinted-none ks hints none = record { each = λ i at h. absurd (no i at (ap (λ l. slice_get l i) (sym none) ∙ h)) }
+  where
+    no : (i at : ℕ) → slice_get [] i ≡ Some at → ⊥
+    no i at h = absurd cc
