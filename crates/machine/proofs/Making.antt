@@ -9,7 +9,8 @@ use Rattle.machine.specs.declared.made.Made.{Made}
 use Rattle.machine.specs.Made.{IsTold, made_in, made_of, refused}
 use Rattle.machine.specs.Machine.{State, next, next_at}
 
-outcome-in : (tables : Tables) (s : State) (step : Step) (found : Option BlockState) → (next_at tables s step found).outcome ≡ (made_in tables step found).outcome
+outcome-in : (tables : Tables) (s : State) (step : Step) (found : Option BlockState) → (next_at tables s step found).outcome ≡
+    (made_in tables step found).outcome
 outcome-in tables s step None = refl
 outcome-in tables s step (Some b) = refl
 

@@ -21,7 +21,8 @@ few-enough shape within = omega (arith, within.few_caches)
 
 -- where a guarded invariant makes each transition fit, all runs are safe
 guarded-safe : (P : BlockState → Type 0) (tables : Tables) (shape : Extent) (opening : List ℕ) (steps : List Step) → Guards P tables shape.caches →
-    ((s : Step) (b : BlockState) → P b → FitsLatest (transition tables s b).outcome b.latest (transition tables s b).block.latest) → Safe shape tables opening steps
+    ((s : Step) (b : BlockState) → P b → FitsLatest (transition tables s b).outcome b.latest
+        (transition tables s b).block.latest) → Safe shape tables opening steps
 guarded-safe P tables shape opening steps g fits = record {
   single = λ front rest e. guarded-single P tables shape g opening front;
   unmet = λ front rest s e. guarded-unmet P tables shape g opening front s;
@@ -42,7 +43,8 @@ pub own-restrained : (p : Protocol) → AreRestrained (baseline_of p)
 own-restrained p = record { cache = λ s e. inl refl; directory = λ s e. inl refl }
 
 -- and no step of a run under restrained tables comes to a cell that the own tables leave blank
-pub restrained-never-met : (tables : Tables) (shape : Extent) (opening : List ℕ) (steps : List Step) (step : Step) → AreRestrained tables → IsWithinLimits shape →
+pub restrained-never-met : (tables : Tables) (shape : Extent) (opening : List ℕ) (steps : List Step)
+    (step : Step) → AreRestrained tables → IsWithinLimits shape →
     ¬ Met (baseline_of tables.protocol) (after tables (opened shape opening) steps).state step
 restrained-never-met tables shape opening steps step r within =
     guarded-unmet-under (Holding tables.protocol shape.caches) tables (baseline_of tables.protocol) shape

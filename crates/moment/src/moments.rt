@@ -113,7 +113,7 @@ impl<'s, A: Allocator, B: Allocator + Clone> Moment<'s, A, B> {
         let turned = note(&mut self.cores, step, made.outcome);
         let (world, cores) = (&self.world, &self.cores);
         let lanes = &mut self.lanes;
-        let Ok(()) = lanes.follow(alloc, pick, &made, turned, world, cores) else {
+        let Ok(()) = lanes.follow(alloc, &pick, &made, turned, world, cores) else {
             self.usable = false;
             return Err(NoMemory);
         };

@@ -9,7 +9,8 @@ use Rattle.std.proofs.lemmas.Iterator.Adapters.{option_map_id}
 use Rattle.base.specs.Steps.{block_of}
 use Rattle.base.specs.declared.step.Step.{Step}
 use Rattle.base.specs.declared.step.Outcome.{Outcome}
-use Rattle.machine.specs.Completions.{Completion, HasNoStoreTo, IsStoreTo, completions, completions_of, completed_by, is_store_to, stored_to, last_of, due, noted}
+use Rattle.machine.specs.Completions.{Completion, HasNoStoreTo, IsStoreTo, completions, completions_of}
+use Rattle.machine.specs.Completions.{completed_by, is_store_to, stored_to, last_of, due, noted}
 use Rattle.both_tables.specs.Tables.{Tables}
 use Rattle.machine.specs.Machine.{State, Next, next, opened, state_after, outcomes_of}
 use Rattle.machine.proofs.Due.{due-nothing, due-noted}

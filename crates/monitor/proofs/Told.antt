@@ -83,7 +83,8 @@ in-state tables s step (Some b) there e =
     let new = (transition tables step b).block in
     let told = by-decision (decision_of tables step b) (place_in step b) b.lines b (decision-goes tables step b) e in (
       told.0,
-      λ looked. alone (next_at tables s step (Some b)).state (block_of step) new (slice_get-set_same s.blocks (block_of step) new (slice_get_within s.blocks (block_of step) b there)) (told.1 looked),
+      λ looked. alone (next_at tables s step (Some b)).state (block_of step) new (slice_get-set_same s.blocks (block_of step) new
+          (slice_get_within s.blocks (block_of step) b there)) (told.1 looked),
     )
 
 by-broken : (tables : Tables) (s : State) (step : Step) (broken : Bool) →

@@ -60,6 +60,8 @@ impl Asks {
     ghost use Rattle.scenario.specs.Taking.{offers};
     ghost use Rattle.schedule.specs.inner.Marks.{all_marked, marked_by, offers_by};
     ghost use Rattle.schedule.specs.inner.Owned.{IsMarkedIf};
+    ghost use Rattle.both_tables.specs.Tables.{Tables};
+    ghost use Rattle.machine.specs.Machine.{State};
     ghost use Rattle.schedule.specs.declared.choosing.Choice.TheVariants.{Offer};
 
     /// No asks.
@@ -94,10 +96,17 @@ impl Asks {
         ensures marked { IfOk result (λ anew. IsMarkedIf world.now.tables world.now.state anew self.old self.new) }
     {
         let told = rest.peek();
-        if let Next::Alone(ask) = told {
-            if self.asks.len() == 1 {
-                return Ok(self.put_alone(ask, world));
+        match told {
+            Next::Nothing => return self.put_none(),
+            Next::Alone(ask) => {
+                if self.asks.is_empty() {
+                    return self.put_first(ask, world);
+                }
+                if self.asks.len() == 1 {
+                    return Ok(self.put_alone(ask, world));
+                }
             }
+            Next::Unknown => {}
         }
         list_told(told, rest, &mut self.next)?;
         if are_same(self.next.as_slice(), self.asks.as_slice()) {
@@ -113,6 +122,36 @@ impl Asks {
         )?;
         self.core = core_of(self.asks.as_slice());
         self.grouped = self.groups.group(self.asks.as_slice());
+        Ok(true)
+    }
+
+    /// Lists nothing from now on, and answers whether there was anything.
+    fn put_none(&mut self) -> Result<bool, NoMemory>
+        ensures asks { OnOk result (self.new.asks ≡ []) }
+        ensures marked { (tables : Tables) (state : State) → IfOk result (λ anew. IsMarkedIf tables state anew self.old self.new) }
+    {
+        if self.asks.is_empty() {
+            return Ok(false);
+        }
+        self.unheld.reopen(self.alloc, 0)?;
+        self.asks.clear();
+        self.core = None;
+        self.grouped = false;
+        Ok(true)
+    }
+
+    /// Lists an ask that is offered alone where there was none, and answers that it was marked.
+    fn put_first(&mut self, ask: CoreAsk, world: &World) -> Result<bool, NoMemory>
+        requires { self.old.asks ≡ [] }
+        ensures asks { OnOk result (self.new.asks ≡ ask ∷ []) }
+        ensures marked { IfOk result (λ anew. IsMarkedIf world.now.tables world.now.state anew self.old self.new) }
+    {
+        self.asks.reserve(1)?;
+        self.unheld.reopen(self.alloc, 1)?;
+        self.asks.push_reserved(ask);
+        self.unheld.set(0, is_unheld(world, ask));
+        self.core = Some(ask.core);
+        self.grouped = false;
         Ok(true)
     }
 

@@ -146,7 +146,7 @@ fn make_pick(
     let pick = lanes.pick(world, cores, 0)?;
     let made = world.make(pick.step()).expect(rt, "memory");
     lanes
-        .follow(alloc, pick, &made, true, world, cores)
+        .follow(alloc, &pick, &made, true, world, cores)
         .expect(rt, "memory");
     Some(pick.step())
 }

@@ -126,9 +126,11 @@ pub fn step_at(
     ensures succeeds { NeedsNone controllers.now caches value number step blocks.old.items → IsOk result }
 {
     if let Some(block) = blocks.get_mut(number) {
-        return made_at(block, controllers, step);
+        return made_at(block, controllers, &step);
     }
-    first_step_at(alloc, blocks, caches, value, number, controllers, step)
+    // Taken apart and put together: handed on as it is, it would have the result of all steps lie in memory.
+    let first = first_step_at(alloc, blocks, caches, value, number, controllers, &step)?;
+    Ok(first)
 }
 
 /// Makes a step at a block that isn't kept. It stands apart, as few steps come here.
@@ -141,13 +143,13 @@ fn first_step_at(
     value: u64,
     number: u32,
     controllers: &Controllers,
-    step: Step,
+    step: &Step,
 ) -> Result<Visit, NoMemory>
     requires below { number < length blocks.old.items }
     requires none { kept_at blocks.old.items number ≡ None }
-    ensures ok { IfOk result (λ visit. HasStepped controllers.now caches value number step blocks.old.items visit blocks.new.items) }
-    ensures err { OnErr result (HasStayed controllers.now caches value number step blocks.old.items blocks.new.items) }
-    ensures succeeds { NeedsNone controllers.now caches value number step blocks.old.items → IsOk result }
+    ensures ok { IfOk result (λ visit. HasStepped controllers.now caches value number step.now blocks.old.items visit blocks.new.items) }
+    ensures err { OnErr result (HasStayed controllers.now caches value number step.now blocks.old.items blocks.new.items) }
+    ensures succeeds { NeedsNone controllers.now caches value number step.now blocks.old.items → IsOk result }
 {
     if let Some(outcome) = touch_opened(
         alloc,
@@ -156,7 +158,7 @@ fn first_step_at(
         value,
         number,
         controllers.tables(),
-        step,
+        *step,
     )? {
         return Ok(Visit {
             made: Made::refused(outcome),
@@ -171,15 +173,11 @@ fn first_step_at(
 
 /// Makes a step at this block.
 #[inline(always)]
-fn made_at(
-    block: &mut Block,
-    controllers: &Controllers,
-    step: Step,
-) -> Result<Visit, NoMemory>
+fn made_at(block: &mut Block, controllers: &Controllers, step: &Step) -> Result<Visit, NoMemory>
     requires { block.old.marks ≡ marks_of controllers.now block.old.state }
-    ensures ok { IfOk result (λ visit. Visits controllers.now block.old step visit block.new) }
+    ensures ok { IfOk result (λ visit. Visits controllers.now block.old step.now visit block.new) }
     ensures err { OnErr result (Stays controllers.now block.old block.new) }
-    ensures succeeds { WantsNone (decision_of controllers.now step block.old.state) block.old.state block.old.space → IsOk result }
+    ensures succeeds { WantsNone (decision_of controllers.now step.now block.old.state) block.old.state block.old.space → IsOk result }
 {
     let made = block.make(controllers, step)?;
     if made.acted.is_none() {

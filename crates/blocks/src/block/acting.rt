@@ -144,13 +144,14 @@ impl Block {
     }
 
     /// Makes a step. Where memory is refused nothing has changed.
-    pub fn make(&mut self, controllers: &Controllers, step: Step) -> Result<Made, NoMemory>
+    // The step is referred to, so that whoever makes it hands on where it lies and not a copy.
+    pub fn make(&mut self, controllers: &Controllers, step: &Step) -> Result<Made, NoMemory>
         requires { self.old.marks ≡ marks_of controllers.now self.old.state }
-        ensures ok { IfOk result (λ made. Makes controllers.now self.old step made self.new) }
+        ensures ok { IfOk result (λ made. Makes controllers.now self.old step.now made self.new) }
         ensures err { OnErr result (Stays controllers.now self.old self.new) }
-        ensures succeeds { WantsNone (decision_of controllers.now step self.old.state) self.old.state self.old.space → IsOk result }
+        ensures succeeds { WantsNone (decision_of controllers.now step.now self.old.state) self.old.state self.old.space → IsOk result }
     {
-        match step {
+        match *step {
             Step::Ask { cache, block, ask } => {
                 let core = cache;
                 self.serve(controllers, &CoreAsk { core, block, ask })

@@ -42,18 +42,18 @@ impl<'s, A: Allocator, B: Allocator + Clone> Lanes<'s, A, B> {
     pub fn follow(
         &mut self,
         alloc: B,
-        pick: Pick,
+        pick: &Pick,
         made: &Made,
         turned: bool,
         world: &World,
         cores: &Cores,
     ) -> Result<(), NoMemory>
         requires kept { IsKept (laned self.old) }
-        requires picked { IsPicked pick (laned self.old) }
-        ensures rest { OnOk result (Alike (whole (laned self.new)) (rest_after (choice_of (laned self.old) pick) (whole (laned self.old)))) }
+        requires picked { IsPicked pick.now (laned self.old) }
+        ensures rest { OnOk result (Alike (whole (laned self.new)) (rest_after (choice_of (laned self.old) pick.now) (whole (laned self.old)))) }
         ensures kept { OnOk result (IsKept (laned self.new)) }
         ensures ready { OnOk result ((before : State) (cores_before : List Core) → AreReady world.now.tables before cores_before (laned self.old) →
-            Follows world.now.tables (chosen_step (choice_of (laned self.old) pick)) made.now before world.now.state cores_before cores.now →
+            Follows world.now.tables (chosen_step (choice_of (laned self.old) pick.now)) made.now before world.now.state cores_before cores.now →
             (turned ≡ false → AreAsFree cores_before cores.now) → AreReady world.now.tables world.now.state cores.now (laned self.new)) }
         ensures fits { (tree : Tree) → LanesFit self.old tree → LanesFit self.new tree }
     {
@@ -69,12 +69,12 @@ impl<'s, A: Allocator, B: Allocator + Clone> Lanes<'s, A, B> {
     fn take_picked(
         &mut self,
         alloc: B,
-        pick: Pick,
+        pick: &Pick,
         world: &World,
     ) -> Result<Option<usize>, NoMemory>
         requires kept { IsKept (laned self.old) }
-        requires picked { IsPicked pick (laned self.old) }
-        ensures rest { OnOk result (Alike (whole (laned self.new)) (rest_after (choice_of (laned self.old) pick) (whole (laned self.old)))) }
+        requires picked { IsPicked pick.now (laned self.old) }
+        ensures rest { OnOk result (Alike (whole (laned self.new)) (rest_after (choice_of (laned self.old) pick.now) (whole (laned self.old)))) }
         ensures kept { OnOk result (IsKept (laned self.new)) }
         ensures there { IfOk result (λ anew. IfSome anew (λ lane. lane < length (laned self.new).trees)) }
         ensures marked { IfOk result (λ anew. IfSome anew (λ lane. IsMarked world.now.tables world.now.state (listed_at (laned self.new) lane))) }
@@ -83,7 +83,7 @@ impl<'s, A: Allocator, B: Allocator + Clone> Lanes<'s, A, B> {
             WereReady world.now.tables before cores_before world.now.state anew (laned self.new)) }
         ensures fits { (tree : Tree) → LanesFit self.old tree → LanesFit self.new tree }
     {
-        match pick {
+        match *pick {
             Pick::Offer { lane, place, .. } => {
                 let anew = self.take_at(alloc, lane, place, world)?;
                 Ok(lane_if(anew, lane))

@@ -38,7 +38,8 @@ loop-init c =
     record {
       placed = c.loop-left.invariant.placed;
       some = c.requires;
-      rest = rw (let e : low c.args.word at + 0 ≡ low c.args.word at = omega arith in e) (masked-first c.args.word at _ (masked c.args.word at inside c.ranges.word.fits));
+      rest = rw (let e : low c.args.word at + 0 ≡ low c.args.word at = omega arith in e) (masked-first c.args.word at _
+          (masked c.args.word at inside c.ranges.word.fits));
     }
 
 pub overflow_sub-rest : goal.overflow_sub-rest

@@ -29,7 +29,8 @@ pub returns-in-Refused-clause-ok : goal.returns-in-Refused-clause-ok
 returns-in-Refused-clause-ok g c =
     let b = c.args.self.now.state in
     let was : Refused c.in-Refused.outcome ≡ decision_of c.args.controllers.now (g.S.Served.step c.args.served.now) b = sym c.in-Refused.is
-    ∙ (decided c.args.controllers.now c.tables.result.now (g.S.Served.step c.args.served.now) c.args.self.now.state c.decide-decision.ensures.decision c.tables.ensures) in
+    ∙ (decided c.args.controllers.now c.tables.result.now (g.S.Served.step c.args.served.now) c.args.self.now.state
+    c.decide-decision.ensures.decision c.tables.ensures) in
     record {
       told = c.refused.ensures ∙ ap (λ e. made_by e b) was;
       state = ap (λ e. (carried_out e b).block) was;
@@ -48,7 +49,8 @@ returns-in-Err-clause-err g c = record {
 
 pub returns-in-Err-clause-succeeds : goal.returns-in-Err-clause-succeeds
 returns-in-Err-clause-succeeds g c wants = elim wants [
-  | inl space ↦ c.in-Err.ensures.succeeds (rw (decided c.args.controllers.now c.tables.result.now (g.S.Served.step c.args.served.now) c.args.self.now.state c.decide-decision.ensures.decision c.tables.ensures) space)
+  | inl space ↦ c.in-Err.ensures.succeeds (rw (decided c.args.controllers.now c.tables.result.now (g.S.Served.step c.args.served.now) c.args.self.now.state
+    c.decide-decision.ensures.decision c.tables.ensures) space)
   | inr none ↦ (let sends = none.0 in let asleep = none.1 in grind (arith, common_steps))
 ]
 
@@ -56,7 +58,8 @@ pub returns-clause-ok : goal.returns-clause-ok
 returns-clause-ok g c =
     let d = c.decide-decision.result in
     let before = c.args.self.now.state in
-    let is = (decided c.args.controllers.now c.tables.result.now (g.S.Served.step c.args.served.now) c.args.self.now.state c.decide-decision.ensures.decision c.tables.ensures) in
+    let is = (decided c.args.controllers.now c.tables.result.now (g.S.Served.step c.args.served.now) c.args.self.now.state
+    c.decide-decision.ensures.decision c.tables.ensures) in
     let tables = c.args.controllers.now in
     let after = c.mark_after.new.self in
     let counted = sends-counted d before c.decide-decision.ensures.among c.decide-decision.ensures.fits in

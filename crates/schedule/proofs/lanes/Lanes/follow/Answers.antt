@@ -16,7 +16,7 @@ pub returns-clause-ready : goal.returns-clause-ready
 returns-clause-ready g c before cb ready follows free =
     let world = c.args.world.now in
     let cores = c.args.cores.now in
-    let step = chosen_step (choice_of (laned c.args.self.now) c.args.pick) in
+    let step = chosen_step (choice_of (laned c.args.self.now) c.args.pick.now) in
     let taken = laned c.take_picked.new.self in
     let marked = laned c.mark_again-marked.new.self in
     let anew = c.in_ok-anew.anew in
