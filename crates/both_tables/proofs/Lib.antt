@@ -1,1 +1,2 @@
+pub mod CellPlaces
 pub mod Overriding

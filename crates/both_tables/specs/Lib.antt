@@ -1,3 +1,4 @@
+pub mod CellPlaces
 pub mod Tables
 pub mod Written
 pub mod Overrides

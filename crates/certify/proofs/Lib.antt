@@ -1,2 +1,1 @@
-pub mod Places
 mod OwnEntries

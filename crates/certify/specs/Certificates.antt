@@ -3,18 +3,18 @@ use Rattle.std.specs.Prelude.{◌≡◌, ◌⊎◌, ◌<◌, ℕ, Some, slice_ge
 use Rattle.base.specs.declared.controller.entry.Entry.TheVariants.{Blank, Stall}
 use Rattle.cache_table.specs.Table as cache_table
 use Rattle.directory_table.specs.Table as directory_table
+use Rattle.both_tables.specs.CellPlaces.{all_places}
 use Rattle.both_tables.specs.Tables.{Tables, baseline_of}
+use Rattle.both_tables.specs.declared.cell_places.CellPlace.{CellPlace}
+use Rattle.both_tables.specs.declared.cell_places.CellPlace.TheVariants.{Cache, Directory}
 use Rattle.machine.specs.Going.{AreNeverStuck, KeepsGoing, MayWait, MayWaitAtHome, IsSettled}
 use Rattle.machine.specs.Restraint.{AreRestrained}
-use Rattle.certify.specs.Cells.{all_cells}
 use Rattle.certify.specs.Standings.{IsAdmitted}
-use Rattle.certify.specs.declared.cells.Cell.{Cell}
-use Rattle.certify.specs.declared.cells.Cell.TheVariants.{Cache, Directory}
 use Rattle.certify.specs.declared.certifying.Certificate.{Certificate}
 use Rattle.certify.specs.declared.certifying.Certificate.TheVariants.{NotProved, NeverStuck, AsksMayBeHeld, MessagesMayGetStuck}
 
 -- a stall in this cell lets messages flow
-abbrev pub LetsFlow : Tables → Cell → Type 0
+abbrev pub LetsFlow : Tables → CellPlace → Type 0
 LetsFlow tables (Cache state event) = cache_table.cell tables.cache state event ≡ Stall →
     (cache_table.cell (baseline_of tables.protocol).cache state event ≡ Stall) ⊎
     (cache_table.cell (baseline_of tables.protocol).cache state event ≡ Blank) ⊎ MayWait tables state event
@@ -23,17 +23,17 @@ LetsFlow tables (Directory state event) = directory_table.cell tables.directory 
     (directory_table.cell (baseline_of tables.protocol).directory state event ≡ Blank) ⊎ MayWaitAtHome state event
 
 -- at a line that waits for nothing this cell holds none that comes
-abbrev pub ServesAt : Tables → Cell → Type 0
+abbrev pub ServesAt : Tables → CellPlace → Type 0
 ServesAt tables (Cache state event) = IsSettled state → cache_table.cell tables.cache state event ≡ Stall →
     cache_table.cell (baseline_of tables.protocol).cache state event ≡ Blank
 ServesAt tables (Directory state event) = Unit {0}
 
 -- the first cell, in the order of all, that isn't so
-pub record IsFirstAgainst (holds : Cell → Type 0) (cell : Cell) : Type 0 where
+pub record IsFirstAgainst (holds : CellPlace → Type 0) (cell : CellPlace) : Type 0 where
   pub number : ℕ
-  pub there : slice_get all_cells number ≡ Some cell
+  pub there : slice_get all_places number ≡ Some cell
   pub barred : ¬ holds cell
-  pub before : (k : ℕ) (other : Cell) → k < number → slice_get all_cells k ≡ Some other → holds other
+  pub before : (k : ℕ) (other : CellPlace) → k < number → slice_get all_places k ≡ Some other → holds other
 
 -- when each answer is given
 abbrev pub IsCertificate : Tables → Certificate → Type 0

@@ -1,4 +1,3 @@
-pub mod Cells
 pub mod Standings
 pub mod Certificates
 pub mod inner

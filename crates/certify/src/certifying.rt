@@ -4,34 +4,33 @@ ghost use Rattle.std.specs.Prelude.{◌≡◌, ◌↔◌, ℕ, List, length, IfN
 ghost use Rattle.base.specs.Extent.{Extent, IsWithinLimits};
 ghost use Rattle.base.specs.declared.step.Step.{Step};
 ghost use Rattle.both_tables.specs.Tables.{baseline_of};
+ghost use Rattle.both_tables.specs.declared.cell_places.CellPlace.{CellPlace};
 ghost use Rattle.machine.specs.Coherence.{Met, Safe};
 ghost use Rattle.machine.specs.Going.{KeepsGoing};
 ghost use Rattle.machine.specs.Machine.{after, opened};
 ghost use Rattle.machine.specs.Restraint.{AreRestrained};
 ghost use Rattle.machine.specs.Unstuck.{Flowing, Unstuck};
-ghost use Rattle.certify.specs.declared.cells.Cell.{Cell};
 ghost use Rattle.certify.specs.Certificates.{IsCertificate, SaysSafe, SaysFlowing, IsFirstAgainst};
 ghost use Rattle.certify.specs.inner.Demands.{Meets};
 
-use crate::cells::{CELLS, Cell, cell_at};
 use crate::going::{holds_ask, is_jam};
 use crate::standings::{Standing, standing_of};
-use both_tables::Tables;
+use both_tables::{CELLS, CellPlace, Tables};
 use machine::{restrained_tables_are_safe, restrained_tables_are_unstuck};
 
 /// What is proved of changed tables, for any number of caches and blocks and any list of steps. A cell that it names is the
-/// first one of its kind, in the order of [`Cell::at`].
+/// first one of its kind, in the order of [`CellPlace::at`].
 #[derive(Clone, Copy, Debug, PartialEq, Eq)]
 pub enum Certificate {
     /// Nothing is: this cell isn't admitted. The tables may be safe all the same.
-    NotProved(Cell),
+    NotProved(CellPlace),
     /// They are safe, and no run under them ever gets stuck.
     NeverStuck,
     /// They are safe, and no message is ever stuck; but this cell holds an ask at a line that waits for nothing, for ever
     /// where no message comes.
-    AsksMayBeHeld(Cell),
+    AsksMayBeHeld(CellPlace),
     /// They are safe; but this cell holds a stall of which it isn't proved that messages flow in spite of it.
-    MessagesMayGetStuck(Cell),
+    MessagesMayGetStuck(CellPlace),
 }
 
 /// What is proved of these tables: each answer comes exactly where it is true and those that promise more aren't. Where it
@@ -95,12 +94,12 @@ enum Demand {
     Service,
 }
 
-fn first_against(tables: &Tables, demand: Demand) -> Option<Cell>
-    ensures none { IfNone result ((cell : Cell) → Meets tables.now demand cell) }
+fn first_against(tables: &Tables, demand: Demand) -> Option<CellPlace>
+    ensures none { IfNone result ((cell : CellPlace) → Meets tables.now demand cell) }
     ensures some { IfSome result (λ cell. IsFirstAgainst (Meets tables.now demand) cell) }
 {
     for number in 0..CELLS {
-        let cell = cell_at(number);
+        let cell = CellPlace::with_number(number);
         if is_against(tables, demand, cell) {
             return Some(cell);
         }
@@ -108,7 +107,7 @@ fn first_against(tables: &Tables, demand: Demand) -> Option<Cell>
     None
 }
 
-fn is_against(tables: &Tables, demand: Demand, cell: Cell) -> bool
+fn is_against(tables: &Tables, demand: Demand, cell: CellPlace) -> bool
     ensures { MatchBool result (¬ Meets tables.now demand cell) (Meets tables.now demand cell) }
 {
     match demand {

@@ -1,34 +1,33 @@
 //! Which stalls let messages flow, and which hold asks.
 
 ghost use Rattle.std.specs.Prelude.{MatchBool};
+ghost use Rattle.both_tables.specs.declared.cell_places.CellPlace.TheVariants as place;
 ghost use Rattle.machine.specs.Going.{DataWaits, MayWait, MayWaitAtHome, IsSettled};
-ghost use Rattle.certify.specs.declared.cells.Cell.TheVariants as place;
 ghost use Rattle.certify.specs.Certificates.{LetsFlow, ServesAt};
 
-use crate::cells::Cell;
 use crate::own::{own_home, own_line};
 use base::controller::Entry;
-use both_tables::Tables;
+use both_tables::{CellPlace, Tables};
 use cache_table::{CacheEvent, CacheState};
 use directory_table::{DirectoryEvent, DirectoryState};
 
 /// Whether a cell holds a stall of which it isn't proved that messages flow in spite of it.
-pub(crate) fn is_jam(tables: &Tables, cell: Cell) -> bool
+pub(crate) fn is_jam(tables: &Tables, cell: CellPlace) -> bool
     ensures { MatchBool result (¬ LetsFlow tables.now cell) (LetsFlow tables.now cell) }
 {
     match cell {
-        Cell::Cache(state, event) => is_line_jam(tables, state, event),
-        Cell::Directory(state, event) => is_home_jam(tables, state, event),
+        CellPlace::Cache(state, event) => is_line_jam(tables, state, event),
+        CellPlace::Directory(state, event) => is_home_jam(tables, state, event),
     }
 }
 
 /// Whether a cell holds an ask of a line that waits for nothing.
-pub(crate) fn holds_ask(tables: &Tables, cell: Cell) -> bool
+pub(crate) fn holds_ask(tables: &Tables, cell: CellPlace) -> bool
     ensures { MatchBool result (¬ ServesAt tables.now cell) (ServesAt tables.now cell) }
 {
     match cell {
-        Cell::Cache(state, event) => is_held_ask(tables, state, event),
-        Cell::Directory(_, _) => false,
+        CellPlace::Cache(state, event) => is_held_ask(tables, state, event),
+        CellPlace::Directory(_, _) => false,
     }
 }
 

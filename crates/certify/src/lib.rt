@@ -2,13 +2,11 @@
 //! blocks, or names the first cell of which that isn't proved.
 #![tactic(auto)]
 
-mod cells;
 mod certifying;
 mod going;
 mod own;
 mod proved;
 mod standings;
 
-pub use cells::{CELLS, Cell};
 pub use certifying::{Certificate, certify};
 pub use standings::{Standing, standing_of};

@@ -3,11 +3,10 @@
 ghost use Rattle.std.specs.Prelude.{◌≡◌, ◌↔◌, Contains, IsTrue};
 ghost use Rattle.certify.specs.Standings.{IsReason, HasStanding};
 
-use crate::cells::Cell;
 use crate::own::{own_home, own_line};
 use crate::proved::{proved_homes, proved_lines};
 use base::controller::{Change, Entry, Listed};
-use both_tables::Tables;
+use both_tables::{CellPlace, Tables};
 use cache_table::CacheChange;
 use directory_table::DirectoryChange;
 
@@ -27,11 +26,11 @@ pub enum Standing {
 }
 
 /// How a cell of these tables stands to the protocol's own.
-pub fn standing_of(tables: &Tables, cell: Cell) -> Standing
+pub fn standing_of(tables: &Tables, cell: CellPlace) -> Standing
     ensures { HasStanding tables.now cell result }
 {
     match cell {
-        Cell::Cache(state, event) => {
+        CellPlace::Cache(state, event) => {
             let found = CacheChange {
                 state,
                 event,
@@ -39,7 +38,7 @@ pub fn standing_of(tables: &Tables, cell: Cell) -> Standing
             };
             reason(&proved_lines(), &own_line(tables, state, event), &found)
         }
-        Cell::Directory(state, event) => {
+        CellPlace::Directory(state, event) => {
             let found = DirectoryChange {
                 state,
                 event,

@@ -1,14 +1,13 @@
 use base::controller::Side;
 use base::text::Text;
-use both_tables::Tables;
+use both_tables::{CellPlace, Tables};
 use cache_table::CacheChange;
-use certify::Cell;
 use directory_table::DirectoryChange;
 
 /// A cell as `msi tables` spells it.
-pub(crate) fn text_of(tables: &Tables, cell: Cell) -> Text {
+pub(crate) fn text_of(tables: &Tables, cell: CellPlace) -> Text {
     match cell {
-        Cell::Cache(state, event) => {
+        CellPlace::Cache(state, event) => {
             let entry = tables.cache.entry(state, event);
             let found = CacheChange {
                 state,
@@ -17,7 +16,7 @@ pub(crate) fn text_of(tables: &Tables, cell: Cell) -> Text {
             };
             found.text(Side::Cache)
         }
-        Cell::Directory(state, event) => {
+        CellPlace::Directory(state, event) => {
             let entry = tables.directory.entry(state, event);
             let found = DirectoryChange {
                 state,

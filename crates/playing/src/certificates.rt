@@ -6,8 +6,8 @@ use crate::jamming::jam_from;
 use crate::objects::print_cell_object;
 use crate::printing::Printer;
 use crate::schedules::CACHES;
-use both_tables::Tables;
-use certify::{CELLS, Cell, Certificate, Standing, certify, standing_of};
+use both_tables::{CELLS, CellPlace, Tables};
+use certify::{Certificate, Standing, certify, standing_of};
 use std::alloc::Global;
 use std::io::Write;
 
@@ -67,7 +67,7 @@ fn print_safe<O: Write + Drop>(stuck: &str, format: Format, printer: &mut Printe
 /// Prints the same of tables under which something may get stuck, or does, with the first cell that stands for it.
 fn print_stalled<O: Write + Drop>(
     tables: &Tables,
-    cell: Cell,
+    cell: CellPlace,
     stuck: &str,
     format: Format,
     printer: &mut Printer<O>,
@@ -96,7 +96,7 @@ fn print_jam<O: Write + Drop>(steps: &str, format: Format, printer: &mut Printer
 
 fn print_unknown<O: Write + Drop>(
     tables: &Tables,
-    cell: Cell,
+    cell: CellPlace,
     format: Format,
     printer: &mut Printer<O>,
 ) {
@@ -112,7 +112,7 @@ fn print_unknown<O: Write + Drop>(
 
 fn print_reasons<O: Write + Drop>(tables: &Tables, format: Format, printer: &mut Printer<O>) {
     for number in 0..CELLS {
-        if let Some(cell) = Cell::at(number) {
+        if let Some(cell) = CellPlace::at(number) {
             print_reason(tables, cell, format, printer);
         }
     }
@@ -121,7 +121,7 @@ fn print_reasons<O: Write + Drop>(tables: &Tables, format: Format, printer: &mut
 /// Prints a cell and how it stands, unless it is the protocol's own.
 fn print_reason<O: Write + Drop>(
     tables: &Tables,
-    cell: Cell,
+    cell: CellPlace,
     format: Format,
     printer: &mut Printer<O>,
 ) {
@@ -137,7 +137,7 @@ fn print_reason<O: Write + Drop>(
 
 fn print_cell<O: Write + Drop>(
     tables: &Tables,
-    cell: Cell,
+    cell: CellPlace,
     reason: &str,
     format: Format,
     printer: &mut Printer<O>,

@@ -6,8 +6,8 @@ use crate::jamming::jam_from;
 use crate::printing::Printer;
 use base::text::Text;
 use base::{CoreAsk, MOST_BLOCKS, MOST_CACHES, NoMemory, Shape, Step};
-use both_tables::Tables;
-use certify::{CELLS, Cell, Certificate, Standing, certify, standing_of};
+use both_tables::{CELLS, CellPlace, Tables};
+use certify::{Certificate, Standing, certify, standing_of};
 use scenario::Scenario;
 use std::alloc::Global;
 use std::io::{Read, Write};
@@ -122,7 +122,7 @@ fn verdict(alloc: Global, tables: &Tables) -> Result<&'static str, NoMemory> {
 /// Prints the cells that aren't the protocol's own.
 fn print_cells<O: Write + Drop>(tables: &Tables, printer: &mut Printer<O>) {
     for number in 0..CELLS {
-        if let Some(cell) = Cell::at(number) {
+        if let Some(cell) = CellPlace::at(number) {
             if !matches!(standing_of(tables, cell), Standing::Own) {
                 printer.line(text_of(tables, cell));
             }

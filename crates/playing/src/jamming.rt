@@ -5,8 +5,7 @@ ghost use Rattle.playing.specs.inner.Leading.{HasGoneOn, IsFresh};
 
 use crate::schedules::{CACHES, schedules_of};
 use base::{NoMemory, Outcome, Shape, Step};
-use both_tables::Tables;
-use certify::Cell;
+use both_tables::{CellPlace, Tables};
 use std::alloc::Global;
 use world::{OpenFault, World};
 
@@ -15,7 +14,7 @@ use world::{OpenFault, World};
 pub(crate) fn jam_from(
     alloc: Global,
     tables: &Tables,
-    cell: Cell,
+    cell: CellPlace,
 ) -> Result<Option<&'static str>, NoMemory>
     ensures { IfOk result (λ found. IfSome found (λ steps. GetsStuck tables.now)) }
 {

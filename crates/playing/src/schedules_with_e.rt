@@ -1,186 +1,186 @@
+use both_tables::CellPlace;
 use cache_table::{CacheEvent, CacheState};
-use certify::Cell;
 use directory_table::{DirectoryEvent, DirectoryState};
 
 /// The schedules of MSI+E, as those of MSI are.
-pub(crate) const SCHEDULES_WITH_E: [(Cell, &str); 39] = [
+pub(crate) const SCHEDULES_WITH_E: [(CellPlace, &str); 39] = [
     (
-        Cell::Cache(CacheState::IsD, CacheEvent::DataDirZero),
+        CellPlace::Cache(CacheState::IsD, CacheEvent::DataDirZero),
         "ask 0 0 load\nrequest 0 0\nresponse 0 0\nask 0 0 replace\nask 1 0 load\nrequest 0 1\nrequest 0 0\nforward 0 0\n\
          forward 0 0\nresponse 0 0\nresponse 0 0\nask 0 0 load\nrequest 0 0\n",
     ),
     (
-        Cell::Cache(CacheState::IsD, CacheEvent::DataOwner),
+        CellPlace::Cache(CacheState::IsD, CacheEvent::DataOwner),
         "ask 0 0 load\nrequest 0 0\nresponse 0 0\nask 1 0 load\nrequest 0 0\nforward 0 0\nresponse 0 1\n",
     ),
     (
-        Cell::Cache(CacheState::IsD, CacheEvent::DataDirExcl),
+        CellPlace::Cache(CacheState::IsD, CacheEvent::DataDirExcl),
         "ask 0 0 load\nrequest 0 0\n",
     ),
     (
-        Cell::Cache(CacheState::ImAd, CacheEvent::DataDirZero),
+        CellPlace::Cache(CacheState::ImAd, CacheEvent::DataDirZero),
         "ask 0 0 store 5\nrequest 0 0\n",
     ),
     (
-        Cell::Cache(CacheState::ImAd, CacheEvent::DataOwner),
+        CellPlace::Cache(CacheState::ImAd, CacheEvent::DataOwner),
         "ask 0 0 load\nrequest 0 0\nresponse 0 0\nask 1 0 store 5\nrequest 0 0\nforward 0 0\n",
     ),
     (
-        Cell::Cache(CacheState::ImAd, CacheEvent::InvAck),
+        CellPlace::Cache(CacheState::ImAd, CacheEvent::InvAck),
         "ask 0 0 load\nrequest 0 0\nresponse 0 0\nask 1 0 load\nrequest 0 0\nforward 0 0\nresponse 0 0\nresponse 0 0\n\
          ask 2 0 store 5\nrequest 0 0\nforward 0 0\nforward 0 1\n",
     ),
     (
-        Cell::Cache(CacheState::ImA, CacheEvent::InvAck),
+        CellPlace::Cache(CacheState::ImA, CacheEvent::InvAck),
         "ask 0 0 load\nrequest 0 0\nresponse 0 0\nask 1 0 load\nrequest 0 0\nforward 0 0\nresponse 0 0\nresponse 0 0\n\
          ask 2 0 store 5\nrequest 0 0\nforward 0 0\nforward 0 1\nresponse 0 0\n",
     ),
     (
-        Cell::Cache(CacheState::ImA, CacheEvent::LastInvAck),
+        CellPlace::Cache(CacheState::ImA, CacheEvent::LastInvAck),
         "ask 0 0 load\nrequest 0 0\nresponse 0 0\nask 0 0 replace\nask 1 0 load\nrequest 0 1\nrequest 0 0\nforward 0 0\n\
          forward 0 0\nresponse 0 0\nresponse 0 0\nask 0 0 store 5\nrequest 0 0\nforward 0 1\nresponse 0 0\n",
     ),
     (
-        Cell::Cache(CacheState::S, CacheEvent::Inv),
+        CellPlace::Cache(CacheState::S, CacheEvent::Inv),
         "ask 0 0 load\nrequest 0 0\nresponse 0 0\nask 1 0 load\nrequest 0 0\nforward 0 0\nresponse 0 0\nresponse 0 0\n\
          ask 0 0 store 5\nrequest 0 0\nresponse 0 0\n",
     ),
     (
-        Cell::Cache(CacheState::SmAd, CacheEvent::Inv),
+        CellPlace::Cache(CacheState::SmAd, CacheEvent::Inv),
         "ask 0 0 load\nrequest 0 0\nresponse 0 0\nask 1 0 load\nrequest 0 0\nforward 0 0\nresponse 0 0\nresponse 0 0\n\
          ask 0 0 store 5\nrequest 0 0\nresponse 0 0\nask 1 0 store 5\nrequest 0 0\n",
     ),
     (
-        Cell::Cache(CacheState::SmAd, CacheEvent::DataDirZero),
+        CellPlace::Cache(CacheState::SmAd, CacheEvent::DataDirZero),
         "ask 0 0 load\nrequest 0 0\nresponse 0 0\nask 1 0 load\nrequest 0 0\nforward 0 0\nresponse 0 0\nresponse 0 0\n\
          ask 0 0 store 5\nrequest 0 0\nforward 0 1\nresponse 0 1\n",
     ),
     (
-        Cell::Cache(CacheState::SmAd, CacheEvent::InvAck),
+        CellPlace::Cache(CacheState::SmAd, CacheEvent::InvAck),
         "ask 0 0 load\nrequest 0 0\nresponse 0 0\nask 1 0 load\nrequest 0 0\nforward 0 0\nresponse 0 0\nresponse 0 0\n\
          ask 0 0 store 5\nrequest 0 0\nforward 0 1\n",
     ),
     (
-        Cell::Cache(CacheState::SmA, CacheEvent::InvAck),
+        CellPlace::Cache(CacheState::SmA, CacheEvent::InvAck),
         "ask 0 0 load\nrequest 0 0\nresponse 0 0\nask 1 0 load\nrequest 0 0\nforward 0 0\nresponse 0 0\nresponse 0 0\n\
          ask 0 0 store 5\nask 2 0 load\nrequest 0 1\nrequest 0 0\nforward 0 1\nresponse 0 0\nforward 0 2\nresponse 0 0\n",
     ),
     (
-        Cell::Cache(CacheState::SmA, CacheEvent::LastInvAck),
+        CellPlace::Cache(CacheState::SmA, CacheEvent::LastInvAck),
         "ask 0 0 load\nrequest 0 0\nresponse 0 0\nask 1 0 load\nrequest 0 0\nforward 0 0\nresponse 0 0\nresponse 0 0\n\
          ask 0 0 store 5\nrequest 0 0\nforward 0 1\nresponse 0 0\n",
     ),
     (
-        Cell::Cache(CacheState::M, CacheEvent::FwdGetS),
+        CellPlace::Cache(CacheState::M, CacheEvent::FwdGetS),
         "ask 0 0 load\nask 1 0 store 5\nrequest 0 1\nrequest 0 0\nresponse 0 0\n",
     ),
     (
-        Cell::Cache(CacheState::M, CacheEvent::FwdGetM),
+        CellPlace::Cache(CacheState::M, CacheEvent::FwdGetM),
         "ask 0 0 store 5\nrequest 0 0\nresponse 0 0\nask 1 0 store 5\nrequest 0 0\n",
     ),
     (
-        Cell::Cache(CacheState::MiA, CacheEvent::FwdGetS),
+        CellPlace::Cache(CacheState::MiA, CacheEvent::FwdGetS),
         "ask 0 0 load\nrequest 0 0\nresponse 0 0\nask 0 0 replace\nask 1 0 load\nrequest 0 1\nrequest 0 0\n",
     ),
     (
-        Cell::Cache(CacheState::MiA, CacheEvent::FwdGetM),
+        CellPlace::Cache(CacheState::MiA, CacheEvent::FwdGetM),
         "ask 0 0 load\nrequest 0 0\nresponse 0 0\nask 0 0 replace\nask 1 0 store 5\nrequest 0 1\nrequest 0 0\n",
     ),
     (
-        Cell::Cache(CacheState::MiA, CacheEvent::PutAck),
+        CellPlace::Cache(CacheState::MiA, CacheEvent::PutAck),
         "ask 0 0 load\nrequest 0 0\nresponse 0 0\nask 0 0 replace\nrequest 0 0\n",
     ),
     (
-        Cell::Cache(CacheState::SiA, CacheEvent::Inv),
+        CellPlace::Cache(CacheState::SiA, CacheEvent::Inv),
         "ask 0 0 load\nrequest 0 0\nresponse 0 0\nask 0 0 replace\nask 1 0 load\nrequest 0 1\nforward 0 0\nresponse 0 0\n\
          response 0 0\nask 1 0 store 5\nrequest 0 1\nrequest 0 0\nresponse 0 0\n",
     ),
     (
-        Cell::Cache(CacheState::SiA, CacheEvent::PutAck),
+        CellPlace::Cache(CacheState::SiA, CacheEvent::PutAck),
         "ask 0 0 load\nrequest 0 0\nresponse 0 0\nask 0 0 replace\nask 1 0 load\nrequest 0 1\nrequest 0 0\nforward 0 0\n\
          response 0 0\nresponse 0 0\n",
     ),
     (
-        Cell::Cache(CacheState::IiA, CacheEvent::PutAck),
+        CellPlace::Cache(CacheState::IiA, CacheEvent::PutAck),
         "ask 0 0 load\nrequest 0 0\nresponse 0 0\nask 0 0 replace\nask 1 0 store 5\nrequest 0 1\nrequest 0 0\n\
          forward 0 0\nresponse 0 0\n",
     ),
     (
-        Cell::Cache(CacheState::E, CacheEvent::FwdGetS),
+        CellPlace::Cache(CacheState::E, CacheEvent::FwdGetS),
         "ask 0 0 load\nrequest 0 0\nresponse 0 0\nask 1 0 load\nrequest 0 0\n",
     ),
     (
-        Cell::Cache(CacheState::E, CacheEvent::FwdGetM),
+        CellPlace::Cache(CacheState::E, CacheEvent::FwdGetM),
         "ask 0 0 load\nrequest 0 0\nresponse 0 0\nask 1 0 store 5\nrequest 0 0\n",
     ),
     (
-        Cell::Directory(DirectoryState::I, DirectoryEvent::GetS),
+        CellPlace::Directory(DirectoryState::I, DirectoryEvent::GetS),
         "ask 0 0 load\n",
     ),
     (
-        Cell::Directory(DirectoryState::I, DirectoryEvent::GetM),
+        CellPlace::Directory(DirectoryState::I, DirectoryEvent::GetM),
         "ask 0 0 store 5\n",
     ),
     (
-        Cell::Directory(DirectoryState::I, DirectoryEvent::PutSNotLast),
+        CellPlace::Directory(DirectoryState::I, DirectoryEvent::PutSNotLast),
         "ask 0 0 load\nrequest 0 0\nresponse 0 0\nask 1 0 load\nrequest 0 0\nforward 0 0\nresponse 0 0\nresponse 0 0\n\
          ask 0 0 store 5\nrequest 0 0\nresponse 0 0\nask 1 0 replace\nforward 0 1\nresponse 0 0\nask 0 0 replace\n\
          request 0 1\nforward 0 0\n",
     ),
     (
-        Cell::Directory(DirectoryState::I, DirectoryEvent::PutMNonOwner),
+        CellPlace::Directory(DirectoryState::I, DirectoryEvent::PutMNonOwner),
         "ask 0 0 load\nrequest 0 0\nresponse 0 0\nask 0 0 replace\nask 1 0 store 5\nrequest 0 1\nforward 0 0\n\
          response 0 0\nask 1 0 replace\nrequest 0 1\nforward 0 1\n",
     ),
     (
-        Cell::Directory(DirectoryState::S, DirectoryEvent::GetS),
+        CellPlace::Directory(DirectoryState::S, DirectoryEvent::GetS),
         "ask 0 0 load\nrequest 0 0\nresponse 0 0\nask 0 0 replace\nask 1 0 load\nrequest 0 1\nrequest 0 0\nforward 0 0\n\
          forward 0 0\nresponse 0 0\nresponse 0 0\nask 0 0 load\n",
     ),
     (
-        Cell::Directory(DirectoryState::S, DirectoryEvent::GetM),
+        CellPlace::Directory(DirectoryState::S, DirectoryEvent::GetM),
         "ask 0 0 load\nrequest 0 0\nresponse 0 0\nask 1 0 load\nrequest 0 0\nforward 0 0\nresponse 0 0\nresponse 0 0\n\
          ask 0 0 store 5\n",
     ),
     (
-        Cell::Directory(DirectoryState::S, DirectoryEvent::PutSNotLast),
+        CellPlace::Directory(DirectoryState::S, DirectoryEvent::PutSNotLast),
         "ask 0 0 load\nrequest 0 0\nresponse 0 0\nask 1 0 load\nrequest 0 0\nforward 0 0\nresponse 0 0\nresponse 0 0\n\
          ask 0 0 replace\n",
     ),
     (
-        Cell::Directory(DirectoryState::S, DirectoryEvent::PutSLast),
+        CellPlace::Directory(DirectoryState::S, DirectoryEvent::PutSLast),
         "ask 0 0 load\nrequest 0 0\nresponse 0 0\nask 0 0 replace\nask 1 0 load\nrequest 0 1\nrequest 0 0\nforward 0 0\n\
          forward 0 0\nresponse 0 0\nresponse 0 0\nask 1 0 replace\n",
     ),
     (
-        Cell::Directory(DirectoryState::S, DirectoryEvent::PutMNonOwner),
+        CellPlace::Directory(DirectoryState::S, DirectoryEvent::PutMNonOwner),
         "ask 0 0 load\nrequest 0 0\nresponse 0 0\nask 0 0 replace\nask 1 0 load\nrequest 0 1\nforward 0 0\nresponse 0 0\n\
          response 0 0\n",
     ),
     (
-        Cell::Directory(DirectoryState::M, DirectoryEvent::GetS),
+        CellPlace::Directory(DirectoryState::M, DirectoryEvent::GetS),
         "ask 0 0 load\nrequest 0 0\nresponse 0 0\nask 1 0 load\n",
     ),
     (
-        Cell::Directory(DirectoryState::M, DirectoryEvent::GetM),
+        CellPlace::Directory(DirectoryState::M, DirectoryEvent::GetM),
         "ask 0 0 load\nrequest 0 0\nresponse 0 0\nask 1 0 store 5\n",
     ),
     (
-        Cell::Directory(DirectoryState::M, DirectoryEvent::PutSNotLast),
+        CellPlace::Directory(DirectoryState::M, DirectoryEvent::PutSNotLast),
         "ask 0 0 load\nrequest 0 0\nresponse 0 0\nask 1 0 load\nrequest 0 0\nforward 0 0\nresponse 0 0\nresponse 0 0\n\
          ask 0 0 store 5\nrequest 0 0\nresponse 0 0\nask 1 0 replace\nforward 0 1\nresponse 0 0\n",
     ),
     (
-        Cell::Directory(DirectoryState::M, DirectoryEvent::PutMOwner),
+        CellPlace::Directory(DirectoryState::M, DirectoryEvent::PutMOwner),
         "ask 0 0 load\nrequest 0 0\nresponse 0 0\nask 0 0 replace\n",
     ),
     (
-        Cell::Directory(DirectoryState::M, DirectoryEvent::PutMNonOwner),
+        CellPlace::Directory(DirectoryState::M, DirectoryEvent::PutMNonOwner),
         "ask 0 0 load\nrequest 0 0\nresponse 0 0\nask 0 0 replace\nask 1 0 store 5\nrequest 0 1\nforward 0 0\n\
          response 0 0\n",
     ),
     (
-        Cell::Directory(DirectoryState::SD, DirectoryEvent::Data),
+        CellPlace::Directory(DirectoryState::SD, DirectoryEvent::Data),
         "ask 0 0 load\nrequest 0 0\nresponse 0 0\nask 1 0 load\nrequest 0 0\nforward 0 0\nresponse 0 0\n",
     ),
 ];

@@ -13,12 +13,13 @@ use Rattle.directory_table.specs.Baseline as directory_baseline
 use Rattle.directory_table.specs.Names as directory
 use Rattle.directory_table.specs.Table as directory_table
 use Rattle.directory_table.specs.inner.Standing as directory_standing
+use Rattle.both_tables.specs.CellPlaces.{place_number}
 use Rattle.both_tables.specs.Tables.{Tables, baseline_of}
+use Rattle.both_tables.specs.declared.cell_places.CellPlace.{CellPlace}
+use Rattle.both_tables.specs.declared.cell_places.CellPlace.TheVariants as place
 use Rattle.record.specs.declared.cells.Cell.{Cell}
 use Rattle.record.specs.declared.cells.Cell.TheVariants as cell
-use Rattle.record.specs.declared.cells.Spot.{Spot}
-use Rattle.record.specs.declared.cells.Spot.TheVariants as spot
-use Rattle.record.specs.Cells.{cell_at, cell_words, is_known, is_same, spot_of, spot_number}
+use Rattle.record.specs.Cells.{cell_at, cell_words, is_known, is_same, place_of}
 use Rattle.record.specs.Grammar.{IsListed}
 use Rattle.record.specs.inner.Reading.{IsNoCell}
 
@@ -42,16 +43,16 @@ cell-same (cell.Directory s e x) (cell.Directory t f y) h =
     (record { state = s; event = e; entry = x }) (record { state = t; event = f; entry = y }) h)
 
 -- cells that are spelled alike have one place
-pub same-spot : (c d : Cell) → cell_words c ≡ cell_words d → spot_of c ≡ spot_of d
-same-spot c d h = ap spot_of (cell-same c d h)
+pub same-place : (c d : Cell) → cell_words c ≡ cell_words d → place_of c ≡ place_of d
+same-place c d h = ap place_of (cell-same c d h)
 
 -- what may be listed of one of them may be listed of the other
-pub in-order : (p : Protocol) (from : ℕ) (c d : Cell) → cell_words c ≡ cell_words d → IsListed p from d → from ≤ spot_number (spot_of c)
-in-order p from c d h listed = subst (λ e. from ≤ spot_number (spot_of e)) (sym (cell-same c d h)) listed.in_order
+pub in-order : (p : Protocol) (from : ℕ) (c d : Cell) → cell_words c ≡ cell_words d → IsListed p from d → from ≤ place_number (place_of c)
+in-order p from c d h listed = subst (λ e. from ≤ place_number (place_of e)) (sym (cell-same c d h)) listed.in_order
 
 pub differs : (p : Protocol) (from : ℕ) (c d : Cell) → cell_words c ≡ cell_words d → IsListed p from d →
-    is_same c (cell_at (baseline_of p) (spot_of c)) ≡ false
-differs p from c d h listed = subst (λ e. is_same e (cell_at (baseline_of p) (spot_of e)) ≡ false) (sym (cell-same c d h)) listed.differs
+    is_same c (cell_at (baseline_of p) (place_of c)) ≡ false
+differs p from c d h listed = subst (λ e. is_same e (cell_at (baseline_of p) (place_of e)) ≡ false) (sym (cell-same c d h)) listed.differs
 
 pub known : (p : Protocol) (from : ℕ) (c d : Cell) → cell_words c ≡ cell_words d → IsListed p from d → is_known p c ≡ true
 known p from c d h listed = subst (λ e. is_known p e ≡ true) (sym (cell-same c d h)) listed.known
@@ -61,12 +62,12 @@ not-false true e = refl
 not-false false e = cc
 
 -- a cell that doesn't differ from that of other tables is that
-pub unchanged : (t u : Tables) (s : Spot) → not (is_same (cell_at t s) (cell_at u s)) ≡ false → cell_at t s ≡ cell_at u s
-unchanged t u (spot.Cache s e) h =
+pub unchanged : (t u : Tables) (s : CellPlace) → not (is_same (cell_at t s) (cell_at u s)) ≡ false → cell_at t s ≡ cell_at u s
+unchanged t u (place.Cache s e) h =
     ap (cell.Cache s e)
     (entry-equal cache_baseline.all_states cache_table.state_number cache_standing.state_stands cache.all_actions cache.action_number
     cache_standing.action_stands _ _ (not-false _ h))
-unchanged t u (spot.Directory s e) h =
+unchanged t u (place.Directory s e) h =
     ap (cell.Directory s e)
     (entry-equal directory_baseline.all_states directory_table.state_number directory_standing.state_stands directory.all_actions
     directory.action_number directory_standing.action_stands _ _ (not-false _ h))

@@ -4,46 +4,48 @@ use Rattle.std.specs.Prelude.{filter}
 use Rattle.std.specs.List.{flat_map}
 use Rattle.std.proofs.lemmas.List.{take_more}
 use Rattle.both_tables.specs.Tables.{Tables}
-use Rattle.record.specs.declared.cells.Spot.{Spot}
+use Rattle.both_tables.specs.declared.cell_places.CellPlace.{CellPlace}
 use Rattle.record.specs.Cells.{cell_at, cell_words}
 use Rattle.record.specs.Text.{line, is_changed, changed}
 use Rattle.record.specs.inner.Pieces.{cell_piece}
 
-pub changed-cons : (tables : Tables) (spot : Spot) (spots : List Spot) (b : Bool) → is_changed tables spot ≡ b →
-    changed tables (spot ∷ spots) ≡ cond b (cell_at tables spot ∷ changed tables spots) (changed tables spots)
-changed-cons tables spot spots true e = ap (λ t. map (cell_at tables) (cond t (spot ∷ filter (is_changed tables) spots) (filter (is_changed tables) spots))) e
-changed-cons tables spot spots false e = ap (λ t. map (cell_at tables) (cond t (spot ∷ filter (is_changed tables) spots) (filter (is_changed tables) spots))) e
+pub changed-cons : (tables : Tables) (place : CellPlace) (places : List CellPlace) (b : Bool) → is_changed tables place ≡ b →
+    changed tables (place ∷ places) ≡ cond b (cell_at tables place ∷ changed tables places) (changed tables places)
+changed-cons tables place places true e =
+    ap (λ t. map (cell_at tables) (cond t (place ∷ filter (is_changed tables) places) (filter (is_changed tables) places))) e
+changed-cons tables place places false e =
+    ap (λ t. map (cell_at tables) (cond t (place ∷ filter (is_changed tables) places) (filter (is_changed tables) places))) e
 
 -- the cells that differ, of two lists of places
-pub changed-append : (tables : Tables) (front rest : List Spot) → changed tables (front ++ rest) ≡ changed tables front ++ changed tables rest
+pub changed-append : (tables : Tables) (front rest : List CellPlace) → changed tables (front ++ rest) ≡ changed tables front ++ changed tables rest
 changed-append tables [] rest = refl
-changed-append tables (spot ∷ front) rest =
-    elim (is_changed tables spot) as
-    (λ b. map (cell_at tables) (cond b (spot ∷ filter (is_changed tables) (front ++ rest)) (filter (is_changed tables) (front ++ rest))) ≡ map
-    (cell_at tables) (cond b (spot ∷ filter (is_changed tables) front) (filter (is_changed tables) front)) ++ changed tables rest) [
-      | true ↦ ap (λ l. cell_at tables spot ∷ l) (changed-append tables front rest)
+changed-append tables (place ∷ front) rest =
+    elim (is_changed tables place) as
+    (λ b. map (cell_at tables) (cond b (place ∷ filter (is_changed tables) (front ++ rest)) (filter (is_changed tables) (front ++ rest))) ≡ map
+    (cell_at tables) (cond b (place ∷ filter (is_changed tables) front) (filter (is_changed tables) front)) ++ changed tables rest) [
+      | true ↦ ap (λ l. cell_at tables place ∷ l) (changed-append tables front rest)
       | false ↦ changed-append tables front rest
     ]
 
 -- how many cells differ, one place further
-pub count-more : (tables : Tables) (spots : List Spot) (k : ℕ) (d : Spot) (b : Bool) → k < length spots → is_changed tables (get_or spots k d) ≡ b →
-    length (changed tables (take (k + 1) spots)) ≡ length (changed tables (take k spots)) + cond b 1 0
-count-more tables spots k d b low e =
-    ap (λ l. length (changed tables l)) (take_more spots k d low) ∙ ap length (changed-append tables (take k spots) (get_or spots k d ∷ []))
-    ∙ length-append (changed tables (take k spots)) (changed tables (get_or spots k d ∷ []))
-    ∙ ap (λ n. length (changed tables (take k spots)) + n) (one b e)
+pub count-more : (tables : Tables) (places : List CellPlace) (k : ℕ) (d : CellPlace) (b : Bool) → k < length places →
+    is_changed tables (get_or places k d) ≡ b → length (changed tables (take (k + 1) places)) ≡ length (changed tables (take k places)) + cond b 1 0
+count-more tables places k d b low e =
+    ap (λ l. length (changed tables l)) (take_more places k d low) ∙ ap length (changed-append tables (take k places) (get_or places k d ∷ []))
+    ∙ length-append (changed tables (take k places)) (changed tables (get_or places k d ∷ []))
+    ∙ ap (λ n. length (changed tables (take k places)) + n) (one b e)
   where
-    one : (b : Bool) → is_changed tables (get_or spots k d) ≡ b → length (changed tables (get_or spots k d ∷ [])) ≡ cond b 1 0
-    one true e = ap length (changed-cons tables (get_or spots k d) [] true e)
-    one false e = ap length (changed-cons tables (get_or spots k d) [] false e)
+    one : (b : Bool) → is_changed tables (get_or places k d) ≡ b → length (changed tables (get_or places k d ∷ [])) ≡ cond b 1 0
+    one true e = ap length (changed-cons tables (get_or places k d) [] true e)
+    one false e = ap length (changed-cons tables (get_or places k d) [] false e)
 
 -- the lines of the cells that differ
-pub changed-lines : (tables : Tables) (spots : List Spot) → flat_map (cell_piece tables) spots ≡ flat_map line (map cell_words (changed tables spots))
+pub changed-lines : (tables : Tables) (places : List CellPlace) → flat_map (cell_piece tables) places ≡ flat_map line (map cell_words (changed tables places))
 changed-lines tables [] = refl
-changed-lines tables (spot ∷ spots) =
-    elim (is_changed tables spot) as
-    (λ b. cond b (line (cell_words (cell_at tables spot))) [] ++ flat_map (cell_piece tables) spots ≡ flat_map line
-    (map cell_words (map (cell_at tables) (cond b (spot ∷ filter (is_changed tables) spots) (filter (is_changed tables) spots))))) [
-      | true ↦ ap (λ l. line (cell_words (cell_at tables spot)) ++ l) (changed-lines tables spots)
-      | false ↦ changed-lines tables spots
+changed-lines tables (place ∷ places) =
+    elim (is_changed tables place) as
+    (λ b. cond b (line (cell_words (cell_at tables place))) [] ++ flat_map (cell_piece tables) places ≡ flat_map line
+    (map cell_words (map (cell_at tables) (cond b (place ∷ filter (is_changed tables) places) (filter (is_changed tables) places))))) [
+      | true ↦ ap (λ l. line (cell_words (cell_at tables place)) ++ l) (changed-lines tables places)
+      | false ↦ changed-lines tables places
     ]

@@ -17,13 +17,15 @@ use Rattle.directory_table.specs.Keeping as directory_keeping
 use Rattle.directory_table.specs.Table as directory_table
 use Rattle.directory_table.proofs.Keeping.{keeps-replaced as directory-keeps}
 use Rattle.directory_table.specs.inner.Standing as directory_standing
+use Rattle.both_tables.specs.CellPlaces.{all_places, place_number}
 use Rattle.both_tables.specs.Tables.{Tables, baseline_of}
-use Rattle.record.specs.declared.cells.Spot.{Spot}
-use Rattle.record.specs.declared.cells.Spot.TheVariants as spot
+use Rattle.both_tables.specs.declared.cell_places.CellPlace.{CellPlace}
+use Rattle.both_tables.specs.declared.cell_places.CellPlace.TheVariants as place
+use Rattle.both_tables.proofs.CellPlaces.{at-own}
 use Rattle.record.specs.declared.cells.Cell.{Cell}
 use Rattle.record.specs.declared.cells.Cell.TheVariants as cell
 use Rattle.record.specs.declared.recording.Entry.{Entry}
-use Rattle.record.specs.Cells.{all_spots, cell_at, cell_words, is_known, spot_number, spot_of, FitsCell}
+use Rattle.record.specs.Cells.{cell_at, cell_words, is_known, place_of, FitsCell}
 use Rattle.record.specs.View.{RecordingView}
 use Rattle.record.specs.Text.{text, line, header_words, shape_words, opening_words, cells_words, entries_words, told, told_words, end_words, changed}
 use Rattle.record.specs.Text.{changed_cells}
@@ -45,7 +47,7 @@ use Rattle.record.specs.Recordable.{AreWhole, IsRecordable}
 use Rattle.record.specs.Refused.{ended, IsWellFormed}
 use Rattle.record.specs.inner.Drafts.{IsBaselineFrom}
 use Rattle.record.proofs.Following.{AreListed}
-use Rattle.record.proofs.Listed.{at-own, ended-line, listed-all, listed-more, plain-more}
+use Rattle.record.proofs.Listed.{ended-line, listed-all, listed-more, plain-more}
 use Rattle.record.proofs.Standing.{baseline-whole, whole-more}
 
 -- ---- tables of these cells
@@ -62,7 +64,7 @@ put : Tables → Cell → Tables
 put t (cell.Cache s e x) = record { protocol = t.protocol; cache = cache_table.with_cell t.cache s e x; directory = t.directory }
 put t (cell.Directory s e x) = record { protocol = t.protocol; cache = t.cache; directory = directory_table.with_cell t.directory s e x }
 
-put-here : (t : Tables) (c : Cell) → AreWhole t → cell_at (put t c) (spot_of c) ≡ c
+put-here : (t : Tables) (c : Cell) → AreWhole t → cell_at (put t c) (place_of c) ≡ c
 unfolding put
 put-here t (cell.Cache s e x) h =
     ap (cell.Cache s e)
@@ -73,18 +75,18 @@ put-here t (cell.Directory s e x) h =
     (replaced-here directory_baseline.all_states directory_baseline.all_events directory_table.state_number directory_table.event_number directory-listed
     t.directory s e x h.directory.whole)
 
-put-others : (t : Tables) (c : Cell) → AreWhole t → (s : Spot) → s ≢ spot_of c → cell_at (put t c) s ≡ cell_at t s
+put-others : (t : Tables) (c : Cell) → AreWhole t → (s : CellPlace) → s ≢ place_of c → cell_at (put t c) s ≡ cell_at t s
 unfolding put
-put-others t (cell.Cache s e x) h (spot.Cache u f) other =
+put-others t (cell.Cache s e x) h (place.Cache u f) other =
     ap (cell.Cache u f)
     (replaced-other cache_baseline.all_states cache_baseline.all_events cache_table.state_number cache_table.event_number cache-listed t.cache s e x u f
-    h.cache.whole (λ both. other (ap (λ z. spot.Cache z f) both.0 ∙ ap (spot.Cache s) both.1)))
-put-others t (cell.Cache s e x) h (spot.Directory u f) other = refl
-put-others t (cell.Directory s e x) h (spot.Cache u f) other = refl
-put-others t (cell.Directory s e x) h (spot.Directory u f) other =
+    h.cache.whole (λ both. other (ap (λ z. place.Cache z f) both.0 ∙ ap (place.Cache s) both.1)))
+put-others t (cell.Cache s e x) h (place.Directory u f) other = refl
+put-others t (cell.Directory s e x) h (place.Cache u f) other = refl
+put-others t (cell.Directory s e x) h (place.Directory u f) other =
     ap (cell.Directory u f)
     (replaced-other directory_baseline.all_states directory_baseline.all_events directory_table.state_number directory_table.event_number
-    directory-listed t.directory s e x u f h.directory.whole (λ both. other (ap (λ z. spot.Directory z f) both.0 ∙ ap (spot.Directory s) both.1)))
+    directory-listed t.directory s e x u f h.directory.whole (λ both. other (ap (λ z. place.Directory z f) both.0 ∙ ap (place.Directory s) both.1)))
 
 put-cache : (t : Tables) (c : Cell) → AreWhole t → is_known t.protocol c ≡ true → cache_keeping.IsTable (put t c).protocol (put t c).cache
 unfolding put
@@ -123,19 +125,19 @@ record Made (protocol : Protocol) (cells : List Cell) : Type 0 where
   just : changed_cells tables ≡ cells
 
 made-from : (p : Protocol) (t : Tables) (from : ℕ) (cs : List Cell) → t.protocol ≡ p → AreWhole t → from ≤ 184 → IsBaselineFrom from t →
-    AreListed t.protocol from cs → Made p (changed t (take from all_spots) ++ cs)
+    AreListed t.protocol from cs → Made p (changed t (take from all_places) ++ cs)
 made-from p t from [] same h low plain listed =
-    record { tables = t; whole = h; same = same; just = sym (listed-all t from low plain) ∙ sym (append-nil (changed t (take from all_spots))) }
+    record { tables = t; whole = h; same = same; just = sym (listed-all t from low plain) ∙ sym (append-nil (changed t (take from all_places))) }
 made-from p t from (c ∷ cs) same h low plain listed =
-    let own = at-own (spot_of c) in
+    let own = at-own (place_of c) in
     let kept : (put t c).protocol ≡ t.protocol = put-protocol t c in
     let others = put-others t c h in
     let more = listed-more t (put t c) from c kept plain listed.0 (put-here t c h) others in
     let rest =
-    made-from p (put t c) (spot_number (spot_of c) + 1) cs (kept ∙ same) (put-whole t c h listed.0.fits listed.0.known) (omega (arith, own.1))
+    made-from p (put t c) (place_number (place_of c) + 1) cs (kept ∙ same) (put-whole t c h listed.0.fits listed.0.known) (omega (arith, own.1))
     (plain-more t (put t c) from c kept plain listed.0.in_order others)
-    (subst (λ q. AreListed q (spot_number (spot_of c) + 1) cs) (sym kept) listed.1) in
-    subst (Made p) (ap (λ l. l ++ cs) more ∙ append_assoc (changed t (take from all_spots)) (c ∷ []) cs) rest
+    (subst (λ q. AreListed q (place_number (place_of c) + 1) cs) (sym kept) listed.1) in
+    subst (Made p) (ap (λ l. l ++ cs) more ∙ append_assoc (changed t (take from all_places)) (c ∷ []) cs) rest
 
 made-of : (p : Protocol) (cs : List Cell) → AreListed p 0 cs → Made p cs
 made-of p cs listed = made-from p (baseline_of p) 0 cs refl (baseline-whole p) (omega arith) (λ s high. refl) listed
@@ -182,8 +184,8 @@ cells-of f (suc n) from ls g =
     let c : Cell = b.leads.0 in
     let left : suc n - 1 ≡ n = omega arith in
     let more =
-    cells-of f n (spot_number (spot_of c) + 1) b.rest
-    (turned b.next _ b.rest Nothing (b.leads.3 ∙ ap (λ k. cells_due f k (spot_number (spot_of c) + 1)) left) b.follow) in
+    cells-of f n (place_number (place_of c) + 1) b.rest
+    (turned b.next _ b.rest Nothing (b.leads.3 ∙ ap (λ k. cells_due f k (place_number (place_of c) + 1)) left) b.follow) in
     record {
       cells = c ∷ more.cells;
       rest = more.rest;

@@ -13,21 +13,23 @@ use Rattle.record.specs.declared.version.Version.{Version}
 use Rattle.record.specs.declared.version.Version.TheVariants.{One, Two}
 use Rattle.record.specs.Versions.{form, shape_leads_in, protocol_lines, protocol_words, seats_lines, CanTell, IsShapeIn}
 use Rattle.record.proofs.Owners.{more-owners, told-more}
+use Rattle.both_tables.specs.CellPlaces.{place_number}
 use Rattle.both_tables.specs.Tables.{Tables, baseline_of}
-use Rattle.record.specs.declared.cells.Spot.{Spot}
+use Rattle.both_tables.specs.declared.cell_places.CellPlace.{CellPlace}
+use Rattle.both_tables.proofs.CellPlaces.{at-own}
 use Rattle.record.specs.declared.cells.Cell.{Cell}
 use Rattle.record.specs.declared.due.Due.{Due}
 use Rattle.record.specs.declared.due.Due.TheVariants.{ProtocolLine, ShapeLine, SeatsLine, OpeningLine, CellCount, CellLine, EntryCount, EntryLine}
 use Rattle.record.specs.declared.due.Due.TheVariants.{EndLine}
 use Rattle.record.specs.declared.recording.Entry.{Entry}
-use Rattle.record.specs.Cells.{cell_at, cell_words, spot_of, spot_number}
+use Rattle.record.specs.Cells.{cell_at, cell_words, place_of}
 use Rattle.record.specs.Grammar.{cells_due, entries_due, AreValues, FitsEntry, FitsTold, IsListed, IsOwner, Leads}
 use Rattle.record.specs.View.{owner_list, AreOwners}
 use Rattle.record.specs.Recordable.{AreWhole}
 use Rattle.record.specs.Text.{head_lines, header_words, shape_words, changed_cells, cells_words, entries_words, told, told_words}
 use Rattle.record.specs.inner.Drafts.{recorded, with_told, Kept, lines_to_cells, lines_to_entries, lines_before, IsBaselineFrom}
 use Rattle.record.specs.inner.Drafts.{IsHeadedAs, IsReadTo, IsTaken}
-use Rattle.record.proofs.Listed.{at-own, listed-all, listed-more, plain-more}
+use Rattle.record.proofs.Listed.{listed-all, listed-more, plain-more}
 use Rattle.record.proofs.Standing.{baseline-whole}
 
 -- ---- what is due behind a count, and behind one of so many
@@ -139,12 +141,12 @@ head_of r p = head_lines r.version (recorded (with_tables r (record { protocol =
 
 pub cell-taken : (f : Form) (r : Kept) (tables : Tables) (left from : ℕ) (cell : Cell) (line : List (List ℕ)) (next : Due) →
     IsReadTo (CellLine f left from) r → IsListed f.protocol from cell → line ≡ cell_words cell → AreWhole tables → tables.protocol ≡ r.tables.protocol →
-    cell_at tables (spot_of cell) ≡ cell → ((spot : Spot) → spot ≢ spot_of cell → cell_at tables spot ≡ cell_at r.tables spot) →
-    next ≡ cells_due f (left - 1) (spot_number (spot_of cell) + 1) → IsTaken (CellLine f left from) r line next (with_tables r tables)
+    cell_at tables (place_of cell) ≡ cell → ((place : CellPlace) → place ≢ place_of cell → cell_at tables place ≡ cell_at r.tables place) →
+    next ≡ cells_due f (left - 1) (place_number (place_of cell) + 1) → IsTaken (CellLine f left from) r line next (with_tables r tables)
 cell-taken f r tables left from cell line next h listed spelled whole p here others due =
     let s : Kept = with_tables r tables in
-    let own = at-own (spot_of cell) in
-    let behind : ℕ = spot_number (spot_of cell) + 1 in
+    let own = at-own (place_of cell) in
+    let behind : ℕ = place_number (place_of cell) + 1 in
     let low : behind ≤ 184 = omega (arith, own.1) in
     let first : IsListed r.tables.protocol from cell = subst (λ q. IsListed q from cell) h.head.0.1 listed in
     let plain = plain-more r.tables tables from cell p h.cells.2 listed.in_order others in

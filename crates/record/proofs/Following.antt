@@ -5,11 +5,13 @@ use Rattle.std.specs.Prelude.{filter, ◌&&◌}
 use Rattle.std.specs.List.{AllByRecursion, range_with_len}
 use Rattle.std.proofs.lemmas.List.Elements.{All-from_recursion, recursion_from_All}
 use Rattle.cache_table.specs.Table.{has_event, has_state}
+use Rattle.both_tables.specs.CellPlaces.{all_places, place_number}
 use Rattle.both_tables.specs.Tables.{Tables, baseline_of}
-use Rattle.record.specs.declared.cells.Spot.{Spot}
-use Rattle.record.specs.declared.cells.Spot.TheVariants as spot
+use Rattle.both_tables.specs.declared.cell_places.CellPlace.{CellPlace}
+use Rattle.both_tables.specs.declared.cell_places.CellPlace.TheVariants as place
+use Rattle.both_tables.proofs.CellPlaces.{numbers}
 use Rattle.record.specs.declared.cells.Cell.{Cell}
-use Rattle.record.specs.Cells.{all_spots, cell_at, cell_words, is_known, is_same, most_cells, spot_of, spot_number}
+use Rattle.record.specs.Cells.{cell_at, cell_words, is_known, is_same, most_cells, place_of}
 use Rattle.record.specs.View.{RecordingView}
 use Rattle.base.specs.Spelling.{joined}
 use Rattle.record.specs.Text.{text, lines, header_words, shape_words, opening_words, cells_words, entries_words, told, told_words, end_words}
@@ -33,8 +35,7 @@ use Rattle.record.specs.Recordable.{AreWhole, IsRecordable}
 use Rattle.record.proofs.Changed.{changed-cons}
 use Rattle.record.proofs.Legible.{IsLine, words-joined}
 use Rattle.record.proofs.Leading.{IsDue, leads-line, leads-due, leads-short}
-use Rattle.record.proofs.Listed.{numbers, same-self}
-use Rattle.record.proofs.Spots.{few-most}
+use Rattle.record.proofs.Listed.{few-most, same-self}
 use Rattle.record.proofs.Standing.{known-at, IsKnownAt}
 use Rattle.record.proofs.Whole.{flat_map-map}
 
@@ -57,28 +58,28 @@ followed-lines due last (x ∷ xs) is f = (leads-line due x f.0 is f.1, followed
 -- these cells may be listed one after the other, from this place on
 abbrev pub AreListed : Protocol → ℕ → List Cell → Type 0
 AreListed p from [] = Unit {0}
-AreListed p from (c ∷ cs) = IsListed p from c × AreListed p (spot_number (spot_of c) + 1) cs
+AreListed p from (c ∷ cs) = IsListed p from c × AreListed p (place_number (place_of c) + 1) cs
 
 sooner : (p : Protocol) (from : ℕ) (cs : List Cell) → AreListed p (from + 1) cs → AreListed p from cs
 sooner p from [] h = tt
 sooner p from (c ∷ cs) h =
     (record { fits = h.0.fits; known = h.0.known; in_order = omega (arith, h.0.in_order); differs = h.0.differs }, h.1)
 
-pub spot-own : (t : Tables) (s : Spot) → spot_of (cell_at t s) ≡ s
-spot-own t (spot.Cache state event) = refl
-spot-own t (spot.Directory state event) = refl
+pub place-own : (t : Tables) (s : CellPlace) → place_of (cell_at t s) ≡ s
+place-own t (place.Cache state event) = refl
+place-own t (place.Directory state event) = refl
 
 not-true : (b : Bool) → not b ≡ true → b ≡ false
 not-true true e = cc
 not-true false e = refl
 
-pub changed-differs : (t : Tables) (s : Spot) → is_changed t s ≡ true →
-    is_same (cell_at t s) (cell_at (baseline_of t.protocol) (spot_of (cell_at t s))) ≡ false
+pub changed-differs : (t : Tables) (s : CellPlace) → is_changed t s ≡ true →
+    is_same (cell_at t s) (cell_at (baseline_of t.protocol) (place_of (cell_at t s))) ≡ false
 changed-differs t s e =
-    ap (λ p. is_same (cell_at t s) (cell_at (baseline_of t.protocol) p)) (spot-own t s)
+    ap (λ p. is_same (cell_at t s) (cell_at (baseline_of t.protocol) p)) (place-own t s)
     ∙ not-true (is_same (cell_at t s) (cell_at (baseline_of t.protocol) s)) e
 
-changed-known : (t : Tables) (s : Spot) → IsKnownAt t s → is_changed t s ≡ true → is_known t.protocol (cell_at t s) ≡ true
+changed-known : (t : Tables) (s : CellPlace) → IsKnownAt t s → is_changed t s ≡ true → is_known t.protocol (cell_at t s) ≡ true
 changed-known t s (inr known) e = known
 changed-known t s (inl own) e =
     let o : Cell = cell_at (baseline_of t.protocol) s in
@@ -86,69 +87,69 @@ changed-known t s (inl own) e =
     let other : is_same (cell_at t s) o ≡ false = not-true _ e in
     let no : true ≡ false = sym same ∙ other in absurd (cc)
 
-listed-one : (t : Tables) (s : Spot) (ss : List Spot) (a : ℕ) (b : Bool) → AreWhole t → is_changed t s ≡ b → spot_number s ≡ a →
+listed-one : (t : Tables) (s : CellPlace) (ss : List CellPlace) (a : ℕ) (b : Bool) → AreWhole t → is_changed t s ≡ b → place_number s ≡ a →
     AreListed t.protocol (a + 1) (changed t ss) → AreListed t.protocol a (changed t (s ∷ ss))
 listed-one t s ss a true whole e here rest =
-    let place : spot_number (spot_of (cell_at t s)) ≡ a = ap spot_number (spot-own t s) ∙ here in
+    let numbered : place_number (place_of (cell_at t s)) ≡ a = ap place_number (place-own t s) ∙ here in
     let first : IsListed t.protocol a (cell_at t s) = record {
       fits = whole.fits s;
       known = changed-known t s (known-at t whole s) e;
-      in_order = omega (arith, place);
+      in_order = omega (arith, numbered);
       differs = changed-differs t s e;
     } in
     subst (AreListed t.protocol a) (sym (changed-cons t s ss true e))
-    (first, subst (λ n. AreListed t.protocol (n + 1) (changed t ss)) (sym place) rest)
+    (first, subst (λ n. AreListed t.protocol (n + 1) (changed t ss)) (sym numbered) rest)
 listed-one t s ss a false whole e here rest =
     subst (AreListed t.protocol a) (sym (changed-cons t s ss false e)) (sooner t.protocol a (changed t ss) rest)
 
 -- the cells that differ are listed in order, at places that are
-pub listed-from : (t : Tables) → AreWhole t → (spots : List Spot) (a n : ℕ) → map spot_number spots ≡ range_with_len a n →
-    AreListed t.protocol a (changed t spots)
+pub listed-from : (t : Tables) → AreWhole t → (places : List CellPlace) (a n : ℕ) → map place_number places ≡ range_with_len a n →
+    AreListed t.protocol a (changed t places)
 listed-from t whole [] a n e = tt
 listed-from t whole (s ∷ ss) a zero e = absurd (cc)
 listed-from t whole (s ∷ ss) a (suc n) e =
-    let here : spot_number s ≡ a = cc in
-    let rest : map spot_number ss ≡ range_with_len (a + 1) n = cc in
+    let here : place_number s ≡ a = cc in
+    let rest : map place_number ss ≡ range_with_len (a + 1) n = cc in
     listed-one t s ss a (is_changed t s) whole refl here (listed-from t whole ss (a + 1) n rest)
 
 -- whether a protocol has a place
-abbrev has_spot : Protocol → Spot → Bool
-has_spot p (spot.Cache state event) = has_state p state && has_event p event
-has_spot p (spot.Directory state event) = true
+abbrev has_place : Protocol → CellPlace → Bool
+has_place p (place.Cache state event) = has_state p state && has_event p event
+has_place p (place.Directory state event) = true
 
 both-first : (a b c : Bool) → (a && b && c) ≡ true → (a && b) ≡ true
 both-first true true c e = refl
 both-first true false c e = cc
 both-first false b c e = cc
 
-known-spot : (t : Tables) (s : Spot) → is_known t.protocol (cell_at t s) ≡ true → has_spot t.protocol s ≡ true
-known-spot t (spot.Cache state event) e = both-first (has_state t.protocol state) (has_event t.protocol event) _ e
-known-spot t (spot.Directory state event) e = refl
+known-place : (t : Tables) (s : CellPlace) → is_known t.protocol (cell_at t s) ≡ true → has_place t.protocol s ≡ true
+known-place t (place.Cache state event) e = both-first (has_state t.protocol state) (has_event t.protocol event) _ e
+known-place t (place.Directory state event) e = refl
 
-had-cons : (p : Protocol) (s : Spot) (ss : List Spot) (b : Bool) → has_spot p s ≡ b →
-    filter (has_spot p) (s ∷ ss) ≡ cond b (s ∷ filter (has_spot p) ss) (filter (has_spot p) ss)
-had-cons p s ss b e = ap (λ (x : Bool). cond x (s ∷ filter (has_spot p) ss) (filter (has_spot p) ss)) e
+had-cons : (p : Protocol) (s : CellPlace) (ss : List CellPlace) (b : Bool) → has_place p s ≡ b →
+    filter (has_place p) (s ∷ ss) ≡ cond b (s ∷ filter (has_place p) ss) (filter (has_place p) ss)
+had-cons p s ss b e = ap (λ (x : Bool). cond x (s ∷ filter (has_place p) ss) (filter (has_place p) ss)) e
 
-fewer : (t : Tables) (s : Spot) (ss : List Spot) (b c : Bool) → is_changed t s ≡ b → has_spot t.protocol s ≡ c → (b ≡ true → c ≡ true) →
-    length (changed t ss) ≤ length (filter (has_spot t.protocol) ss) → length (changed t (s ∷ ss)) ≤ length (filter (has_spot t.protocol) (s ∷ ss))
+fewer : (t : Tables) (s : CellPlace) (ss : List CellPlace) (b c : Bool) → is_changed t s ≡ b → has_place t.protocol s ≡ c → (b ≡ true → c ≡ true) →
+    length (changed t ss) ≤ length (filter (has_place t.protocol) ss) → length (changed t (s ∷ ss)) ≤ length (filter (has_place t.protocol) (s ∷ ss))
 fewer t s ss true true e f known few = omega (arith, ap length (changed-cons t s ss true e), ap length (had-cons t.protocol s ss true f), few)
 fewer t s ss true false e f known few = absurd (cc (known refl))
 fewer t s ss false true e f known few = omega (arith, ap length (changed-cons t s ss false e), ap length (had-cons t.protocol s ss true f), few)
 fewer t s ss false false e f known few = omega (arith, ap length (changed-cons t s ss false e), ap length (had-cons t.protocol s ss false f), few)
 
 -- only places that the protocol has are changed
-few-changed : (t : Tables) → AreWhole t → (spots : List Spot) → length (changed t spots) ≤ length (filter (has_spot t.protocol) spots)
+few-changed : (t : Tables) → AreWhole t → (places : List CellPlace) → length (changed t places) ≤ length (filter (has_place t.protocol) places)
 few-changed t whole [] = omega arith
 few-changed t whole (s ∷ ss) =
-    fewer t s ss (is_changed t s) (has_spot t.protocol s) refl refl
-    (λ e. known-spot t s (changed-known t s (known-at t whole s) e)) (few-changed t whole ss)
+    fewer t s ss (is_changed t s) (has_place t.protocol s) refl refl
+    (λ e. known-place t s (changed-known t s (known-at t whole s) e)) (few-changed t whole ss)
 
-had-spots : (p : Protocol) → length (filter (has_spot p) all_spots) ≡ most_cells p
-had-spots Msi = refl
-had-spots MsiE = refl
+had-places : (p : Protocol) → length (filter (has_place p) all_places) ≡ most_cells p
+had-places Msi = refl
+had-places MsiE = refl
 
 pub few-cells : (t : Tables) → AreWhole t → length (changed_cells t) ≤ most_cells t.protocol
-few-cells t whole = omega (arith, few-changed t whole all_spots, had-spots t.protocol)
+few-cells t whole = omega (arith, few-changed t whole all_places, had-places t.protocol)
 
 pub few-listed : (t : Tables) → AreWhole t → length (changed_cells t) ≤ 184
 few-listed t whole = omega (arith, few-cells t whole, few-most t.protocol)
@@ -157,7 +158,7 @@ cells-followed : (f : Form) (cs : List Cell) (from : ℕ) (rest : List (List (Li
     Followed (EntryCount f) rest Nothing → Followed (cells_due f (length cs) from) (map cell_words cs ++ rest) Nothing
 cells-followed f [] from rest h g = g
 cells-followed f (c ∷ cs) from rest h g =
-    let n : ℕ = spot_number (spot_of c) + 1 in
+    let n : ℕ = place_number (place_of c) + 1 in
     let left : length cs ≡ suc (length cs) - 1 = omega arith in
     (cells_due f (length cs) n, (c, h.0, refl, ap (λ k. cells_due f k n) left), cells-followed f cs n rest h.1 g)
 
@@ -190,7 +191,7 @@ tail-followed f r h protocol seats =
       cells_due f (length (changed_cells r.tables)) 0,
       (length (changed_cells r.tables), subst (λ p. length (changed_cells r.tables) ≤ most_cells p) (sym protocol) (few-cells r.tables h.tables), refl, refl),
       cells-followed f (changed_cells r.tables) 0 _
-          (subst (λ p. AreListed p 0 (changed_cells r.tables)) (sym protocol) (listed-from r.tables h.tables all_spots 0 184 numbers)) entries,
+          (subst (λ p. AreListed p 0 (changed_cells r.tables)) (sym protocol) (listed-from r.tables h.tables all_places 0 184 numbers)) entries,
     )
 
 -- the lines behind the first

@@ -12,11 +12,13 @@ use Rattle.base.specs.declared.step.Outcome.{Outcome}
 use Rattle.base.specs.declared.step.Outcome.TheVariants as outcome
 use Rattle.base.proofs.Spellings.{same_step}
 use Rattle.base.specs.Extent.{Extent}
+use Rattle.both_tables.specs.CellPlaces.{all_places, place_number}
 use Rattle.both_tables.specs.Tables.{Tables, baseline_of}
-use Rattle.record.specs.declared.cells.Spot.{Spot}
+use Rattle.both_tables.specs.declared.cell_places.CellPlace.{CellPlace}
+use Rattle.both_tables.proofs.CellPlaces.{numbers, some_place, at-own}
 use Rattle.record.specs.declared.cells.Cell.{Cell}
 use Rattle.record.specs.declared.recording.Entry.{Entry}
-use Rattle.record.specs.Cells.{all_spots, cell_at, cell_words, spot_number}
+use Rattle.record.specs.Cells.{cell_at, cell_words}
 use Rattle.record.specs.View.{RecordingView}
 use Rattle.base.specs.Spelling.{joined}
 use Rattle.record.specs.Text.{text, line, lines, shape_words, opening_words, cells_words, entries_words, entry_words, told, told_words, end_words, is_changed}
@@ -38,8 +40,7 @@ use Rattle.record.proofs.Legible.{IsLine, joined-open, words-joined}
 use Rattle.record.proofs.Ending.{some-line, one-line_first}
 use Rattle.record.proofs.Leading.{count-same, protocol-same, shape-same, version-same}
 use Rattle.record.proofs.Faulting.{by-same, same-halves}
-use Rattle.record.proofs.Following.{AreListed, spot-own, listed-from, few-listed, recorded-lines, text-whole}
-use Rattle.record.proofs.Listed.{at-own, numbers, some_spot}
+use Rattle.record.proofs.Following.{AreListed, place-own, listed-from, few-listed, recorded-lines, text-whole}
 use Rattle.record.proofs.Refusals.{whole-alone, whole-refused}
 use Rattle.record.proofs.Tabled.{tables-same}
 
@@ -136,19 +137,19 @@ tolds-same seats (t ∷ ts) (u ∷ us) xs ys few n h k e =
 -- ---- tables
 
 -- cells that are as the protocol's own in the same place are the same
-plain-same : (t u : Tables) (s : Spot) → t.protocol ≡ u.protocol → is_changed t s ≡ false → is_changed u s ≡ false → cell_at t s ≡ cell_at u s
+plain-same : (t u : Tables) (s : CellPlace) → t.protocol ≡ u.protocol → is_changed t s ≡ false → is_changed u s ≡ false → cell_at t s ≡ cell_at u s
 plain-same t u s p e f =
     unchanged t (baseline_of t.protocol) s e ∙ ap (λ q. cell_at (baseline_of q) s) p ∙ sym (unchanged u (baseline_of u.protocol) s f)
 
 -- a cell isn't among those of later places
-later : (t u : Tables) (s : Spot) (ss : List Spot) (a : ℕ) → AreListed u.protocol (a + 1) (changed u ss) → spot_number s ≡ a →
+later : (t u : Tables) (s : CellPlace) (ss : List CellPlace) (a : ℕ) → AreListed u.protocol (a + 1) (changed u ss) → place_number s ≡ a →
     cell_at t s ∷ changed t ss ≡ changed u ss → ⊥
 later t u s ss a listed here e =
     let first = (subst (AreListed u.protocol (a + 1)) (sym e) listed).0.in_order in
-    absurd (omega (arith, first, ap spot_number (spot-own t s), here))
+    absurd (omega (arith, first, ap place_number (place-own t s), here))
 
-one-more : (t u : Tables) (s : Spot) (ss : List Spot) (a : ℕ) (b c : Bool) → t.protocol ≡ u.protocol → is_changed t s ≡ b → is_changed u s ≡ c →
-    spot_number s ≡ a → AreListed t.protocol (a + 1) (changed t ss) → AreListed u.protocol (a + 1) (changed u ss)
+one-more : (t u : Tables) (s : CellPlace) (ss : List CellPlace) (a : ℕ) (b c : Bool) → t.protocol ≡ u.protocol → is_changed t s ≡ b → is_changed u s ≡ c →
+    place_number s ≡ a → AreListed t.protocol (a + 1) (changed t ss) → AreListed u.protocol (a + 1) (changed u ss)
     → changed t (s ∷ ss) ≡ changed u (s ∷ ss) → (cell_at t s ≡ cell_at u s) × (changed t ss ≡ changed u ss)
 one-more t u s ss a true true p x y here lt lu e =
     let both : cell_at t s ∷ changed t ss ≡ cell_at u s ∷ changed u ss = sym (changed-cons t s ss true x) ∙ e ∙ changed-cons u s ss true y in (cc, cc)
@@ -157,28 +158,30 @@ one-more t u s ss a false false p x y here lt lu e =
 one-more t u s ss a true false p x y here lt lu e = absurd (later t u s ss a lu here (sym (changed-cons t s ss true x) ∙ e ∙ changed-cons u s ss false y))
 one-more t u s ss a false true p x y here lt lu e = absurd (later u t s ss a lt here (sym (changed-cons u s ss true y) ∙ sym e ∙ changed-cons t s ss false x))
 
-spots-same : (t u : Tables) → t.protocol ≡ u.protocol → AreWhole t → AreWhole u → (spots : List Spot) (a n : ℕ) → map spot_number spots ≡ range_with_len a n →
-    changed t spots ≡ changed u spots → AllByRecursion (λ s. cell_at t s ≡ cell_at u s) spots
-spots-same t u p h k [] a n e same = tt
-spots-same t u p h k (s ∷ ss) a zero e same = absurd (cc)
-spots-same t u p h k (s ∷ ss) a (suc n) e same =
-    let here : spot_number s ≡ a = cc in
-    let rest : map spot_number ss ≡ range_with_len (a + 1) n = cc in
+places-same : (t u : Tables) → t.protocol ≡ u.protocol → AreWhole t → AreWhole u → (places : List CellPlace) (a n : ℕ) →
+    map place_number places ≡ range_with_len a n → changed t places ≡ changed u places → AllByRecursion (λ s. cell_at t s ≡ cell_at u s) places
+places-same t u p h k [] a n e same = tt
+places-same t u p h k (s ∷ ss) a zero e same = absurd (cc)
+places-same t u p h k (s ∷ ss) a (suc n) e same =
+    let here : place_number s ≡ a = cc in
+    let rest : map place_number ss ≡ range_with_len (a + 1) n = cc in
     let both =
     one-more t u s ss a (is_changed t s) (is_changed u s) p refl refl here (listed-from t h ss (a + 1) n rest) (listed-from u k ss (a + 1) n rest) same in
-    (both.0, spots-same t u p h k ss (a + 1) n rest both.1)
+    (both.0, places-same t u p h k ss (a + 1) n rest both.1)
 
 at-index : {X : Type 0} (P : X → Type 0) (xs : List X) (i : ℕ) (d : X) → i < length xs → AllByRecursion P xs → P (get_or xs i d)
 at-index P [] i d low h = absurd (omega (arith, low))
 at-index P (x ∷ xs) zero d low h = h.0
 at-index P (x ∷ xs) (suc i) d low h = at-index P xs i d (omega (arith, low)) h.1
 
-cells-agree : (t u : Tables) → t.protocol ≡ u.protocol → AreWhole t → AreWhole u → changed_cells t ≡ changed_cells u → (s : Spot) → cell_at t s ≡ cell_at u s
+cells-agree : (t u : Tables) → t.protocol ≡ u.protocol → AreWhole t → AreWhole u → changed_cells t ≡ changed_cells u →
+    (s : CellPlace) → cell_at t s ≡ cell_at u s
 cells-agree t u p h k e s =
     let own = at-own s in
-    let n : length all_spots ≡ 184 = refl in
+    let n : length all_places ≡ 184 = refl in
     subst (λ q. cell_at t q ≡ cell_at u q) own.0
-    (at-index (λ q. cell_at t q ≡ cell_at u q) all_spots (spot_number s) some_spot (omega (arith, n, own.1)) (spots-same t u p h k all_spots 0 184 numbers e))
+    (at-index (λ q. cell_at t q ≡ cell_at u q) all_places (place_number s) some_place (omega (arith, n, own.1))
+    (places-same t u p h k all_places 0 184 numbers e))
 
 -- ---- recordings
 

@@ -23,10 +23,11 @@ use Rattle.cache_table.specs.Names as cache_names
 use Rattle.cache_table.specs.inner.Standing as cache_standing
 use Rattle.directory_table.specs.Names as directory_names
 use Rattle.directory_table.specs.inner.Standing as directory_standing
+use Rattle.both_tables.specs.CellPlaces.{place_number}
 use Rattle.record.specs.declared.cells.Cell.{Cell}
 use Rattle.record.specs.declared.cells.Cell.TheVariants as cell
 use Rattle.record.specs.declared.recording.Entry.{Entry}
-use Rattle.record.specs.Cells.{cell_words, spot_number, FitsCell}
+use Rattle.record.specs.Cells.{cell_words, FitsCell}
 use Rattle.record.specs.Text.{by_words, header_words, shape_words, opening_words, entry_words, told_words}
 use Rattle.base.specs.Spelling.{joined}
 use Rattle.base.specs.declared.controller.protocol.Protocol.{Protocol}
@@ -42,8 +43,8 @@ use Rattle.record.specs.declared.due.Due.TheVariants.{Header, ProtocolLine, Shap
 use Rattle.record.specs.declared.due.Due.TheVariants.{EntryLine, EndLine, Nothing}
 use Rattle.record.specs.Grammar.{cells_due}
 use Rattle.record.specs.Grammar.{entries_due, AreValues, FitsEntry, FitsTold, IsOwner, Leads}
-use Rattle.record.proofs.Alike.{same-spot}
-use Rattle.record.proofs.Spots.{few-most}
+use Rattle.record.proofs.Alike.{same-place}
+use Rattle.record.proofs.Listed.{few-most}
 use Rattle.record.proofs.Legible.{IsWord, IsLine, all-append, joined-short, text-word, name-word, number-word}
 
 -- ---- the words of each line
@@ -309,7 +310,7 @@ leads-one (CellCount f) line a b l m =
     l.3 ∙ ap (λ n. cells_due f n 0)
     (count-same (codes "cells") l.0 m.0 (omega (arith, l.1, few-most f.protocol)) (omega (arith, m.1, few-most f.protocol)) (sym l.2 ∙ m.2)) ∙ sym m.3
 leads-one (CellLine f left from) line a b l m =
-    l.3 ∙ ap (λ s. cells_due f (left - 1) (spot_number s + 1)) (same-spot l.0 m.0 (sym l.2 ∙ m.2)) ∙ sym m.3
+    l.3 ∙ ap (λ s. cells_due f (left - 1) (place_number s + 1)) (same-place l.0 m.0 (sym l.2 ∙ m.2)) ∙ sym m.3
 leads-one (EntryCount f) line a b l m = l.3 ∙ ap (entries_due f) (count-same (codes "entries") l.0 m.0 l.1 m.1 (sym l.2 ∙ m.2)) ∙ sym m.3
 leads-one (EntryLine f left) line a b l m = l.3 ∙ sym m.3
 leads-one (EndLine f) line a b l m = l.1 ∙ sym m.1

@@ -22,7 +22,6 @@ pub mod Refusals
 pub mod Replays
 pub mod Shapes
 pub mod Splitting
-pub mod Spots
 pub mod Standing
 pub mod Steps
 pub mod Streams

@@ -2,10 +2,10 @@
 use Rattle.std.proofs.Common.{◌≡◌, ◌<◌, ◌+◌, ℕ, zero, suc, List, [], ◌∷◌, ◌++◌, Some, length, map, get_or, ap, sym, subst, ◌∙◌, arith}
 use Rattle.std.proofs.lemmas.List.{length-map, get_or_append_left, get_or-append-add, get_or-map}
 use Rattle.std.proofs.Math.Seq.{get_or-append_seam}
+use Rattle.both_tables.specs.CellPlaces.{all_places}
+use Rattle.both_tables.specs.declared.cell_places.CellPlace.{CellPlace}
 use Rattle.record.specs.Grammar.{FitsEntry}
-use Rattle.record.specs.declared.cells.Spot.{Spot}
 use Rattle.record.specs.declared.recording.Entry.{Entry}
-use Rattle.record.specs.Cells.{all_spots}
 use Rattle.std.specs.Prelude.{slice_get}
 use Rattle.record.specs.declared.told.Told.{Told}
 use Rattle.record.proofs.Owners.{tell, told-at, told-length}
@@ -30,7 +30,7 @@ abbrev behind_cells : RecordingView → List (List ℕ)
 behind_cells r = entries_piece (length r.entries) ∷ map told_piece (told r.owners r.entries) ++ end_piece ∷ []
 
 abbrev behind_values : RecordingView → List (List ℕ)
-behind_values r = map (cell_piece r.tables) all_spots ++ behind_cells r
+behind_values r = map (cell_piece r.tables) all_places ++ behind_cells r
 
 next : (r : RecordingView) (n i : ℕ) → n ≡ i + 1 →
     get_or (pieces r) n [] ≡ get_or (map value_piece r.opening ++ cells_piece (length (changed_cells r.tables)) ∷ behind_values r) i []
@@ -45,10 +45,10 @@ past-values r n i e =
 past-cells : (r : RecordingView) (n i : ℕ) → n ≡ length r.opening + 187 + i →
     get_or (pieces r) n [] ≡ get_or (map told_piece (told r.owners r.entries) ++ end_piece ∷ []) i []
 past-cells r n i e =
-    let count = length-map all_spots (cell_piece r.tables) in
+    let count = length-map all_places (cell_piece r.tables) in
     past-values r n (185 + i) (omega (arith, e))
-    ∙ past (map (cell_piece r.tables) all_spots) (entries_piece (length r.entries)) (map told_piece (told r.owners r.entries) ++ end_piece ∷ []) (185 + i) i []
-    (omega (arith, count))
+    ∙ past (map (cell_piece r.tables) all_places) (entries_piece (length r.entries)) (map told_piece (told r.owners r.entries) ++ end_piece ∷ [])
+    (185 + i) i [] (omega (arith, count))
 
 pub value-at : (r : RecordingView) (n i : ℕ) (d : ℕ) → n ≡ i + 1 → i < length r.opening → get_or (pieces r) n [] ≡ value_piece (get_or r.opening i d)
 value-at r n i d e low = next r n i e ∙ among value_piece r.opening _ i d low
@@ -59,15 +59,15 @@ cells-at r n e =
     next r n (length r.opening) e
     ∙ seam (map value_piece r.opening) (cells_piece (length (changed_cells r.tables))) (behind_values r) (length r.opening) [] (omega (arith, count))
 
-pub cell-at : (r : RecordingView) (n i : ℕ) (d : Spot) → n ≡ length r.opening + 2 + i → i < 184 →
-    get_or (pieces r) n [] ≡ cell_piece r.tables (get_or all_spots i d)
-cell-at r n i d e low = past-values r n i e ∙ among (cell_piece r.tables) all_spots (behind_cells r) i d low
+pub cell-at : (r : RecordingView) (n i : ℕ) (d : CellPlace) → n ≡ length r.opening + 2 + i → i < 184 →
+    get_or (pieces r) n [] ≡ cell_piece r.tables (get_or all_places i d)
+cell-at r n i d e low = past-values r n i e ∙ among (cell_piece r.tables) all_places (behind_cells r) i d low
 
 pub entries-at : (r : RecordingView) (n : ℕ) → n ≡ length r.opening + 186 → get_or (pieces r) n [] ≡ entries_piece (length r.entries)
 entries-at r n e =
-    let count = length-map all_spots (cell_piece r.tables) in
+    let count = length-map all_places (cell_piece r.tables) in
     past-values r n 184 (omega (arith, e))
-    ∙ seam (map (cell_piece r.tables) all_spots) (entries_piece (length r.entries)) (map told_piece (told r.owners r.entries) ++ end_piece ∷ []) 184 []
+    ∙ seam (map (cell_piece r.tables) all_places) (entries_piece (length r.entries)) (map told_piece (told r.owners r.entries) ++ end_piece ∷ []) 184 []
     (omega (arith, count))
 
 pub entry-at : (r : RecordingView) (n i : ℕ) (t : Told) → n ≡ length r.opening + 187 + i → i < length r.entries → t.owner ≡ slice_get r.owners i →

@@ -7,6 +7,7 @@ use Rattle.std.proofs.KnownBytes.{Consumes-trans, Consumes-nil}
 use Rattle.std.specs.List.{flat_map}
 use Rattle.std.specs.Io.KnownBytes.{Consumes, IsAtEnd, prepend_known}
 use Rattle.base.specs.Spelling.{words}
+use Rattle.both_tables.specs.CellPlaces.{place_number}
 use Rattle.record.specs.declared.due.Due.{Due}
 use Rattle.record.specs.declared.due.Due.TheVariants.{Header, ProtocolLine, ShapeLine, SeatsLine, OpeningLine, CellCount, CellLine, EntryCount}
 use Rattle.record.specs.declared.due.Due.TheVariants.{EntryLine, EndLine, Nothing}
@@ -19,7 +20,7 @@ use Rattle.record.specs.declared.version.Version.{Version}
 use Rattle.record.specs.declared.version.Version.TheVariants.{One, Two}
 use Rattle.record.specs.Versions.{header_leads, shape_leads_in}
 use Rattle.record.specs.declared.reader.Reader.{Reader}
-use Rattle.record.specs.Cells.{spot_number, spot_of}
+use Rattle.record.specs.Cells.{place_of}
 use Rattle.record.specs.Grammar.{cells_due, entries_due, Leads, Follow}
 use Rattle.record.specs.Refused.{ended, limit, BeginsFaulty, HasNoEnd, IsFaultOfLine, IsUnfinished, IsFaultOfRest, IsRefused, IsWellFormed}
 use Rattle.record.specs.Text.{line}
@@ -29,7 +30,7 @@ use Rattle.record.specs.inner.Drafts.{kept, told_at, with_told, lines_before, li
 use Rattle.record.specs.inner.Readers.{HasPulled, HasTaken, IsReading, IsReadWhole}
 use Rattle.record.specs.inner.Reading.{Gathered, AreSomeIf, IsTakenOff, IsWholeIf, pending, stream}
 use Rattle.record.proofs.Streams.{let-go, line-off, none-held, pulled}
-use Rattle.record.proofs.Spots.{few-most}
+use Rattle.record.proofs.Listed.{few-most}
 use Rattle.record.proofs.Words.{spelled-text}
 
 follow-append : (due mid last : Due) (xs ys : List (List ℕ)) → Follow due xs mid → Follow mid ys last → Follow due (xs ++ ys) last
@@ -282,7 +283,7 @@ fewer-left (ShapeLine f) words next l = omega (arith, ap lines_left l.3, fewer-s
 fewer-left (SeatsLine f shape) words next l = omega (arith, ap lines_left l.3)
 fewer-left (OpeningLine f shape) words next l = omega (arith, ap lines_left l.3)
 fewer-left (CellCount f) words next l = omega (arith, ap lines_left l.3, fewer-cells f l.0 0, l.1, few-most f.protocol)
-fewer-left (CellLine f left from) words next l = omega (arith, ap lines_left l.3, fewer-cells-behind f left (spot_number (spot_of l.0) + 1))
+fewer-left (CellLine f left from) words next l = omega (arith, ap lines_left l.3, fewer-cells-behind f left (place_number (place_of l.0) + 1))
 fewer-left (EntryCount f) words next l = omega (arith, ap lines_left l.3, fewer-entries f l.0, l.1)
 fewer-left (EntryLine f left) words next l = omega (arith, ap lines_left l.3, fewer-entries-behind f left)
 fewer-left (EndLine f) words next l = omega (arith, ap lines_left l.1)

@@ -13,8 +13,8 @@ use Rattle.directory_table.specs.Baseline as directory_baseline
 use Rattle.directory_table.specs.Table as directory_table
 use Rattle.directory_table.specs.Names as directory_names
 use Rattle.both_tables.specs.Tables.{Tables}
-use Rattle.record.specs.declared.cells.Spot.{Spot}
-use Rattle.record.specs.declared.cells.Spot.TheVariants as spot
+use Rattle.both_tables.specs.declared.cell_places.CellPlace.{CellPlace}
+use Rattle.both_tables.specs.declared.cell_places.CellPlace.TheVariants as place
 use Rattle.record.specs.declared.cells.Cell.{Cell}
 use Rattle.record.specs.declared.cells.Cell.TheVariants as cell
 use Rattle.record.specs.Cells.{cell_at}
@@ -92,13 +92,13 @@ at_home (cell.Cache state event entry) = Blank
 at_home (cell.Directory state event entry) = entry
 
 -- tables are what their cells are
-pub tables-same : (t u : Tables) → t.protocol ≡ u.protocol → AreWhole t → AreWhole u → ((s : Spot) → cell_at t s ≡ cell_at u s) → t ≡ u
+pub tables-same : (t u : Tables) → t.protocol ≡ u.protocol → AreWhole t → AreWhole u → ((s : CellPlace) → cell_at t s ≡ cell_at u s) → t ≡ u
 unfolding at_line at_home
 tables-same t u p h k same =
     ap (λ q. let x : Tables = record { protocol = q; cache = t.cache; directory = t.directory } in x) p
     ∙ ap (λ c. let x : Tables = record { protocol = u.protocol; cache = c; directory = t.directory } in x)
     (same-table cache_baseline.all_states cache_baseline.all_events cache_table.state_number cache_table.event_number 12 13 cache-places
-    t.cache u.cache h.cache.whole k.cache.whole (λ s e. ap at_line (same (spot.Cache s e))))
+    t.cache u.cache h.cache.whole k.cache.whole (λ s e. ap at_line (same (place.Cache s e))))
     ∙ ap (λ d. let x : Tables = record { protocol = u.protocol; cache = u.cache; directory = d } in x)
     (same-table directory_baseline.all_states directory_baseline.all_events directory_table.state_number directory_table.event_number 4 7
-    directory-places t.directory u.directory h.directory.whole k.directory.whole (λ s e. ap at_home (same (spot.Directory s e))))
+    directory-places t.directory u.directory h.directory.whole k.directory.whole (λ s e. ap at_home (same (place.Directory s e))))

@@ -5,6 +5,7 @@ use Rattle.std.specs.Prelude.{Option, Some, None, IfOk, OnOk}
 use Rattle.std.proofs.lemmas.Bool.{cases_eq}
 use Rattle.std.proofs.lemmas.Result.{IfOk-weaker}
 use Rattle.base.specs.Extent.{Extent}
+use Rattle.both_tables.specs.CellPlaces.{place_number}
 use Rattle.record.specs.declared.due.Form.{Form}
 use Rattle.record.specs.declared.version.Version.{Version}
 use Rattle.record.specs.declared.version.Version.TheVariants.{One, Two}
@@ -17,7 +18,7 @@ use Rattle.record.specs.declared.due.Due.TheVariants.{Header, ProtocolLine, Shap
 use Rattle.record.specs.declared.due.Due.TheVariants.{EndLine, Nothing}
 use Rattle.record.specs.declared.reader.Reader.{Reader}
 use Rattle.record.specs.declared.recording.Entry.{Entry}
-use Rattle.record.specs.Cells.{spot_of, spot_number}
+use Rattle.record.specs.Cells.{place_of}
 use Rattle.record.specs.Grammar.{cells_due, entries_due, Leads}
 use Rattle.record.specs.View.{AreOwners, RecordingView}
 use Rattle.record.specs.Recordable.{IsRecordable}
@@ -114,7 +115,7 @@ still-front (ShapeLine f) line next b l = subst IsInFront (sym l.3) (front-shape
 still-front (SeatsLine f shape) line next b l = subst IsInFront (sym l.3) tt
 still-front (OpeningLine f shape) line next b l = subst IsInFront (sym l.3) tt
 still-front (CellCount f) line next b l = subst IsInFront (sym l.3) (front-cells f l.0 0)
-still-front (CellLine f left from) line next b l = subst IsInFront (sym l.3) (front-cells f (left - 1) (spot_number (spot_of l.0) + 1))
+still-front (CellLine f left from) line next b l = subst IsInFront (sym l.3) (front-cells f (left - 1) (place_number (place_of l.0) + 1))
 still-front (EntryCount f) line next b l = absurd b
 still-front (EntryLine f left) line next b l = absurd b
 still-front (EndLine f) line next b l = absurd b

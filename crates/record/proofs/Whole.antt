@@ -6,8 +6,9 @@ use Rattle.std.proofs.lemmas.List.{append-nil, length-map}
 use Rattle.std.proofs.lemmas.Grind.{flat_map-append}
 use Rattle.std.specs.List.{flat_map}
 use Rattle.std.specs.Fmt.{decimal}
+use Rattle.both_tables.specs.CellPlaces.{all_places}
 use Rattle.record.specs.View.{RecordingView}
-use Rattle.record.specs.Cells.{all_spots, cell_words}
+use Rattle.record.specs.Cells.{cell_words}
 use Rattle.record.specs.Text.{text, line, head_lines, header_words, shape_words, cells_words, changed_cells, entries_words, told, told_words, end_words}
 use Rattle.record.specs.inner.Pieces.{IsOut, IsCutOff, pieces, head_piece, value_piece, cells_piece, cell_piece, entries_piece, told_piece, end_piece}
 use Rattle.record.specs.declared.told.Told.{Told}
@@ -45,23 +46,23 @@ whole-text r =
     let behind : List (List ℕ) = entries_piece (length r.entries) ∷ map told_piece ts ++ end_piece ∷ [] in
     let first : List ℕ = head_piece r.tables.protocol r.shape r.seats in
     ap (λ l. first ++ l)
-    (flat-then value_piece r.opening (cells_piece count ∷ map (cell_piece r.tables) all_spots ++ behind)
+    (flat-then value_piece r.opening (cells_piece count ∷ map (cell_piece r.tables) all_places ++ behind)
     ∙ ap (λ l. flat_map value_piece r.opening ++ (cells_piece count ++ l))
-    (flat-then (cell_piece r.tables) all_spots behind
-    ∙ ap (λ l. flat_map (cell_piece r.tables) all_spots ++ (entries_piece (length r.entries) ++ l)) (flat-then told_piece ts (end_piece ∷ []))))
+    (flat-then (cell_piece r.tables) all_places behind
+    ∙ ap (λ l. flat_map (cell_piece r.tables) all_places ++ (entries_piece (length r.entries) ++ l)) (flat-then told_piece ts (end_piece ∷ []))))
     ∙ regroup (line (header_words Two)) (line (protocol_words r.tables.protocol)) (line (shape_words r.shape)) (line (seats_words r.seats)) (codes "opening")
     (flat_map value_piece r.opening) (line (cells_words count))
-    (flat_map (cell_piece r.tables) all_spots) (line (entries_words (length r.entries))) (flat_map told_piece ts) (line end_words)
+    (flat_map (cell_piece r.tables) all_places) (line (entries_words (length r.entries))) (flat_map told_piece ts) (line end_words)
     ∙ ap
     (λ os. (line (header_words Two) ++
     (line (protocol_words r.tables.protocol) ++
     (line (shape_words r.shape) ++ (line (seats_words r.seats) ++ (((codes "opening" ++ os) ++ 10 ∷ []) ++ []))))) ++
     (line (cells_words count) ++
-    (flat_map (cell_piece r.tables) all_spots ++
+    (flat_map (cell_piece r.tables) all_places ++
     (line (entries_words (length r.entries)) ++ (flat_map told_piece ts ++ (line end_words ++ []))))))
     (sym (flat_map-map (λ word. 32 ∷ word) decimal r.opening))
     ∙ ap (λ rest. flat_map line head ++ (line (cells_words count) ++ rest))
-    (ap (λ cs. cs ++ (line (entries_words (length r.entries)) ++ (flat_map told_piece ts ++ (line end_words ++ [])))) (changed-lines r.tables all_spots)
+    (ap (λ cs. cs ++ (line (entries_words (length r.entries)) ++ (flat_map told_piece ts ++ (line end_words ++ [])))) (changed-lines r.tables all_places)
     ∙ ap (λ es. flat_map line cells ++ (line (entries_words (length r.entries)) ++ (es ++ (line end_words ++ []))))
     (sym (flat_map-map line told_words ts))
     ∙ ap (λ es. flat_map line cells ++ (line (entries_words (length r.entries)) ++ es)) (sym (flat_map-append line entries (end_words ∷ [])))
@@ -74,12 +75,12 @@ pieces-count r =
     let behind : List (List ℕ) = entries_piece (length r.entries) ∷ map told_piece (told r.owners r.entries) ++ end_piece ∷ [] in
     omega (
       arith,
-      length-append (map value_piece r.opening) (cells_piece (length (changed_cells r.tables)) ∷ map (cell_piece r.tables) all_spots ++ behind),
-      length-append (map (cell_piece r.tables) all_spots) behind,
+      length-append (map value_piece r.opening) (cells_piece (length (changed_cells r.tables)) ∷ map (cell_piece r.tables) all_places ++ behind),
+      length-append (map (cell_piece r.tables) all_places) behind,
       length-append (map told_piece (told r.owners r.entries)) (end_piece ∷ []),
       told-length r.owners r.entries,
       length-map r.opening value_piece,
-      length-map all_spots (cell_piece r.tables),
+      length-map all_places (cell_piece r.tables),
       length-map (told r.owners r.entries) told_piece,
     )
 

@@ -1,38 +1,18 @@
--- The cells of both tables, in the order in which they are printed, how they are spelled, and when two hold the same.
-use Rattle.std.specs.Prelude.{ℕ, Bool, false, ◌+◌, ◌*◌, List, ◌++◌, map}
-use Rattle.std.specs.List.{flat_map}
+-- The cells of both tables, how they are spelled, and when two hold the same.
+use Rattle.std.specs.Prelude.{ℕ, Bool, false, List}
 use Rattle.base.specs.Entries.{change_words, same_entry, HasFewActions}
 use Rattle.base.specs.declared.controller.entry.Side.TheVariants.{Cache, Directory}
 use Rattle.base.specs.declared.controller.protocol.Protocol.{Protocol}
 use Rattle.base.specs.declared.controller.protocol.Protocol.TheVariants.{Msi, MsiE}
 use Rattle.cache_table.specs.Table as cache_table
-use Rattle.cache_table.specs.Baseline as cache_baseline
 use Rattle.cache_table.specs.Names as cache_names
 use Rattle.directory_table.specs.Table as directory_table
-use Rattle.directory_table.specs.Baseline as directory_baseline
 use Rattle.directory_table.specs.Names as directory_names
 use Rattle.both_tables.specs.Tables.{Tables}
-use Rattle.record.specs.declared.cells.Spot.{Spot}
-use Rattle.record.specs.declared.cells.Spot.TheVariants as spot
+use Rattle.both_tables.specs.declared.cell_places.CellPlace.{CellPlace}
+use Rattle.both_tables.specs.declared.cell_places.CellPlace.TheVariants as place
 use Rattle.record.specs.declared.cells.Cell.{Cell}
 use Rattle.record.specs.declared.cells.Cell.TheVariants as cell
-
--- the places of the cache's cells, by state and then by event
-abbrev pub cache_spots : List Spot
-cache_spots = flat_map (λ state. map (λ event. spot.Cache state event) cache_baseline.all_events) cache_baseline.all_states
-
--- the places of the directory's cells, by state and then by event
-abbrev pub directory_spots : List Spot
-directory_spots = flat_map (λ state. map (λ event. spot.Directory state event) directory_baseline.all_events) directory_baseline.all_states
-
--- the places of all cells, in order: the cache's before the directory's
-abbrev pub all_spots : List Spot
-all_spots = cache_spots ++ directory_spots
-
--- the number of a place among all places, counted from 0
-abbrev pub spot_number : Spot → ℕ
-spot_number (spot.Cache state event) = cache_table.state_number state * 13 + cache_table.event_number event
-spot_number (spot.Directory state event) = 156 + directory_table.state_number state * 7 + directory_table.event_number event
 
 -- how many cells the tables of a protocol have at most
 abbrev pub most_cells : Protocol → ℕ
@@ -40,14 +20,14 @@ most_cells Msi = 160
 most_cells MsiE = 184
 
 -- the cell at a place of these tables
-abbrev pub cell_at : Tables → Spot → Cell
-cell_at tables (spot.Cache state event) = cell.Cache state event (cache_table.cell tables.cache state event)
-cell_at tables (spot.Directory state event) = cell.Directory state event (directory_table.cell tables.directory state event)
+abbrev pub cell_at : Tables → CellPlace → Cell
+cell_at tables (place.Cache state event) = cell.Cache state event (cache_table.cell tables.cache state event)
+cell_at tables (place.Directory state event) = cell.Directory state event (directory_table.cell tables.directory state event)
 
 -- the place of a cell
-abbrev pub spot_of : Cell → Spot
-spot_of (cell.Cache state event entry) = spot.Cache state event
-spot_of (cell.Directory state event entry) = spot.Directory state event
+abbrev pub place_of : Cell → CellPlace
+place_of (cell.Cache state event entry) = place.Cache state event
+place_of (cell.Directory state event entry) = place.Directory state event
 
 -- the words that spell a cell
 abbrev pub cell_words : Cell → List (List ℕ)

@@ -2,6 +2,7 @@
 use Rattle.std.specs.Prelude.{◌≡◌, ℕ, ◌+◌, ◌-◌, ◌<◌, ◌≤◌, ◌^◌, List, [], ◌∷◌, true, false, All, Option, Some, None, length, zero, suc}
 use Rattle.base.specs.Extent.{Extent}
 use Rattle.base.specs.Spelling.{words, FitsStep, FitsOutcome}
+use Rattle.both_tables.specs.CellPlaces.{place_number}
 use Rattle.both_tables.specs.Tables.{baseline_of}
 use Rattle.record.specs.declared.due.Due.{Due}
 use Rattle.record.specs.declared.due.Due.TheVariants.{Header, ProtocolLine, ShapeLine, SeatsLine, OpeningLine, CellCount, CellLine, EntryCount}
@@ -14,7 +15,7 @@ use Rattle.record.specs.declared.version.Version.TheVariants.{Two}
 use Rattle.base.specs.declared.controller.protocol.Protocol.{Protocol}
 use Rattle.record.specs.Versions.{form, header_leads, shape_leads_in, protocol_words, seats_words, IsShapeIn}
 use Rattle.record.specs.declared.cells.Cell.{Cell}
-use Rattle.record.specs.Cells.{cell_at, cell_words, is_known, most_cells, spot_of, spot_number, FitsCell}
+use Rattle.record.specs.Cells.{cell_at, cell_words, is_known, most_cells, place_of, FitsCell}
 use Rattle.record.specs.Text.{header_words, shape_words, opening_words, cells_words, entries_words, told_words, end_words}
 use Rattle.record.specs.Cells.{is_same}
 
@@ -37,8 +38,8 @@ pub record AreValues (shape : Extent) (values : List ℕ) : Type 0 where
 pub record IsListed (protocol : Protocol) (from : ℕ) (cell : Cell) : Type 0 where
   pub fits : FitsCell cell
   pub known : is_known protocol cell ≡ true
-  pub in_order : from ≤ spot_number (spot_of cell)
-  pub differs : is_same cell (cell_at (baseline_of protocol) (spot_of cell)) ≡ false
+  pub in_order : from ≤ place_number (place_of cell)
+  pub differs : is_same cell (cell_at (baseline_of protocol) (place_of cell)) ≡ false
 
 -- the numbers of an entry are in range of their types
 abbrev pub FitsEntry : Entry → Type 0
@@ -64,7 +65,7 @@ Leads (SeatsLine f shape) line next =
 Leads (OpeningLine f shape) line next = (values : List ℕ) × AreValues shape values × (line ≡ opening_words values) × (next ≡ CellCount f)
 Leads (CellCount f) line next = (count : ℕ) × (count ≤ most_cells f.protocol) × (line ≡ cells_words count) × (next ≡ cells_due f count 0)
 Leads (CellLine f left from) line next =
-    (cell : Cell) × IsListed f.protocol from cell × (line ≡ cell_words cell) × (next ≡ cells_due f (left - 1) (spot_number (spot_of cell) + 1))
+    (cell : Cell) × IsListed f.protocol from cell × (line ≡ cell_words cell) × (next ≡ cells_due f (left - 1) (place_number (place_of cell) + 1))
 Leads (EntryCount f) line next = (count : ℕ) × (count ≤ 1000000) × (line ≡ entries_words count) × (next ≡ entries_due f count)
 Leads (EntryLine f left) line next = (t : Told) × FitsTold f.seats t × (line ≡ told_words t) × (next ≡ entries_due f (left - 1))
 Leads (EndLine f) line next = (line ≡ end_words) × (next ≡ Nothing)

@@ -4,7 +4,7 @@ use Rattle.base.specs.Extent.{IsWithinLimits}
 use Rattle.cache_table.specs.Keeping as cache_table
 use Rattle.directory_table.specs.Keeping as directory_table
 use Rattle.both_tables.specs.Tables.{Tables}
-use Rattle.record.specs.declared.cells.Spot.{Spot}
+use Rattle.both_tables.specs.declared.cell_places.CellPlace.{CellPlace}
 use Rattle.record.specs.Cells.{cell_at, FitsCell}
 use Rattle.record.specs.View.{AreOwners, RecordingView}
 use Rattle.record.specs.Grammar.{AreValues, FitsEntry}
@@ -13,7 +13,7 @@ use Rattle.record.specs.Grammar.{AreValues, FitsEntry}
 pub record AreWhole (tables : Tables) : Type 0 where
   pub cache : cache_table.IsTable tables.protocol tables.cache
   pub directory : directory_table.IsTable tables.protocol tables.directory
-  pub fits : (spot : Spot) → FitsCell (cell_at tables spot)
+  pub fits : (place : CellPlace) → FitsCell (cell_at tables place)
 
 -- its shape is within the limits, its tables are whole, it has at most a million entries, each with its owner, and its numbers are in range of their types
 pub record IsRecordable (r : RecordingView) : Type 0 where

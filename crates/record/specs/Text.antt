@@ -4,11 +4,12 @@ use Rattle.std.specs.List.{flat_map}
 use Rattle.std.specs.Fmt.{decimal}
 use Rattle.base.specs.Extent.{Extent}
 use Rattle.base.specs.Spelling.{joined, step_words, outcome_words}
+use Rattle.both_tables.specs.CellPlaces.{all_places}
 use Rattle.both_tables.specs.Tables.{Tables, baseline_of}
+use Rattle.both_tables.specs.declared.cell_places.CellPlace.{CellPlace}
 use Rattle.record.specs.declared.recording.Entry.{Entry}
-use Rattle.record.specs.declared.cells.Spot.{Spot}
 use Rattle.record.specs.declared.cells.Cell.{Cell}
-use Rattle.record.specs.Cells.{all_spots, cell_at, cell_words, is_same}
+use Rattle.record.specs.Cells.{cell_at, cell_words, is_same}
 use Rattle.record.specs.View.{RecordingView}
 use Rattle.record.specs.declared.told.Told.{Told}
 use Rattle.record.specs.declared.version.Version.{Version}
@@ -62,16 +63,16 @@ abbrev pub end_words : List (List ℕ)
 end_words = codes "end" ∷ []
 
 -- whether the cell at this place differs from the protocol's own
-abbrev pub is_changed : Tables → Spot → Bool
-is_changed tables spot = not (is_same (cell_at tables spot) (cell_at (baseline_of tables.protocol) spot))
+abbrev pub is_changed : Tables → CellPlace → Bool
+is_changed tables place = not (is_same (cell_at tables place) (cell_at (baseline_of tables.protocol) place))
 
 -- the cells at these places that differ from the protocol's own
-abbrev pub changed : Tables → List Spot → List Cell
-changed tables spots = map (cell_at tables) (filter (is_changed tables) spots)
+abbrev pub changed : Tables → List CellPlace → List Cell
+changed tables places = map (cell_at tables) (filter (is_changed tables) places)
 
 -- the cells that differ from the protocol's own, in order
 abbrev pub changed_cells : Tables → List Cell
-changed_cells tables = changed tables all_spots
+changed_cells tables = changed tables all_places
 
 -- the lines of a recording up to that of the opening values
 abbrev pub head_lines : Version → RecordingView → List (List (List ℕ))

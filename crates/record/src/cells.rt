@@ -1,21 +1,11 @@
-ghost use Rattle.std.specs.Prelude.{◌≡◌, ◌≤◌, ◌<◌, slice_index_or};
-ghost use Rattle.record.specs.Cells.{all_spots, cell_at, is_known, is_same, most_cells, spot_of, spot_number, FitsCell};
+ghost use Rattle.std.specs.Prelude.{◌≡◌, ◌≤◌};
+ghost use Rattle.record.specs.Cells.{cell_at, is_known, is_same, most_cells, place_of, FitsCell};
 ghost use Rattle.record.specs.inner.Pieces.{IsInWhole};
 
 use base::controller::Protocol;
-use both_tables::Tables;
+use both_tables::{CellPlace, Tables};
 use cache_table::{CacheEntry, CacheEvent, CacheState, knows_cell};
 use directory_table::{DirectoryEntry, DirectoryEvent, DirectoryState, knows_entry};
-
-/// How many cells both tables have, also those that a protocol hasn't got.
-pub(crate) const SPOTS: usize = 184;
-
-/// The place of a cell.
-#[derive(Clone, Copy)]
-pub(crate) enum Spot {
-    Cache(CacheState, CacheEvent),
-    Directory(DirectoryState, DirectoryEvent),
-}
 
 /// A cell with its place.
 #[derive(Clone, Copy)]
@@ -43,35 +33,19 @@ pub(crate) fn most_cells(protocol: Protocol) -> u32
     }
 }
 
-/// The place with this number, in the order of all places.
-pub(crate) fn spot_at(number: usize) -> Spot
-    requires { number < 184 }
-    ensures { result ≡ slice_index_or all_spots number result }
-{
-    if number < 156 {
-        Spot::Cache(CacheState::ALL[number / 13], CacheEvent::ALL[number % 13])
-    } else {
-        let number = number - 156;
-        Spot::Directory(
-            DirectoryState::ALL[number / 7],
-            DirectoryEvent::ALL[number % 7],
-        )
-    }
-}
-
 impl Cell {
     /// The cell at a place of these tables.
-    pub(crate) fn at(tables: &Tables, spot: Spot) -> Cell
-        ensures cell { result ≡ cell_at tables.now spot }
-        ensures whole { IsInWhole tables.now spot }
+    pub(crate) fn at(tables: &Tables, place: CellPlace) -> Cell
+        ensures cell { result ≡ cell_at tables.now place }
+        ensures whole { IsInWhole tables.now place }
     {
-        match spot {
-            Spot::Cache(state, event) => Cell::Cache {
+        match place {
+            CellPlace::Cache(state, event) => Cell::Cache {
                 state,
                 event,
                 entry: tables.cache.entry(state, event),
             },
-            Spot::Directory(state, event) => Cell::Directory {
+            CellPlace::Directory(state, event) => Cell::Directory {
                 state,
                 event,
                 entry: tables.directory.entry(state, event),
@@ -81,7 +55,7 @@ impl Cell {
 
     /// Whether these tables hold the same in the cell's place.
     pub(crate) fn is_in(&self, tables: &Tables) -> bool
-        ensures same { result ≡ is_same self.now (cell_at tables.now (spot_of self.now)) }
+        ensures same { result ≡ is_same self.now (cell_at tables.now (place_of self.now)) }
         ensures fits { FitsCell self.now }
     {
         match *self {
@@ -113,23 +87,12 @@ impl Cell {
     }
 
     /// The place of the cell.
-    pub(crate) fn spot(&self) -> Spot
-        ensures { result ≡ spot_of self.now }
+    pub(crate) fn place(&self) -> CellPlace
+        ensures { result ≡ place_of self.now }
     {
         match *self {
-            Cell::Cache { state, event, .. } => Spot::Cache(state, event),
-            Cell::Directory { state, event, .. } => Spot::Directory(state, event),
+            Cell::Cache { state, event, .. } => CellPlace::Cache(state, event),
+            Cell::Directory { state, event, .. } => CellPlace::Directory(state, event),
         }
-    }
-}
-
-/// The number of a place, in the order of all places.
-pub(crate) fn spot_number(spot: Spot) -> usize
-    ensures number { result ≡ spot_number spot }
-    ensures small { result < 184 }
-{
-    match spot {
-        Spot::Cache(state, event) => state as usize * 13 + event as usize,
-        Spot::Directory(state, event) => 156 + state as usize * 7 + event as usize,
     }
 }

@@ -9,7 +9,7 @@ ghost use Rattle.record.specs.inner.Holding.{holds};
 ghost use Rattle.record.specs.inner.Reading.{IsFaultOfTold};
 ghost use Rattle.record.specs.inner.Telling.{HasRoomUpTo};
 
-use crate::cells::{most_cells, spot_number};
+use crate::cells::most_cells;
 use crate::due::{Due, Form};
 use crate::entries::{Entries, KeptEntries};
 use crate::fault::ReadKind;
@@ -166,7 +166,7 @@ impl Draft {
             return Err(ReadKind::BadLine);
         };
         self.tables = with_cell(self.tables, &cell);
-        Ok(Due::cells(form, left - 1, spot_number(cell.spot()) + 1))
+        Ok(Due::cells(form, left - 1, cell.place().number() + 1))
     }
 
     /// Takes the line that says how many entries there are.

@@ -1,12 +1,12 @@
 ghost use Rattle.std.specs.Prelude.{◌≡◌, ◌≢◌, IfOk, IfErr, OnOk, MatchOption, MatchResult, Some, None, true};
+ghost use Rattle.both_tables.specs.declared.cell_places.CellPlace.{CellPlace};
 ghost use Rattle.record.specs.Replaying.{IsTextRead};
 ghost use Rattle.record.specs.Versions.{HasTextIn};
 ghost use Rattle.record.specs.declared.version.Version.{Version};
 ghost use Rattle.base.specs.Spelling.{words};
 ghost use Rattle.record.specs.declared.cells.Cell as cells;
-ghost use Rattle.record.specs.declared.cells.Spot as cells_spot;
 ghost use Rattle.record.specs.declared.due.Due.TheVariants.{Header};
-ghost use Rattle.record.specs.Cells.{cell_at, cell_words, is_known, spot_of, FitsCell};
+ghost use Rattle.record.specs.Cells.{cell_at, cell_words, is_known, place_of, FitsCell};
 ghost use Rattle.record.specs.Grammar.{IsListed};
 ghost use Rattle.record.specs.View.{RecordingView};
 ghost use Rattle.record.specs.Recordable.{AreWhole, IsRecordable};
@@ -15,7 +15,7 @@ ghost use Rattle.record.specs.Text.{text};
 ghost use Rattle.record.specs.inner.Readers.{IsReadWhole};
 
 use crate::cell_parsing::cell_of;
-use crate::cells::{Cell, spot_number};
+use crate::cells::Cell;
 use crate::entries::{Entries, KeptEntries};
 use crate::fault::{ReadFault, ReadKind};
 use crate::reader::Reader;
@@ -86,7 +86,7 @@ pub(crate) fn listed_cell(line: &[u8], protocol: Protocol, from: usize) -> Optio
     if !cell.is_known(protocol) {
         return None;
     }
-    if spot_number(cell.spot()) < from {
+    if cell.place().number() < from {
         return None;
     }
     if cell.is_in(&Tables::baseline_of(protocol)) {
@@ -99,8 +99,8 @@ pub(crate) fn listed_cell(line: &[u8], protocol: Protocol, from: usize) -> Optio
 pub(crate) fn with_cell(tables: Tables, cell: &Cell) -> Tables
     requires { is_known tables.protocol cell.now ≡ true }
     ensures protocol { result.protocol ≡ tables.protocol }
-    ensures here { cell_at result (spot_of cell.now) ≡ cell.now }
-    ensures others { (spot : cells_spot.Spot) → spot ≢ spot_of cell.now → cell_at result spot ≡ cell_at tables spot }
+    ensures here { cell_at result (place_of cell.now) ≡ cell.now }
+    ensures others { (place : CellPlace) → place ≢ place_of cell.now → cell_at result place ≡ cell_at tables place }
     ensures whole { AreWhole tables → FitsCell cell.now → AreWhole result }
 {
     let mut tables = tables;

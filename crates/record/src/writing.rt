@@ -10,13 +10,13 @@ ghost use Rattle.record.specs.Text.{text, changed_cells, is_changed};
 ghost use Rattle.record.specs.inner.Pieces.{pieces, head_piece, value_piece, cells_piece, cell_piece, entries_piece, end_piece};
 ghost use Rattle.record.specs.inner.Pieces.{IsInWhole, IsOut, IsCutOff, PieceFits};
 
-use crate::cells::{Cell, SPOTS, Spot, spot_at};
+use crate::cells::Cell;
 use crate::recording::Recording;
 use crate::spelling::{cell_line, told_line};
 use base::controller::Protocol;
 use base::text::Text;
 use base::{Shape, Sink, put_all};
-use both_tables::Tables;
+use both_tables::{CELLS, CellPlace, Tables};
 use thiserror::Error;
 
 /// A sink failed before it had all of a recording's text.
@@ -55,7 +55,7 @@ impl Recording {
         ensures few { result ≤ 1065724 }
         ensures kept { IsKept self.now }
     {
-        self.opening().len() + SPOTS + self.entries().len() + 4
+        self.opening().len() + CELLS + self.entries().len() + 4
     }
 
     /// The piece of this number of the text, where so many cells differ from the protocol's own.
@@ -70,7 +70,7 @@ impl Recording {
     {
         let (opening, entries) = (self.opening(), self.entries());
         let cells = opening.len() + 1;
-        let count = cells + SPOTS + 1;
+        let count = cells + CELLS + 1;
         if number == 0 {
             head(self.protocol(), self.shape(), self.seats())
         } else if number < cells {
@@ -78,7 +78,11 @@ impl Recording {
         } else if number == cells {
             cells_head(changed)
         } else if number < count {
-            cell_if_changed(&self.tables(), own, spot_at(number - cells - 1))
+            cell_if_changed(
+                &self.tables(),
+                own,
+                CellPlace::with_number(number - cells - 1),
+            )
         } else if number == count {
             entries_head(entries.len() as u64)
         } else if number < count + 1 + entries.len() {
@@ -130,13 +134,13 @@ fn cells_head(changed: u64) -> Text
 }
 
 /// The line of a cell, if it differs from the protocol's own, and else nothing.
-fn cell_if_changed(tables: &Tables, own: &Tables, spot: Spot) -> Text
+fn cell_if_changed(tables: &Tables, own: &Tables, place: CellPlace) -> Text
     requires { own.now ≡ baseline_of tables.now.protocol }
-    ensures piece { result ≡ cell_piece tables.now spot }
+    ensures piece { result ≡ cell_piece tables.now place }
     ensures short { length result ≤ 192 }
 {
-    if is_changed(tables, own, spot) {
-        cell_line(&Cell::at(tables, spot))
+    if is_changed(tables, own, place) {
+        cell_line(&Cell::at(tables, place))
     } else {
         Text::new()
     }
@@ -180,13 +184,13 @@ fn put_piece<S: Sink>(sink: &mut S, already: u64, piece: &[u8]) -> Result<u64, W
 }
 
 /// Whether the cell at a place differs from the protocol's own.
-fn is_changed(tables: &Tables, own: &Tables, spot: Spot) -> bool
+fn is_changed(tables: &Tables, own: &Tables, place: CellPlace) -> bool
     requires { own.now ≡ baseline_of tables.now.protocol }
-    ensures changed { result ≡ is_changed tables.now spot }
-    ensures fits { FitsCell (cell_at tables.now spot) }
-    ensures whole { IsInWhole tables.now spot }
+    ensures changed { result ≡ is_changed tables.now place }
+    ensures fits { FitsCell (cell_at tables.now place) }
+    ensures whole { IsInWhole tables.now place }
 {
-    !Cell::at(tables, spot).is_in(own)
+    !Cell::at(tables, place).is_in(own)
 }
 
 /// How many cells differ from the protocol's own.
@@ -197,8 +201,8 @@ fn count_changed(tables: &Tables, own: &Tables) -> u64
     ensures whole { AreWhole tables.now }
 {
     let mut count = 0;
-    for number in 0..SPOTS {
-        if is_changed(tables, own, spot_at(number)) {
+    for number in 0..CELLS {
+        if is_changed(tables, own, CellPlace::with_number(number)) {
             count += 1;
         }
     }

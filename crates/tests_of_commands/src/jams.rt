@@ -1,22 +1,22 @@
 use crate::cases::{same_number, text_of};
 use base::controller::Protocol;
-use both_tables::Tables;
+use both_tables::{CELLS, CellPlace, Tables};
 use cache_table::CacheEntry;
-use certify::{CELLS, Cell, Certificate, certify};
+use certify::{Certificate, certify};
 use directory_table::DirectoryEntry;
 use playing::{Format, print_certificate};
 use std::alloc::Global;
 use std::process::Abort;
 
 /// A protocol's own tables with a stall in one cell.
-fn stalled(protocol: Protocol, cell: Cell) -> Tables {
+fn stalled(protocol: Protocol, cell: CellPlace) -> Tables {
     let own = Tables::baseline_of(protocol);
     match cell {
-        Cell::Cache(state, event) => Tables {
+        CellPlace::Cache(state, event) => Tables {
             cache: own.cache.with(state, event, CacheEntry::Stall),
             directory: own.directory,
         },
-        Cell::Directory(state, event) => Tables {
+        CellPlace::Directory(state, event) => Tables {
             cache: own.cache,
             directory: own.directory.with(state, event, DirectoryEntry::Stall),
         },
@@ -31,7 +31,7 @@ fn is_shown(rt: &impl Abort, alloc: Global, tables: &Tables) -> bool {
 }
 
 /// Whether a stall in this cell jams. It has to be shown then, and not otherwise.
-fn jams(rt: &impl Abort, alloc: Global, protocol: Protocol, cell: Cell) -> bool {
+fn jams(rt: &impl Abort, alloc: Global, protocol: Protocol, cell: CellPlace) -> bool {
     let tables = stalled(protocol, cell);
     let jams = matches!(certify(&tables), Certificate::MessagesMayGetStuck(_));
     assert_eq!(rt; is_shown(rt, alloc, &tables), jams, "at {cell:?}");
@@ -42,7 +42,7 @@ fn jams(rt: &impl Abort, alloc: Global, protocol: Protocol, cell: Cell) -> bool 
 fn are_shown(rt: &impl Abort, alloc: Global, protocol: Protocol, wanted: usize) {
     let mut count = 0usize;
     for number in 0..CELLS {
-        if let Some(cell) = Cell::at(number)
+        if let Some(cell) = CellPlace::at(number)
             && jams(rt, alloc, protocol, cell)
         {
             count = count.saturating_add(1);

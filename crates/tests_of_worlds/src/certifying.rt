@@ -1,16 +1,16 @@
 use crate::asserting::{same, same_at};
-use both_tables::Tables;
+use both_tables::{CELLS, CellPlace, Tables};
 use cache_table::{CacheEntry, CacheEvent, CacheState};
-use certify::{CELLS, Cell, Certificate, Standing, certify, standing_of};
+use certify::{Certificate, Standing, certify, standing_of};
 use directory_table::{DirectoryEntry, DirectoryEvent, DirectoryState};
 use std::process::Abort;
 
 /// These tables with another entry in one cell: the caches' or the directory's.
-fn changed(own: Tables, cell: Cell, cache: CacheEntry, directory: DirectoryEntry) -> Tables {
+fn changed(own: Tables, cell: CellPlace, cache: CacheEntry, directory: DirectoryEntry) -> Tables {
     let mut tables = own;
     match cell {
-        Cell::Cache(state, event) => tables.cache = own.cache.with(state, event, cache),
-        Cell::Directory(state, event) => {
+        CellPlace::Cache(state, event) => tables.cache = own.cache.with(state, event, cache),
+        CellPlace::Directory(state, event) => {
             tables.directory = own.directory.with(state, event, directory);
         }
     }
@@ -18,7 +18,7 @@ fn changed(own: Tables, cell: Cell, cache: CacheEntry, directory: DirectoryEntry
 }
 
 /// These tables with a stall in one more cell.
-pub fn stalled(own: Tables, cell: Cell) -> Tables {
+pub fn stalled(own: Tables, cell: CellPlace) -> Tables {
     changed(own, cell, CacheEntry::Stall, DirectoryEntry::Stall)
 }
 
@@ -26,7 +26,7 @@ pub fn stalled(own: Tables, cell: Cell) -> Tables {
 fn held(rt: &impl Abort) -> Tables {
     let mut tables = Tables::baseline();
     for number in 0..CELLS {
-        tables = stalled(tables, Cell::at(number).expect(rt, "a cell"));
+        tables = stalled(tables, CellPlace::at(number).expect(rt, "a cell"));
     }
     tables
 }
@@ -34,14 +34,14 @@ fn held(rt: &impl Abort) -> Tables {
 #[test]
 fn tables_of_stalls(rt: HostRuntime) {
     let tables = held(&rt);
-    let data = Cell::Cache(CacheState::IsD, CacheEvent::DataDirZero);
+    let data = CellPlace::Cache(CacheState::IsD, CacheEvent::DataDirZero);
     same(
         &rt,
         &certify(&tables),
         &Certificate::MessagesMayGetStuck(data),
     );
-    let load = Cell::Cache(CacheState::M, CacheEvent::Load);
-    let held_anyway = Cell::Cache(CacheState::IsD, CacheEvent::Inv);
+    let load = CellPlace::Cache(CacheState::M, CacheEvent::Load);
+    let held_anyway = CellPlace::Cache(CacheState::IsD, CacheEvent::Inv);
     let standings = (
         standing_of(&tables, load),
         standing_of(&tables, held_anyway),
@@ -50,39 +50,39 @@ fn tables_of_stalls(rt: HostRuntime) {
 }
 
 /// A stall over each of these cells alone leaves nothing stuck.
-const HARMLESS: [Cell; 11] = [
-    Cell::Cache(CacheState::ImAd, CacheEvent::DataDirMore),
-    Cell::Cache(CacheState::ImAd, CacheEvent::InvAck),
-    Cell::Cache(CacheState::SmAd, CacheEvent::Load),
-    Cell::Cache(CacheState::SmAd, CacheEvent::DataDirMore),
-    Cell::Cache(CacheState::SmAd, CacheEvent::InvAck),
-    Cell::Cache(CacheState::SmA, CacheEvent::Load),
-    Cell::Directory(DirectoryState::I, DirectoryEvent::PutSLast),
-    Cell::Directory(DirectoryState::M, DirectoryEvent::PutSLast),
-    Cell::Directory(DirectoryState::SD, DirectoryEvent::PutSNotLast),
-    Cell::Directory(DirectoryState::SD, DirectoryEvent::PutSLast),
-    Cell::Directory(DirectoryState::SD, DirectoryEvent::PutMNonOwner),
+const HARMLESS: [CellPlace; 11] = [
+    CellPlace::Cache(CacheState::ImAd, CacheEvent::DataDirMore),
+    CellPlace::Cache(CacheState::ImAd, CacheEvent::InvAck),
+    CellPlace::Cache(CacheState::SmAd, CacheEvent::Load),
+    CellPlace::Cache(CacheState::SmAd, CacheEvent::DataDirMore),
+    CellPlace::Cache(CacheState::SmAd, CacheEvent::InvAck),
+    CellPlace::Cache(CacheState::SmA, CacheEvent::Load),
+    CellPlace::Directory(DirectoryState::I, DirectoryEvent::PutSLast),
+    CellPlace::Directory(DirectoryState::M, DirectoryEvent::PutSLast),
+    CellPlace::Directory(DirectoryState::SD, DirectoryEvent::PutSNotLast),
+    CellPlace::Directory(DirectoryState::SD, DirectoryEvent::PutSLast),
+    CellPlace::Directory(DirectoryState::SD, DirectoryEvent::PutMNonOwner),
 ];
 
 /// A stall over each of these holds an ask where nothing is on its way.
-const HOLDING: [Cell; 8] = [
-    Cell::Cache(CacheState::I, CacheEvent::Load),
-    Cell::Cache(CacheState::I, CacheEvent::Store),
-    Cell::Cache(CacheState::S, CacheEvent::Load),
-    Cell::Cache(CacheState::S, CacheEvent::Store),
-    Cell::Cache(CacheState::S, CacheEvent::Replacement),
-    Cell::Cache(CacheState::M, CacheEvent::Load),
-    Cell::Cache(CacheState::M, CacheEvent::Store),
-    Cell::Cache(CacheState::M, CacheEvent::Replacement),
+const HOLDING: [CellPlace; 8] = [
+    CellPlace::Cache(CacheState::I, CacheEvent::Load),
+    CellPlace::Cache(CacheState::I, CacheEvent::Store),
+    CellPlace::Cache(CacheState::S, CacheEvent::Load),
+    CellPlace::Cache(CacheState::S, CacheEvent::Store),
+    CellPlace::Cache(CacheState::S, CacheEvent::Replacement),
+    CellPlace::Cache(CacheState::M, CacheEvent::Load),
+    CellPlace::Cache(CacheState::M, CacheEvent::Store),
+    CellPlace::Cache(CacheState::M, CacheEvent::Replacement),
 ];
 
-fn acts(tables: &Tables, cell: Cell) -> bool {
+fn acts(tables: &Tables, cell: CellPlace) -> bool {
     match cell {
-        Cell::Cache(state, event) => matches!(
+        CellPlace::Cache(state, event) => matches!(
             tables.cache.entry(state, event),
             CacheEntry::Act { .. }
         ),
-        Cell::Directory(state, event) => {
+        CellPlace::Directory(state, event) => {
             matches!(
                 tables.directory.entry(state, event),
                 DirectoryEntry::Act { .. }
@@ -92,7 +92,7 @@ fn acts(tables: &Tables, cell: Cell) -> bool {
 }
 
 /// What a walk over all states with three and with four caches found of a stall over a cell.
-fn walked(own: &Tables, cell: Cell) -> Certificate {
+fn walked(own: &Tables, cell: CellPlace) -> Certificate {
     if HOLDING.contains(&cell) {
         Certificate::AsksMayBeHeld(cell)
     } else if HARMLESS.contains(&cell) || !acts(own, cell) {
@@ -103,7 +103,7 @@ fn walked(own: &Tables, cell: Cell) -> Certificate {
 }
 
 /// What is certified where a cell of the own tables is left blank: it is named, unless it is blank anyway.
-fn named(own: &Tables, blank: &Tables, cell: Cell) -> Certificate {
+fn named(own: &Tables, blank: &Tables, cell: CellPlace) -> Certificate {
     if blank == own {
         Certificate::NeverStuck
     } else {
@@ -112,7 +112,7 @@ fn named(own: &Tables, blank: &Tables, cell: Cell) -> Certificate {
 }
 
 /// Compares how a cell of the own tables stands, and what is certified where it alone is a stall, and where it is left blank.
-fn is_certified(rt: &impl Abort, own: &Tables, cell: Cell) {
+fn is_certified(rt: &impl Abort, own: &Tables, cell: CellPlace) {
     let stall = stalled(*own, cell);
     let blank = changed(*own, cell, CacheEntry::Blank, DirectoryEntry::Blank);
     let found = (standing_of(own, cell), certify(&stall), certify(&blank));
@@ -125,22 +125,24 @@ fn each_cell_of_the_own_tables(rt: HostRuntime) {
     let own = Tables::baseline();
     same(&rt, &certify(&own), &Certificate::NeverStuck);
     for number in 0..CELLS {
-        let cell = Cell::at(number).expect(&rt, "a cell");
+        let cell = CellPlace::at(number).expect(&rt, "a cell");
         is_certified(&rt, &own, cell);
     }
-    same(&rt, &Cell::at(CELLS), &None);
+    same(&rt, &CellPlace::at(CELLS), &None);
 }
 
 /// Whether a cell is a stall in a greatest set of them under which nothing gets stuck: a store's Data comes before its acks, or
 /// behind them.
-fn is_in_greatest(cell: Cell, modified_late: bool, shared_late: bool) -> bool {
+fn is_in_greatest(cell: CellPlace, modified_late: bool, shared_late: bool) -> bool {
     match cell {
-        Cell::Cache(CacheState::ImAd, CacheEvent::DataDirMore) => modified_late,
-        Cell::Cache(CacheState::ImAd, CacheEvent::InvAck) => !modified_late,
-        Cell::Cache(CacheState::ImA, CacheEvent::InvAck | CacheEvent::LastInvAck) => modified_late,
-        Cell::Cache(CacheState::SmAd, CacheEvent::DataDirMore) => shared_late,
-        Cell::Cache(CacheState::SmAd, CacheEvent::InvAck) => !shared_late,
-        Cell::Cache(CacheState::SmA, CacheEvent::InvAck | CacheEvent::LastInvAck) => shared_late,
+        CellPlace::Cache(CacheState::ImAd, CacheEvent::DataDirMore) => modified_late,
+        CellPlace::Cache(CacheState::ImAd, CacheEvent::InvAck) => !modified_late,
+        CellPlace::Cache(CacheState::ImA, CacheEvent::InvAck | CacheEvent::LastInvAck) =>
+            modified_late,
+        CellPlace::Cache(CacheState::SmAd, CacheEvent::DataDirMore) => shared_late,
+        CellPlace::Cache(CacheState::SmAd, CacheEvent::InvAck) => !shared_late,
+        CellPlace::Cache(CacheState::SmA, CacheEvent::InvAck | CacheEvent::LastInvAck) =>
+            shared_late,
         _ => HARMLESS.contains(&cell),
     }
 }
@@ -149,7 +151,7 @@ fn is_in_greatest(cell: Cell, modified_late: bool, shared_late: bool) -> bool {
 fn greatest(modified_late: bool, shared_late: bool) -> (Tables, u32) {
     let (mut tables, mut count) = (Tables::baseline(), 0u32);
     for number in 0..CELLS {
-        if let Some(cell) = Cell::at(number) {
+        if let Some(cell) = CellPlace::at(number) {
             if is_in_greatest(cell, modified_late, shared_late) {
                 tables = stalled(tables, cell);
                 count = count.saturating_add(1);
@@ -183,9 +185,9 @@ fn stalls_that_cross(rt: HostRuntime) {
     for state in [CacheState::ImAd, CacheState::SmAd] {
         let data = stalled(
             Tables::baseline(),
-            Cell::Cache(state, CacheEvent::DataDirMore),
+            CellPlace::Cache(state, CacheEvent::DataDirMore),
         );
-        let acks = Cell::Cache(state, CacheEvent::InvAck);
+        let acks = CellPlace::Cache(state, CacheEvent::InvAck);
         let wanted = Certificate::MessagesMayGetStuck(acks);
         same_at(&rt, &certify(&stalled(data, acks)), &wanted, &state);
     }

@@ -5,9 +5,9 @@ use crate::certifying::stalled;
 use crate::making::acting;
 use crate::recordings::{is_refused, writes};
 use base::controller::Protocol;
-use both_tables::{Tables, TablesFault};
+use both_tables::{CELLS, CellPlace, Tables, TablesFault};
 use cache_table::{CacheAction, CacheEntry, CacheEvent, CacheState};
-use certify::{CELLS, Cell, Certificate, Standing, certify, standing_of};
+use certify::{Certificate, Standing, certify, standing_of};
 use directory_table::{
     DirectoryAction, DirectoryActions, DirectoryEntry, DirectoryEvent, DirectoryState,
 };
@@ -33,12 +33,12 @@ fn lists(rt: &impl Abort, protocol: Protocol, wanted: (u32, u32)) {
     let own = Tables::baseline_of(protocol);
     let (mut caches, mut directories) = (0u32, 0u32);
     for number in 0..CELLS {
-        match Cell::at(number) {
-            Some(Cell::Cache(state, event)) => {
+        match CellPlace::at(number) {
+            Some(CellPlace::Cache(state, event)) => {
                 let blank = matches!(own.cache.entry(state, event), CacheEntry::Blank);
                 caches = caches.saturating_add(u32::from(!blank));
             }
-            Some(Cell::Directory(state, event)) => {
+            Some(CellPlace::Directory(state, event)) => {
                 let blank = matches!(own.directory.entry(state, event), DirectoryEntry::Blank);
                 directories = directories.saturating_add(u32::from(!blank));
             }
@@ -166,7 +166,7 @@ fn texts_that_are_refused(rt: HostRuntime) {
 fn counts(own: Tables) -> (u32, u32) {
     let (mut messages, mut asks) = (0u32, 0u32);
     for number in 0..CELLS {
-        if let Some(cell) = Cell::at(number) {
+        if let Some(cell) = CellPlace::at(number) {
             match certify(&stalled(own, cell)) {
                 Certificate::MessagesMayGetStuck(_) => messages = messages.saturating_add(1),
                 Certificate::AsksMayBeHeld(_) => asks = asks.saturating_add(1),
@@ -187,7 +187,7 @@ fn what_is_certified(rt: HostRuntime) {
     let kept = acting(&rt, CacheState::E, &actions);
     let mut tables = own;
     tables.cache = own.cache.with(CacheState::E, CacheEvent::FwdGetS, kept);
-    let cell = Cell::Cache(CacheState::E, CacheEvent::FwdGetS);
+    let cell = CellPlace::Cache(CacheState::E, CacheEvent::FwdGetS);
     same(&rt, &certify(&tables), &Certificate::NotProved(cell));
     same(&rt, &standing_of(&tables, cell), &Standing::Open);
 }

@@ -3,8 +3,9 @@ use Rattle.std.specs.Prelude.{◌≡◌, ℕ, ◌+◌, ◌<◌, ◌≤◌, List,
 use Rattle.std.specs.Vec.{vec_capacity}
 use Rattle.base.specs.Extent.{Extent, IsWithinLimits}
 use Rattle.base.specs.declared.controller.protocol.Protocol.TheVariants.{Msi}
+use Rattle.both_tables.specs.CellPlaces.{place_number}
 use Rattle.both_tables.specs.Tables.{Tables, baseline_of}
-use Rattle.record.specs.declared.cells.Spot.{Spot}
+use Rattle.both_tables.specs.declared.cell_places.CellPlace.{CellPlace}
 use Rattle.record.specs.declared.draft.Draft.{Draft}
 use Rattle.record.specs.declared.due.Due.{Due}
 use Rattle.record.specs.declared.due.Form.{Form}
@@ -14,7 +15,7 @@ use Rattle.record.specs.declared.version.Version.TheVariants.{Two}
 use Rattle.record.specs.Versions.{protocol_lines, seats_lines, CanTell, IsShapeIn}
 use Rattle.record.specs.declared.due.Due.TheVariants.{Header, ProtocolLine, ShapeLine, SeatsLine, OpeningLine, CellCount, CellLine, EntryCount}
 use Rattle.record.specs.declared.due.Due.TheVariants.{EntryLine, EndLine, Nothing}
-use Rattle.record.specs.Cells.{cell_at, cell_words, spot_number}
+use Rattle.record.specs.Cells.{cell_at, cell_words}
 use Rattle.record.specs.Grammar.{AreValues, FitsEntry, Leads}
 use Rattle.record.specs.View.{AreOwners, RecordingView}
 use Rattle.record.specs.Recordable.{AreWhole}
@@ -108,7 +109,7 @@ IsHeadedTo Nothing r = CanTell r.version r.tables.protocol r.seats × IsShapeIn 
 
 -- from this place on the cells are those of the protocol's own tables
 abbrev pub IsBaselineFrom : ℕ → Tables → Type 0
-IsBaselineFrom from tables = (spot : Spot) → from ≤ spot_number spot → cell_at tables spot ≡ cell_at (baseline_of tables.protocol) spot
+IsBaselineFrom from tables = (place : CellPlace) → from ≤ place_number place → cell_at tables place ≡ cell_at (baseline_of tables.protocol) place
 
 -- the opening values are there once their line isn't due any more
 abbrev pub HasOpeningTo : Due → Kept → Type 0

@@ -9,11 +9,12 @@ use Rattle.record.specs.declared.version.Version.TheVariants.{Two}
 use Rattle.record.specs.Versions.{protocol_words, seats_words}
 use Rattle.cache_table.specs.Keeping as cache_table
 use Rattle.directory_table.specs.Keeping as directory_table
+use Rattle.both_tables.specs.CellPlaces.{all_places}
 use Rattle.both_tables.specs.Tables.{Tables}
-use Rattle.record.specs.declared.cells.Spot.{Spot}
-use Rattle.record.specs.declared.cells.Spot.TheVariants as spot
+use Rattle.both_tables.specs.declared.cell_places.CellPlace.{CellPlace}
+use Rattle.both_tables.specs.declared.cell_places.CellPlace.TheVariants as place
 use Rattle.record.specs.declared.recording.Entry.{Entry}
-use Rattle.record.specs.Cells.{all_spots, cell_at, cell_words}
+use Rattle.record.specs.Cells.{cell_at, cell_words}
 use Rattle.record.specs.Grammar.{FitsEntry}
 use Rattle.record.specs.View.{RecordingView}
 use Rattle.record.specs.Text.{line, header_words, shape_words, cells_words, changed_cells, is_changed, entries_words, told, told_words, end_words}
@@ -44,8 +45,8 @@ abbrev pub cells_piece : ℕ → List ℕ
 cells_piece count = 10 ∷ line (cells_words count)
 
 -- the line of the cell at a place, if it differs from the protocol's own
-abbrev pub cell_piece : Tables → Spot → List ℕ
-cell_piece tables spot = if is_changed tables spot then line (cell_words (cell_at tables spot)) else []
+abbrev pub cell_piece : Tables → CellPlace → List ℕ
+cell_piece tables place = if is_changed tables place then line (cell_words (cell_at tables place)) else []
 
 -- the line that says how many entries follow
 abbrev pub entries_piece : ℕ → List ℕ
@@ -68,7 +69,7 @@ end_piece = line end_words
 abbrev pub pieces : RecordingView → List (List ℕ)
 pieces r =
     head_piece r.tables.protocol r.shape r.seats ∷ map value_piece r.opening ++
-    (cells_piece (length (changed_cells r.tables)) ∷ map (cell_piece r.tables) all_spots ++
+    (cells_piece (length (changed_cells r.tables)) ∷ map (cell_piece r.tables) all_places ++
     (entries_piece (length r.entries) ∷ map told_piece (told r.owners r.entries) ++ end_piece ∷ []))
 
 -- how many pieces stand before those of the entries
@@ -81,6 +82,6 @@ pub record PieceFits (r : RecordingView) (number : ℕ) : Type 0 where
   pub entry : (k : ℕ) (d : Entry) → number ≡ places_before r + k → k < length r.entries → FitsEntry (slice_index_or r.entries k d)
 
 -- the table of a place has all its cells, and keeps to its protocol
-abbrev pub IsInWhole : Tables → Spot → Type 0
-IsInWhole tables (spot.Cache state event) = cache_table.IsTable tables.protocol tables.cache
-IsInWhole tables (spot.Directory state event) = directory_table.IsTable tables.protocol tables.directory
+abbrev pub IsInWhole : Tables → CellPlace → Type 0
+IsInWhole tables (place.Cache state event) = cache_table.IsTable tables.protocol tables.cache
+IsInWhole tables (place.Directory state event) = directory_table.IsTable tables.protocol tables.directory

@@ -1,11 +1,11 @@
 use Rattle.both_tables.specs.Tables.{Tables}
+use Rattle.both_tables.specs.declared.cell_places.CellPlace.{CellPlace}
+use Rattle.both_tables.specs.declared.cell_places.CellPlace.TheVariants.{Cache, Directory}
 use Rattle.machine.specs.Restraint.{AreRestrained}
 use Rattle.certify.specs.Standings.{IsAdmitted}
-use Rattle.certify.specs.declared.cells.Cell.{Cell}
-use Rattle.certify.specs.declared.cells.Cell.TheVariants.{Cache, Directory}
 use Rattle.certify.proofs.certifying.answer_to.Goals as goal
 
-restrained : (tables : Tables) → ((cell : Cell) → IsAdmitted tables cell) → AreRestrained tables
+restrained : (tables : Tables) → ((cell : CellPlace) → IsAdmitted tables cell) → AreRestrained tables
 restrained tables h = record { cache = λ s e. h (Cache s e); directory = λ s e. h (Directory s e) }
 
 pub answer_to_restrained-requires : goal.answer_to_restrained-requires

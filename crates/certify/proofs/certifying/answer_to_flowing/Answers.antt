@@ -1,11 +1,11 @@
 use Rattle.both_tables.specs.Tables.{Tables}
+use Rattle.both_tables.specs.declared.cell_places.CellPlace.{CellPlace}
+use Rattle.both_tables.specs.declared.cell_places.CellPlace.TheVariants.{Cache}
 use Rattle.machine.specs.Going.{ServesAsks}
 use Rattle.certify.specs.Certificates.{ServesAt}
-use Rattle.certify.specs.declared.cells.Cell.{Cell}
-use Rattle.certify.specs.declared.cells.Cell.TheVariants.{Cache}
 use Rattle.certify.proofs.certifying.answer_to_flowing.Goals as goal
 
-serving : (tables : Tables) → ((cell : Cell) → ServesAt tables cell) → ServesAsks tables
+serving : (tables : Tables) → ((cell : CellPlace) → ServesAt tables cell) → ServesAsks tables
 serving tables h = record { served = λ s e settled x. h (Cache s e) settled x }
 
 pub returns-in-Some : goal.returns-in-Some

@@ -1,11 +1,11 @@
 use Rattle.both_tables.specs.Tables.{Tables}
+use Rattle.both_tables.specs.declared.cell_places.CellPlace.{CellPlace}
+use Rattle.both_tables.specs.declared.cell_places.CellPlace.TheVariants.{Cache, Directory}
 use Rattle.machine.specs.Going.{KeepsGoing}
 use Rattle.certify.specs.Certificates.{LetsFlow}
-use Rattle.certify.specs.declared.cells.Cell.{Cell}
-use Rattle.certify.specs.declared.cells.Cell.TheVariants.{Cache, Directory}
 use Rattle.certify.proofs.certifying.answer_to_restrained.Goals as goal
 
-going : (tables : Tables) → ((cell : Cell) → LetsFlow tables cell) → KeepsGoing tables
+going : (tables : Tables) → ((cell : CellPlace) → LetsFlow tables cell) → KeepsGoing tables
 going tables h = record { cache = λ s e x. h (Cache s e) x; directory = λ s e x. h (Directory s e) x }
 
 pub answer_to_flowing-requires-clause-going : goal.answer_to_flowing-requires-clause-going

@@ -1,11 +1,11 @@
 use Rattle.std.proofs.Common.{◌≡◌}
 use Rattle.both_tables.specs.Tables.{Tables}
+use Rattle.both_tables.specs.declared.cell_places.CellPlace.{CellPlace}
+use Rattle.both_tables.specs.declared.cell_places.CellPlace.TheVariants.{Cache, Directory}
 use Rattle.machine.specs.Going.{AreNeverStuck, KeepsGoing}
 use Rattle.machine.specs.Restraint.{AreRestrained}
 use Rattle.certify.specs.Certificates.{IsCertificate, SaysSafe, SaysFlowing}
 use Rattle.certify.specs.Standings.{IsAdmitted}
-use Rattle.certify.specs.declared.cells.Cell.{Cell}
-use Rattle.certify.specs.declared.cells.Cell.TheVariants.{Cache, Directory}
 use Rattle.certify.specs.declared.certifying.Certificate.{Certificate}
 use Rattle.certify.specs.declared.certifying.Certificate.TheVariants.{NotProved, NeverStuck, AsksMayBeHeld, MessagesMayGetStuck}
 use Rattle.certify.proofs.certifying.certify.Goals as goal
@@ -29,7 +29,7 @@ says-never_stuck tables NeverStuck h said = h
 says-never_stuck tables (AsksMayBeHeld cell) h said = absurd (cc)
 says-never_stuck tables (MessagesMayGetStuck cell) h said = absurd (cc)
 
-admits : (tables : Tables) → AreRestrained tables → (cell : Cell) → IsAdmitted tables cell
+admits : (tables : Tables) → AreRestrained tables → (cell : CellPlace) → IsAdmitted tables cell
 admits tables r (Cache s e) = r.cache s e
 admits tables r (Directory s e) = r.directory s e
 

@@ -4,10 +4,10 @@ use Rattle.cache_table.specs.Table.{CacheEntry}
 use Rattle.directory_table.specs.Table as directory_table
 use Rattle.directory_table.specs.Table.{DirectoryEntry}
 use Rattle.both_tables.specs.Tables.{Tables, baseline_of}
+use Rattle.both_tables.specs.declared.cell_places.CellPlace.{CellPlace}
+use Rattle.both_tables.specs.declared.cell_places.CellPlace.TheVariants.{Cache, Directory}
 use Rattle.machine.specs.Restraint.{proved_lines, proved_homes, line_cell, home_cell}
 use Rattle.certify.specs.Standings.{HasStanding}
-use Rattle.certify.specs.declared.cells.Cell.{Cell}
-use Rattle.certify.specs.declared.cells.Cell.TheVariants.{Cache, Directory}
 use Rattle.certify.proofs.OwnEntries.{same-reason}
 use Rattle.certify.proofs.standings.standing_of.Goals as goal
 
@@ -21,7 +21,7 @@ returns-in-Cache c =
     (record { state = c.in-Cache.state; event = c.in-Cache.event; entry = c.entry.result }) (line_cell t c.in-Cache.state c.in-Cache.event)
     c.reason.result c.proved_lines.ensures c.own_line.ensures
     (ap (λ (x : CacheEntry). record { state = c.in-Cache.state; event = c.in-Cache.event; entry = x }) entry) c.reason.ensures in
-    subst (λ (p : Cell). HasStanding t p c.reason.result) (sym c.in-Cache.is) stands
+    subst (λ (p : CellPlace). HasStanding t p c.reason.result) (sym c.in-Cache.is) stands
 
 pub returns-in-Directory : goal.returns-in-Directory
 returns-in-Directory c =
@@ -35,4 +35,4 @@ returns-in-Directory c =
     (home_cell t c.in-Directory.state c.in-Directory.event)
     c.reason-in-Directory.result c.proved_homes.ensures c.own_home.ensures
     (ap (λ (x : DirectoryEntry). record { state = c.in-Directory.state; event = c.in-Directory.event; entry = x }) entry) c.reason-in-Directory.ensures in
-    subst (λ (p : Cell). HasStanding t p c.reason-in-Directory.result) (sym c.in-Directory.is) stands
+    subst (λ (p : CellPlace). HasStanding t p c.reason-in-Directory.result) (sym c.in-Directory.is) stands

@@ -1,5 +1,6 @@
 use Rattle.std.proofs.Common.{◌≡◌, true, false, ◌∙◌, sym, arith, ap}
-use Rattle.record.specs.Cells.{cell_at, is_same, spot_number, spot_of}
+use Rattle.both_tables.specs.CellPlaces.{place_number}
+use Rattle.record.specs.Cells.{cell_at, is_same, place_of}
 use Rattle.record.proofs.Alike.{in-order, differs, known}
 use Rattle.record.proofs.reading.listed_cell.Goals as goal
 
@@ -7,7 +8,7 @@ pub returns-then-is_in : goal.returns-then-is_in
 returns-then-is_in c = λ other listed spelled.
     let same = sym c.in_ok-cell.ensures.cell ∙ spelled in
     let no = differs c.args.protocol c.args.from c.in_ok-cell.cell other same listed in
-    let own = ap (λ t. is_same c.in_ok-cell.cell (cell_at t (spot_of c.in_ok-cell.cell))) c.baseline_of.ensures in
+    let own = ap (λ t. is_same c.in_ok-cell.cell (cell_at t (place_of c.in_ok-cell.cell))) c.baseline_of.ensures in
     let it : true ≡ false = sym c.if-is_in.true ∙ c.is_in.ensures.same ∙ own ∙ no in
     absurd (cc it)
 
@@ -17,8 +18,8 @@ returns-then-not-is_known c = λ other listed spelled.
     let yes = known c.args.protocol c.args.from c.in_ok-cell.cell other same listed in
     cc (yes, c.if-not-is_known.ensures)
 
-pub returns-then-spot_number-from : goal.returns-then-spot_number-from
-returns-then-spot_number-from c = λ other listed spelled.
+pub returns-then-number-from : goal.returns-then-number-from
+returns-then-number-from c = λ other listed spelled.
     let same = sym c.in_ok-cell.ensures.cell ∙ spelled in
     let order = in-order c.args.protocol c.args.from c.in_ok-cell.cell other same listed in
-    absurd (omega (arith, order, c.spot_number.ensures.number, c.if-spot_number-from.true, ap spot_number c.spot.ensures))
+    absurd (omega (arith, order, c.number.ensures.number, c.if-number-from.true, ap place_number c.place.ensures))

@@ -1,12 +1,12 @@
 use Rattle.std.proofs.Common.{◌≡◌, true, ap, sym, subst, ◌∙◌, rules}
 use Rattle.both_tables.specs.Tables.{Tables}
+use Rattle.both_tables.specs.declared.cell_places.CellPlace.TheVariants as place
 use Rattle.cache_table.specs.Keeping as cache_keeping
 use Rattle.cache_table.specs.Table as cache_table
 use Rattle.directory_table.specs.Keeping as directory_keeping
 use Rattle.directory_table.specs.Table as directory_table
-use Rattle.record.specs.declared.cells.Spot.TheVariants as spot
 use Rattle.record.specs.declared.cells.Cell.TheVariants as cell
-use Rattle.record.specs.Cells.{is_known, spot_of}
+use Rattle.record.specs.Cells.{is_known, place_of}
 use Rattle.record.proofs.Standing.{cache-here, cache-more, directory-here, directory-more, whole-more}
 use Rattle.record.proofs.reading.with_cell.Goals as goal
 
@@ -24,12 +24,12 @@ returns-in-Cache-clause-here c =
     cache-here made c.args.cell.now c.in-Cache.state c.in-Cache.event c.in-Cache.entry c.in-Cache.is (c.with-tables-inside.ensures.here has)
 
 pub returns-in-Cache-clause-others : goal.returns-in-Cache-clause-others
-returns-in-Cache-clause-others c (spot.Cache s e) other =
+returns-in-Cache-clause-others c (place.Cache s e) other =
     let kept : cache_table.cell c.with-tables-inside.result.cells s e ≡ cache_table.cell c.tables.inside.cache.cells s e =
     c.with-tables-inside.ensures.others s e
-    (λ both. other (ap (λ t. spot.Cache t e) both.0 ∙ (ap (spot.Cache c.in-Cache.state) both.1 ∙ ap spot_of (sym c.in-Cache.is)))) in
+    (λ both. other (ap (λ t. place.Cache t e) both.0 ∙ (ap (place.Cache c.in-Cache.state) both.1 ∙ ap place_of (sym c.in-Cache.is)))) in
     ap (cell.Cache s e) (kept ∙ search rules)
-returns-in-Cache-clause-others c (spot.Directory s e) other = ap (cell.Directory s e) (search rules)
+returns-in-Cache-clause-others c (place.Directory s e) other = ap (cell.Directory s e) (search rules)
 
 pub returns-in-Directory-clause-here : goal.returns-in-Directory-clause-here
 returns-in-Directory-clause-here c =
@@ -45,11 +45,11 @@ returns-in-Directory-clause-here c =
     (c.with-tables-inside-in-Directory.ensures.here has)
 
 pub returns-in-Directory-clause-others : goal.returns-in-Directory-clause-others
-returns-in-Directory-clause-others c (spot.Cache s e) other = ap (cell.Cache s e) (search rules)
-returns-in-Directory-clause-others c (spot.Directory s e) other =
+returns-in-Directory-clause-others c (place.Cache s e) other = ap (cell.Cache s e) (search rules)
+returns-in-Directory-clause-others c (place.Directory s e) other =
     let kept : directory_table.cell c.with-tables-inside-in-Directory.result.cells s e ≡ directory_table.cell c.tables.inside.directory.cells s e =
     c.with-tables-inside-in-Directory.ensures.others s e
-    (λ both. other (ap (λ t. spot.Directory t e) both.0 ∙ (ap (spot.Directory c.in-Directory.state) both.1 ∙ ap spot_of (sym c.in-Directory.is)))) in
+    (λ both. other (ap (λ t. place.Directory t e) both.0 ∙ (ap (place.Directory c.in-Directory.state) both.1 ∙ ap place_of (sym c.in-Directory.is)))) in
     ap (cell.Directory s e) (kept ∙ search rules)
 
 pub returns-in-Cache-clause-protocol : goal.returns-in-Cache-clause-protocol

@@ -1,5 +1,6 @@
 use Rattle.std.proofs.Common.{◌≡◌, ap, subst, ◌∙◌, ◌+◌, ◌-◌, true}
-use Rattle.record.specs.Cells.{is_known, spot_number}
+use Rattle.both_tables.specs.CellPlaces.{place_number}
+use Rattle.record.specs.Cells.{is_known}
 use Rattle.record.specs.Grammar.{cells_due}
 use Rattle.record.specs.inner.Drafts.{kept}
 use Rattle.record.proofs.Drafting.{cell-taken}
@@ -10,7 +11,7 @@ returns-clause-ok c =
     cell-taken c.args.form (kept c.args.self.now) _ c.args.left c.args.from c.in-Some.cell _ _ c.requires.read c.in-Some.ensures.0 c.in-Some.ensures.1
     (c.with_cell-self.ensures.whole c.requires.read.tables c.in-Some.ensures.0.fits) c.with_cell-self.ensures.protocol c.with_cell-self.ensures.here
     c.with_cell-self.ensures.others
-    (c.cells.ensures ∙ ap (λ n. cells_due c.args.form (c.args.left - 1) (n + 1)) (c.spot_number.ensures.number ∙ ap spot_number c.spot.ensures))
+    (c.cells.ensures ∙ ap (λ n. cells_due c.args.form (c.args.left - 1) (n + 1)) (c.number.ensures.number ∙ ap place_number c.place.ensures))
 
 pub with_cell-self-requires : goal.with_cell-self-requires
 with_cell-self-requires c = subst (λ p. is_known p c.in-Some.cell ≡ true) c.requires.read.head.0.1 c.in-Some.ensures.0.known

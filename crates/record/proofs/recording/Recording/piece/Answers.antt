@@ -1,8 +1,10 @@
 use Rattle.std.proofs.Common.{◌-◌, ◌+◌, ℕ, List, get_or, length, ap, sym, ◌∙◌, arith}
 use Rattle.std.proofs.lemmas.Grind.{common_steps}
+use Rattle.std.proofs.lemmas.Option.{get_or_from_slice_get}
 use Rattle.record.specs.inner.Pieces.{value_piece, cells_piece, cell_piece, entries_piece}
 use Rattle.record.proofs.PieceAt.{value-at, cells-at, cell-at, entries-at, entry-at, end-at, fits-here}
 use Rattle.record.proofs.Whole.{pieces-count}
+use Rattle.both_tables.specs.CellPlaces.{all_places}
 use Rattle.both_tables.specs.Tables.{Tables}
 use Rattle.record.proofs.recording.Recording.piece.Goals as goal
 
@@ -26,9 +28,10 @@ returns-then-number-count-clause-piece c =
     let values = ap length c.opening-opening.ensures.value in
     let i = c.args.number - (length c.opening-opening.result.now + 1) - 1 in
     c.cell_if_changed.ensures.piece
-    ∙ ap (λ (t : Tables). cell_piece t c.spot_at.result) c.tables.ensures
-    ∙ ap (cell_piece c.args.self.now.tables) c.spot_at.ensures
-    ∙ sym (cell-at c.args.self.now c.args.number i c.spot_at.result
+    ∙ ap (λ (t : Tables). cell_piece t c.with_number.result) c.tables.ensures
+    ∙ ap (cell_piece c.args.self.now.tables)
+    (sym (get_or_from_slice_get all_places i c.with_number.result c.with_number.result c.with_number.ensures))
+    ∙ sym (cell-at c.args.self.now c.args.number i c.with_number.result
     (omega (arith, values, c.if-number-eq0.false, c.if-number-cells.false, c.if-number-cells-2.false))
     (omega (arith, c.if-number-cells.false, c.if-number-cells-2.false, c.if-number-count.true)))
 
