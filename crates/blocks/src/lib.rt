@@ -4,7 +4,5 @@
 mod block;
 mod controllers;
 
-pub use block::{
-    Block, HeldAsks, Tested, decide_opened, foreseen, is_held_opened, opened_line,
-};
+pub use block::{Block, HeldAsks, Tested, decide_opened, foreseen, is_held_opened, opened_line};
 pub use controllers::Controllers;

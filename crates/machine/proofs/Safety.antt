@@ -22,7 +22,7 @@ few-enough shape within = omega (arith, within.few_caches)
 -- where a guarded invariant makes each transition fit, all runs are safe
 guarded-safe : (P : BlockState → Type 0) (tables : Tables) (shape : Extent) (opening : List ℕ) (steps : List Step) → Guards P tables shape.caches →
     ((s : Step) (b : BlockState) → P b → FitsLatest (transition tables s b).outcome b.latest
-        (transition tables s b).block.latest) → Safe shape tables opening steps
+    (transition tables s b).block.latest) → Safe shape tables opening steps
 guarded-safe P tables shape opening steps g fits = record {
   single = λ front rest e. guarded-single P tables shape g opening front;
   unmet = λ front rest s e. guarded-unmet P tables shape g opening front s;

@@ -154,5 +154,5 @@ pub crowded-none : (s : State) (block : ℕ) (found : Option CacheId) → IfNone
 crowded-none s block None (inl few) = inl few
 crowded-none s block None (inr none) =
     inr (subst (λ o. MatchOption o (HoldsForNoneFrom (λ c. Writes s c block) 0) (λ cache. IsLeastFrom (λ c. Writes s c block) 0 cache.0))
-        (sym none) (writer-is s block))
+    (sym none) (writer-is s block))
 crowded-none s block (Some cache) h = tt

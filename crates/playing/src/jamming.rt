@@ -1,4 +1,4 @@
-ghost use Rattle.std.specs.Prelude.{◌≡◌, IfOk, IfSome, IsTrue};
+ghost use Rattle.std.specs.Prelude.{IfOk, IfSome, IsTrue};
 ghost use Rattle.machine.specs.Unstuck.{Flowing};
 ghost use Rattle.playing.specs.Jams.{GetsStuck};
 ghost use Rattle.playing.specs.inner.Leading.{HasGoneOn, IsFresh};

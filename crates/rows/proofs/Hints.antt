@@ -1,9 +1,8 @@
 -- Where hints say exactly where places stand, a look at one place tells what is found.
-use Rattle.std.proofs.Common.{◌≡◌, ◌≢◌, ℕ, ◌+◌, ◌-◌, ◌%◌, ◌<◌, ◌≤◌, List, [], ◌∷◌, ◌++◌, Option, None, Some, Bool, true}
+use Rattle.std.proofs.Common.{◌≡◌, ◌≢◌, ℕ, ◌+◌, ◌-◌, ◌%◌, ◌<◌, List, [], ◌∷◌, ◌++◌, Option, None, Some, Bool, true}
 use Rattle.std.proofs.Common.{length, set, refl, sym, ap, ◌∙◌, subst, zero, suc, arith, inl, inr, nat_eq, slice_get, slice_index, is_some, IfSome}
 use Rattle.std.specs.Map.{keys_of, lookup}
-use Rattle.std.specs.Option.{IsSome}
-use Rattle.std.proofs.lemmas.Bool.{cases_eq, cases_lt}
+use Rattle.std.proofs.lemmas.Bool.{cases_lt}
 use Rattle.std.proofs.lemmas.List.{get_or-set_other, get_or-set_same}
 use Rattle.rows.specs.inner.Items.{AreHinted, IsKept, IsWithin}
 use Rattle.rows.proofs.Bridge.{get_behind_by, get_front}

@@ -1,8 +1,8 @@
-ghost use Rattle.std.specs.Prelude.{◌≡◌, ℕ, ◌<◌, ◌≤◌, IfNone, IfOk, IfSome, IsOk, IsSome, None, OnErr, OnOk, Some, false, true, length, slice_set};
-ghost use Rattle.machine.specs.Transition.{decision_of, messages_of, transition};
+ghost use Rattle.std.specs.Prelude.{◌≡◌, ℕ, ◌<◌, IfNone, IfOk, IfSome, IsOk, IsSome, None, OnErr, OnOk, Some, false, length, slice_set};
+ghost use Rattle.machine.specs.Transition.{decision_of, transition};
 ghost use Rattle.machine.specs.declared.decision.Decision.TheVariants.{Refused};
 ghost use Rattle.machine.specs.Made.{made_at};
-ghost use Rattle.blocks.specs.View.{acts, acts_at_line};
+ghost use Rattle.blocks.specs.View.{acts};
 ghost use Rattle.world.specs.Keeping.{has_line};
 ghost use Rattle.world.specs.View.{HasSpaceAt, space_of};
 ghost use Rattle.world.specs.inner.AtBlock.{HasStayed, HasStepped, NeedsNone, Visits};

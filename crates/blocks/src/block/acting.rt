@@ -1,4 +1,4 @@
-ghost use Rattle.std.specs.Prelude.{◌≡◌, ◌<◌, ◌≤◌, Some, [], false, true, length, slice_get, slice_set, take};
+ghost use Rattle.std.specs.Prelude.{◌≡◌, ◌<◌, Some, [], false, length, slice_get, slice_set, take};
 ghost use Rattle.network.specs.Traffic.{all_sent};
 ghost use Rattle.network.specs.Room.{HasRoomFor, UsesRoomFor};
 ghost use Rattle.control.specs.LineEffect.{line_after, line_completes, line_sends, opened_line};
@@ -25,10 +25,10 @@ use network::Wires;
 use rows::Sparse;
 
 impl Block {
-    ghost use Rattle.std.specs.Prelude.{◌≡◌, [], IfOk, IsOk, OnOk, OnErr, false, true, length, take};
+    ghost use Rattle.std.specs.Prelude.{◌≡◌, [], IfOk, IsOk, OnOk, OnErr, false, length, take};
     ghost use Rattle.base.specs.declared.ids.CacheId.{CacheId};
     ghost use Rattle.blocks.specs.inner.Linking.{IsAtOwn, IsRelinked};
-    ghost use Rattle.machine.specs.Transition.{Fits, Transition, carried_out, decision_of, messages_of, transition};
+    ghost use Rattle.machine.specs.Transition.{Fits, carried_out, decision_of, messages_of, transition};
     ghost use Rattle.blocks.specs.View.{acts, lines_after, moved_to, wakes_line, HasSpaceFor};
     ghost use Rattle.blocks.specs.Marking.{marks_of};
     ghost use Rattle.blocks.specs.inner.Named.{DecisionNames};

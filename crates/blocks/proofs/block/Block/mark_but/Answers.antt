@@ -28,8 +28,11 @@ returns-clause-marks c =
     rw (← c.self.view_is)
     (c.mark_responses.ensures.marks
     ∙ (λ i. record (links i) { responses = (marks_of tables (block_with c.self.inside.lines.items home (traffic i))).responses })
-    ∙ (λ i. record (link_marked cache (told tables) (record { traffic = c.mark_requests.ensures.traffic i; marks =
-        c.mark_requests.ensures.marks i; room = middle.room })).marks {
+    ∙ (λ i. record (link_marked cache (told tables) (record {
+      traffic = c.mark_requests.ensures.traffic i;
+      marks = c.mark_requests.ensures.marks i;
+      room = middle.room;
+    })).marks {
       responses = (marks_of tables (block_with c.self.inside.lines.items home w.traffic)).responses;
     })
     ∙ (λ i. record {

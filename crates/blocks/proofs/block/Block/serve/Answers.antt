@@ -50,7 +50,7 @@ returns-in-Err-clause-err g c = record {
 pub returns-in-Err-clause-succeeds : goal.returns-in-Err-clause-succeeds
 returns-in-Err-clause-succeeds g c wants = elim wants [
   | inl space ↦ c.in-Err.ensures.succeeds (rw (decided c.args.controllers.now c.tables.result.now (g.S.Served.step c.args.served.now) c.args.self.now.state
-    c.decide-decision.ensures.decision c.tables.ensures) space)
+      c.decide-decision.ensures.decision c.tables.ensures) space)
   | inr none ↦ (let sends = none.0 in let asleep = none.1 in grind (arith, common_steps))
 ]
 

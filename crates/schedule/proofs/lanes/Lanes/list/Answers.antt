@@ -30,7 +30,7 @@ relists g c =
     ∙ ap (λ (x : Lane g.row.A.Denot g.row.B.Denot). x.asks.asks)
     (c.index.ensures ∙ get_or-set_same c.args.self.now.lanes.items c.args.lane c.list.new.self c.index.result.now low) in
     lane-relists c.args.self.now (made g c) c.args.lane (length c.asks-offers.result.now) c.index_mut.result.now c.list.new.self low
-        c.index_mut.ensures.value refl
+    c.index_mut.ensures.value refl
     c.list.ensures.rest c.in_ok-anew.ensures.asks c.set.ensures (ap length listed)
     (subst (λ xs. length xs < 4294967296) (sym c.asks-offers.ensures.value) c.asks-offers.ensures.short) refl
     c.reach.ensures.more (λ at ask e. c.in_ok-reach.ensures.ok at ask (ap (λ xs. slice_get xs at) listed ∙ e))
