@@ -32,6 +32,7 @@ impl Dice {
     }
 
     /// Draws one word, and answers it modulo `n`: one of n choices. With n = 2^32 that is the word itself.
+    #[inline(always)]
     pub fn pick(&mut self, n: u64) -> u32
         requires some { 0 < n }
         ensures word { result ≡ word_of self.old % n }

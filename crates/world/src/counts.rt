@@ -86,6 +86,7 @@ impl Counts {
     }
 
     /// Makes the counts of a block others.
+    #[inline(always)]
     pub fn set(&mut self, number: u32, requests: u32, heads: u32, responses: u32)
         requires { number < length self.old.requests }
         ensures requests { self.new.requests ≡ slice_set self.old.requests number requests }
@@ -144,6 +145,7 @@ fn spot_of(kind: Kind, found: Found) -> Spot
 }
 
 /// Makes the number at a place another, where it isn't the same: most steps leave most counts.
+#[inline(always)]
 fn change(row: &mut Sums, at: usize, value: u32)
     requires { at < length row.old }
     ensures { row.new ≡ slice_set row.old at value }

@@ -39,6 +39,8 @@ impl<'s, A: Allocator, B: Allocator + Clone> Lanes<'s, A, B> {
     /// is free that wasn't, or the other way round.
     ///
     /// Where memory is refused, the lanes are of no more use.
+    // Inlined with all that it calls: trials that keep their entries and those that count them are two loops, so each call would be one.
+    #[inline(always)]
     pub fn follow(
         &mut self,
         alloc: B,
@@ -66,6 +68,7 @@ impl<'s, A: Allocator, B: Allocator + Clone> Lanes<'s, A, B> {
     }
 
     /// Takes the offer that was picked, where the pick is one, and answers the lane that was listed and marked anew, if one was.
+    #[inline(always)]
     fn take_picked(
         &mut self,
         alloc: B,
@@ -93,6 +96,7 @@ impl<'s, A: Allocator, B: Allocator + Clone> Lanes<'s, A, B> {
     }
 
     /// Counts again what can be put of each lane that may offer an ask of the core whose cache a step went to.
+    #[inline(always)]
     fn count_at(&mut self, at: Option<Place>, cores: &Cores)
         requires { IsKept (laned self.old) }
         ensures kept { IsKept (laned self.new) }
@@ -107,6 +111,7 @@ impl<'s, A: Allocator, B: Allocator + Clone> Lanes<'s, A, B> {
 
     /// Counts what can be put of a lane that was listed anew, if there is one, but where it was counted with those of the core whose
     /// cache a step went to.
+    #[inline(always)]
     fn count_anew(&mut self, anew: Option<usize>, at: Option<Place>, cores: &Cores)
         requires kept { IsKept (laned self.old) }
         requires there { IfSome anew (λ lane. lane < length (laned self.old).trees) }
@@ -126,6 +131,7 @@ impl<'s, A: Allocator, B: Allocator + Clone> Lanes<'s, A, B> {
     }
 
     /// Whether a lane is among those that may offer an ask of the core whose cache this is.
+    #[inline(always)]
     fn is_reached(&self, at: Option<Place>, lane: usize) -> bool
         requires kept { IsKept (laned self.now) }
         requires there { lane < length (laned self.now).trees }
@@ -142,6 +148,7 @@ impl<'s, A: Allocator, B: Allocator + Clone> Lanes<'s, A, B> {
 
     /// Takes the offer of a lane at a place, and answers whether the lane was marked anew. It is listed anew, but where it offers the
     /// same again.
+    #[inline(always)]
     fn take_at(
         &mut self,
         alloc: B,
@@ -196,6 +203,7 @@ impl<'s, A: Allocator, B: Allocator + Clone> Lanes<'s, A, B> {
     }
 
     /// Counts anew what can be put of each lane that may offer an ask of a core.
+    #[inline(always)]
     fn count_core(&mut self, core: CacheId, cores: &Cores)
         requires { IsKept (laned self.old) }
         ensures counts { ChangesCounts (laned self.old) (laned self.new) }
@@ -263,6 +271,7 @@ fn changed_at(turned: bool, marked: bool, made: &Made) -> Option<Place>
 }
 
 /// Counts anew what can be put of each of these lanes.
+#[inline(always)]
 fn count_each<A: Allocator, B: Allocator>(
     cores: &Cores,
     lanes: &[Lane<'_, A, B>],

@@ -27,6 +27,7 @@ impl<'s, A: Allocator, B: Allocator + Clone> Lanes<'s, A, B> {
 
     /// Marks again what a step about a block changed, of which it is told what it came to, but for a lane that is marked already, if
     /// there is one, and answers whether it did. Where no line holds other asks than before there is nothing to mark.
+    #[inline(always)]
     pub(super) fn mark_again(
         &mut self,
         done: Option<usize>,
@@ -76,6 +77,7 @@ impl<'s, A: Allocator, B: Allocator + Clone> Lanes<'s, A, B> {
     }
 
     /// Marks anew the offers of a core about a block, of which these are held, but for a lane that is marked already, if there is one.
+    #[inline(always)]
     fn mark_core(&mut self, done: Option<usize>, core: CacheId, block: BlockId, held: HeldAsks)
         requires { IsKept (laned self.old) }
         ensures kept { IsKept (laned self.new) }
@@ -98,6 +100,7 @@ impl<'s, A: Allocator, B: Allocator + Clone> Lanes<'s, A, B> {
 
 /// Marks anew the offers of a core about a block, of which these are held, in each of these lanes, but for one that is marked already,
 /// if there is one.
+#[inline(always)]
 fn mark_each<A: Allocator, B: Allocator>(
     held: HeldAsks,
     core: CacheId,
