@@ -130,14 +130,14 @@ impl Asks {
         ensures asks { OnOk result (self.new.asks ≡ []) }
         ensures marked { (tables : Tables) (state : State) → IfOk result (λ anew. IsMarkedIf tables state anew self.old self.new) }
     {
-        if self.asks.is_empty() {
-            return Ok(false);
+        let were_some = !self.asks.is_empty();
+        if were_some {
+            self.unheld.reopen(self.alloc, 0)?;
+            self.asks.clear();
+            self.core = None;
+            self.grouped = false;
         }
-        self.unheld.reopen(self.alloc, 0)?;
-        self.asks.clear();
-        self.core = None;
-        self.grouped = false;
-        Ok(true)
+        Ok(were_some)
     }
 
     /// Lists an ask that is offered alone where there was none, and answers that it was marked.
@@ -149,8 +149,10 @@ impl Asks {
         self.asks.reserve(1)?;
         self.unheld.reopen(self.alloc, 1)?;
         self.asks.push_reserved(ask);
-        self.unheld.set(0, is_unheld(world, ask));
-        self.core = Some(ask.core);
+        let unheld = is_unheld(world, ask);
+        self.unheld.set(0, unheld);
+        let CoreAsk { core, .. } = ask;
+        self.core = Some(core);
         self.grouped = false;
         Ok(true)
     }
