@@ -118,6 +118,7 @@ fn reserve_for_owner(
 
 /// Room on the link to each sharer that is neither the owner nor the sender, where the actions reach them: only invalidations
 /// go there.
+#[inline(always)]
 fn reserve_for_sharers(
     reached: bool,
     home: &Home,
@@ -137,6 +138,25 @@ fn reserve_for_sharers(
     if !reached {
         return Ok(());
     }
+    reserve_for_each_sharer(home, from, actions, wires)
+}
+
+/// Room on the link to each sharer that is neither the owner nor the sender. It stands apart, as few steps come here.
+#[inline(never)]
+fn reserve_for_each_sharer(
+    home: &Home,
+    from: CacheId,
+    actions: &[DirectoryAction],
+    wires: &mut Wires,
+) -> Result<(), NoMemory>
+    requires few { length actions.now ≤ 8 }
+    requires links { (k : ℕ) → shares home.now.sharers k ≡ true → k < length wires.old.traffic.links }
+    ensures traffic { wires.new.traffic ≡ wires.old.traffic }
+    ensures marks { wires.new.marks ≡ wires.old.marks }
+    ensures ok { OnOk result (HasRoomToSharers from actions.now home.now wires.new.room) }
+    ensures succeeds { ((k : ℕ) → HasRoomOnLink k from actions.now home.now wires.old.room) → IsOk result }
+    ensures room { UsesRoomFor [] wires.old.room wires.new.room }
+{
     // No cache has the largest number, so the number after a sharer's fits.
     let caches = home.sharers.caches();
     let mut next = 0;

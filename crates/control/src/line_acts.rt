@@ -92,10 +92,26 @@ pub fn line_reserve(
     if wires.ends_have_room(actions.len()) {
         return Ok(());
     }
+    reserve_by_count(input, actions, wires)
+}
+
+/// Makes the room that is counted, where there isn't room for one of each by each action. It is the call of what stands apart, with
+/// words of its own (docs/PERFORMANCE.md, "Seldom calls").
+#[inline(always)]
+fn reserve_by_count(
+    input: LineInput,
+    actions: CacheActions,
+    wires: &mut Wires,
+) -> Result<(), NoMemory>
+    ensures traffic { wires.new.traffic ≡ wires.old.traffic }
+    ensures marks { wires.new.marks ≡ wires.old.marks }
+    ensures ok { OnOk result ((cache : CacheId) (line : Line) → HasRoomFor (line_sends cache input actions line) wires.new.room) }
+    ensures succeeds { (cache : CacheId) (line : Line) → HasRoomFor (line_sends cache input actions line) wires.old.room → IsOk result }
+{
     reserve_counted(input, actions, wires)
 }
 
-/// Makes the room that is counted, where there isn't room for one of each by each action. It stands apart, as few steps come here.
+/// The same. It stands apart, as few steps come here.
 #[cold]
 #[inline(never)]
 fn reserve_counted(

@@ -34,12 +34,21 @@ fn find_after(world: &World, step: Step, made: &Made) -> Option<Violation>
     ensures { Answers (scene_in world.now.state step made.now.outcome (latest_at world.now.state (block_of step))) result }
 {
     if is_suspect(made) {
-        return find_any(world, step, made.outcome);
+        return find_seldom(world, step, made.outcome);
     }
     find_loaded(world, step, made.outcome)
 }
 
-/// What is wrong after a step of any outcome.
+/// What is wrong after a step of any outcome. It is the call of what stands apart, taken apart (docs/PERFORMANCE.md, "Seldom calls").
+#[inline(always)]
+fn find_seldom(world: &World, step: Step, outcome: Outcome) -> Option<Violation>
+    ensures { Answers (scene_in world.now.state step outcome (latest_at world.now.state (block_of step))) result }
+{
+    let found = find_any(world, step, outcome)?;
+    Some(found)
+}
+
+/// The same. It stands apart, as few steps come here.
 fn find_any(world: &World, step: Step, outcome: Outcome) -> Option<Violation>
     ensures { Answers (scene_in world.now.state step outcome (latest_at world.now.state (block_of step))) result }
 {

@@ -68,9 +68,21 @@ impl Watch {
         ensures seen { SeesNext world.now self.old step made.now.outcome self.new }
     {
         if is_suspect(made) {
-            return self.see(world, step, made.outcome);
+            return self.see_any(world, step, made.outcome);
         }
         self.see_value(step, made.outcome)
+    }
+
+    /// The same as [`see`](Watch::see). It is the call, taken apart (docs/PERFORMANCE.md, "Seldom calls").
+    #[inline(always)]
+    fn see_any(&mut self, world: &World, step: Step, outcome: Outcome) -> Option<Violation>
+        ensures noted { self.new ≡ noted self.old (block_of step) outcome }
+        ensures violation { Answers (scene_in world.now.state step outcome (slice_get self.old (block_of step))) result }
+        ensures history { AnswersHistory world.now self.old step outcome result }
+        ensures seen { SeesNext world.now self.old step outcome self.new }
+    {
+        let seen = self.see(world, step, outcome)?;
+        Some(seen)
     }
 
     /// Notes a step that met no blank cell, and answers what is wrong after it where its block isn't crowded if it

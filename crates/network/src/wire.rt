@@ -201,12 +201,24 @@ fn take_at<M: Copy>(marked: &mut Vec<Marked<M>>, at: usize) -> Marked<M>
     ensures room { vec_capacity marked.new ≡ vec_capacity marked.old }
 {
     if at + 1 < marked.len() {
-        return marked.remove(at);
+        return remove_at(marked, at);
     }
     let Some(last) = marked.pop() else {
         unreachable!();
     };
     last
+}
+
+/// Takes what is at a place, and moves what is behind it. It is the call, taken apart (docs/PERFORMANCE.md, "Seldom calls").
+#[inline(always)]
+fn remove_at<M: Copy>(marked: &mut Vec<Marked<M>>, at: usize) -> Marked<M>
+    requires { at < length marked.old.items }
+    ensures taken { result ≡ slice_index_or marked.old.items at result }
+    ensures left { marked.new.items ≡ remove marked.old.items at }
+    ensures room { vec_capacity marked.new ≡ vec_capacity marked.old }
+{
+    let Marked { message, held } = marked.remove(at);
+    Marked { message, held }
 }
 
 /// The place of the k-th message without a mark, counted from 0, if there are so many.

@@ -84,6 +84,37 @@ still-ready has_room old new e h off less same room =
       short = omega (arith, ap length off.line);
     }
 
+-- where so many entries are still due, the reader from whose lines some of them were taken already
+abbrev pub with-due : {N : Type 0} → Form → ℕ → Reader N → Reader N
+with-due f left reader = record {
+  lines = reader.lines;
+  due = entries_due f left;
+  draft = reader.draft;
+  entries = reader.entries;
+}
+
+-- where any are left, an entry is due
+pub still-due : (f : Form) (left : ℕ) → 0 < left → entries_due f left ≡ EntryLine f left
+still-due f zero some = absurd (omega (arith, some))
+still-due f (suc n) some = refl
+
+-- and as long as none was taken it is the reader itself
+pub none-taken : {N : Type 0} (f : Form) (left : ℕ) (reader : Reader N) → reader.due ≡ EntryLine f left → 0 < left → reader ≡ with-due f left reader
+none-taken f left reader at some =
+    ap (λ (d : Due). record {
+      lines = reader.lines;
+      due = d;
+      draft = reader.draft;
+      entries = reader.entries;
+    }) (at ∙ sym (still-due f left some))
+
+-- where an entry is due, one is left, and there is room for it
+pub one-left : {N : Type 0} (tells : N → Option RecordingView → Type 0) (f : Form) (left : ℕ) (due : Due) (draft : Draft) (entries : N) (r : Kept) →
+    due ≡ EntryLine f left → HasRead tells due draft entries r → (0 < left) × tells entries (Some (recorded r)) × (length r.entries < 1000000)
+one-left tells f left due draft entries r at read =
+    let here = subst (λ d. HasRead tells d draft entries r) at read in
+    (here.read.entries.0, here.told, omega (arith, here.read.entries.0, here.read.entries.1))
+
 -- an entry isn't the last line
 pub not-over : (f : Form) (n : ℕ) → entries_due f n ≢ Nothing
 not-over f zero is = cc

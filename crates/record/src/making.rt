@@ -119,7 +119,15 @@ impl Stage {
     }
 }
 
-/// Has no entry made any more. It stands apart, as what it writes is as large as a world.
+/// Has no entry made any more. It is the call of what stands apart, with words of its own (docs/PERFORMANCE.md, "Seldom calls").
+#[inline(always)]
+fn stop(stage: &mut Stage, fault: ReplayFault)
+    ensures { stage.new ≡ Stage.Refused fault }
+{
+    refuse(stage, fault);
+}
+
+/// The same. It stands apart, as what it writes is as large as a world.
 #[cold]
 #[inline(never)]
 fn refuse(stage: &mut Stage, fault: ReplayFault)
@@ -200,7 +208,7 @@ impl Entries for MadeEntries {
             return;
         };
         if let Err(fault) = run.make(number, told.entry) {
-            refuse(&mut self.stage, fault);
+            stop(&mut self.stage, fault);
         }
     }
 }

@@ -77,7 +77,7 @@ impl<N: Entries> Reader<N> {
         self.end(source)
     }
 
-    /// Takes the entries that are due, as far as they were pulled and are found at once.
+    /// Takes the entries that are due, as far as they have no owners, were pulled and are found at once.
     fn accept_entries(&mut self)
         requires ready { IsReady N.has_room self.old }
         requires read { HasReadSome N.tells self.old }
@@ -86,32 +86,21 @@ impl<N: Entries> Reader<N> {
         ensures fewer { lines_left self.new.due ≤ lines_left self.old.due }
         ensures more { self.old.due ≢ due.Nothing → self.new.due ≢ due.Nothing }
     {
-        while self.accept_ahead() {}
-    }
-
-    /// Takes the entry that is due, if it has no owner, was pulled and is found at once; and answers whether it did.
-    #[inline(always)]
-    fn accept_ahead(&mut self) -> bool
-        requires ready { IsReady N.has_room self.old }
-        requires read { HasReadSome N.tells self.old }
-        ensures reads { StillReads N.tells self.old self.new }
-        ensures ready { IsReady N.has_room self.new }
-        ensures fewer { result ≡ true → lines_left self.new.due < lines_left self.old.due }
-        ensures same { result ≡ false → self.new ≡ self.old }
-        ensures more { self.old.due ≢ due.Nothing → self.new.due ≢ due.Nothing }
-    {
-        let Due::EntryLine(form, left) = self.due else {
-            return false;
+        let Due::EntryLine(form, mut left) = self.due else {
+            return;
         };
         if form.seats > 0 {
-            return false;
+            return;
         }
-        let Some(entry) = self.lines.take_entry() else {
-            return false;
-        };
-        self.entries.add(Told { owner: None, entry });
-        self.due = Due::entries(form, left - 1);
-        true
+        // What is due is noted once, behind the last of them.
+        while left > 0 {
+            let Some(entry) = self.lines.take_entry() else {
+                break;
+            };
+            self.entries.add(Told { owner: None, entry });
+            left -= 1;
+        }
+        self.due = Due::entries(form, left);
     }
 
     /// Gathers the line that is due.

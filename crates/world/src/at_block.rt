@@ -128,12 +128,31 @@ pub fn step_at(
     if let Some(block) = blocks.get_mut(number) {
         return made_at(block, controllers, &step);
     }
-    // Taken apart and put together: handed on as it is, it would have the result of all steps lie in memory.
+    open_at(alloc, blocks, caches, value, number, controllers, step)
+}
+
+/// Makes a step at a block that isn't kept. It is the call of what stands apart, taken apart (docs/PERFORMANCE.md, "Seldom calls").
+#[inline(always)]
+fn open_at(
+    alloc: Global,
+    blocks: &mut Sparse<Block>,
+    caches: u32,
+    value: u64,
+    number: u32,
+    controllers: &Controllers,
+    step: Step,
+) -> Result<Visit, NoMemory>
+    requires below { number < length blocks.old.items }
+    requires none { kept_at blocks.old.items number ≡ None }
+    ensures ok { IfOk result (λ visit. HasStepped controllers.now caches value number step blocks.old.items visit blocks.new.items) }
+    ensures err { OnErr result (HasStayed controllers.now caches value number step blocks.old.items blocks.new.items) }
+    ensures succeeds { NeedsNone controllers.now caches value number step blocks.old.items → IsOk result }
+{
     let first = first_step_at(alloc, blocks, caches, value, number, controllers, &step)?;
     Ok(first)
 }
 
-/// Makes a step at a block that isn't kept. It stands apart, as few steps come here.
+/// The same. It stands apart, as few steps come here.
 #[cold]
 #[inline(never)]
 fn first_step_at(

@@ -1,8 +1,9 @@
-ghost use Rattle.std.specs.Prelude.{◌≡◌, ◌≢◌, ◌≤◌, ◌<◌, ◌^◌, ℕ, List, length, ◌==◌, false, true, slice_index_or, take, drop, [], ◌∷◌, ◌++◌};
+ghost use Rattle.std.specs.Prelude.{◌≡◌, ◌≢◌, ◌≤◌, ◌<◌, ◌+◌, ◌^◌, ℕ, List, length, ◌==◌, false, true, slice_index_or, take, drop, [], ◌∷◌, ◌++◌};
 ghost use Rattle.std.specs.Prelude.{IfSome, IfNone, MatchOption};
 ghost use Rattle.std.specs.List.{position_or_len};
 ghost use Rattle.std.specs.Fmt.{decimal};
 ghost use Rattle.std.specs.Char.{digit_value};
+ghost use Rattle.std.specs.Int.{to_le_bytes, w32, w64};
 ghost use Rattle.std.specs.Str.Parse.{AllDigits, digits_value};
 ghost use Rattle.base.specs.Spelling.{words, IsSpelled, IsNoPair};
 ghost use Rattle.base.specs.inner.Behind.{words_behind, IsNoNumberFirst};
@@ -114,7 +115,7 @@ pub(crate) fn after_word<'a>(line: &'a [u8], word: &[u8]) -> Option<Option<&'a [
     }
 }
 
-/// Whether a line begins with a word, byte by byte: for words as short as these `starts_with` costs more.
+/// Whether a line begins with a word. Of the words that are told here most have four bytes or eight: these are compared as one number.
 #[inline(always)]
 pub(crate) fn begins_with(line: &[u8], word: &[u8]) -> bool
     ensures bound { result ≡ true → length word.now ≤ length line.now }
@@ -124,12 +125,52 @@ pub(crate) fn begins_with(line: &[u8], word: &[u8]) -> bool
     if line.len() < word.len() {
         return false;
     }
-    for i in 0..word.len() {
+    let mut at = 0;
+    while word.len() - at >= 8 {
+        if eight_from(line, at) != eight_from(word, at) {
+            return false;
+        }
+        at += 8;
+    }
+    if word.len() - at >= 4 {
+        if four_from(line, at) != four_from(word, at) {
+            return false;
+        }
+        at += 4;
+    }
+    for i in at..word.len() {
         if line[i] != word[i] {
             return false;
         }
     }
     true
+}
+
+/// The eight bytes from a place on as one number, the lowest first.
+#[inline(always)]
+fn eight_from(bytes: &[u8], at: usize) -> u64
+    requires { at + 8 ≤ length bytes.now }
+    ensures { to_le_bytes w64 result ≡ take 8 (drop at bytes.now) }
+{
+    u64::from_le_bytes([
+        bytes[at],
+        bytes[at + 1],
+        bytes[at + 2],
+        bytes[at + 3],
+        bytes[at + 4],
+        bytes[at + 5],
+        bytes[at + 6],
+        bytes[at + 7],
+    ])
+}
+
+/// The four bytes from a place on as one number, the lowest first.
+#[inline(always)]
+fn four_from(bytes: &[u8], at: usize) -> u32
+    requires { at + 4 ≤ length bytes.now }
+    ensures { to_le_bytes w32 result ≡ take 4 (drop at bytes.now) }
+{
+    u32::from_le_bytes([bytes[at], bytes[at + 1], bytes[at + 2], bytes[at + 3]])
 }
 
 /// What follows the blank behind a word at the front of a line, if the line begins with both.

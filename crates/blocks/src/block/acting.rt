@@ -144,7 +144,8 @@ impl Block {
     }
 
     /// Makes a step. Where memory is refused nothing has changed.
-    // The step is referred to, so that whoever makes it hands on where it lies and not a copy.
+    // A call would hand the step and what it came to through memory.
+    #[inline(always)]
     pub fn make(&mut self, controllers: &Controllers, step: &Step) -> Result<Made, NoMemory>
         requires { self.old.marks ≡ marks_of controllers.now self.old.state }
         ensures ok { IfOk result (λ made. Makes controllers.now self.old step.now made self.new) }
@@ -167,6 +168,7 @@ impl Block {
     }
 
     /// Makes the step that serves this.
+    #[inline(always)]
     fn serve<S: Served>(&mut self, controllers: &Controllers, served: &S) -> Result<Made, NoMemory>
         requires { self.old.marks ≡ marks_of controllers.now self.old.state }
         ensures ok { IfOk result (λ made. Makes controllers.now self.old (S.step served.now) made self.new) }
@@ -249,10 +251,33 @@ fn perform(
     if let Some(kept) = lines.get_mut(cache.0) {
         return line_perform(kept, cache, input, next, actions, wires);
     }
-    perform_first(lines, cache, input, next, actions, wires)
+    perform_at_first(lines, cache, input, next, actions, wires)
 }
 
-/// Does so at a line that isn't kept. It stands apart, as few steps come here.
+/// Does so at a line that isn't kept. It is the call of what stands apart, taken apart (docs/PERFORMANCE.md, "Seldom calls").
+#[inline(always)]
+fn perform_at_first(
+    lines: &mut Sparse<Line>,
+    cache: CacheId,
+    input: LineInput,
+    next: CacheState,
+    actions: CacheActions,
+    wires: &mut Wires,
+) -> Option<LineCompletion>
+    requires below { cache.0 < length lines.old.items }
+    requires place { 0 < lines.old.spare }
+    requires room { HasRoomFor (line_sends cache input actions opened_line) wires.old.room }
+    ensures done { result ≡ line_completes input next opened_line }
+    ensures items { lines.new.items ≡ slice_set lines.old.items cache.0 (Some (line_after input next opened_line)) }
+    ensures traffic { wires.new.traffic ≡ all_sent (line_sends cache input actions opened_line) wires.old.traffic }
+    ensures links { wires.new.marks.links ≡ wires.old.marks.links }
+    ensures requests { take (length wires.old.marks.requests) wires.new.marks.requests ≡ wires.old.marks.requests }
+{
+    let done = perform_first(lines, cache, input, next, actions, wires)?;
+    Some(done)
+}
+
+/// The same. It stands apart, as few steps come here.
 #[cold]
 #[inline(never)]
 fn perform_first(

@@ -18,7 +18,7 @@ pub returns-in-Err-clause-told : goal.returns-in-Err-clause-told
 returns-in-Err-clause-told c r h =
     let came : HasMade r c.in-Same.run' = subst (HasCome r) c.in-Same.is h.1 in (
       omega (arith, h.0, length_push r.entries c.args.told.entry),
-      subst (HasCome (with_owned r c.args.told.entry c.args.told.owner)) (sym c.refuse.ensures)
+      subst (HasCome (with_owned r c.args.told.entry c.args.told.owner)) (sym c.stop.ensures)
           (c.in-Err.ensures.differs (with_owned r c.args.told.entry c.args.told.owner) r.entries [] (c.from-number.ensures ∙ h.0)
           (to-come r c.args.told.entry c.args.told.owner r.entries c.in-Same.run' came) refl),
     )

@@ -3,7 +3,7 @@ use Rattle.network.specs.Room.{UsesRoomFor}
 use Rattle.control.specs.Events.{owns}
 use Rattle.control.specs.Sharing.{shares}
 use Rattle.control.specs.inner.Counting.{HasRoomOnLink}
-use Rattle.control.proofs.home_room.reserve_for_sharers.Given as goal
+use Rattle.control.proofs.home_room.reserve_for_each_sharer.Given as goal
 
 abbrev pub invariant-loop-next : goal.invariant-loop-next
 invariant-loop-next l = record {
