@@ -1,5 +1,5 @@
 -- Where hints say exactly where places stand, a look at one place tells what is found.
-use Rattle.std.proofs.Common.{◌≡◌, ◌≢◌, ℕ, ◌+◌, ◌-◌, ◌%◌, ◌<◌, List, [], ◌∷◌, ◌++◌, Option, None, Some, Bool, true}
+use Rattle.std.proofs.Common.{◌≡◌, ◌≢◌, ℕ, ◌-◌, ◌%◌, ◌<◌, List, [], ◌∷◌, ◌++◌, Option, None, Some, Bool, true}
 use Rattle.std.proofs.Common.{length, set, refl, sym, ap, ◌∙◌, subst, zero, suc, arith, inl, inr, nat_eq, slice_get, slice_index, is_some, IfSome}
 use Rattle.std.specs.Map.{keys_of, lookup}
 use Rattle.std.proofs.lemmas.Bool.{cases_lt}

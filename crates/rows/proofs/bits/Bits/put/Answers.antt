@@ -1,4 +1,4 @@
-use Rattle.std.proofs.Common.{◌≡◌, ◌<◌, ◌≤◌, ◌-◌, ◌^◌, ◌∙◌, ℕ, List, [], ◌∷◌, Bool, Some, length, slice_get, slice_index, ap, sym, arith, bit_and}
+use Rattle.std.proofs.Common.{◌≡◌, ◌<◌, ◌≤◌, ◌^◌, ◌∙◌, ℕ, List, [], ◌∷◌, Bool, Some, length, slice_get, slice_index, ap, sym, arith, bit_and}
 use Rattle.std.specs.Int.{bit_at, bit_not, w64}
 use Rattle.std.specs.Option.{option_copied}
 use Rattle.std.proofs.lemmas.Nat.{and_le_l, and_le_r, or_lt}
