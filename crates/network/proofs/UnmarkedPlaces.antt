@@ -3,7 +3,7 @@ use Rattle.std.proofs.Common.{◌≡◌, ℕ, ◌+◌, ◌<◌, ◌≤◌, List,
 use Rattle.std.proofs.Common.{false, not, cond, length, map, drop, slice_get, Some, None}
 use Rattle.std.proofs.Common.{refl, ap, ◌∙◌, suc, arith}
 use Rattle.std.proofs.lemmas.List.{drop_more, drop_all}
-use Rattle.std.proofs.lemmas.List.Sums.{sum_by-cons, count_by-le-length}
+use Rattle.std.proofs.lemmas.List.Sums.{sum_by-cons}
 use Rattle.network.specs.Marks.{mark_at, unmarked, unmarked_heads, unmarked_count, unmarked_heads_count, is_stopped}
 
 -- the first mark counts where it isn't set
@@ -51,14 +51,3 @@ kth-behind marks i k left within free less =
 
 pub kth-none : (marks : List Bool) (i k : ℕ) → length marks ≤ i → slice_get (unmarked i (drop i marks)) k ≡ None
 kth-none marks i k past = ap (λ xs. slice_get xs k) (unmarked-end marks i i past)
-
-pub count-free : (marks : List Bool) (i : ℕ) → i < length marks → mark_at marks i ≡ false →
-    unmarked_count (drop i marks) ≡ unmarked_count (drop (i + 1) marks) + 1
-count-free marks i within free =
-    ap unmarked_count (drop_more marks i false within)
-    ∙ ap (λ m. unmarked_count (m ∷ drop (i + 1) marks)) free
-    ∙ (let e = one-of false (drop (i + 1) marks) in omega arith)
-
--- there are no more than there are marks
-pub count-below : (marks : List Bool) → unmarked_count marks ≤ length marks
-count-below marks = count_by-le-length not marks

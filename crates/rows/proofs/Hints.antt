@@ -1,11 +1,8 @@
 -- Where hints say exactly where places stand, a look at one place tells what is found.
-use Rattle.std.proofs.Common.{◌≡◌, ◌≢◌, ℕ, ◌-◌, ◌%◌, ◌<◌, List, [], ◌∷◌, ◌++◌, Option, None, Some, Bool, true}
-use Rattle.std.proofs.Common.{length, set, refl, sym, ap, ◌∙◌, subst, zero, suc, arith, inl, inr, nat_eq, slice_get, slice_index, is_some, IfSome}
+use Rattle.std.proofs.Common.{◌≡◌, ◌≢◌, ℕ, ◌-◌, ◌%◌, List, [], ◌∷◌, Option, None, Some, Bool, true}
+use Rattle.std.proofs.Common.{refl, sym, ap, ◌∙◌, subst, zero, suc, nat_eq, slice_get, slice_index, is_some, IfSome}
 use Rattle.std.specs.Map.{keys_of, lookup}
-use Rattle.std.proofs.lemmas.Bool.{cases_lt}
-use Rattle.std.proofs.lemmas.List.{get_or-set_other, get_or-set_same}
 use Rattle.rows.specs.inner.Items.{AreHinted, IsKept, IsWithin}
-use Rattle.rows.proofs.Bridge.{get_behind_by, get_front}
 use Rattle.rows.proofs.Held.{listed, within-same_keys}
 
 -- a key has an entry
@@ -34,28 +31,6 @@ missing {T} held hints at index hinted hint o there other = by (lookup (nat_eq a
         let entry = entry_of held p.0 at p.1 in
         let same : index ≡ p.0 = hint ∙ hinted.each p.0 at p.1 in
         absurd (same_key o other entry.0 (there ∙ ap (λ i. slice_get held i) same ∙ entry.1))
-
--- where no key has the hint of a place that comes behind all, hints stay exact
-pub hinted-more : (ks hints : List ℕ) (at : ℕ) → AreHinted ks hints → ((i other : ℕ) → slice_get ks i ≡ Some other → other % 64 ≢ at % 64) →
-    length hints ≡ 64 → length ks < 65536 → AreHinted (ks ++ at ∷ []) (set hints (at % 64) (length ks % 65536))
-hinted-more ks hints at hinted alone long few = record { each = each }
-  where
-    only : (j k : ℕ) → slice_get (at ∷ []) j ≡ Some k → (j ≡ 0) × (k ≡ at)
-    only zero k h = (refl, cc)
-    only (suc j) k h = absurd cc
-
-    each : (i k : ℕ) → slice_get (ks ++ at ∷ []) i ≡ Some k → slice_index (set hints (at % 64) (length ks % 65536)) (k % 64) ≡ i
-    each i k h =
-        elim (cases_lt i (length ks)) [
-          | inl below ↦
-              let there : slice_get ks i ≡ Some k = sym (get_front ks (at ∷ []) i below) ∙ h in
-              get_or-set_other hints (at % 64) (k % 64) (length ks % 65536) 0 (alone i k there) ∙ hinted.each i k there
-          | inr behind ↦
-              let last = only (i - length ks) k (sym (get_behind_by ks (at ∷ []) i behind) ∙ h) in
-              let inside : at % 64 < length hints = omega arith in
-              ap (λ n. slice_index (set hints (at % 64) (length ks % 65536)) (n % 64)) last.1
-              ∙ get_or-set_same hints (at % 64) (length ks % 65536) 0 inside ∙ omega (arith, last.0)
-        ]
 
 -- what is kept is so of the same keys with other items
 pub kept-same_keys : {T : Type 0} (old new : List (ℕ × T)) (places : ℕ) (hints : List ℕ) (exact : Bool) → IsWithin old places →
