@@ -6,7 +6,8 @@ ghost use Rattle.std.specs.Prelude.{ℕ, length, slice_get, true};
 ghost use Rattle.network.specs.Marks.{no_marks, link_marks, mark_added, request_mark_added, forward_mark_added, response_mark_added};
 ghost use Rattle.network.specs.Marks.{request_mark_taken, head_mark_taken, response_mark_taken};
 ghost use Rattle.network.specs.Traffic.{IsNextWaiting, NoneWaits};
-ghost use Rattle.network.specs.Traffic.{quiet, is_quiet, link, message_count, sent, request_sent, forward_sent, response_sent, request_taken, head_taken, response_taken};
+ghost use Rattle.network.specs.Traffic.{quiet, is_quiet, link, message_count, sent, request_sent, forward_sent, response_sent, request_taken};
+ghost use Rattle.network.specs.Traffic.{head_taken, response_taken};
 ghost use Rattle.network.specs.Room.{HasRoomFor, UsesRoomFor, HasLinkFor};
 ghost use Rattle.network.specs.declared.message.Message.TheVariants as message;
 

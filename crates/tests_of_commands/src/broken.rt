@@ -104,14 +104,16 @@ const BROKEN: &[Broken] = &[
     Broken {
         caches: 3,
         table: r#"{"directory":[{"state":"S^D","event":"Data","entry":{"next":"S","do":[]}}]}"#,
-        steps: "ask 0 0 store 7\nrequest 0 0\nresponse 0 0\nask 1 0 load\nrequest 0 0\nforward 0 0\nresponse 0 0\nresponse 0 0\nask 2 0 load\nrequest 0 0\nresponse 0 0\n",
+        steps: "ask 0 0 store 7\nrequest 0 0\nresponse 0 0\nask 1 0 load\nrequest 0 0\nforward 0 0\nresponse 0 0\nresponse 0 0\n\
+            ask 2 0 load\nrequest 0 0\nresponse 0 0\n",
         violation: "violation stale load got 0 due 7 block 0",
     },
     // old-owner-not-a-sharer
     Broken {
         caches: 2,
         table: r#"{"directory":[{"state":"M","event":"GetS","entry":{"next":"S^D","do":["fwd-gets","add-req","clear-owner"]}}]}"#,
-        steps: "ask 0 0 store 7\nrequest 0 0\nresponse 0 0\nask 1 0 load\nrequest 0 0\nforward 0 0\nresponse 0 0\nresponse 0 0\nask 1 0 store 8\nrequest 0 0\nresponse 0 0\n",
+        steps: "ask 0 0 store 7\nrequest 0 0\nresponse 0 0\nask 1 0 load\nrequest 0 0\nforward 0 0\nresponse 0 0\nresponse 0 0\n\
+            ask 1 0 store 8\nrequest 0 0\nresponse 0 0\n",
         violation: "violation writer 1 beside reader 0 block 0",
     },
     // invalidated-sharer-stays
@@ -139,14 +141,16 @@ const BROKEN: &[Broken] = &[
     Broken {
         caches: 2,
         table: r#"{"directory":[{"state":"S","event":"PutS-NotLast","entry":{"next":"I","do":["remove-req","put-ack"]}}]}"#,
-        steps: "ask 0 0 load\nrequest 0 0\nresponse 0 0\nask 1 0 load\nrequest 0 0\nresponse 0 0\nask 0 0 replace\nrequest 0 0\nforward 0 0\nask 0 0 store 5\nrequest 0 0\nresponse 0 0\n",
+        steps: "ask 0 0 load\nrequest 0 0\nresponse 0 0\nask 1 0 load\nrequest 0 0\nresponse 0 0\nask 0 0 replace\nrequest 0 0\n\
+            forward 0 0\nask 0 0 store 5\nrequest 0 0\nresponse 0 0\n",
         violation: "violation writer 0 beside reader 1 block 0",
     },
     // first-ack-is-enough
     Broken {
         caches: 3,
         table: r#"{"cache":[{"state":"IM^A","event":"Inv-Ack","entry":{"next":"M","do":[]}}]}"#,
-        steps: "ask 0 0 load\nrequest 0 0\nresponse 0 0\nask 1 0 load\nrequest 0 0\nresponse 0 0\nask 2 0 store 5\nrequest 0 0\nresponse 0 0\nforward 0 0\nresponse 0 0\n",
+        steps: "ask 0 0 load\nrequest 0 0\nresponse 0 0\nask 1 0 load\nrequest 0 0\nresponse 0 0\nask 2 0 store 5\nrequest 0 0\n\
+            response 0 0\nforward 0 0\nresponse 0 0\n",
         violation: "violation writer 2 beside reader 1 block 0",
     },
     // inv-answered-at-once

@@ -64,7 +64,8 @@ const CERTIFIED: &[Case] = &[
     Case {
         lines: LINES,
         file: r#"{"directory":[{"state":"S","event":"PutS-Last","entry":{"next":"S","do":["remove-req","put-ack"]}}],"cache":[{"state":"S","event":"Replacement","entry":{"next":"SI^A","do":["putm"]}},{"state":"IS^D","event":"Load","entry":{"next":"IS^D","do":[]}}]}"#,
-        output: "safe\nnever stuck\nproved: cell cache IS^D Load act IS^D\nproved: cell cache S Replacement act SI^A putm\nproved: cell directory S PutS-Last act S remove-req put-ack\n",
+        output: "safe\nnever stuck\nproved: cell cache IS^D Load act IS^D\nproved: cell cache S Replacement act SI^A putm\n\
+            proved: cell directory S PutS-Last act S remove-req put-ack\n",
         ..PLAIN
     },
     Case {

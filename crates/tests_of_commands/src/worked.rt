@@ -28,7 +28,8 @@ pub const OF_TWO: &[(&str, &str)] = &[
     ),
     // putm-meets-fwd-gets
     (
-        "ask 0 0 store 7\nrequest 0 0\nresponse 0 0\nask 0 0 replace\nask 1 0 load\nrequest 0 1\nrequest 0 0\nforward 0 0\nforward 0 0\nresponse 0 0\nresponse 0 0\n",
+        "ask 0 0 store 7\nrequest 0 0\nresponse 0 0\nask 0 0 replace\nask 1 0 load\nrequest 0 1\nrequest 0 0\nforward 0 0\n\
+         forward 0 0\nresponse 0 0\nresponse 0 0\n",
         "sent\nmoved\nstore 0 7\nsent\nsent\nmoved\nmoved\nmoved\nmoved\nload 1 7\nmoved\n",
     ),
     // putm-meets-fwd-getm
@@ -38,12 +39,16 @@ pub const OF_TWO: &[(&str, &str)] = &[
     ),
     // late-putm
     (
-        "ask 0 0 store 7\nrequest 0 0\nresponse 0 0\nask 0 0 replace\nask 1 0 load\nrequest 0 1\nforward 0 0\nresponse 0 1\nresponse 0 0\nask 1 0 replace\nrequest 0 1\nforward 0 1\nrequest 0 0\nforward 0 0\nask 1 0 store 4\nrequest 0 0\nresponse 0 0\n",
+        "ask 0 0 store 7\nrequest 0 0\nresponse 0 0\nask 0 0 replace\nask 1 0 load\nrequest 0 1\nforward 0 0\nresponse 0 1\n\
+         response 0 0\nask 1 0 replace\nrequest 0 1\nforward 0 1\nrequest 0 0\nforward 0 0\nask 1 0 store 4\nrequest 0 0\n\
+         response 0 0\n",
         "sent\nmoved\nstore 0 7\nsent\nsent\nmoved\nmoved\nmoved\nload 1 7\nsent\nmoved\nmoved\nmoved\nmoved\nsent\nmoved\nstore 1 4\n",
     ),
     // two-sharers-store
     (
-        "ask 0 0 load\nrequest 0 0\nresponse 0 0\nask 1 0 load\nrequest 0 0\nresponse 0 0\nask 0 0 store 1\nask 1 0 store 2\nrequest 0 0\nrequest 0 0\nforward 0 0\nforward 0 1\nresponse 0 0\nask 0 0 load\nresponse 0 0\nforward 0 0\nresponse 0 0\n",
+        "ask 0 0 load\nrequest 0 0\nresponse 0 0\nask 1 0 load\nrequest 0 0\nresponse 0 0\nask 0 0 store 1\nask 1 0 store 2\n\
+         request 0 0\nrequest 0 0\nforward 0 0\nforward 0 1\nresponse 0 0\nask 0 0 load\nresponse 0 0\nforward 0 0\n\
+         response 0 0\n",
         "sent\nmoved\nload 0 0\nsent\nmoved\nload 1 0\nsent\nsent\nmoved\nmoved\nheld\nmoved\nmoved\nload 0 0\nstore 0 1\nmoved\nstore 1 2\n",
     ),
     // idle-absent-held
@@ -59,8 +64,11 @@ pub const OF_TWO: &[(&str, &str)] = &[
 pub const OF_THREE: &[(&str, &str)] = &[
     // late-puts
     (
-        "ask 0 0 load\nrequest 0 0\nresponse 0 0\nask 0 0 replace\nask 1 0 store 9\nrequest 0 1\nforward 0 0\nresponse 0 0\nresponse 0 0\nask 2 0 load\nrequest 0 1\nforward 0 1\nresponse 0 0\nresponse 0 0\nask 1 0 replace\nrequest 0 1\nforward 0 1\nrequest 0 0\nforward 0 0\nask 1 0 store 3\nrequest 0 0\nforward 0 2\nresponse 0 1\nresponse 0 0\n",
-        "sent\nmoved\nload 0 0\nsent\nsent\nmoved\nmoved\nmoved\nstore 1 9\nsent\nmoved\nmoved\nload 2 9\nmoved\nsent\nmoved\nmoved\nmoved\nmoved\nsent\nmoved\nmoved\nmoved\nstore 1 3\n",
+        "ask 0 0 load\nrequest 0 0\nresponse 0 0\nask 0 0 replace\nask 1 0 store 9\nrequest 0 1\nforward 0 0\nresponse 0 0\n\
+         response 0 0\nask 2 0 load\nrequest 0 1\nforward 0 1\nresponse 0 0\nresponse 0 0\nask 1 0 replace\nrequest 0 1\n\
+         forward 0 1\nrequest 0 0\nforward 0 0\nask 1 0 store 3\nrequest 0 0\nforward 0 2\nresponse 0 1\nresponse 0 0\n",
+        "sent\nmoved\nload 0 0\nsent\nsent\nmoved\nmoved\nmoved\nstore 1 9\nsent\nmoved\nmoved\nload 2 9\nmoved\nsent\nmoved\n\
+         moved\nmoved\nmoved\nsent\nmoved\nmoved\nmoved\nstore 1 3\n",
     ),
 ];
 
@@ -104,7 +112,9 @@ pub const OTHERS: &[Case] = &[
     // a line of 201 bytes
     Case {
         lines: TWO,
-        input: "request 0 0\n111111111111111111111111111111111111111111111111111111111111111111111111111111111111111111111111111111111111111111111111111111111111111111111111111111111111111111111111111111111111111111111111111111111",
+        input: "request 0 0\n\
+            11111111111111111111111111111111111111111111111111111111111111111111111111111111111111111111111111111\
+            1111111111111111111111111111111111111111111111111111111111111111111111111111111111111111111111111111",
         status: 2,
         output: "absent\n",
         errors: "msi: line 2: not a step\n",
