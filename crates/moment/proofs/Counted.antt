@@ -1,5 +1,5 @@
 -- What a step leaves of the cores.
-use Rattle.std.proofs.Common.{◌≡◌, ◌<◌, ℕ, List, [], ◌∷◌, true, inl, inr, length, map, refl, sym, ap, ◌∙◌, arith}
+use Rattle.std.proofs.Common.{◌≡◌, ◌<◌, ℕ, List, [], ◌∷◌, true, inl, inr, length, map, sym, ap, ◌∙◌, arith}
 use Rattle.std.proofs.lemmas.Bool.{cases_eq, cases_lt}
 use Rattle.std.specs.Prelude.{is_none}
 use Rattle.base.specs.declared.ids.CacheId.{CacheId}
@@ -43,13 +43,6 @@ hit-free cores m f free n = elim (cases_eq n m) [
   | inl e ↦ ap (is_free (with_core (with_core cores m f) m finishing)) e ∙ free-again cores m f ∙ sym (ap (is_free cores) e ∙ free)
   | inr ne ↦ ap (λ (c : Core). is_none c.outstanding) (with-other (with_core cores m f) m n finishing ne ∙ with-other cores m n f ne)
 ]
-
--- where nothing was issued and nothing finished
-pub nothing-turned : (cores : List Core) (put : List CoreAsk) (done : List Completion) → map (λ (a : CoreAsk). a.core) put ≡ [] →
-    map (λ (c : Completion). c.cache) done ≡ [] → AreAsFree cores (with_finished done (with_issued put cores))
-nothing-turned cores [] [] p d n = refl
-nothing-turned cores (a ∷ put) done p d n = absurd (cc p)
-nothing-turned cores [] (c ∷ done) p d n = absurd (cc d)
 
 -- where the same core issued something and finished it
 pub hit-turned : (cores : List Core) (put : List CoreAsk) (done : List Completion) (one other : CacheId) → AreFree put cores →

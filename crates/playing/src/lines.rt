@@ -61,7 +61,7 @@ impl<R: Read + Drop> Lines<R> {
     pub fn step_ahead(&mut self) -> Option<Step> {
         let ahead = self.reader.buffer();
         let next = &ahead[self.held.min(ahead.len())..];
-        let (step, rest) = Step::read_ahead(next, b'\n')?;
+        let (step, rest) = Step::read_ahead::<b'\n'>(next)?;
         let held = next.len() - rest.len();
         self.reader.consume(self.held);
         self.held = held;

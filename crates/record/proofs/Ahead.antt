@@ -1,10 +1,10 @@
 -- Entries that are taken as they lie ahead.
-use Rattle.std.proofs.Common.{◌≡◌, ◌≢◌, ◌+◌, ◌-◌, ◌<◌, ℕ, zero, suc, List, [], ◌∷◌, ◌++◌, Some, None, length, refl, ap, sym, subst, ◌∙◌}
+use Rattle.std.proofs.Common.{◌≡◌, ◌+◌, ◌-◌, ◌<◌, ℕ, zero, suc, List, [], ◌∷◌, ◌++◌, Some, None, length, refl, ap, sym, subst, ◌∙◌}
 use Rattle.std.proofs.Common.{arith, length-append}
 use Rattle.std.specs.Prelude.{Option, Ok}
 use Rattle.base.specs.Spelling.{words, joined}
 use Rattle.record.specs.declared.due.Due.{Due}
-use Rattle.record.specs.declared.due.Due.TheVariants.{EntryLine, Nothing}
+use Rattle.record.specs.declared.due.Due.TheVariants.{EntryLine}
 use Rattle.record.specs.declared.due.Form.{Form}
 use Rattle.record.specs.declared.draft.Draft.{Draft}
 use Rattle.record.specs.declared.reader.Reader.{Reader}
@@ -114,8 +114,3 @@ pub one-left : {N : Type 0} (tells : N → Option RecordingView → Type 0) (f :
 one-left tells f left due draft entries r at read =
     let here = subst (λ d. HasRead tells d draft entries r) at read in
     (here.read.entries.0, here.told, omega (arith, here.read.entries.0, here.read.entries.1))
-
--- an entry isn't the last line
-pub not-over : (f : Form) (n : ℕ) → entries_due f n ≢ Nothing
-not-over f zero is = cc
-not-over f (suc n) is = cc

@@ -19,7 +19,7 @@ use Rattle.both_tables.specs.declared.cell_places.CellPlace.{CellPlace}
 use Rattle.both_tables.proofs.CellPlaces.{at-own}
 use Rattle.record.specs.declared.cells.Cell.{Cell}
 use Rattle.record.specs.declared.due.Due.{Due}
-use Rattle.record.specs.declared.due.Due.TheVariants.{ProtocolLine, ShapeLine, SeatsLine, OpeningLine, CellCount, CellLine, EntryCount, EntryLine}
+use Rattle.record.specs.declared.due.Due.TheVariants.{ProtocolLine, ShapeLine, SeatsLine, OpeningLine, CellCount, CellLine, EntryLine}
 use Rattle.record.specs.declared.due.Due.TheVariants.{EndLine}
 use Rattle.record.specs.declared.recording.Entry.{Entry}
 use Rattle.record.specs.Cells.{cell_at, cell_words, place_of}
@@ -96,22 +96,6 @@ at-cell_count f r line next h leads =
       read =
           subst (λ d. IsReadTo d r) (sym leads.3)
           (cells-read f leads.0 0 r h.shape h.tables h.opening h.entries (omega arith) plain h.fits h.owners h.head);
-    }
-
-pub at-entry_count : (f : Form) (r : Kept) (line : List (List ℕ)) (next : Due) → IsReadTo (EntryCount f) r → Leads (EntryCount f) line next →
-    IsTaken (EntryCount f) r line next r
-at-entry_count f r line next h leads =
-    let n : length r.entries + leads.0 ≡ leads.0 = omega (arith, ap length h.entries) in
-    let cells = lines_to_cells r (length (changed_cells r.tables)) in
-    let none : told r.owners r.entries ≡ [] = ap (told r.owners) h.entries in
-    record {
-      leads = leads;
-      before =
-          ap (λ d. lines_before d r) leads.3 ∙ entries-before f leads.0 r ∙ ap (lines_to_entries r) n
-          ∙ ap (λ ts. cells ++ entries_words leads.0 ∷ map told_words ts) none ∙ ap (λ l. cells ++ l ∷ []) (sym leads.2);
-      read =
-          subst (λ d. IsReadTo d r) (sym leads.3)
-          (entries-read f leads.0 r h.shape h.tables h.opening (omega (arith, n, leads.1)) h.fits h.owners h.head);
     }
 
 -- ---- the last line

@@ -23,7 +23,7 @@ use Rattle.directory_table.specs.Table.{DirectoryEntry}
 use Rattle.directory_table.specs.declared.state.DirectoryState.{DirectoryState}
 use Rattle.directory_table.specs.declared.event.DirectoryEvent.{DirectoryEvent}
 use Rattle.both_tables.specs.CellPlaces.{all_places, place_number}
-use Rattle.both_tables.specs.Tables.{Tables, baseline, baseline_of}
+use Rattle.both_tables.specs.Tables.{Tables, baseline_of}
 use Rattle.both_tables.specs.declared.cell_places.CellPlace.{CellPlace}
 use Rattle.both_tables.specs.declared.cell_places.CellPlace.TheVariants as place
 use Rattle.both_tables.proofs.CellPlaces.{some_place, place_at, at-own}
@@ -144,9 +144,6 @@ pub baseline-whole : (p : Protocol) → AreWhole (baseline_of p)
 unfolding all_few few few_of
 baseline-whole Msi = whole-of Msi refl
 baseline-whole MsiE = whole-of MsiE refl
-
-pub msi-whole : AreWhole baseline
-msi-whole = baseline-whole Msi
 
 -- ---- tables that keep to their protocol
 

@@ -1,7 +1,7 @@
 -- Words of lines.
-use Rattle.std.proofs.Common.{◌≡◌, ◌≢◌, Bool, arith, ℕ, ◌+◌, ◌<◌, List, [], ◌∷◌, ◌++◌, Option, Some, None, length, take, get_or, map, refl, ap, sym}
+use Rattle.std.proofs.Common.{◌≡◌, ◌≢◌, Bool, arith, ℕ, ◌+◌, List, [], ◌∷◌, ◌++◌, Option, Some, None, length, refl, ap, sym}
 use Rattle.std.proofs.Common.{◌∙◌, append_assoc}
-use Rattle.std.proofs.lemmas.List.{map_more, append-nil}
+use Rattle.std.proofs.lemmas.List.{append-nil}
 use Rattle.std.proofs.lemmas.Grind.{flat_map-append}
 use Rattle.std.specs.List.{join_with_byte, slice_split}
 use Rattle.std.specs.Prelude.{codes}
@@ -18,25 +18,11 @@ use Rattle.record.specs.Text.{by_words, entry_words, told_words}
 use Rattle.record.specs.inner.Pieces.{by_text}
 use Rattle.base.specs.Spelling.{spaced, joined}
 
--- one word more
-pub spaced-more : {X : Type 0} (f : X → List ℕ) (xs : List X) (i : ℕ) (d : X) → i < length xs →
-    spaced (map f (take (i + 1) xs)) ≡ spaced (map f (take i xs)) ++ (32 ∷ f (get_or xs i d))
-spaced-more f xs i d low =
-    ap spaced (map_more f xs i d low) ∙ flat_map-append (λ word. 32 ∷ word) (map f (take i xs)) (f (get_or xs i d) ∷ [])
-    ∙ ap (λ l. spaced (map f (take i xs)) ++ l) (append-nil (32 ∷ f (get_or xs i d)))
-
 -- words with a blank between two
 pub joined-is : (ws : List (List ℕ)) → join_with_byte 32 ws ≡ joined ws
 joined-is [] = refl
 joined-is (w ∷ []) = sym (append-nil w)
 joined-is (w ∷ v ∷ ws) = ap (λ l. w ++ 32 ∷ l) (joined-is (v ∷ ws))
-
--- a text that ends in words, with one word more
-pub pushed-more : {X : Type 0} (f : X → List ℕ) (xs : List X) (i : ℕ) (d : X) (first old new word : List ℕ) → i < length xs →
-    old ≡ first ++ spaced (map f (take i xs)) → new ≡ old ++ (32 ∷ word) → word ≡ f (get_or xs i d) → new ≡ first ++ spaced (map f (take (i + 1) xs))
-pushed-more f xs i d first old new word low so_far pushed is =
-    pushed ∙ ap (λ l. l ++ (32 ∷ word)) so_far ∙ append_assoc first _ _
-    ∙ ap (λ l. first ++ l) (ap (λ w. spaced (map f (take i xs)) ++ (32 ∷ w)) is ∙ sym (spaced-more f xs i d low))
 
 -- the bytes of a line of these words
 pub spelled-text : (line : List ℕ) (ws : List (List ℕ)) → words line ≡ ws → line ≡ joined ws

@@ -233,7 +233,7 @@ pub(crate) fn entry_ahead(bytes: &[u8]) -> Option<(Entry, &[u8])>
     ensures fits { IfSome result (λ found. FitsEntry found.0) }
     ensures text { IfSome result (λ found. bytes.now ≡ joined (entry_words found.0) ++ 10 ∷ found.1.now) }
 {
-    let (step, rest) = Step::read_ahead(bytes, b' ')?;
+    let (step, rest) = Step::read_ahead::<b' '>(bytes)?;
     let [b'=', b' ', rest @ ..] = rest else {
         return None;
     };

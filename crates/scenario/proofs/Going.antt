@@ -13,7 +13,8 @@ use Rattle.scenario.specs.inner.Rests.{flat, flats, rest, rest_in_turn, rest_of_
 use Rattle.scenario.specs.Cursors.{Progress, first_parts, progress, progress_at}
 use Rattle.scenario.specs.Cursors.{tree_left, trees_left}
 use Rattle.scenario.specs.Stock.{Stock, Empty, With, Within, room_in_turn, room, wants, wants_of_all}
-use Rattle.scenario.specs.inner.Parts.{MovesTo, MovesPart, IsOfferOf, all_left, behind, count_at, highest, height, part_left, parts_of, place_of, wants_at, wants_behind}
+use Rattle.scenario.specs.inner.Parts.{MovesTo, MovesPart, IsOfferOf, all_left, behind, count_at, highest, height, part_left, parts_of, place_of}
+use Rattle.scenario.specs.inner.Parts.{wants_at, wants_behind}
 use Rattle.scenario.proofs.Cursors.{cursor-offers, map-left, progress-is}
 use Rattle.scenario.proofs.Flat.{flat-row}
 use Rattle.scenario.proofs.Places.{is_below, isnt_below}
@@ -36,18 +37,24 @@ pub moves-behind : {A : Type 0} (at : Place A) (ps : List Progress) (i k : ℕ) 
 moves-behind place.Nothing ps i k new h e l = absurd (omega (arith, h))
 moves-behind (place.Whole t) [] i k new h e l = let is : i ≡ k = omega (arith, e) in rw is l
 moves-behind (place.Whole t) (p ∷ ps) i k new h e l = let is : i ≡ k = omega (arith, e) in rw is l
-moves-behind (place.InSeq ts) [] i k new h e l =
-    (l.0 ∙ sym (ap flat (later (tree.Seq tree.Nil) (plain_all ts.now) i k (omega (arith, e)))), within-through (wants new) _ _ l.1 (behind-wanted (place.InSeq ts) []))
+moves-behind (place.InSeq ts) [] i k new h e l = (
+  l.0 ∙ sym (ap flat (later (tree.Seq tree.Nil) (plain_all ts.now) i k (omega (arith, e)))),
+  within-through (wants new) _ _ l.1 (behind-wanted (place.InSeq ts) []),
+)
 moves-behind (place.InSeq ts) (p ∷ ps) i k new h e l =
-    let long = length-append (offers (tree_left p)) [] in
-    (l.0 ∙ sym (ap flat (later (tree_left p) (plain_all ts.now) i k (omega (arith, e, long)))), within-through (wants new) _ _ l.1 (behind-wanted (place.InSeq ts) (p ∷ ps)))
+    let long = length-append (offers (tree_left p)) [] in (
+      l.0 ∙ sym (ap flat (later (tree_left p) (plain_all ts.now) i k (omega (arith, e, long)))),
+      within-through (wants new) _ _ l.1 (behind-wanted (place.InSeq ts) (p ∷ ps)),
+    )
 moves-behind (place.InTimes n t) [] i k new h e l =
     let all = later (tree.Seq tree.Nil) (tree.Cons (tree.Times n (plain t.now)) tree.Nil) i k (omega (arith, e)) in
     (l.0 ∙ sym (ap flat (all ∙ here (tree.Times n (plain t.now)) tree.Nil k h)), within-through (wants new) _ _ l.1 (behind-wanted (place.InTimes n t) []))
 moves-behind (place.InTimes n t) (p ∷ ps) i k new h e l =
     let long = length-append (offers (tree_left p)) [] in
-    let all = later (tree_left p) (tree.Cons (tree.Times n (plain t.now)) tree.Nil) i k (omega (arith, e, long)) in
-    (l.0 ∙ sym (ap flat (all ∙ here (tree.Times n (plain t.now)) tree.Nil k h)), within-through (wants new) _ _ l.1 (behind-wanted (place.InTimes n t) (p ∷ ps)))
+    let all = later (tree_left p) (tree.Cons (tree.Times n (plain t.now)) tree.Nil) i k (omega (arith, e, long)) in (
+      l.0 ∙ sym (ap flat (all ∙ here (tree.Times n (plain t.now)) tree.Nil k h)),
+      within-through (wants new) _ _ l.1 (behind-wanted (place.InTimes n t) (p ∷ ps)),
+    )
 moves-behind (place.InBoth n) ps i k new h e l = absurd (omega (arith, h))
 
 -- the same, where it is one of the parts of a `both`

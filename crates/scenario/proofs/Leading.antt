@@ -42,7 +42,10 @@ pub moves-turn : (n : ℕ) (t : Tree) (at : ℕ) (old new : List Progress) → 1
 moves-turn n t at [] new some b = absurd (omega (arith, some))
 moves-turn n t at (o ∷ old) new some b =
     let first : first_part new ≡ b.0 = ap first_part b.1 in
-    rw first (ap (λ u. tree.Seq (tree.Cons u (tree.Cons (tree.Times (n - 1) (flat t)) tree.Nil))) b.2.0, (union-least (wants b.0) (room t) (room t) b.2.1 (within-same (room t)), tt))
+    rw first (
+      ap (λ u. tree.Seq (tree.Cons u (tree.Cons (tree.Times (n - 1) (flat t)) tree.Nil))) b.2.0,
+      (union-least (wants b.0) (room t) (room t) b.2.1 (within-same (room t)), tt),
+    )
 
 pub moves-any : {A : Type 0} (ss : List (Scenario A)) (at j k : ℕ) (s : Scenario A) (p : Progress) → slice_get ss j ≡ Some s → IsPlaceAmong ss at j k
     → MovesTo (plain s) k (room (plain s)) p → MovesTo (tree.Any (plain_all ss)) at (room (tree.Any (plain_all ss))) p

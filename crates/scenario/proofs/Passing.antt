@@ -133,15 +133,6 @@ passes-whole p t ts i new at is low leads =
     (subst (λ q. MovesTo (behind q) i (wants_behind q) new) (sym at)
     (subst (λ u. MovesTo u i (room u) new) (sym is) leads))
 
--- ---- whether a part is in turns of a choice, by how far it is
-
-abbrev chosen : Progress → Bool
-chosen Nothing = false
-chosen (Whole t) = false
-chosen (InSeq p ts) = false
-chosen (InTimes p n t) = is_choice t
-chosen (InBoth ps) = false
-
 -- the first part once one is written there
 pub first-set : {A B : Type 0} (ps : List (Part A B)) (p : Part A B) → 0 < length ps → first_part (map progress (slice_set ps 0 p)) ≡ progress p
 first-set [] p some = absurd (omega (arith, some))

@@ -1,5 +1,6 @@
 -- What is left of a choice of asks is nothing, so a tree that has more turns of it offers the same again.
-use Rattle.std.proofs.Common.{◌≡◌, ◌-◌, ◌<◌, ℕ, true, true≢false, nat_lt, inl, inr, [], length, refl, sym, ap, ◌∙◌, arith, subst, if◌then◌else◌, le-ltb, lt-ltb, Bor}
+use Rattle.std.proofs.Common.{◌≡◌, ◌-◌, ◌<◌, ℕ, true, true≢false, nat_lt, inl, inr, [], length, refl, sym, ap, ◌∙◌, arith, subst, if◌then◌else◌}
+use Rattle.std.proofs.Common.{le-ltb, lt-ltb, Bor}
 use Rattle.std.proofs.lemmas.Bool.{cases_lt, ne_eqb}
 use Rattle.scenario.specs.declared.part.Part.{Part}
 use Rattle.scenario.specs.declared.part.Place.TheVariants as place

@@ -74,13 +74,6 @@ cover-more places asks number row old d small long is was before n low ask there
 
 -- ---- and no others are
 
-pub stands-none : (asks : List CoreAsk) (places : List ℕ) → ((row n : ℕ) → bit_at (slice_index places row) n ≡ 0) → Stands places asks 0
-stands-none asks places none = record {
-  each = λ n ask low e. absurd (omega (arith, low));
-  inside = λ row n one. absurd (let no = none row n in omega (arith, no, one));
-  only = λ row n ask one e. absurd (let no = none row n in omega (arith, no, one));
-}
-
 pub stands-more : (places : List ℕ) (asks : List CoreAsk) (number row old : ℕ) (d : CoreAsk) → number < 64 → length places ≡ 16 →
     row ≡ (get_or asks number d).block.0 % 16 → old ≡ get_or places row 0 → Stands places asks number →
     Stands (set places row (bit_or old (1 * 2 ^ number % 2 ^ 64))) asks (number + 1)
@@ -120,43 +113,11 @@ stands-more places asks number row old d small long is was before = record {
 
 -- ---- what the asks of a row have in common
 
-pub in-none : (asks : List CoreAsk) (rows : List Row) → AreIn rows asks 0
-in-none asks rows n ask low e = absurd (omega (arith, low))
-
-pub in-more : (rows : List Row) (asks : List CoreAsk) (number row : ℕ) (new : Row) (d : CoreAsk) → length rows ≡ 16 →
-    row ≡ (get_or asks number d).block.0 % 16 → IsIn new (get_or asks number d) →
-    ((other : CoreAsk) → IsIn (get_or rows row Mixed) other → IsIn new other) → AreIn rows asks number → AreIn (set rows row new) asks (number + 1)
-in-more rows asks number row new d long is here still before n ask low e =
-    elim (cases_eq n number) [
-      | inl q ↦
-          (let same : get_or asks number d ≡ ask = same-there asks number ask d (subst (λ m. slice_get asks m ≡ Some ask) q e) in
-          let row-of : ask.block.0 % 16 ≡ row = ap (λ (a : CoreAsk). a.block.0 % 16) (sym same) ∙ sym is in
-          subst (λ r. IsIn r ask) (sym (ap (λ i. get_or (set rows row new) i Mixed) row-of ∙ get_or-set_same rows row new Mixed inside))
-          (subst (IsIn new) same here))
-      | inr ne ↦
-          (let earlier = before n ask (omega (arith, low, ne)) e in
-          elim (cases_eq (ask.block.0 % 16) row) [
-            | inl same ↦
-                subst (λ r. IsIn r ask) (sym (ap (λ i. get_or (set rows row new) i Mixed) same ∙ get_or-set_same rows row new Mixed inside))
-                (still ask (subst (λ i. IsIn (get_or rows i Mixed) ask) same earlier))
-            | inr other ↦ subst (λ r. IsIn r ask) (sym (get_or-set_other rows row (ask.block.0 % 16) new Mixed other)) earlier
-          ])
-    ]
-  where
-    inside : row < length rows
-    inside = omega (arith, is, long)
-
 -- ---- the bits of the asks of some kinds
 
 pub record BitsFirst (held : HeldAsks) (bits : ℕ) (asks : List CoreAsk) (number : ℕ) : Type 0 where
   pub first : (n : ℕ) (ask : CoreAsk) → n < number → slice_get asks n ≡ Some ask → (bit_at bits n == 1) ≡ holds held ask.ask
   pub rest : (n : ℕ) → number ≤ n → bit_at bits n ≡ 0
-
-pub bits-none : (held : HeldAsks) (asks : List CoreAsk) → BitsFirst held 0 asks 0
-bits-none held asks = record {
-  first = λ n ask low e. absurd (omega (arith, low));
-  rest = λ n h. bit_at-zero n;
-}
 
 pub bits-more : (held : HeldAsks) (bits : ℕ) (asks : List CoreAsk) (number : ℕ) (d : CoreAsk) → number < 64 →
     holds held (get_or asks number d).ask ≡ true → BitsFirst held bits asks number →

@@ -1,26 +1,12 @@
 -- The lanes of each core.
-use Rattle.std.proofs.Common.{◌≡◌, ℕ, ◌+◌, ◌-◌, ◌<◌, inl, inr, min, true, nat_eq, List, [], ◌∷◌, ◌++◌, length, map}
-use Rattle.std.proofs.Common.{Some, get_or, set, slice_get, refl, sym, ap, ◌∙◌, subst, arith, Vec, Global}
-use Rattle.std.specs.List.{Contains, list_any}
+use Rattle.std.proofs.Common.{◌≡◌, ℕ, ◌+◌, ◌-◌, ◌<◌, inl, inr, min, List, [], length, map}
+use Rattle.std.proofs.Common.{Some, get_or, set, slice_get, sym, ap, ◌∙◌, subst, arith, Vec, Global}
+use Rattle.std.specs.List.{Contains}
 use Rattle.std.proofs.lemmas.List.{length-set, length-map, map-set, get_or-map, get_or-set_same, get_or-set_other}
-use Rattle.std.proofs.lemmas.List.Elements.{Contains-append_right}
 use Rattle.std.proofs.lemmas.Bool.{cases_eq, cases_lt}
-use Rattle.std.proofs.lemmas.Bool.Decides.{nat_tests}
-use Rattle.std.proofs.lemmas.Map.Views.{Contains-from_any}
 use Rattle.std.proofs.lemmas.Option.{slice_get-get_or}
 use Rattle.base.specs.declared.step.CoreAsk.{CoreAsk}
 use Rattle.schedule.specs.Lanes.{lanes_of, row_of_core}
-
-same-number : (x y : ℕ) → nat_eq y x ≡ true → x ≡ y
-same-number x y e = grind (arith, nat_tests)
-
--- what a test finds is there
-pub found-there : (of : List ℕ) (lane : ℕ) → list_any (λ y. nat_eq y lane) of ≡ true → Contains of lane
-found-there of lane e = Contains-from_any {eq = λ x y. nat_eq y x} same-number lane of e
-
-pub added : (old new : List ℕ) (lane : ℕ) → new ≡ old ++ lane ∷ [] → Contains new lane
-added old new lane e =
-    subst (λ xs. Contains xs lane) (sym e) (Contains-append_right old (lane ∷ []) lane (0, omega arith, refl))
 
 -- a row that got more
 row-set : (rows : List (List ℕ)) (row core : ℕ) (v : List ℕ) → row_of_core (set rows row v) core ≡ row_of_core rows core

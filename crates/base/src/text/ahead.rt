@@ -13,29 +13,30 @@ use crate::text::steps::Kind;
 use crate::text::words::{begins_with, digit_of, digits_in_front, has_first_digit};
 
 impl Step {
-    /// A step that bytes begin with, with this byte behind it, and what follows that.
+    /// A step that bytes begin with, with the byte `END` behind it, and what follows that.
     ///
-    /// `None` doesn't say that there is none: [`read`](Step::read) does.
+    /// `None` doesn't say that there is none: [`read`](Step::read) does. The byte is a const parameter, so that each loop that
+    /// reads steps has an instance of its own, which is inlined there (docs/PERFORMANCE.md, "Calls from two places").
     #[inline(always)]
-    pub fn read_ahead(bytes: &[u8], end: u8) -> Option<(Step, &[u8])>
-        ensures { IfSome result (λ found. bytes.now ≡ joined (step_words found.0) ++ end ∷ found.1.now) }
+    pub fn read_ahead<const END: u8>(bytes: &[u8]) -> Option<(Step, &[u8])>
+        ensures { IfSome result (λ found. bytes.now ≡ joined (step_words found.0) ++ END ∷ found.1.now) }
     {
         if let Some(rest) = behind(bytes, b"ask ") {
-            return ask_ahead(rest, end);
+            return ask_ahead::<END>(rest);
         }
         let (kind, rest) = kind_ahead(bytes)?;
-        served_ahead(kind, rest, end)
+        served_ahead::<END>(kind, rest)
     }
 }
 
 /// A step behind `ask ` that bytes begin with.
 #[inline(always)]
-fn ask_ahead(bytes: &[u8], end: u8) -> Option<(Step, &[u8])>
-    ensures { IfSome result (λ found. codes "ask " ++ bytes.now ≡ joined (step_words found.0) ++ end ∷ found.1.now) }
+fn ask_ahead<const END: u8>(bytes: &[u8]) -> Option<(Step, &[u8])>
+    ensures { IfSome result (λ found. codes "ask " ++ bytes.now ≡ joined (step_words found.0) ++ END ∷ found.1.now) }
 {
     let (cache, rest) = small_ahead(bytes, b' ')?;
     let (block, rest) = small_ahead(rest, b' ')?;
-    let (ask, rest) = asked_ahead(rest, end)?;
+    let (ask, rest) = asked_ahead::<END>(rest)?;
     let step = Step::Ask {
         cache: CacheId(cache),
         block: BlockId(block),
@@ -46,17 +47,17 @@ fn ask_ahead(bytes: &[u8], end: u8) -> Option<(Step, &[u8])>
 
 /// What a core asks, where bytes begin with it.
 #[inline(always)]
-fn asked_ahead(bytes: &[u8], end: u8) -> Option<(Ask, &[u8])>
-    ensures { IfSome result (λ found. bytes.now ≡ joined (ask_words found.0) ++ end ∷ found.1.now) }
+fn asked_ahead<const END: u8>(bytes: &[u8]) -> Option<(Ask, &[u8])>
+    ensures { IfSome result (λ found. bytes.now ≡ joined (ask_words found.0) ++ END ∷ found.1.now) }
 {
     if let Some(rest) = behind(bytes, b"store ") {
-        let (value, rest) = number_ahead(rest, end)?;
+        let (value, rest) = number_ahead(rest, END)?;
         return Some((Ask::Store(value), rest));
     }
-    if let Some(rest) = word_ahead(bytes, b"load", end) {
+    if let Some(rest) = word_ahead(bytes, b"load", END) {
         return Some((Ask::Load, rest));
     }
-    let rest = word_ahead(bytes, b"replace", end)?;
+    let rest = word_ahead(bytes, b"replace", END)?;
     Some((Ask::Replace, rest))
 }
 
@@ -77,11 +78,11 @@ fn kind_ahead(bytes: &[u8]) -> Option<(Kind, &[u8])>
 
 /// A step behind the word for a kind of messages that bytes begin with.
 #[inline(always)]
-fn served_ahead(kind: Kind, bytes: &[u8], end: u8) -> Option<(Step, &[u8])>
-    ensures { IfSome result (λ found. kind_word kind ++ 32 ∷ bytes.now ≡ joined (step_words found.0) ++ end ∷ found.1.now) }
+fn served_ahead<const END: u8>(kind: Kind, bytes: &[u8]) -> Option<(Step, &[u8])>
+    ensures { IfSome result (λ found. kind_word kind ++ 32 ∷ bytes.now ≡ joined (step_words found.0) ++ END ∷ found.1.now) }
 {
     let (block, rest) = small_ahead(bytes, b' ')?;
-    let (number, rest) = number_ahead(rest, end)?;
+    let (number, rest) = number_ahead(rest, END)?;
     let block = BlockId(block);
     let step = match kind {
         Kind::Request => Step::Request {

@@ -17,5 +17,7 @@ returns-clause-passed g c done =
     let none : c.args.at ≡ 0 = grind (arith, common_steps) in
     let over = c.end_first.ensures.ended c.if-not-end_first.false in
     let now : progress c.move_to.new.self ≡ InSeq Nothing (plain_all (drop 1 row)) =
-    c.move_to.ensures.place ∙ (ap (λ us. InSeq (first_part (parts_of c.end_first.new.part)) (plain_all us)) (rest-whole row 1) ∙ ap (λ p. InSeq p (plain_all (drop 1 row))) over) in
+    c.move_to.ensures.place
+    ∙ (ap (λ us. InSeq (first_part (parts_of c.end_first.new.part)) (plain_all us)) (rest-whole row 1)
+    ∙ ap (λ p. InSeq p (plain_all (drop 1 row))) over) in
     rw (now, none) (moves-ask row first at (sym c.is_ask.ensures ∙ c.if-not-is_ask.false))

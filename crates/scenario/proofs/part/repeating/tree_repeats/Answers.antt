@@ -8,4 +8,5 @@ use Rattle.scenario.proofs.part.repeating.tree_repeats.Goals as goal
 pub returns-in-Times : goal.returns-in-Times
 returns-in-Times g c e =
     subst Repeats (ap plain (sym c.in-Times.is))
-    (repeats-Times c.in-Times.turns (plain c.in-Times.child.value) (c.repeats_turns.ensures.turns e) (ap (λ u. is_choice (plain u)) (sym c.deref.ensures) ∙ c.repeats_turns.ensures.choice e))
+    (repeats-Times c.in-Times.turns (plain c.in-Times.child.value) (c.repeats_turns.ensures.turns e)
+    (ap (λ u. is_choice (plain u)) (sym c.deref.ensures) ∙ c.repeats_turns.ensures.choice e))
