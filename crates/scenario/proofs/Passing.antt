@@ -1,5 +1,5 @@
 -- An offer that a place alone tells of: what is left once it is taken.
-use Rattle.std.proofs.Common.{◌≡◌, ℕ, ◌-◌, ◌<◌, List, [], ◌∷◌, ◌++◌, Some, Bool, true, false, true≢false}
+use Rattle.std.proofs.Common.{◌≡◌, ℕ, ◌-◌, ◌<◌, List, [], ◌∷◌, ◌++◌, Some, true, false, true≢false}
 use Rattle.std.proofs.Common.{length, drop, map, take, slice_get, slice_set, if◌then◌else◌, le-ltb, lt-ltb, inl, inr, refl, sym, ap, ◌∙◌, subst, arith, Bor}
 use Rattle.std.proofs.lemmas.Bool.{cases_lt}
 use Rattle.scenario.specs.declared.part.Part.{Part, Fresh, Begun'}
@@ -9,7 +9,7 @@ use Rattle.scenario.specs.Tree as tree
 use Rattle.scenario.specs.Tree.{Tree, Trees, plain, plain_all}
 use Rattle.scenario.specs.Taking.{offers, offers_of_all}
 use Rattle.scenario.specs.inner.Rests.{flat, rest, rest_of_one}
-use Rattle.scenario.specs.Cursors.{Progress, Nothing, Whole, InSeq, InTimes, InBoth, first_part, progress, progress_at, tree_left}
+use Rattle.scenario.specs.Cursors.{Progress, Nothing, InSeq, InTimes, first_part, progress, progress_at, tree_left}
 use Rattle.scenario.specs.Stock.{Empty, With, room, room_in_turn, wants}
 use Rattle.scenario.specs.inner.Parts.{MovesTo, all_left, behind, count_at, part_left, parts_of, place_of, wants_behind}
 use Rattle.scenario.specs.inner.Turns.{all_asks, chooses, chooses_at, is_ask, is_choice}
