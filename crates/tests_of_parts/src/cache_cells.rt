@@ -38,77 +38,70 @@ const ACTING: [(CacheState, CacheEvent, CacheState, &[CacheAction]); 6] = [
     (CacheState::IiA, CacheEvent::PutAck, CacheState::I, &[]),
 ];
 
-/// Compares a baseline cell with an entry that goes to a state and does these actions.
-fn acts(
+/// Compares a cell.
+fn holds(
     rt: &impl Abort,
+    table: &CacheTable,
     state: CacheState,
     event: CacheEvent,
-    next: CacheState,
-    actions: &[CacheAction],
+    wanted: &CacheEntry,
 ) {
-    let found = CacheTable::baseline().entry(state, event);
+    same_at(rt, &table.entry(state, event), wanted, &(state, event));
+}
+
+fn acting(rt: &impl Abort, next: CacheState, actions: &[CacheAction]) -> CacheEntry {
     let actions = CacheActions::of(actions).expect(rt, "few actions");
-    let wanted = CacheEntry::Act { next, actions };
-    same_at(rt, &found, &wanted, &(state, event));
+    CacheEntry::Act { next, actions }
 }
 
 #[test]
 fn baseline_cells(rt: HostRuntime) {
     let table = CacheTable::baseline();
     for (state, event, entry) in &HELD {
-        same_at(&rt, &table.entry(*state, *event), entry, &(*state, *event));
+        holds(&rt, &table, *state, *event, entry);
     }
     for (state, event, next, actions) in &ACTING {
-        acts(&rt, *state, *event, *next, actions);
+        let entry = acting(&rt, *next, actions);
+        holds(&rt, &table, *state, *event, &entry);
     }
 }
+
+/// Cells of a table of which one was replaced, the first of them.
+const REPLACED: [(CacheState, CacheEvent, CacheEntry); 3] = [
+    (CacheState::IsD, CacheEvent::Inv, CacheEntry::Blank),
+    (CacheState::IsD, CacheEvent::Load, CacheEntry::Stall),
+    (CacheState::SiA, CacheEvent::Load, CacheEntry::Stall),
+];
 
 #[test]
 fn one_cell_is_replaced(rt: HostRuntime) {
     let baseline = CacheTable::baseline();
     let table = baseline.with(CacheState::IsD, CacheEvent::Inv, CacheEntry::Blank);
-    same(
-        &rt,
-        &table.entry(CacheState::IsD, CacheEvent::Inv),
-        &CacheEntry::Blank,
-    );
-    same(
-        &rt,
-        &table.entry(CacheState::IsD, CacheEvent::Load),
-        &CacheEntry::Stall,
-    );
-    same(
-        &rt,
-        &table.entry(CacheState::SiA, CacheEvent::Load),
-        &CacheEntry::Stall,
-    );
-    same(
-        &rt,
-        &table.with(CacheState::IsD, CacheEvent::Inv, CacheEntry::Stall),
-        &baseline,
-    );
+    for (state, event, entry) in &REPLACED {
+        holds(&rt, &table, *state, *event, entry);
+    }
+    let back = table.with(CacheState::IsD, CacheEvent::Inv, CacheEntry::Stall);
+    same(&rt, &back, &baseline);
 }
 
-fn are_eight(rt: &impl Abort, found: &CacheActions, wanted: &[CacheAction]) {
-    same(rt, &found.as_slice(), &wanted);
-    same(rt, &(found.len(), found.is_empty()), &(8, false));
-}
+const NINE: [CacheAction; 9] = [
+    CacheAction::GetS,
+    CacheAction::GetM,
+    CacheAction::PutS,
+    CacheAction::PutM,
+    CacheAction::InvAck,
+    CacheAction::DataReq,
+    CacheAction::DataDir,
+    CacheAction::InvAck,
+    CacheAction::GetS,
+];
 
 #[test]
 fn at_most_eight_actions(rt: HostRuntime) {
-    let nine = [
-        CacheAction::GetS,
-        CacheAction::GetM,
-        CacheAction::PutS,
-        CacheAction::PutM,
-        CacheAction::InvAck,
-        CacheAction::DataReq,
-        CacheAction::DataDir,
-        CacheAction::InvAck,
-        CacheAction::GetS,
-    ];
-    same(&rt, &CacheActions::of(&nine), &None);
-    let eight = CacheActions::of(&nine[..8]).expect(&rt, "eight actions");
-    are_eight(&rt, &eight, &nine[..8]);
+    same(&rt, &CacheActions::of(&NINE).is_none(), &true);
+    let eight = CacheActions::of(&NINE[..8]).expect(&rt, "eight actions");
+    same(&rt, &eight.as_slice(), &&NINE[..8]);
+    same(&rt, &eight.len(), &8);
+    same(&rt, &eight.is_empty(), &false);
     same(&rt, &CacheActions::none().is_empty(), &true);
 }

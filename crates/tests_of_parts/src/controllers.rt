@@ -51,10 +51,10 @@ fn line_act_as_needed(
     }
 }
 
-/// The same at a home.
+/// The same at a home, with a list for the links that the act needs.
 fn home_act_as_needed(
     rt: &impl Abort,
-    alloc: Global,
+    links: &mut Vec<CacheId>,
     home: &mut Home,
     input: HomeInput,
     next: DirectoryState,
@@ -70,8 +70,7 @@ fn home_act_as_needed(
     ensures flag_count { length home.new.sharers ≡ length home.old.sharers }
     ensures link_count { length wires.new.traffic.links ≡ length wires.old.traffic.links }
 {
-    let mut links = Vec::new(alloc);
-    let needs = home_needs(home, input, actions, &mut links).expect(rt, "memory");
+    let needs = home_needs(home, input, actions, links).expect(rt, "memory");
     wires
         .reserve(needs.requests, links.as_slice(), needs.responses)
         .expect(rt, "memory");
@@ -226,7 +225,7 @@ fn events_at_a_home(rt: HostRuntime) {
 }
 
 /// Makes the first cache a sharer.
-fn reads(rt: &impl Abort, alloc: Global, home: &mut Home, wires: &mut Wires)
+fn reads(rt: &impl Abort, links: &mut Vec<CacheId>, home: &mut Home, wires: &mut Wires)
     requires flags { NamesBelow (length home.old.sharers) home.old }
     requires links { NamesBelow (length wires.old.traffic.links) home.old }
     requires flag_count { length home.old.sharers ≡ 2 }
@@ -240,7 +239,7 @@ fn reads(rt: &impl Abort, alloc: Global, home: &mut Home, wires: &mut Wires)
     let shares = DirectoryActions::none()
         .with(DirectoryAction::DataReq)
         .with(DirectoryAction::AddReq);
-    home_act_as_needed(rt, alloc, home, gets, DirectoryState::S, shares, wires);
+    home_act_as_needed(rt, links, home, gets, DirectoryState::S, shares, wires);
     same(rt, &home.sharers.contains(FIRST), &true);
 }
 
@@ -279,28 +278,28 @@ fn has_sent(rt: &impl Abort, wires: &Wires) {
     same(rt, &wires.response(1), &Some(data));
 }
 
-fn is_invalidated(rt: &impl Abort, alloc: Global, home: &mut Home, wires: &mut Wires)
+fn is_invalidated(rt: &impl Abort, links: &mut Vec<CacheId>, home: &mut Home, wires: &mut Wires)
     requires flags { NamesBelow (length home.old.sharers) home.old }
     requires links { NamesBelow (length wires.old.traffic.links) home.old }
     requires flag_count { length home.old.sharers ≡ 2 }
     requires link_count { length wires.old.traffic.links ≡ 2 }
 {
-    reads(rt, alloc, home, wires);
+    reads(rt, links, home, wires);
     owns(rt, home, wires);
     has_sent(rt, wires);
 }
 
-fn home_invalidates(rt: &impl Abort, alloc: Global, wires: &mut Wires)
+fn home_invalidates(rt: &impl Abort, alloc: Global, links: &mut Vec<CacheId>, wires: &mut Wires)
     requires { length wires.old.traffic.links ≡ 2 }
 {
     let mut home = Home::open(alloc, 2, 5).expect(rt, "memory");
-    is_invalidated(rt, alloc, &mut home, wires);
+    is_invalidated(rt, links, &mut home, wires);
 }
 
 #[test]
 fn a_sharer_is_invalidated(rt: HostRuntime) {
     let mut wires = Wires::open(rt.alloc(), 2).expect(&rt, "memory");
-    home_invalidates(&rt, rt.alloc(), &mut wires);
+    home_invalidates(&rt, rt.alloc(), &mut Vec::new(rt.alloc()), &mut wires);
 }
 
 /// Compares what an act needs that answers a cache twice which isn't a sharer.

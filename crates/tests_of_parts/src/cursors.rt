@@ -1,5 +1,6 @@
 use crate::asserting::same;
-use crate::scenario_taking::{LOAD, STORE, letter_of, offered, read};
+use crate::letters::{Moment, letter_of, offered, read};
+use crate::scenario_reading::nested;
 use base::{Ask, BlockId, CacheId, CoreAsk};
 use bumpalo::Bump;
 use scenario::{Cursor, Next, Rest, Scenario};
@@ -19,10 +20,25 @@ fn offers(rt: &impl Abort, heap: Global, cursor: &InArena<'_, '_>, wanted: &str)
     same(rt, &found.as_str(), &wanted);
 }
 
+/// Compares whether nothing more need be asked.
+fn may_end(rt: &impl Abort, cursor: &InArena<'_, '_>, wanted: bool) {
+    same(rt, &cursor.may_end(), &wanted);
+}
+
 /// Compares what is left where nothing is.
 fn has_ended(rt: &impl Abort, heap: Global, cursor: &InArena<'_, '_>) {
-    same(rt, &cursor.may_end(), &true);
+    may_end(rt, cursor, true);
     offers(rt, heap, cursor, "");
+}
+
+/// Takes an offer, and answers the letter of its ask, or nothing where there is no such offer.
+fn take_letter<'b>(
+    rt: &impl Abort,
+    cursor: &mut InArena<'_, 'b>,
+    bump: &'b Bump,
+    at: usize,
+) -> Option<char> {
+    letter_of(cursor.take(bump, at).expect(rt, "memory"))
 }
 
 /// Takes an offer, and compares its ask.
@@ -33,8 +49,22 @@ fn takes<'b>(
     at: usize,
     wanted: Option<char>,
 ) {
-    let taken = cursor.take(bump, at).expect(rt, "memory");
-    same(rt, &letter_of(taken), &wanted);
+    same(rt, &take_letter(rt, cursor, bump, at), &wanted);
+}
+
+/// Follows the moments, and looks whether each is as it is told.
+fn follow<'b>(
+    rt: &impl Abort,
+    heap: Global,
+    cursor: &mut InArena<'_, 'b>,
+    bump: &'b Bump,
+    moments: &[Moment<'_>],
+) {
+    for (wanted, ends, at, taken) in moments {
+        offers(rt, heap, cursor, wanted);
+        may_end(rt, cursor, *ends);
+        takes(rt, cursor, bump, *at, *taken);
+    }
 }
 
 /// Takes two turns so many times: first one of the row, and then one of the children that go on at once.
@@ -54,24 +84,6 @@ fn take_all_turns<'b>(rt: &impl Abort, heap: Global, cursor: &mut InArena<'_, 'b
     same(rt, &(bump.allocated_bytes() < 4096), &true);
 }
 
-const MANY_TURNS: &str = r#"{"times":50000,"of":{"any":[
-    {"seq":[{"op":"load","core":0,"block":0},{"op":"store","core":0,"block":0,"value":5}]},
-    {"both":[{"op":"load","core":0,"block":0},{"op":"store","core":0,"block":0,"value":5}]}
-]}}"#;
-
-/// A load at the deepest level.
-fn deep_load(rt: &impl Abort, heap: Global) -> Scenario<Global> {
-    let mut text = String::new(heap);
-    for _ in 0..47 {
-        text.push_str(r#"{"seq":["#).expect(rt, "memory");
-    }
-    text.push_str(LOAD).expect(rt, "memory");
-    for _ in 0..47 {
-        text.push_str("]}").expect(rt, "memory");
-    }
-    read(rt, heap, text.as_str())
-}
-
 /// Takes the only offer.
 fn take_only_load<'b>(rt: &impl Abort, heap: Global, cursor: &mut InArena<'_, 'b>, bump: &'b Bump) {
     offers(rt, heap, cursor, "L");
@@ -86,25 +98,25 @@ fn take_loads<'b>(rt: &impl Abort, heap: Global, cursor: &mut InArena<'_, 'b>, b
         offers(rt, heap, cursor, "L");
         takes(rt, cursor, bump, 0, Some('L'));
     }
-    same(rt, &cursor.may_end(), &false);
+    may_end(rt, cursor, false);
 }
 
-/// Takes offer 0 with ever more memory, until it isn't refused, and answers how often it was. A refusal changes nothing.
+/// Takes the first of these offers with ever more memory, until it isn't refused, and answers how often it was. A refusal changes
+/// nothing.
 fn take_at_last<'b>(
     rt: &impl Abort,
     heap: Global,
     cursor: &mut InArena<'_, 'b>,
     bump: &'b Bump,
-    wanted: char,
+    wanted: &str,
 ) -> usize {
-    let before = letters(rt, heap, cursor);
     for refused in 0..64_usize {
+        offers(rt, heap, cursor, wanted);
         bump.set_allocation_limit(Some(refused.saturating_mul(256)));
         if let Ok(taken) = cursor.take(bump, 0) {
-            same(rt, &letter_of(taken), &Some(wanted));
+            same(rt, &letter_of(taken), &wanted.chars().next());
             return refused;
         }
-        offers(rt, heap, cursor, before.as_str());
     }
     panic!(rt; "no memory")
 }
@@ -113,85 +125,14 @@ fn take_at_last<'b>(
 fn take_all<'b>(rt: &impl Abort, heap: Global, cursor: &mut InArena<'_, 'b>, bump: &'b Bump) {
     let mut refusals = 0_usize;
     for _ in 0..4 {
-        for wanted in &['L', 'S', 'L', 'S', 'L', 'S'] {
-            let refused = take_at_last(rt, heap, cursor, bump, *wanted);
+        for wanted in &["LL", "SL", "LL", "SL", "L", "S"] {
+            let refused = take_at_last(rt, heap, cursor, bump, wanted);
             refusals = refusals.saturating_add(refused);
         }
     }
-    take_at_last(rt, heap, cursor, bump, 'S');
-    same(rt, &cursor.may_end(), &true);
+    take_at_last(rt, heap, cursor, bump, "S");
+    may_end(rt, cursor, true);
     same(rt, &(refusals > 1), &true);
-}
-
-/// Two rows that go on at once.
-fn two_rows(rt: &impl Abort, heap: Global) -> String {
-    format!(in heap;
-        r#"{{"both":[{{"times":2,"of":{{"seq":[{LOAD},{STORE}]}}}},{{"seq":[{LOAD},{STORE}]}}]}}"#
-    ).expect(rt, "memory")
-}
-
-/// This text twice one behind the other, again twice, and a store behind them.
-fn four_times(rt: &impl Abort, heap: Global, turn: &str) -> Scenario<Global> {
-    let text = format!(in heap;
-        r#"{{"seq":[{{"times":2,"of":{{"seq":[{turn},{turn}]}}}},{STORE}]}}"#
-    ).expect(rt, "memory");
-    read(rt, heap, text.as_str())
-}
-
-fn four_turns(rt: &impl Abort, heap: Global) -> Scenario<Global> {
-    let turn = two_rows(rt, heap);
-    four_times(rt, heap, turn.as_str())
-}
-
-/// What is taken of a scenario by a cursor.
-#[derive(Clone, Copy)]
-enum Taking {
-    AllTurns,
-    OnlyLoad,
-    Loads,
-    Refused,
-}
-
-fn take(rt: &impl Abort, heap: Global, source: &Scenario<Global>, taking: Taking) {
-    let bump = Bump::new(heap);
-    let mut cursor: InArena<'_, '_> = Cursor::open(source);
-    match taking {
-        Taking::AllTurns => take_all_turns(rt, heap, &mut cursor, &bump),
-        Taking::OnlyLoad => take_only_load(rt, heap, &mut cursor, &bump),
-        Taking::Loads => take_loads(rt, heap, &mut cursor, &bump),
-        Taking::Refused => take_all(rt, heap, &mut cursor, &bump),
-    }
-}
-
-#[test]
-fn many_turns_take_little_memory(rt: HostRuntime) {
-    let source = read(&rt, rt.alloc(), MANY_TURNS);
-    take(&rt, rt.alloc(), &source, Taking::AllTurns);
-}
-
-#[test]
-fn a_deep_scenario_has_its_one_offer(rt: HostRuntime) {
-    let source = deep_load(&rt, rt.alloc());
-    take(&rt, rt.alloc(), &source, Taking::OnlyLoad);
-}
-
-/// (Text that asks for so many loads is refused as too long.)
-#[test]
-fn the_most_turns_are_counted(rt: HostRuntime) {
-    let load = CoreAsk {
-        core: CacheId(0),
-        block: BlockId(0),
-        ask: Ask::Load,
-    };
-    let one = Box::new(rt.alloc(), Scenario::One(load)).expect(&rt, "memory");
-    let source = Scenario::Times(4_294_967_295, one);
-    take(&rt, rt.alloc(), &source, Taking::Loads);
-}
-
-#[test]
-fn a_refused_take_leaves_a_cursor_as_it_was(rt: HostRuntime) {
-    let source = four_turns(&rt, rt.alloc());
-    take(&rt, rt.alloc(), &source, Taking::Refused);
 }
 
 /// Takes the first offer again and again. Another cursor passes what is taken, and has to say of each whether the same is offered
@@ -204,7 +145,7 @@ fn compare_repeats<'b>(
     wanted: &[bool],
 ) {
     for repeats in wanted {
-        let _taken = taken.take(bump, 0).expect(rt, "memory");
+        take_letter(rt, taken, bump, 0);
         if passed.offer_count() > 0 {
             let told = passed.pass_on(bump, 0).expect(rt, "memory");
             same(rt, &told, repeats);
@@ -213,39 +154,20 @@ fn compare_repeats<'b>(
     }
 }
 
-/// The same of a scenario in JSON, and again once the cursors start again.
-fn compare_repeats_of(rt: &impl Abort, heap: Global, text: &str, wanted: &[bool]) {
-    let source = read(rt, heap, text);
-    let bump = Bump::new(heap);
-    let mut taken: InArena<'_, '_> = Cursor::open(&source);
-    let mut passed: InArena<'_, '_> = Cursor::open(&source);
+/// The same, and again once the cursors start again.
+fn compare_repeats_again<'t, 'b>(
+    rt: &impl Abort,
+    source: &'t Scenario<Global>,
+    taken: &mut InArena<'t, 'b>,
+    passed: &mut InArena<'t, 'b>,
+    bump: &'b Bump,
+    wanted: &[bool],
+) {
     for _ in 0..3 {
-        compare_repeats(rt, &mut taken, &mut passed, &bump, wanted);
-        taken.restart(&source);
-        passed.restart(&source);
+        compare_repeats(rt, taken, passed, bump, wanted);
+        taken.restart(source);
+        passed.restart(source);
     }
-}
-
-const CHOICE: &str =
-    r#"{"any":[{"op":"load","core":0,"block":0},{"op":"store","core":0,"block":0,"value":5}]}"#;
-
-const THREE_CHOICES: &str =
-    r#"{"times":3,"of":{"any":[{"op":"load","core":0,"block":0},{"op":"store","core":0,"block":0,"value":5}]}}"#;
-
-const CHOICES_AND_ONE: &str = r#"{"both":[
-    {"times":3,"of":{"any":[{"op":"load","core":0,"block":0},{"op":"store","core":0,"block":0,"value":5}]}},
-    {"any":[{"op":"load","core":0,"block":0},{"op":"store","core":0,"block":0,"value":5}]}
-]}"#;
-
-#[test]
-fn turns_of_a_choice_offer_the_same_up_to_the_last(rt: HostRuntime) {
-    let heap = rt.alloc();
-    compare_repeats_of(&rt, heap, THREE_CHOICES, &[true, true, false, false]);
-    compare_repeats_of(&rt, heap, CHOICE, &[false]);
-    compare_repeats_of(&rt, heap, CHOICES_AND_ONE, &[false, false]);
-    // (started again while what was found of its turns is kept in mind)
-    compare_repeats_of(&rt, heap, THREE_CHOICES, &[true]);
-    compare_repeats_of(&rt, heap, THREE_CHOICES, &[true, true]);
 }
 
 /// How many offers a look tells of, where it tells it. An ask that it tells has to be the first offer.
@@ -261,13 +183,172 @@ fn count_told(rt: &impl Abort, cursor: &InArena<'_, '_>) -> Option<usize> {
 }
 
 /// Takes the first offer again and again, and compares before each what a look tells.
-fn compare_looks(rt: &impl Abort, heap: Global, text: &str, wanted: &[Option<usize>]) {
-    let source = read(rt, heap, text);
-    let bump = Bump::new(heap);
-    let mut cursor: InArena<'_, '_> = Cursor::open(&source);
+fn compare_looks<'b>(
+    rt: &impl Abort,
+    cursor: &mut InArena<'_, 'b>,
+    bump: &'b Bump,
+    wanted: &[Option<usize>],
+) {
     for count in wanted {
-        same(rt, &count_told(rt, &cursor), count);
-        let _taken = cursor.take(&bump, 0).expect(rt, "memory");
+        same(rt, &count_told(rt, cursor), count);
+        take_letter(rt, cursor, bump, 0);
+    }
+}
+
+/// Passes the last offer, and answers which it was.
+fn pass_last<'b>(rt: &impl Abort, cursor: &mut InArena<'_, 'b>, bump: &'b Bump) -> usize {
+    let many = cursor.offer_count();
+    assert!(rt; many > 0);
+    cursor.pass(bump, many - 1).expect(rt, "memory");
+    many - 1
+}
+
+/// Passes the last offer of one cursor and takes the same of another, until nothing is offered, and compares what they offer.
+fn pass_what_is_taken<'b>(
+    rt: &impl Abort,
+    heap: Global,
+    taken: &mut InArena<'_, 'b>,
+    passed: &mut InArena<'_, 'b>,
+    bump: &'b Bump,
+) {
+    for _ in 0..25 {
+        let last = pass_last(rt, passed, bump);
+        take_letter(rt, taken, bump, last);
+        let wanted = letters(rt, heap, taken);
+        offers(rt, heap, passed, wanted.as_str());
+    }
+    offers(rt, heap, passed, "");
+}
+
+/// What is taken by a cursor of a scenario, and passed by another, and what has to be found.
+#[derive(Drop)]
+pub enum Taking<'w> {
+    AllTurns,
+    OnlyLoad,
+    Loads,
+    Refused,
+    Moments(&'w [Moment<'w>]),
+    /// Whether the same is offered behind each.
+    Repeats(&'w [bool]),
+    /// What a look tells before each.
+    Looks(&'w [Option<usize>]),
+    Passed,
+}
+
+fn take_by<'t, 'b>(
+    rt: &impl Abort,
+    heap: Global,
+    source: &'t Scenario<Global>,
+    taken: &mut InArena<'t, 'b>,
+    passed: &mut InArena<'t, 'b>,
+    bump: &'b Bump,
+    taking: &Taking<'_>,
+) {
+    match taking {
+        Taking::AllTurns => take_all_turns(rt, heap, taken, bump),
+        Taking::OnlyLoad => take_only_load(rt, heap, taken, bump),
+        Taking::Loads => take_loads(rt, heap, taken, bump),
+        Taking::Refused => take_all(rt, heap, taken, bump),
+        Taking::Moments(moments) => follow(rt, heap, taken, bump, moments),
+        Taking::Repeats(wanted) => {
+            compare_repeats_again(rt, source, taken, passed, bump, wanted)
+        }
+        Taking::Looks(wanted) => compare_looks(rt, taken, bump, wanted),
+        Taking::Passed => pass_what_is_taken(rt, heap, taken, passed, bump),
+    }
+}
+
+/// Opens two cursors, whose arena is dropped behind them.
+pub fn take(rt: &impl Abort, heap: Global, source: &Scenario<Global>, taking: &Taking<'_>) {
+    let bump = Bump::new(heap);
+    let mut taken: InArena<'_, '_> = Cursor::open(source);
+    let mut passed: InArena<'_, '_> = Cursor::open(source);
+    take_by(rt, heap, source, &mut taken, &mut passed, &bump, taking);
+}
+
+/// The same of a scenario in JSON.
+fn take_text(rt: &impl Abort, heap: Global, text: &str, taking: &Taking<'_>) {
+    let source = read(rt, heap, text);
+    take(rt, heap, &source, taking);
+}
+
+const MANY_TURNS: &str = r#"{"times":50000,"of":{"any":[
+    {"seq":[{"op":"load","core":0,"block":0},{"op":"store","core":0,"block":0,"value":5}]},
+    {"both":[{"op":"load","core":0,"block":0},{"op":"store","core":0,"block":0,"value":5}]}
+]}}"#;
+
+#[test]
+fn many_turns_take_little_memory(rt: HostRuntime) {
+    take_text(&rt, rt.alloc(), MANY_TURNS, &Taking::AllTurns);
+}
+
+const LOAD: &str = r#"{"op":"load","core":0,"block":0}"#;
+
+/// (It is a load at the deepest level.)
+#[test]
+fn a_deep_scenario_has_its_one_offer(rt: HostRuntime) {
+    let text = nested(&rt, rt.alloc(), r#"{"seq":["#, LOAD, "]}", 47);
+    take_text(&rt, rt.alloc(), text.as_str(), &Taking::OnlyLoad);
+}
+
+/// (Text that asks for so many loads is refused as too long.)
+#[test]
+fn the_most_turns_are_counted(rt: HostRuntime) {
+    let load = CoreAsk {
+        core: CacheId(0),
+        block: BlockId(0),
+        ask: Ask::Load,
+    };
+    let one = Box::new(rt.alloc(), Scenario::One(load)).expect(&rt, "memory");
+    let source = Scenario::Times(4_294_967_295, one);
+    take(&rt, rt.alloc(), &source, &Taking::Loads);
+}
+
+/// Two rows that go on at once, twice one behind the other, that again twice, and a store behind them.
+const FOUR_TURNS: &str = r#"{"seq":[
+    {"times":2,"of":{"seq":[
+        {"both":[
+            {"times":2,"of":{"seq":[{"op":"load","core":0,"block":0},{"op":"store","core":0,"block":0,"value":5}]}},
+            {"seq":[{"op":"load","core":0,"block":0},{"op":"store","core":0,"block":0,"value":5}]}
+        ]},
+        {"both":[
+            {"times":2,"of":{"seq":[{"op":"load","core":0,"block":0},{"op":"store","core":0,"block":0,"value":5}]}},
+            {"seq":[{"op":"load","core":0,"block":0},{"op":"store","core":0,"block":0,"value":5}]}
+        ]}
+    ]}},
+    {"op":"store","core":0,"block":0,"value":5}
+]}"#;
+
+#[test]
+fn a_refused_take_leaves_a_cursor_as_it_was(rt: HostRuntime) {
+    take_text(&rt, rt.alloc(), FOUR_TURNS, &Taking::Refused);
+}
+
+const CHOICE: &str =
+    r#"{"any":[{"op":"load","core":0,"block":0},{"op":"store","core":0,"block":0,"value":5}]}"#;
+
+const THREE_CHOICES: &str =
+    r#"{"times":3,"of":{"any":[{"op":"load","core":0,"block":0},{"op":"store","core":0,"block":0,"value":5}]}}"#;
+
+const CHOICES_AND_ONE: &str = r#"{"both":[
+    {"times":3,"of":{"any":[{"op":"load","core":0,"block":0},{"op":"store","core":0,"block":0,"value":5}]}},
+    {"any":[{"op":"load","core":0,"block":0},{"op":"store","core":0,"block":0,"value":5}]}
+]}"#;
+
+/// Scenarios, and whether the same is offered behind each first offer. (Three choices are started again while what was found of
+/// their turns is kept in mind.)
+const REPEATS: [(&str, &[bool]); 5] = [
+    (THREE_CHOICES, &[true, true, false, false]),
+    (CHOICE, &[false]),
+    (CHOICES_AND_ONE, &[false, false]),
+    (THREE_CHOICES, &[true]),
+    (THREE_CHOICES, &[true, true]),
+];
+
+#[test]
+fn turns_of_a_choice_offer_the_same_up_to_the_last(rt: HostRuntime) {
+    for (text, wanted) in &REPEATS {
+        take_text(&rt, rt.alloc(), text, &Taking::Repeats(wanted));
     }
 }
 
@@ -276,42 +357,21 @@ const ROW: &str =
 
 const THREE_LOADS: &str = r#"{"times":3,"of":{"op":"load","core":0,"block":0}}"#;
 
+/// Scenarios, and how many offers a look tells of before each first offer.
+const LOOKS: [(&str, &[Option<usize>]); 3] = [
+    (ROW, &[Some(1), Some(1), Some(1), Some(0)]),
+    (THREE_LOADS, &[Some(1), Some(1), Some(1), Some(0)]),
+    (CHOICE, &[None]),
+];
+
 #[test]
 fn a_look_tells_the_next_ask_of_a_row(rt: HostRuntime) {
-    let heap = rt.alloc();
-    let three = [Some(1), Some(1), Some(1), Some(0)];
-    compare_looks(&rt, heap, ROW, &three);
-    compare_looks(&rt, heap, THREE_LOADS, &three);
-    compare_looks(&rt, heap, CHOICE, &[None]);
-}
-
-/// Takes the last offer of one cursor and passes the same of another, until nothing is offered, and compares what they offer.
-fn pass_what_is_taken<'b>(
-    rt: &impl Abort,
-    heap: Global,
-    taken: &mut InArena<'_, 'b>,
-    passed: &mut InArena<'_, 'b>,
-    bump: &'b Bump,
-) -> u32 {
-    for count in 0..64 {
-        let many = passed.offer_count();
-        if many == 0 {
-            return count;
-        }
-        passed.pass(bump, many - 1).expect(rt, "memory");
-        let _taken = taken.take(bump, many - 1).expect(rt, "memory");
-        let wanted = letters(rt, heap, taken);
-        offers(rt, heap, passed, wanted.as_str());
+    for (text, wanted) in &LOOKS {
+        take_text(&rt, rt.alloc(), text, &Taking::Looks(wanted));
     }
-    64
 }
 
 #[test]
 fn an_offer_is_passed_as_it_is_taken(rt: HostRuntime) {
-    let source = four_turns(&rt, rt.alloc());
-    let bump = Bump::new(rt.alloc());
-    let mut taken: InArena<'_, '_> = Cursor::open(&source);
-    let mut passed: InArena<'_, '_> = Cursor::open(&source);
-    let count = pass_what_is_taken(&rt, rt.alloc(), &mut taken, &mut passed, &bump);
-    same(&rt, &count, &25);
+    take_text(&rt, rt.alloc(), FOUR_TURNS, &Taking::Passed);
 }

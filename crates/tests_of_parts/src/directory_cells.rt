@@ -81,85 +81,71 @@ const ACTING: [(
     ),
 ];
 
-/// Compares a baseline cell with an entry that goes to a state and does these actions.
-fn acts(
+/// Compares a cell.
+fn holds(
     rt: &impl Abort,
+    table: &DirectoryTable,
     state: DirectoryState,
     event: DirectoryEvent,
-    next: DirectoryState,
-    actions: &[DirectoryAction],
+    wanted: &DirectoryEntry,
 ) {
-    let found = DirectoryTable::baseline().entry(state, event);
+    same_at(rt, &table.entry(state, event), wanted, &(state, event));
+}
+
+fn acting(rt: &impl Abort, next: DirectoryState, actions: &[DirectoryAction]) -> DirectoryEntry {
     let actions = DirectoryActions::of(actions).expect(rt, "few actions");
-    let wanted = DirectoryEntry::Act { next, actions };
-    same_at(rt, &found, &wanted, &(state, event));
+    DirectoryEntry::Act { next, actions }
 }
 
 #[test]
 fn baseline_cells(rt: HostRuntime) {
     let table = DirectoryTable::baseline();
     for (state, event, entry) in &HELD {
-        same_at(&rt, &table.entry(*state, *event), entry, &(*state, *event));
+        holds(&rt, &table, *state, *event, entry);
     }
     for (state, event, next, actions) in &ACTING {
-        acts(&rt, *state, *event, *next, actions);
+        let entry = acting(&rt, *next, actions);
+        holds(&rt, &table, *state, *event, &entry);
     }
 }
 
 #[test]
 fn one_cell_is_replaced(rt: HostRuntime) {
+    let (state, event) = (DirectoryState::SD, DirectoryEvent::GetS);
     let baseline = DirectoryTable::baseline();
-    let table = baseline.with(
-        DirectoryState::SD,
-        DirectoryEvent::GetS,
-        DirectoryEntry::Blank,
-    );
-    same(
+    let table = baseline.with(state, event, DirectoryEntry::Blank);
+    holds(&rt, &table, state, event, &DirectoryEntry::Blank);
+    holds(
         &rt,
-        &table.entry(DirectoryState::SD, DirectoryEvent::GetS),
-        &DirectoryEntry::Blank,
-    );
-    same(
-        &rt,
-        &table.entry(DirectoryState::SD, DirectoryEvent::GetM),
+        &table,
+        state,
+        DirectoryEvent::GetM,
         &DirectoryEntry::Stall,
     );
-    same(
-        &rt,
-        &table.entry(DirectoryState::S, DirectoryEvent::GetS),
-        &baseline.entry(DirectoryState::S, DirectoryEvent::GetS),
-    );
-    same(
-        &rt,
-        &table.with(
-            DirectoryState::SD,
-            DirectoryEvent::GetS,
-            DirectoryEntry::Stall,
-        ),
-        &baseline,
-    );
+    let other = baseline.entry(DirectoryState::S, event);
+    holds(&rt, &table, DirectoryState::S, event, &other);
+    let back = table.with(state, event, DirectoryEntry::Stall);
+    same(&rt, &back, &baseline);
 }
 
-fn are_eight(rt: &impl Abort, found: &DirectoryActions, wanted: &[DirectoryAction]) {
-    same(rt, &found.as_slice(), &wanted);
-    same(rt, &(found.len(), found.is_empty()), &(8, false));
-}
+const NINE: [DirectoryAction; 9] = [
+    DirectoryAction::DataReq,
+    DirectoryAction::DataAcks,
+    DirectoryAction::InvSharers,
+    DirectoryAction::FwdGetS,
+    DirectoryAction::PutAck,
+    DirectoryAction::AddReq,
+    DirectoryAction::ClearOwner,
+    DirectoryAction::SetOwner,
+    DirectoryAction::CopyData,
+];
 
 #[test]
 fn at_most_eight_actions(rt: HostRuntime) {
-    let nine = [
-        DirectoryAction::DataReq,
-        DirectoryAction::DataAcks,
-        DirectoryAction::InvSharers,
-        DirectoryAction::FwdGetS,
-        DirectoryAction::PutAck,
-        DirectoryAction::AddReq,
-        DirectoryAction::ClearOwner,
-        DirectoryAction::SetOwner,
-        DirectoryAction::CopyData,
-    ];
-    same(&rt, &DirectoryActions::of(&nine), &None);
-    let eight = DirectoryActions::of(&nine[..8]).expect(&rt, "eight actions");
-    are_eight(&rt, &eight, &nine[..8]);
+    same(&rt, &DirectoryActions::of(&NINE).is_none(), &true);
+    let eight = DirectoryActions::of(&NINE[..8]).expect(&rt, "eight actions");
+    same(&rt, &eight.as_slice(), &&NINE[..8]);
+    same(&rt, &eight.len(), &8);
+    same(&rt, &eight.is_empty(), &false);
     same(&rt, &DirectoryActions::none().is_empty(), &true);
 }

@@ -12,6 +12,8 @@ mod cursors;
 #[cfg(test)]
 mod directory_cells;
 #[cfg(test)]
+mod letters;
+#[cfg(test)]
 mod outstanding;
 #[cfg(test)]
 mod refusing;

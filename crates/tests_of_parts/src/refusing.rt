@@ -2,8 +2,9 @@
 //! nothing is refused they are plain calls.
 
 use crate::asserting::same;
-use crate::scenario_taking::{letter_of, offered};
-use base::{Buffer, NoMemory, Shape};
+use crate::letters::{letter_of, offered};
+use crate::scenario_reading::read_within;
+use base::{Buffer, NoMemory};
 use scenario::{Cursor, Rest, SaveFault, Scenario, ScenarioFault};
 use std::alloc::Global;
 use std::process::Abort;
@@ -30,13 +31,11 @@ const TREES: [(&str, &str); 4] = [
 ];
 
 fn read_at_last(rt: &impl Abort, alloc: Global, text: &str) -> Scenario<Global> {
-    let shape = Shape::new(2, 1).expect(rt, "a shape");
-    match Scenario::read(alloc, alloc, text.as_bytes(), shape) {
+    match read_within(rt, alloc, text.as_bytes(), 1) {
         Ok(tree) => tree,
         Err(fault) => {
             same(rt, &fault, &ScenarioFault::NoMemory);
-            let read = Scenario::read(alloc, alloc, text.as_bytes(), shape);
-            read.expect(rt, "a second refusal")
+            read_within(rt, alloc, text.as_bytes(), 1).expect(rt, "a second refusal")
         }
     }
 }

@@ -4,20 +4,36 @@ use scenario::{SaveFault, Scenario, ScenarioFault};
 use std::alloc::Global;
 use std::process::Abort;
 
-/// The numbers are of two caches and three blocks.
-fn read(rt: &impl Abort, alloc: Global, text: &[u8]) -> Result<Scenario<Global>, ScenarioFault> {
-    let shape = Shape::new(2, 3).expect(rt, "a shape");
+/// The numbers are of two caches and so many blocks.
+pub fn read_within(
+    rt: &impl Abort,
+    alloc: Global,
+    text: &[u8],
+    blocks: u32,
+) -> Result<Scenario<Global>, ScenarioFault> {
+    let shape = Shape::new(2, blocks).expect(rt, "a shape");
     Scenario::read(alloc, alloc, text, shape)
 }
 
+/// The numbers are of two caches and three blocks.
+fn read(rt: &impl Abort, alloc: Global, text: &str) -> Scenario<Global> {
+    read_within(rt, alloc, text.as_bytes(), 3).expect(rt, "a scenario")
+}
+
 /// Compares why a text is refused, if it is.
-fn has_fault(rt: &impl Abort, alloc: Global, text: &str, fault: Option<ScenarioFault>) {
-    let found = read(rt, alloc, text.as_bytes()).err();
-    same_at(rt, &found, &fault, &text);
+fn has_fault(
+    rt: &impl Abort,
+    alloc: Global,
+    name: &str,
+    text: &[u8],
+    fault: Option<ScenarioFault>,
+) {
+    let found = read_within(rt, alloc, text, 3).err();
+    same_at(rt, &found, &fault, &name);
 }
 
 /// What comes before so many times, then the inner text, and then what comes behind so many times.
-fn nested(
+pub fn nested(
     rt: &impl Abort,
     alloc: Global,
     before: &str,
@@ -154,11 +170,12 @@ const REFUSED: [(&str, ScenarioFault); 41] = [
 
 #[test]
 fn texts_that_are_refused(rt: HostRuntime) {
+    let alloc = rt.alloc();
     for (text, fault) in &REFUSED {
-        has_fault(&rt, rt.alloc(), text, Some(*fault));
+        has_fault(&rt, alloc, text, text.as_bytes(), Some(*fault));
     }
-    let found = read(&rt, rt.alloc(), b"{\"\xff\":[]}").err();
-    same_at(&rt, &found, &Some(ScenarioFault::NotJson), &"no UTF-8");
+    let bytes = b"{\"\xff\":[]}";
+    has_fault(&rt, alloc, "no UTF-8", bytes, Some(ScenarioFault::NotJson));
 }
 
 /// What is refused as any number of a scenario.
@@ -176,7 +193,13 @@ const NO_NUMBERS: [&str; 7] = [
 fn are_no_numbers(rt: &impl Abort, alloc: Global, before: &str, behind: &str) {
     for number in &NO_NUMBERS {
         let text = format!(in alloc; "{before}{number}{behind}").expect(rt, "memory");
-        has_fault(rt, alloc, text.as_str(), Some(ScenarioFault::BadShape));
+        has_fault(
+            rt,
+            alloc,
+            text.as_str(),
+            text.as_bytes(),
+            Some(ScenarioFault::BadShape),
+        );
     }
 }
 
@@ -192,35 +215,45 @@ fn numbers_that_are_refused(rt: HostRuntime) {
     }
 }
 
+const EMPTY: &str = r#"{"seq":[]}"#;
+
+const SEQ: &str = r#"{"seq":["#;
+
+const MOST: &str = r#"{"times":4294967295,"of":"#;
+
+const MILLION: &str = r#"{"times":0,"of":{"times":1000000,"of":{"times":1000000,"of":"#;
+
+const ONE_MILLION: &str = r#"{"times":1000000,"of":"#;
+
+const ONE_MORE: &str = r#"{"times":1000001,"of":"#;
+
+const DEEP: Option<ScenarioFault> = Some(ScenarioFault::TooDeep);
+
+const LONG: Option<ScenarioFault> = Some(ScenarioFault::TooLong);
+
+/// What comes before, the inner text, what comes behind, how often, and why that is refused, if it is.
+const NESTED: [(&str, &str, &str, u32, Option<ScenarioFault>); 14] = [
+    (SEQ, EMPTY, "]}", 47, None),
+    (SEQ, LOAD, "]}", 47, None),
+    (SEQ, EMPTY, "]}", 48, DEEP),
+    (SEQ, "{}", "]}", 48, DEEP),
+    (SEQ, r#"{"any":[]}"#, "]}", 48, DEEP),
+    (SEQ, "{}", "]}", 47, Some(ScenarioFault::BadShape)),
+    (SEQ, EMPTY, "]}", 62, DEEP),
+    (SEQ, EMPTY, "]}", 63, Some(ScenarioFault::NotJson)),
+    (MOST, LOAD, "}", 47, LONG),
+    (MOST, EMPTY, "}", 1, None),
+    (MOST, EMPTY, "}", 47, None),
+    (MILLION, LOAD, "}}}", 1, None),
+    (ONE_MILLION, LOAD, "}", 1, None),
+    (ONE_MORE, LOAD, "}", 1, LONG),
+];
+
 #[test]
 fn levels_and_lengths(rt: HostRuntime) {
-    let alloc = rt.alloc();
-    let seq = r#"{"seq":["#;
-    let most = r#"{"times":4294967295,"of":"#;
-    let million = r#"{"times":0,"of":{"times":1000000,"of":{"times":1000000,"of":"#;
-    let empty = r#"{"seq":[]}"#;
-    let one_million = r#"{"times":1000000,"of":"#;
-    let one_more = r#"{"times":1000001,"of":"#;
-    let deep = Some(ScenarioFault::TooDeep);
-    let long = Some(ScenarioFault::TooLong);
-    for (before, inner, behind, times, fault) in &[
-        (seq, empty, "]}", 47, None),
-        (seq, LOAD, "]}", 47, None),
-        (seq, empty, "]}", 48, deep),
-        (seq, "{}", "]}", 48, deep),
-        (seq, r#"{"any":[]}"#, "]}", 48, deep),
-        (seq, "{}", "]}", 47, Some(ScenarioFault::BadShape)),
-        (seq, empty, "]}", 62, deep),
-        (seq, empty, "]}", 63, Some(ScenarioFault::NotJson)),
-        (most, LOAD, "}", 47, long),
-        (most, empty, "}", 1, None),
-        (most, empty, "}", 47, None),
-        (million, LOAD, "}}}", 1, None),
-        (one_million, LOAD, "}", 1, None),
-        (one_more, LOAD, "}", 1, long),
-    ] {
-        let text = nested(&rt, alloc, before, inner, behind, *times);
-        has_fault(&rt, alloc, text.as_str(), *fault);
+    for (before, inner, behind, times, fault) in &NESTED {
+        let text = nested(&rt, rt.alloc(), before, inner, behind, *times);
+        has_fault(&rt, rt.alloc(), text.as_str(), text.as_bytes(), *fault);
     }
 }
 
@@ -244,36 +277,41 @@ fn writes(rt: &impl Abort, alloc: Global, scenario: &Scenario<Global>, wanted: &
     same_at(rt, &sink.bytes(), &wanted.as_bytes(), &wanted);
 }
 
+/// Reads a text, and compares what that is written as.
+fn is_written(rt: &impl Abort, alloc: Global, text: &str, wanted: &str) {
+    let scenario = read(rt, alloc, text);
+    writes(rt, alloc, &scenario, wanted);
+}
+
 #[test]
 fn texts_read_and_written(rt: HostRuntime) {
     for text in &TEXTS {
-        let scenario = read(&rt, rt.alloc(), text.as_bytes()).expect(&rt, "a scenario");
-        writes(&rt, rt.alloc(), &scenario, text);
+        is_written(&rt, rt.alloc(), text, text);
     }
 }
+
+const SPELLED: [&str; 3] = [
+    r#"{"op":"store","core":1,"block":2,"value":7}"#,
+    " { \"core\" : 1 , \"value\" : 7 ,\n\"op\" : \"store\" , \"block\" : 2 } ",
+    r#"{"op":"load","core":9,"block":2,"value":7,"op":"store","core":1}"#,
+];
 
 #[test]
 fn other_spellings_of_a_text(rt: HostRuntime) {
-    let spelled = [
-        r#"{"op":"store","core":1,"block":2,"value":7}"#,
-        " { \"core\" : 1 , \"value\" : 7 ,\n\"op\" : \"store\" , \"block\" : 2 } ",
-        r#"{"op":"load","core":9,"block":2,"value":7,"op":"store","core":1}"#,
-    ];
     let wanted = r#"{"block":2,"core":1,"op":"store","value":7}"#;
-    for text in &spelled {
-        let scenario = read(&rt, rt.alloc(), text.as_bytes()).expect(&rt, "a scenario");
-        writes(&rt, rt.alloc(), &scenario, wanted);
+    for text in &SPELLED {
+        is_written(&rt, rt.alloc(), text, wanted);
     }
 }
 
-/// Compares what comes through a sink that fails behind so many calls, of which so many are enough.
+/// Compares what comes through a sink that fails behind so many calls, which may be enough.
 fn comes_through(
     rt: &impl Abort,
     alloc: Global,
     scenario: &Scenario<Global>,
     most: usize,
     calls: u64,
-    enough: u64,
+    are_enough: bool,
 ) {
     let at = (most, calls);
     let text = TEXTS[6].as_bytes();
@@ -282,19 +320,20 @@ fn comes_through(
     let out = sink.end().bytes();
     let count = out.len() as u64;
     let fault = SaveFault::Device { written: count };
-    let wanted = if calls == enough { Ok(()) } else { Err(fault) };
+    let wanted = if are_enough { Ok(()) } else { Err(fault) };
     same_at(rt, &written, &wanted, &at);
     same_at(rt, &text.starts_with(out), &true, &at);
-    let is_whole = count == text.len() as u64;
-    same_at(rt, &is_whole, &(calls == enough), &at);
+    let is_whole = out.len() == text.len();
+    same_at(rt, &is_whole, &are_enough, &at);
 }
 
 #[test]
 fn sinks_that_fail_on_the_way(rt: HostRuntime) {
-    let scenario = read(&rt, rt.alloc(), TEXTS[6].as_bytes()).expect(&rt, "a scenario");
+    let scenario = read(&rt, rt.alloc(), TEXTS[6]);
     for (most, enough) in &[(1, 133), (7, 19), (200, 1)] {
-        for calls in 0..=*enough {
-            comes_through(&rt, rt.alloc(), &scenario, *most, calls, *enough);
+        for calls in 0..*enough {
+            comes_through(&rt, rt.alloc(), &scenario, *most, calls, false);
         }
+        comes_through(&rt, rt.alloc(), &scenario, *most, *enough, true);
     }
 }

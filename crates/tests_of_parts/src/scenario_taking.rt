@@ -1,73 +1,15 @@
 use crate::asserting::same;
-use base::{Ask, BlockId, CacheId, CoreAsk, NoMemory, Shape};
+use crate::cursors::{Taking, take};
+use crate::letters::{Moment, letter_of, offered, read};
 use bumpalo::Bump;
-use scenario::{Cursor, Rest, Scenario};
+use scenario::{Rest, Scenario};
 use std::alloc::Global;
 use std::process::Abort;
-
-/// What is offered, whether the scenario may end, which offer is then taken, and which ask that is.
-type Moment<'m> = (&'m str, bool, usize, Option<char>);
-
-pub const LOAD: &str = r#"{"op":"load","core":0,"block":0}"#;
-
-pub const STORE: &str = r#"{"op":"store","core":0,"block":0,"value":5}"#;
-
-/// An ask as a letter: L, S or R for those above.
-fn letter(ask: CoreAsk) -> Option<char> {
-    match (ask.core, ask.block, ask.ask) {
-        (CacheId(0), BlockId(0), Ask::Load) => Some('L'),
-        (CacheId(0), BlockId(0), Ask::Store(5)) => Some('S'),
-        (CacheId(1), BlockId(0), Ask::Replace) => Some('R'),
-        _ => None,
-    }
-}
-
-pub fn letter_of(ask: Option<CoreAsk>) -> Option<char> {
-    match ask {
-        Some(ask) => letter(ask),
-        None => None,
-    }
-}
-
-pub fn read(rt: &impl Abort, alloc: Global, text: &str) -> Scenario<Global> {
-    let shape = Shape::new(2, 1).expect(rt, "a shape");
-    Scenario::read(alloc, alloc, text.as_bytes(), shape).expect(rt, "a scenario")
-}
-
-/// The letters of a list of offers: each stands at its place, and there are no more than are counted.
-fn letters_of<R: Rest>(
-    rt: &impl Abort,
-    heap: Global,
-    rest: &R,
-    asks: &[CoreAsk],
-) -> Result<String, NoMemory> {
-    same(rt, &rest.offer_count(), &asks.len());
-    same(rt, &rest.offer_at(asks.len()), &None);
-    let mut letters = String::new(heap);
-    for (at, ask) in asks.iter().enumerate() {
-        same(rt, &rest.offer_at(at), &Some(*ask));
-        letters.push(letter(*ask).unwrap_or('?'))?;
-    }
-    Ok(letters)
-}
-
-/// The offers as letters.
-pub fn offered<R: Rest>(rt: &impl Abort, heap: Global, rest: &R) -> Result<String, NoMemory> {
-    let mut asks = Vec::new(heap);
-    rest.offers(&mut asks)?;
-    letters_of(rt, heap, rest, asks.as_slice())
-}
 
 /// Compares the offers.
 fn offers<R: Rest>(rt: &impl Abort, heap: Global, rest: &R, wanted: &str) {
     let found = offered(rt, heap, rest).expect(rt, "memory");
     same(rt, &found.as_str(), &wanted);
-}
-
-/// Compares what is left where nothing is.
-fn has_ended<R: Rest>(rt: &impl Abort, heap: Global, rest: &R) {
-    same(rt, &rest.may_end(), &true);
-    offers(rt, heap, rest, "");
 }
 
 /// Takes an offer, and compares its ask.
@@ -91,8 +33,8 @@ fn follow<R: Rest>(
     }
 }
 
-/// Follows the moments in a copy and by a cursor.
-fn follow_in_arena(
+/// Follows the moments in a copy.
+fn follow_copy(
     rt: &impl Abort,
     heap: Global,
     source: &Scenario<Global>,
@@ -101,14 +43,13 @@ fn follow_in_arena(
 ) {
     let mut copy = source.copy_in(bump).expect(rt, "memory");
     follow(rt, heap, &mut copy, bump, moments);
-    let mut cursor: Cursor<'_, Global, &Bump> = Cursor::open(source);
-    follow(rt, heap, &mut cursor, bump, moments);
 }
 
 /// Follows the moments in a copy and by a cursor, both in an arena that is dropped before it, and then in the scenario.
 fn follow_in_all(rt: &impl Abort, heap: Global, text: &str, moments: &[Moment<'_>]) {
     let mut source = read(rt, heap, text);
-    follow_in_arena(rt, heap, &source, &Bump::new(heap), moments);
+    follow_copy(rt, heap, &source, &Bump::new(heap), moments);
+    take(rt, heap, &source, &Taking::Moments(moments));
     follow(rt, heap, &mut source, heap, moments);
 }
 
@@ -155,10 +96,10 @@ fn scenarios_are_taken(rt: HostRuntime) {
 /// Takes so many loads, behind which nothing is left.
 fn takes_loads(rt: &impl Abort, heap: Global, tree: &mut Scenario<Global>, count: u32) {
     for _ in 0..count {
-        let ask = tree.take(heap, 0).expect(rt, "memory");
-        same(rt, &letter_of(ask), &Some('L'));
+        takes(rt, tree, heap, 0, Some('L'));
     }
-    has_ended(rt, heap, tree);
+    same(rt, &tree.may_end(), &true);
+    offers(rt, heap, tree, "");
 }
 
 const MANY_LOADS: &str =
@@ -170,39 +111,54 @@ fn a_long_scenario_stays_shallow(rt: HostRuntime) {
     takes_loads(&rt, rt.alloc(), &mut tree, 100_000);
 }
 
-/// Takes offer 0 in an arena that is full, and then in one with room where that was refused, and answers whether it was.
+/// Takes the only offer, and answers whether there was memory for that. Where there isn't, nothing changes.
+fn take_offer<'b>(
+    rt: &impl Abort,
+    heap: Global,
+    tree: &mut Scenario<&'b Bump>,
+    bump: &'b Bump,
+    wanted: &str,
+) -> bool {
+    offers(rt, heap, tree, wanted);
+    match tree.take(bump, 0) {
+        Ok(taken) => {
+            same(rt, &letter_of(taken), &wanted.chars().next());
+            true
+        }
+        Err(_) => false,
+    }
+}
+
+/// Takes the only offer in an arena that is full, and then in one with room where that was refused, and answers whether it was.
 fn take_in_full_arena<'b>(
     rt: &impl Abort,
     heap: Global,
     tree: &mut Scenario<&'b Bump>,
     bump: &'b Bump,
-    wanted: char,
+    wanted: &str,
 ) -> bool {
-    let before = offered(rt, heap, tree).expect(rt, "memory");
-    if let Ok(taken) = tree.take(bump, 0) {
-        same(rt, &letter_of(taken), &Some(wanted));
+    bump.set_allocation_limit(Some(bump.allocated_bytes()));
+    if take_offer(rt, heap, tree, bump, wanted) {
         return false;
     }
-    offers(rt, heap, tree, before.as_str());
     bump.set_allocation_limit(None);
-    let taken = tree.take(bump, 0).expect(rt, "memory");
-    same(rt, &letter_of(taken), &Some(wanted));
+    same(rt, &take_offer(rt, heap, tree, bump, wanted), &true);
     true
 }
 
-/// Takes so many offers, and answers whether one of them was refused.
+/// Takes so many turns of a load and a store, and answers whether one of them was refused.
 fn take_in_full_arenas<'b>(
     rt: &impl Abort,
     heap: Global,
     tree: &mut Scenario<&'b Bump>,
     bump: &'b Bump,
-    count: u32,
+    turns: u32,
 ) -> bool {
     let mut refused = false;
-    for turn in 0..count {
-        bump.set_allocation_limit(Some(bump.allocated_bytes()));
-        let wanted = if turn % 2 == 0 { 'L' } else { 'S' };
-        refused |= take_in_full_arena(rt, heap, tree, bump, wanted);
+    for _ in 0..turns {
+        for wanted in &["L", "S"] {
+            refused |= take_in_full_arena(rt, heap, tree, bump, wanted);
+        }
     }
     refused
 }
@@ -210,7 +166,7 @@ fn take_in_full_arenas<'b>(
 /// Takes all of a copy in an arena that is full again and again.
 fn take_copy(rt: &impl Abort, heap: Global, source: &Scenario<Global>, bump: &Bump) {
     let mut tree = source.copy_in(bump).expect(rt, "memory");
-    let refused = take_in_full_arenas(rt, heap, &mut tree, bump, 200);
+    let refused = take_in_full_arenas(rt, heap, &mut tree, bump, 100);
     same(rt, &refused, &true);
 }
 

@@ -36,62 +36,89 @@ fn is_shown<T: Display>(rt: &impl Abort, alloc: Global, value: &T, wanted: &str)
     same(rt, &shown.as_str(), &wanted);
 }
 
+/// The step of a line, if it is one.
+fn step_of(line: &str) -> Option<Step> {
+    Step::read(line.as_bytes())
+}
+
+const STEPS: [&str; 11] = [
+    "ask 0 4294967295 load",
+    "ask 4294967295 0 load",
+    "ask 1 2 replace",
+    "ask 1 2 store 0",
+    "ask 0 0 store 18446744073709551615",
+    "request 0 18446744073709551615",
+    "request 4294967295 0",
+    "forward 0 4294967295",
+    "forward 4294967295 0",
+    "response 0 18446744073709551615",
+    "response 4294967295 10",
+];
+
 #[test]
 fn steps_read_and_shown(rt: HostRuntime) {
-    let lines = [
-        "ask 0 4294967295 load",
-        "ask 4294967295 0 load",
-        "ask 1 2 replace",
-        "ask 1 2 store 0",
-        "ask 0 0 store 18446744073709551615",
-        "request 0 18446744073709551615",
-        "request 4294967295 0",
-        "forward 0 4294967295",
-        "forward 4294967295 0",
-        "response 0 18446744073709551615",
-        "response 4294967295 10",
-    ];
-    for line in &lines {
-        let step = Step::read(line.as_bytes()).expect(&rt, "a step");
+    for line in &STEPS {
+        let step = step_of(line).expect(&rt, "a step");
         is_shown(&rt, rt.alloc(), &step, line);
     }
 }
 
+const CACHE: CacheId = CacheId(1);
+
+const BLOCK: BlockId = BlockId(2);
+
+const NUMBERED: [(&str, Step); 6] = [
+    (
+        "ask 1 2 store 3",
+        Step::Ask {
+            cache: CACHE,
+            block: BLOCK,
+            ask: Ask::Store(3),
+        },
+    ),
+    (
+        "ask 1 2 load",
+        Step::Ask {
+            cache: CACHE,
+            block: BLOCK,
+            ask: Ask::Load,
+        },
+    ),
+    (
+        "ask 1 2 replace",
+        Step::Ask {
+            cache: CACHE,
+            block: BLOCK,
+            ask: Ask::Replace,
+        },
+    ),
+    (
+        "request 2 3",
+        Step::Request {
+            block: BLOCK,
+            index: 3,
+        },
+    ),
+    (
+        "forward 2 1",
+        Step::Forward {
+            block: BLOCK,
+            cache: CACHE,
+        },
+    ),
+    (
+        "response 2 3",
+        Step::Response {
+            block: BLOCK,
+            index: 3,
+        },
+    ),
+];
+
 #[test]
 fn which_number_is_which(rt: HostRuntime) {
-    let cache = CacheId(1);
-    let block = BlockId(2);
-    let steps = [
-        (
-            "ask 1 2 store 3",
-            Step::Ask {
-                cache,
-                block,
-                ask: Ask::Store(3),
-            },
-        ),
-        (
-            "ask 1 2 load",
-            Step::Ask {
-                cache,
-                block,
-                ask: Ask::Load,
-            },
-        ),
-        (
-            "ask 1 2 replace",
-            Step::Ask {
-                cache,
-                block,
-                ask: Ask::Replace,
-            },
-        ),
-        ("request 2 3", Step::Request { block, index: 3 }),
-        ("forward 2 1", Step::Forward { block, cache }),
-        ("response 2 3", Step::Response { block, index: 3 }),
-    ];
-    for (line, step) in &steps {
-        same_at(&rt, &Step::read(line.as_bytes()), &Some(*step), line);
+    for (line, step) in &NUMBERED {
+        same_at(&rt, &step_of(line), &Some(*step), line);
     }
 }
 
@@ -132,39 +159,44 @@ const NO_STEPS: [&str; 31] = [
 #[test]
 fn lines_that_are_no_step(rt: HostRuntime) {
     for line in &NO_STEPS {
-        same_at(&rt, &Step::read(line.as_bytes()), &None, line);
+        same_at(&rt, &step_of(line), &None, line);
     }
     same(&rt, &Step::read(b"request 0 \xff"), &None);
 }
 
+const OUTCOMES: [(Outcome, &str); 9] = [
+    (Outcome::Sent, "sent"),
+    (Outcome::Moved, "moved"),
+    (
+        Outcome::Load {
+            cache: CacheId(4294967295),
+            value: 0,
+        },
+        "load 4294967295 0",
+    ),
+    (
+        Outcome::Store {
+            cache: CacheId(0),
+            value: 18446744073709551615,
+        },
+        "store 0 18446744073709551615",
+    ),
+    (Outcome::Held, "held"),
+    (Outcome::Absent, "absent"),
+    (Outcome::Idle, "idle"),
+    (Outcome::Blank, "blank"),
+    (Outcome::Broken, "broken"),
+];
+
+/// The outcome of a line, if it is one.
+fn outcome_of(line: &str) -> Option<Outcome> {
+    Outcome::read(line.as_bytes())
+}
+
 #[test]
 fn outcomes_read_and_shown(rt: HostRuntime) {
-    let outcomes = [
-        (Outcome::Sent, "sent"),
-        (Outcome::Moved, "moved"),
-        (
-            Outcome::Load {
-                cache: CacheId(4294967295),
-                value: 0,
-            },
-            "load 4294967295 0",
-        ),
-        (
-            Outcome::Store {
-                cache: CacheId(0),
-                value: 18446744073709551615,
-            },
-            "store 0 18446744073709551615",
-        ),
-        (Outcome::Held, "held"),
-        (Outcome::Absent, "absent"),
-        (Outcome::Idle, "idle"),
-        (Outcome::Blank, "blank"),
-        (Outcome::Broken, "broken"),
-    ];
-    for (outcome, line) in &outcomes {
-        let found = Outcome::read(line.as_bytes());
-        same_at(&rt, &found, &Some(*outcome), line);
+    for (outcome, line) in &OUTCOMES {
+        same_at(&rt, &outcome_of(line), &Some(*outcome), line);
         is_shown(&rt, rt.alloc(), outcome, line);
     }
 }
@@ -185,27 +217,29 @@ const NO_OUTCOMES: [&str; 10] = [
 #[test]
 fn lines_that_are_no_outcome(rt: HostRuntime) {
     for line in &NO_OUTCOMES {
-        same_at(&rt, &Outcome::read(line.as_bytes()), &None, line);
+        same_at(&rt, &outcome_of(line), &None, line);
     }
 }
 
+/// Texts, and which number each is, and which one of 32 bits.
+const NUMBERS: [(&str, Option<u64>, Option<u32>); 5] = [
+    ("18446744073709551615", Some(18446744073709551615), None),
+    ("18446744073709551616", None, None),
+    ("", None, None),
+    ("4294967295", Some(4294967295), Some(4294967295)),
+    ("4294967296", Some(4294967296), None),
+];
+
 #[test]
 fn words_and_numbers(rt: HostRuntime) {
-    let (word, rest) = cut(b"one  three");
-    same(&rt, &word, &b"one".as_slice());
-    same(&rt, &rest, &Some(b" three".as_slice()));
-    let (word, rest) = cut(b"one");
-    same(&rt, &word, &b"one".as_slice());
-    same(&rt, &rest, &None);
-    same(
-        &rt,
-        &number_of(b"18446744073709551615"),
-        &Some(18446744073709551615),
-    );
-    same(&rt, &number_of(b"18446744073709551616"), &None);
-    same(&rt, &number_of(b""), &None);
-    same(&rt, &small_number_of(b"4294967295"), &Some(4294967295));
-    same(&rt, &small_number_of(b"4294967296"), &None);
+    let word = b"one".as_slice();
+    let rest = b" three".as_slice();
+    same(&rt, &cut(b"one  three"), &(word, Some(rest)));
+    same(&rt, &cut(b"one"), &(word, None));
+    for (text, number, small) in &NUMBERS {
+        same(&rt, &number_of(text.as_bytes()), number);
+        same(&rt, &small_number_of(text.as_bytes()), small);
+    }
     spells_one_step();
 }
 
@@ -217,7 +251,7 @@ fn blocks_of_steps(rt: HostRuntime) {
         ("forward 4 1", 4),
         ("response 5 1", 5),
     ] {
-        let step = Step::read(line.as_bytes()).expect(&rt, "a step");
+        let step = step_of(line).expect(&rt, "a step");
         same_at(&rt, &step.block(), &BlockId(*block), line);
     }
 }
@@ -275,6 +309,14 @@ fn is_put(rt: &impl Abort, alloc: Global, most: usize, calls: u64, written: Opti
     same_at(rt, &Some(sink.end().bytes()), &whole, &(most, calls));
 }
 
+/// Compares what comes through a writer that takes all.
+fn is_put_whole(rt: &impl Abort, alloc: Global) {
+    let mut out = Vec::new(alloc);
+    let put = put_all(&mut ToWrite::new(&mut out), TEXT);
+    same(rt, &put.is_ok(), &true);
+    same(rt, &out.as_slice(), &TEXT);
+}
+
 #[test]
 fn sinks_of_bytes(rt: HostRuntime) {
     for (most, calls, written) in &[
@@ -286,7 +328,5 @@ fn sinks_of_bytes(rt: HostRuntime) {
     ] {
         is_put(&rt, rt.alloc(), *most, *calls, *written);
     }
-    let mut out = Vec::new(rt.alloc());
-    assert!(rt; put_all(&mut ToWrite::new(&mut out), TEXT).is_ok());
-    same(&rt, &out.as_slice(), &TEXT);
+    is_put_whole(&rt, rt.alloc());
 }

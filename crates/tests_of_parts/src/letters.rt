@@ -1,0 +1,57 @@
+//! Scenarios of a load, a store and a replacement, and what is offered and taken of them as letters.
+
+use crate::asserting::same;
+use crate::scenario_reading::read_within;
+use base::{Ask, BlockId, CacheId, CoreAsk, NoMemory};
+use scenario::{Rest, Scenario};
+use std::alloc::Global;
+use std::process::Abort;
+
+/// What is offered, whether the scenario may end, which offer is then taken, and which ask that is.
+pub type Moment<'m> = (&'m str, bool, usize, Option<char>);
+
+/// An ask as a letter.
+fn letter(ask: CoreAsk) -> Option<char> {
+    match (ask.core, ask.block, ask.ask) {
+        (CacheId(0), BlockId(0), Ask::Load) => Some('L'),
+        (CacheId(0), BlockId(0), Ask::Store(5)) => Some('S'),
+        (CacheId(1), BlockId(0), Ask::Replace) => Some('R'),
+        _ => None,
+    }
+}
+
+pub fn letter_of(ask: Option<CoreAsk>) -> Option<char> {
+    match ask {
+        Some(ask) => letter(ask),
+        None => None,
+    }
+}
+
+/// The numbers are of two caches and one block.
+pub fn read(rt: &impl Abort, alloc: Global, text: &str) -> Scenario<Global> {
+    read_within(rt, alloc, text.as_bytes(), 1).expect(rt, "a scenario")
+}
+
+/// The letters of a list of offers: each stands at its place, and there are no more than are counted.
+fn letters_of<R: Rest>(
+    rt: &impl Abort,
+    heap: Global,
+    rest: &R,
+    asks: &[CoreAsk],
+) -> Result<String, NoMemory> {
+    same(rt, &rest.offer_count(), &asks.len());
+    same(rt, &rest.offer_at(asks.len()), &None);
+    let mut letters = String::new(heap);
+    for (at, ask) in asks.iter().enumerate() {
+        same(rt, &rest.offer_at(at), &Some(*ask));
+        letters.push(letter(*ask).unwrap_or('?'))?;
+    }
+    Ok(letters)
+}
+
+/// The offers as letters.
+pub fn offered<R: Rest>(rt: &impl Abort, heap: Global, rest: &R) -> Result<String, NoMemory> {
+    let mut asks = Vec::new(heap);
+    rest.offers(&mut asks)?;
+    letters_of(rt, heap, rest, asks.as_slice())
+}
