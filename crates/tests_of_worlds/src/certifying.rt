@@ -5,8 +5,17 @@ use certify::{Certificate, Standing, certify, standing_of};
 use directory_table::{DirectoryEntry, DirectoryEvent, DirectoryState};
 use std::process::Abort;
 
+pub fn certified(tables: &Tables) -> Certificate {
+    certify(tables)
+}
+
 /// These tables with another entry in one cell: the caches' or the directory's.
-fn changed(own: Tables, cell: CellPlace, cache: CacheEntry, directory: DirectoryEntry) -> Tables {
+pub fn changed(
+    own: Tables,
+    cell: CellPlace,
+    cache: CacheEntry,
+    directory: DirectoryEntry,
+) -> Tables {
     let mut tables = own;
     match cell {
         CellPlace::Cache(state, event) => tables.cache = own.cache.with(state, event, cache),
@@ -37,7 +46,7 @@ fn tables_of_stalls(rt: HostRuntime) {
     let data = CellPlace::Cache(CacheState::IsD, CacheEvent::DataDirZero);
     same(
         &rt,
-        &certify(&tables),
+        &certified(&tables),
         &Certificate::MessagesMayGetStuck(data),
     );
     let load = CellPlace::Cache(CacheState::M, CacheEvent::Load);
@@ -115,7 +124,7 @@ fn named(own: &Tables, blank: &Tables, cell: CellPlace) -> Certificate {
 fn is_certified(rt: &impl Abort, own: &Tables, cell: CellPlace) {
     let stall = stalled(*own, cell);
     let blank = changed(*own, cell, CacheEntry::Blank, DirectoryEntry::Blank);
-    let found = (standing_of(own, cell), certify(&stall), certify(&blank));
+    let found = (standing_of(own, cell), certified(&stall), certified(&blank));
     let wanted = (Standing::Own, walked(own, cell), named(own, &blank, cell));
     same_at(rt, &found, &wanted, &cell);
 }
@@ -123,7 +132,7 @@ fn is_certified(rt: &impl Abort, own: &Tables, cell: CellPlace) {
 #[test]
 fn each_cell_of_the_own_tables(rt: HostRuntime) {
     let own = Tables::baseline();
-    same(&rt, &certify(&own), &Certificate::NeverStuck);
+    same(&rt, &certified(&own), &Certificate::NeverStuck);
     for number in 0..CELLS {
         let cell = CellPlace::at(number).expect(&rt, "a cell");
         is_certified(&rt, &own, cell);
@@ -173,7 +182,7 @@ fn the_greatest_sets_of_stalls(rt: HostRuntime) {
         let (tables, count) = greatest(modified_late, shared_late);
         same_at(
             &rt,
-            &(certify(&tables), count),
+            &(certified(&tables), count),
             &(Certificate::NeverStuck, size),
             &size,
         );
@@ -189,6 +198,6 @@ fn stalls_that_cross(rt: HostRuntime) {
         );
         let acks = CellPlace::Cache(state, CacheEvent::InvAck);
         let wanted = Certificate::MessagesMayGetStuck(acks);
-        same_at(&rt, &certify(&stalled(data, acks)), &wanted, &state);
+        same_at(&rt, &certified(&stalled(data, acks)), &wanted, &state);
     }
 }

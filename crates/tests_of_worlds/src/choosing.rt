@@ -97,36 +97,35 @@ fn comes_next(
     same(rt, &found.as_slice(), &wanted);
 }
 
+/// Scenarios, steps, the cores that are busy behind them, and what can happen next.
+const NEXT: &[(&str, &[&str], &[u32], &[Choice])] = &[
+    (
+        ONE_LOAD,
+        &[
+            "ask 0 0 store 7",
+            "request 0 0",
+            "ask 1 0 load",
+            "request 0 0",
+        ],
+        &[],
+        &[RESPONSE],
+    ),
+    (LOAD_OR_STORE, &[], &[], &[OFFERED_LOAD, OFFERED_STORE]),
+    (
+        LOAD_OR_STORE,
+        &["ask 1 0 store 9"],
+        &[1],
+        &[OFFERED_LOAD, REQUEST],
+    ),
+    (LOAD_OR_STORE, &["ask 1 0 store 9"], &[0, 1], &[REQUEST]),
+];
+
 /// Offers come before deliveries, before and behind the store's ask; and a forward that is held behind the Data is no choice.
 #[test]
 fn what_comes_next(rt: HostRuntime) {
-    let steps = [
-        "ask 0 0 store 7",
-        "request 0 0",
-        "ask 1 0 load",
-        "request 0 0",
-    ];
-    let load = scenario(&rt, rt.alloc(), ONE_LOAD, 2);
-    comes_next(&rt, rt.alloc(), &load, &steps, &[], &[RESPONSE]);
-    let either = scenario(&rt, rt.alloc(), LOAD_OR_STORE, 2);
-    for (steps, busy, wanted) in &[
-        (
-            [].as_slice(),
-            [].as_slice(),
-            [OFFERED_LOAD, OFFERED_STORE].as_slice(),
-        ),
-        (
-            ["ask 1 0 store 9"].as_slice(),
-            [1].as_slice(),
-            [OFFERED_LOAD, REQUEST].as_slice(),
-        ),
-        (
-            ["ask 1 0 store 9"].as_slice(),
-            [0, 1].as_slice(),
-            [REQUEST].as_slice(),
-        ),
-    ] {
-        comes_next(&rt, rt.alloc(), &either, steps, busy, wanted);
+    for (text, steps, busy, wanted) in NEXT {
+        let tree = scenario(&rt, rt.alloc(), text, 2);
+        comes_next(&rt, rt.alloc(), &tree, steps, busy, wanted);
     }
 }
 
@@ -235,8 +234,8 @@ const TWO_LANES: &str = r#"{"both":[
 
 #[test]
 fn lanes_have_the_choices_of_a_list(rt: HostRuntime) {
-    let load = scenario(&rt, rt.alloc(), ONE_LOAD, 2);
-    makes(&rt, rt.alloc(), &load, 3);
-    let lanes = scenario(&rt, rt.alloc(), TWO_LANES, 2);
-    makes(&rt, rt.alloc(), &lanes, 10);
+    for (text, wanted) in [(ONE_LOAD, 3), (TWO_LANES, 10)] {
+        let tree = scenario(&rt, rt.alloc(), text, 2);
+        makes(&rt, rt.alloc(), &tree, wanted);
+    }
 }

@@ -1,16 +1,18 @@
-use base::{Outcome, Step};
+use crate::making::step_of;
+use base::Outcome;
 use record::{Entry, PushFault, Recording};
 use std::process::Abort;
 
+pub fn outcome_of(rt: &impl Abort, text: &str) -> Outcome {
+    Outcome::read(text.as_bytes()).expect(rt, "an outcome")
+}
+
 /// The entry of a line: a step and an outcome, with ` = ` between them.
-pub fn entry_of(line: &str) -> Option<Entry> {
-    let (step, outcome) = line.split_once(" = ")?;
-    match (
-        Step::read(step.as_bytes()),
-        Outcome::read(outcome.as_bytes()),
-    ) {
-        (Some(step), Some(outcome)) => Some(Entry { step, outcome }),
-        _ => None,
+pub fn entry_of(rt: &impl Abort, line: &str) -> Entry {
+    let (step, outcome) = line.split_once(" = ").expect(rt, "an entry");
+    Entry {
+        step: step_of(rt, step),
+        outcome: outcome_of(rt, outcome),
     }
 }
 

@@ -1,17 +1,18 @@
 //! MSI+E: what its tables and its recordings may name, and what MSI's may not.
 
 use crate::asserting::{same, same_at};
-use crate::certifying::stalled;
+use crate::certifying::{certified, changed, stalled};
 use crate::making::acting;
-use crate::recordings::{is_refused, writes};
+use crate::overrides::makes;
+use crate::recordings::{is_refused, read, writes};
 use base::controller::Protocol;
 use both_tables::{CELLS, CellPlace, Tables, TablesFault};
 use cache_table::{CacheAction, CacheEntry, CacheEvent, CacheState};
-use certify::{Certificate, Standing, certify, standing_of};
+use certify::{Certificate, Standing, standing_of};
 use directory_table::{
     DirectoryAction, DirectoryActions, DirectoryEntry, DirectoryEvent, DirectoryState,
 };
-use record::{ReadKind, Recording};
+use record::ReadKind;
 use std::process::Abort;
 
 #[test]
@@ -64,15 +65,24 @@ fn names_that_msi_has_not(rt: HostRuntime) {
         (CacheState::I, CacheEvent::DataDirExcl, CacheEntry::Stall),
         (CacheState::I, CacheEvent::Load, to_e),
     ] {
-        let changed = own.cache.with(*state, *event, *entry);
-        same_at(&rt, &changed, &own.cache, &(*state, *event));
+        let cell = CellPlace::Cache(*state, *event);
+        same_at(
+            &rt,
+            &changed(own, cell, *entry, DirectoryEntry::Stall),
+            &own,
+            &cell,
+        );
     }
     let actions = DirectoryActions::of(&[DirectoryAction::DataExcl]).expect(&rt, "one action");
     let next = DirectoryState::M;
     let giving = DirectoryEntry::Act { next, actions };
-    let (state, event) = (DirectoryState::I, DirectoryEvent::GetS);
-    let changed = own.directory.with(state, event, giving);
-    same(&rt, &changed, &own.directory);
+    let cell = CellPlace::Directory(DirectoryState::I, DirectoryEvent::GetS);
+    same_at(
+        &rt,
+        &changed(own, cell, CacheEntry::Stall, giving),
+        &own,
+        &cell,
+    );
 }
 
 /// Overrides that MSI+E takes, and how MSI refuses them.
@@ -98,8 +108,7 @@ const OVERRIDES: [(&str, TablesFault); 4] = [
 #[test]
 fn overrides_of_either(rt: HostRuntime) {
     for (text, fault) in &OVERRIDES {
-        let msi = Tables::from_json(rt.alloc(), text.as_bytes());
-        same_at(&rt, &msi, &Err(*fault), text);
+        makes(&rt, rt.alloc(), text, Err(*fault));
         let msi_e = Tables::from_json_of(rt.alloc(), Protocol::MsiE, text.as_bytes());
         same_at(&rt, &msi_e.is_ok(), &true, text);
     }
@@ -113,7 +122,7 @@ const TEXT: &str =
 #[test]
 fn a_text_of_msi_e(rt: HostRuntime) {
     let mut source = TEXT.as_bytes();
-    let recording = Recording::read(rt.alloc(), &mut source).expect(&rt, "a recording");
+    let recording = read(rt.alloc(), &mut source).expect(&rt, "a recording");
     same(&rt, &recording.protocol(), &Protocol::MsiE);
     writes(&rt, rt.alloc(), &recording, TEXT);
 }
@@ -167,7 +176,7 @@ fn counts(own: Tables) -> (u32, u32) {
     let (mut messages, mut asks) = (0u32, 0u32);
     for number in 0..CELLS {
         if let Some(cell) = CellPlace::at(number) {
-            match certify(&stalled(own, cell)) {
+            match certified(&stalled(own, cell)) {
                 Certificate::MessagesMayGetStuck(_) => messages = messages.saturating_add(1),
                 Certificate::AsksMayBeHeld(_) => asks = asks.saturating_add(1),
                 _ => {}
@@ -180,7 +189,7 @@ fn counts(own: Tables) -> (u32, u32) {
 #[test]
 fn what_is_certified(rt: HostRuntime) {
     let own = Tables::baseline_of(Protocol::MsiE);
-    same(&rt, &certify(&own), &Certificate::NeverStuck);
+    same(&rt, &certified(&own), &Certificate::NeverStuck);
     same(&rt, &counts(Tables::baseline()), &(34, 8));
     same(&rt, &counts(own), &(37, 11));
     let actions = [CacheAction::DataReq, CacheAction::DataDir];
@@ -188,6 +197,6 @@ fn what_is_certified(rt: HostRuntime) {
     let mut tables = own;
     tables.cache = own.cache.with(CacheState::E, CacheEvent::FwdGetS, kept);
     let cell = CellPlace::Cache(CacheState::E, CacheEvent::FwdGetS);
-    same(&rt, &certify(&tables), &Certificate::NotProved(cell));
+    same(&rt, &certified(&tables), &Certificate::NotProved(cell));
     same(&rt, &standing_of(&tables, cell), &Standing::Open);
 }

@@ -8,6 +8,8 @@ mod certifying;
 #[cfg(test)]
 mod choosing;
 #[cfg(test)]
+mod comparing;
+#[cfg(test)]
 mod entries;
 #[cfg(test)]
 mod exclusive;

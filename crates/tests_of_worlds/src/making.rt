@@ -1,13 +1,14 @@
-//! What tests begin with: steps, tables, worlds, setups and scenarios.
+//! What tests begin with: steps, tables, worlds, setups and scenarios. A call with a long contract stands in one function here,
+//! as it is proved anew wherever it stands.
 
 use base::{Shape, Step};
 use both_tables::Tables;
 use cache_table::{CacheAction, CacheActions, CacheEntry, CacheEvent, CacheState};
-use scenario::Scenario;
+use scenario::{Scenario, ScenarioFault};
 use std::alloc::Global;
 use std::process::Abort;
-use trials::Setup;
-use world::World;
+use trials::{Setup, SetupFault};
+use world::{OpenFault, World};
 
 /// An entry that goes to a state and does these actions.
 pub fn acting(rt: &impl Abort, next: CacheState, actions: &[CacheAction]) -> CacheEntry {
@@ -22,6 +23,30 @@ pub fn with_entry(state: CacheState, event: CacheEvent, entry: CacheEntry) -> Ta
     tables
 }
 
+pub fn shape_of(rt: &impl Abort, caches: u32, blocks: u32) -> Shape {
+    Shape::new(caches, blocks).expect(rt, "a shape")
+}
+
+/// So many values: the first one, and each that follows higher by a step.
+pub fn values(rt: &impl Abort, alloc: Global, count: u32, first: u64, step: u64) -> Vec<u64> {
+    let mut values = Vec::new(alloc);
+    let mut value = first;
+    for _ in 0..count {
+        values.push(value).expect(rt, "memory");
+        value = value.saturating_add(step);
+    }
+    values
+}
+
+pub fn open_world(
+    alloc: Global,
+    shape: Shape,
+    tables: Tables,
+    opening: Vec<u64>,
+) -> Result<World, OpenFault> {
+    World::open(alloc, shape, tables, opening)
+}
+
 /// A world of so many caches and blocks, each of which opens at this value.
 pub fn opened(
     rt: &impl Abort,
@@ -31,9 +56,8 @@ pub fn opened(
     tables: Tables,
     value: u64,
 ) -> World {
-    let shape = Shape::new(caches, blocks).expect(rt, "a shape");
-    let opening = vec![in alloc; value; blocks as usize].expect(rt, "memory");
-    World::open(alloc, shape, tables, opening).expect(rt, "a world")
+    let opening = values(rt, alloc, blocks, value, 0);
+    open_world(alloc, shape_of(rt, caches, blocks), tables, opening).expect(rt, "a world")
 }
 
 pub fn step_of(rt: &impl Abort, line: &str) -> Step {
@@ -47,6 +71,16 @@ pub fn make_all(rt: &impl Abort, world: &mut World, steps: &[&str]) {
     }
 }
 
+pub fn open_setup(
+    shape: Shape,
+    tables: Tables,
+    opening: Vec<u64>,
+    seed: u64,
+    limit: u32,
+) -> Result<Setup, SetupFault> {
+    Setup::new(shape, tables, opening, seed, limit)
+}
+
 /// The setup of so many caches and blocks, each of which opens at 0.
 pub fn setup(
     rt: &impl Abort,
@@ -57,13 +91,19 @@ pub fn setup(
     seed: u64,
     limit: u32,
 ) -> Setup {
-    let shape = Shape::new(caches, blocks).expect(rt, "a shape");
-    let opening = vec![in alloc; 0; blocks as usize].expect(rt, "memory");
-    Setup::new(shape, tables, opening, seed, limit).expect(rt, "a setup")
+    let opening = values(rt, alloc, blocks, 0, 0);
+    open_setup(shape_of(rt, caches, blocks), tables, opening, seed, limit).expect(rt, "a setup")
+}
+
+pub fn read_scenario(
+    alloc: Global,
+    text: &str,
+    shape: Shape,
+) -> Result<Scenario<Global>, ScenarioFault> {
+    Scenario::read(alloc, alloc, text.as_bytes(), shape)
 }
 
 /// A scenario for so many caches and one block.
 pub fn scenario(rt: &impl Abort, alloc: Global, text: &str, caches: u32) -> Scenario<Global> {
-    let shape = Shape::new(caches, 1).expect(rt, "a shape");
-    Scenario::read(alloc, alloc, text.as_bytes(), shape).expect(rt, "a scenario")
+    read_scenario(alloc, text, shape_of(rt, caches, 1)).expect(rt, "a scenario")
 }

@@ -9,7 +9,7 @@ use std::alloc::Global;
 use std::process::Abort;
 
 /// Compares what a text makes of the baseline.
-fn makes(rt: &impl Abort, alloc: Global, text: &str, wanted: Result<Tables, TablesFault>) {
+pub fn makes(rt: &impl Abort, alloc: Global, text: &str, wanted: Result<Tables, TablesFault>) {
     let found = Tables::from_json(alloc, text.as_bytes());
     same_at(rt, &found, &wanted, &text);
 }

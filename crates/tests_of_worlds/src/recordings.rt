@@ -1,14 +1,13 @@
 use crate::asserting::{same, same_at};
 use crate::entries::{entry_of, push};
-use crate::making::with_entry;
+use crate::making::{shape_of, values, with_entry};
 use base::controller::Protocol;
-use base::{BlockId, Buffer, CacheId, Faltering, Outcome, Place, Shape, Step};
+use base::{BlockId, Buffer, CacheId, Faltering, Outcome, Place, Source, Step};
 use both_tables::Tables;
 use cache_table::{CacheEntry, CacheEvent, CacheState};
 use monitor::Violation;
 use record::{
-    Entry, MOST_ENTRIES, PushFault, ReadFault, ReadKind, Recording, ReplayFault, Replayed,
-    WriteFault, replay,
+    Entry, MOST_ENTRIES, PushFault, ReadFault, ReadKind, Recording, ReplayFault, WriteFault, replay,
 };
 use std::alloc::Global;
 use std::process::Abort;
@@ -22,9 +21,8 @@ fn recorded(
     tables: Tables,
     lines: &[&str],
 ) -> Recording {
-    let shape = Shape::new(caches, 1).expect(rt, "a shape");
-    let opening = vec![in alloc; 0].expect(rt, "memory");
-    let opened = Recording::open(alloc, shape, tables, opening);
+    let opening = values(rt, alloc, 1, 0, 0);
+    let opened = Recording::open(alloc, shape_of(rt, caches, 1), tables, opening);
     let mut recording = opened.expect(rt, "a recording");
     push_all(rt, &mut recording, lines);
     recording
@@ -32,8 +30,7 @@ fn recorded(
 
 fn push_all(rt: &impl Abort, recording: &mut Recording, lines: &[&str]) {
     for line in lines {
-        let entry = entry_of(line).expect(rt, "an entry");
-        push(rt, recording, entry).expect(rt, "memory");
+        push(rt, recording, entry_of(rt, line)).expect(rt, "memory");
     }
 }
 
@@ -123,9 +120,9 @@ fn holds(rt: &impl Abort, recording: &Recording) {
     same(rt, &recording.opening(), &[0u64].as_slice());
     let is_own = recording.tables() == Tables::baseline();
     same(rt, &is_own, &true);
-    let first = entry_of(ONE_LOAD[0]);
+    let first = entry_of(rt, ONE_LOAD[0]);
     same(rt, &recording.entries().len(), &3);
-    same(rt, &recording.entries().first().copied(), &first);
+    same(rt, &recording.entries().first().copied(), &Some(first));
 }
 
 #[test]
@@ -139,20 +136,20 @@ fn a_recording_of_one_load(rt: HostRuntime) {
 
 #[test]
 fn a_recording_of_no_values(rt: HostRuntime) {
-    let shape = Shape::new(1, 1).expect(&rt, "a shape");
+    let shape = shape_of(&rt, 1, 1);
     let none = Vec::new(rt.alloc());
     let refused = Recording::open(rt.alloc(), shape, Tables::baseline(), none).err();
     same(&rt, &refused, &Some(OpenFault::OpeningLength));
 }
 
 /// What a replay found: how many entries, and the violation; or the fault.
-fn replayed(
+pub fn replayed(
     alloc: Global,
     recording: &Recording,
 ) -> Result<(usize, Option<(u64, Violation)>), ReplayFault> {
-    match replay(alloc, recording) {
-        Ok(Replayed { entries, violation }) => Ok((entries.len(), violation)),
-        Err(fault) => Err(fault),
+    match &replay(alloc, recording) {
+        Ok(found) => Ok((found.entries.len(), found.violation)),
+        Err(fault) => Err(*fault),
     }
 }
 
@@ -211,16 +208,21 @@ fn entries_up_to_the_most(rt: HostRuntime) {
     fill(&rt, &mut recording);
 }
 
+/// What comes of reading a recording.
+pub fn read<S: Source>(alloc: Global, source: &mut S) -> Result<Recording, ReadFault> {
+    Recording::read(alloc, source)
+}
+
 /// What reading these bytes is refused with, if it is.
 pub fn fault_of(alloc: Global, bytes: &[u8]) -> Option<ReadFault> {
     let mut source = bytes;
-    Recording::read(alloc, &mut source).err()
+    read(alloc, &mut source).err()
 }
 
 /// Compares a text with what it is written as where it is read, so many bytes at a time.
 fn is_written_back(rt: &impl Abort, alloc: Global, text: &str, most: usize) {
     let mut source = Faltering::over(text.as_bytes(), most, 1000);
-    let recording = Recording::read(alloc, &mut source).expect(rt, "a recording");
+    let recording = read(alloc, &mut source).expect(rt, "a recording");
     writes(rt, alloc, &recording, text);
 }
 
@@ -256,7 +258,7 @@ pub fn is_refused(rt: &impl Abort, alloc: Global, bytes: &[u8], line: u64, kind:
 /// Compares what is refused where the source fails behind so many bytes.
 fn fails_behind(rt: &impl Abort, alloc: Global, text: &[u8], calls: u64, line: u64) {
     let mut source = Faltering::over(text, 1, calls);
-    let fault = Recording::read(alloc, &mut source).err();
+    let fault = read(alloc, &mut source).err();
     let kind = ReadKind::Device;
     same_at(rt, &fault, &Some(ReadFault { line, kind }), &calls);
 }

@@ -2,17 +2,20 @@
 //! has to stand then, and the second call has to succeed. Where nothing is refused they are plain runs.
 
 use crate::asserting::same;
+use crate::comparing::same_worlds;
 use crate::entries::{entry_of, push};
+use crate::making::{open_setup, open_world, read_scenario, shape_of};
+use crate::recordings::{read, replayed};
 use crate::text_replays::ANOTHER_VALUE;
 use crate::trying::{ONE_LOAD, RACING_PAIR, are_results};
-use base::{BlockId, CacheId, NoMemory, Outcome, Shape, Step};
+use base::{CacheId, NoMemory, Outcome, Step};
 use both_tables::Tables;
 use moment::Moment;
 use record::{
-    Entry, PushFault, ReadFault, ReadKind, Recording, ReplayFault, TextFault, replay, replay_text,
+    Entry, PushFault, ReadFault, ReadKind, Recording, ReplayFault, TextFault, replay_text,
 };
 use scenario::Scenario;
-use std::alloc::Global;
+use std::alloc::{AllocError, Global};
 use std::process::Abort;
 use std::test::Fail;
 use trials::{BatchFault, Setup, Trial, TrialResult, Verdict, batch, trial};
@@ -46,53 +49,34 @@ const LATE_PUTS: [&str; 24] = [
     "response 0 0 = store 1 3",
 ];
 
-fn setup(alloc: Global, caches: u32, limit: u32) -> Result<Setup, Fail> {
-    let shape = Shape::new(caches, 1)?;
-    let opening = vec![in alloc; 0; 1]?;
-    Ok(Setup::new(shape, Tables::baseline(), opening, 42, limit)?)
+/// The values of one block that opens at 0.
+fn zero(alloc: Global) -> Result<Vec<u64>, AllocError> {
+    vec![in alloc; 0; 1]
 }
 
-fn scenario(alloc: Global, text: &str, caches: u32) -> Result<Scenario<Global>, Fail> {
-    let shape = Shape::new(caches, 1)?;
-    Ok(Scenario::read(alloc, alloc, text.as_bytes(), shape)?)
+fn setup(rt: &impl Abort, alloc: Global, caches: u32, limit: u32) -> Result<Setup, Fail> {
+    let opening = zero(alloc)?;
+    let shape = shape_of(rt, caches, 1);
+    Ok(open_setup(shape, Tables::baseline(), opening, 42, limit).expect(rt, "a setup"))
 }
 
-fn opened(alloc: Global) -> Result<World, Fail> {
-    let shape = Shape::new(3, 1)?;
-    let opening = vec![in alloc; 0; 1]?;
-    Ok(World::open(alloc, shape, Tables::baseline(), opening)?)
+fn scenario(
+    rt: &impl Abort,
+    alloc: Global,
+    text: &str,
+    caches: u32,
+) -> Result<Scenario<Global>, Fail> {
+    Ok(read_scenario(alloc, text, shape_of(rt, caches, 1))?)
 }
 
-/// Compares the lines of a cache, and whether the home has it among the sharers.
-fn same_lines(rt: &impl Abort, found: &World, wanted: &World, cache: CacheId) {
-    let block = BlockId(0);
-    let found = (found.line(cache, block), found.shares(cache, block));
-    let wanted = (wanted.line(cache, block), wanted.shares(cache, block));
-    same(rt, &found, &wanted);
-}
-
-/// Compares what is enabled in two worlds.
-fn same_choices(rt: &impl Abort, found: &World, wanted: &World) {
-    same(rt, &found.enabled_count(), &wanted.enabled_count());
-    for k in 0..wanted.enabled_count() {
-        same(rt, &found.enabled_at(k), &wanted.enabled_at(k));
-    }
+fn opened(rt: &impl Abort, alloc: Global) -> Result<World, Fail> {
+    let opening = zero(alloc)?;
+    Ok(open_world(alloc, shape_of(rt, 3, 1), Tables::baseline(), opening)?)
 }
 
 /// Compares all that can be seen of two worlds of three caches and a block.
-fn same_worlds(rt: &impl Abort, found: &World, wanted: &World) {
-    let block = BlockId(0);
-    same(rt, &found.tested(), &wanted.tested());
-    same(rt, &found.home(block), &wanted.home(block));
-    same(rt, &found.latest(block), &wanted.latest(block));
-    same(rt, &found.readers(block), &wanted.readers(block));
-    same(rt, &found.writer(block), &wanted.writer(block));
-    same(rt, &found.broken(), &wanted.broken());
-    same(rt, &found.empty(), &wanted.empty());
-    for cache in 0..3 {
-        same_lines(rt, found, wanted, CacheId(cache));
-    }
-    same_choices(rt, found, wanted);
+fn same_world(rt: &impl Abort, found: &World, wanted: &World) {
+    same_worlds(rt, found, wanted, &[0], &[0, 1, 2]);
 }
 
 /// Makes a step by one of the two calls that make one.
@@ -115,7 +99,7 @@ fn made_at_last(
     if let Ok(outcome) = outcome_of(world, step, tells) {
         return outcome;
     }
-    same_worlds(rt, world, before);
+    same_world(rt, world, before);
     outcome_of(world, step, tells).expect(rt, "a second refusal")
 }
 
@@ -137,7 +121,7 @@ fn make_each(
     tells: bool,
 ) -> Result<(), NoMemory> {
     for line in &LATE_PUTS {
-        let entry = entry_of(line).expect(rt, "an entry");
+        let entry = entry_of(rt, line);
         let outcome = made(rt, alloc, world, entry.step, tells)?;
         same(rt, &outcome, &entry.outcome);
     }
@@ -145,7 +129,7 @@ fn make_each(
 }
 
 fn make_each_in_new(rt: &impl Abort, alloc: Global, tells: bool) -> Result<(), Fail> {
-    let mut world = opened(alloc)?;
+    let mut world = opened(rt, alloc)?;
     Ok(make_each(rt, alloc, &mut world, tells)?)
 }
 
@@ -159,15 +143,14 @@ fn a_step_of_which_more_is_told_or_not(rt: HostRuntime) -> Result<(), Fail> {
 fn compare(rt: &impl Abort, outcomes: &[Outcome], count: usize) {
     same(rt, &outcomes.len(), &count);
     for (outcome, line) in outcomes.iter().zip(&LATE_PUTS) {
-        same(rt, outcome, &entry_of(line).expect(rt, "an entry").outcome);
+        same(rt, outcome, &entry_of(rt, line).outcome);
     }
 }
 
 fn late_steps(rt: &impl Abort, alloc: Global) -> Result<Vec<Step>, NoMemory> {
     let mut steps = Vec::new(alloc);
     for line in &LATE_PUTS {
-        let entry = entry_of(line).expect(rt, "an entry");
-        steps.push(entry.step)?;
+        steps.push(entry_of(rt, line).step)?;
     }
     Ok(steps)
 }
@@ -177,7 +160,7 @@ fn has_made(rt: &impl Abort, world: &World, other: &mut World, steps: &[Step]) {
     for step in steps {
         other.step(*step).expect(rt, "a second refusal");
     }
-    same_worlds(rt, world, other);
+    same_world(rt, world, other);
 }
 
 /// Makes steps in one run, and what is left of them in a second one where a step is refused memory.
@@ -198,8 +181,8 @@ fn run_at_last(
 }
 
 fn run_late(rt: &impl Abort, alloc: Global, steps: &[Step]) -> Result<(), Fail> {
-    let mut world = opened(alloc)?;
-    let mut other = opened(alloc)?;
+    let mut world = opened(rt, alloc)?;
+    let mut other = opened(rt, alloc)?;
     let mut outcomes = Vec::new(alloc);
     run_at_last(rt, &mut world, &mut other, steps, &mut outcomes);
     Ok(())
@@ -239,16 +222,30 @@ fn lead_at_last<'s>(
     same(rt, &moment.is_at_rest(), &true);
 }
 
+/// Leads a moment to its rest, and once more from the start.
+fn lead_twice<'s>(
+    rt: &impl Abort,
+    alloc: Global,
+    moment: &mut Moment<'s, Global, Global>,
+    load: &'s Scenario<Global>,
+) -> Result<(), NoMemory> {
+    lead_at_last(rt, alloc, moment, load);
+    moment.restart(alloc, load)?;
+    lead_at_last(rt, alloc, moment, load);
+    Ok(())
+}
+
+fn lead_new(rt: &impl Abort, alloc: Global, load: &Scenario<Global>) -> Result<(), Fail> {
+    let mut world = opened(rt, alloc)?;
+    world.restart();
+    let mut moment = Moment::open(alloc, load, world)?;
+    Ok(lead_twice(rt, alloc, &mut moment, load)?)
+}
+
 #[test]
 fn a_moment(rt: HostRuntime) -> Result<(), Fail> {
-    let load = scenario(rt.alloc(), ONE_LOAD, 3)?;
-    let mut world = opened(rt.alloc())?;
-    world.restart();
-    let mut moment = Moment::open(rt.alloc(), &load, world)?;
-    lead_at_last(&rt, rt.alloc(), &mut moment, &load);
-    moment.restart(rt.alloc(), &load)?;
-    lead_at_last(&rt, rt.alloc(), &mut moment, &load);
-    Ok(())
+    let load = scenario(&rt, rt.alloc(), ONE_LOAD, 3)?;
+    lead_new(&rt, rt.alloc(), &load)
 }
 
 const RACED: [&str; 6] = [
@@ -264,7 +261,7 @@ const RACED: [&str; 6] = [
 fn are_entries(rt: &impl Abort, found: &[Entry], lines: &[&str]) {
     same(rt, &found.len(), &lines.len());
     for (entry, line) in found.iter().zip(lines) {
-        same(rt, &Some(*entry), &entry_of(line));
+        same(rt, entry, &entry_of(rt, line));
     }
 }
 
@@ -289,8 +286,8 @@ fn trial_at_last(rt: &impl Abort, alloc: Global, pair: &Scenario<Global>, setup:
 
 #[test]
 fn a_trial(rt: HostRuntime) -> Result<(), Fail> {
-    let setup = setup(rt.alloc(), 2, 6)?;
-    let pair = scenario(rt.alloc(), RACING_PAIR, 2)?;
+    let setup = setup(&rt, rt.alloc(), 2, 6)?;
+    let pair = scenario(&rt, rt.alloc(), RACING_PAIR, 2)?;
     trial_at_last(&rt, rt.alloc(), &pair, &setup);
     Ok(())
 }
@@ -308,8 +305,8 @@ fn batch_at_last(rt: &impl Abort, alloc: Global, load: &Scenario<Global>, setup:
 
 #[test]
 fn a_batch(rt: HostRuntime) -> Result<(), Fail> {
-    let setup = setup(rt.alloc(), 1, 9)?;
-    let load = scenario(rt.alloc(), ONE_LOAD, 1)?;
+    let setup = setup(&rt, rt.alloc(), 1, 9)?;
+    let load = scenario(&rt, rt.alloc(), ONE_LOAD, 1)?;
     batch_at_last(&rt, rt.alloc(), &load, &setup);
     Ok(())
 }
@@ -324,19 +321,19 @@ fn is_no_memory(rt: &impl Abort, fault: ReadFault) {
 /// Reads a text, at the second call where the first one is refused memory.
 fn read_at_last(rt: &impl Abort, alloc: Global, text: &str) -> Recording {
     let mut source = text.as_bytes();
-    match Recording::read(alloc, &mut source) {
+    match read(alloc, &mut source) {
         Ok(recording) => recording,
         Err(fault) => {
             is_no_memory(rt, fault);
             let mut source = text.as_bytes();
-            Recording::read(alloc, &mut source).expect(rt, "a second refusal")
+            read(alloc, &mut source).expect(rt, "a second refusal")
         }
     }
 }
 
 fn replayed_at_last(alloc: Global, recording: &Recording) -> Option<ReplayFault> {
-    match replay(alloc, recording).err() {
-        Some(ReplayFault::NoMemory) => replay(alloc, recording).err(),
+    match replayed(alloc, recording).err() {
+        Some(ReplayFault::NoMemory) => replayed(alloc, recording).err(),
         fault => fault,
     }
 }
@@ -396,19 +393,19 @@ fn push_at_last(rt: &impl Abort, recording: &mut Recording, entry: Entry) {
 
 fn push_each(rt: &impl Abort, recording: &mut Recording) {
     for line in &LATE_PUTS {
-        push_at_last(rt, recording, entry_of(line).expect(rt, "an entry"));
+        push_at_last(rt, recording, entry_of(rt, line));
     }
     are_entries(rt, recording.entries(), &LATE_PUTS);
 }
 
-fn opened_recording(alloc: Global) -> Result<Recording, Fail> {
-    let setup = setup(alloc, 3, 0)?;
+fn opened_recording(rt: &impl Abort, alloc: Global) -> Result<Recording, Fail> {
+    let setup = setup(rt, alloc, 3, 0)?;
     Ok(setup.open_recording(alloc)?)
 }
 
 #[test]
 fn entries_are_pushed(rt: HostRuntime) -> Result<(), Fail> {
-    let mut recording = opened_recording(rt.alloc())?;
+    let mut recording = opened_recording(&rt, rt.alloc())?;
     push_each(&rt, &mut recording);
     Ok(())
 }

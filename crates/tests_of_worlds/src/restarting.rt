@@ -1,6 +1,9 @@
-use crate::asserting::{same, same_at};
-use crate::making::{acting, make_all, with_entry};
-use base::{BlockId, CacheId, Shape};
+use crate::asserting::same;
+use crate::comparing::same_worlds;
+use crate::making::{
+    acting, make_all, open_setup, open_world, read_scenario, shape_of, values, with_entry,
+};
+use base::Shape;
 use both_tables::Tables;
 use cache_table::{CacheAction, CacheEntry, CacheEvent, CacheState};
 use scenario::Scenario;
@@ -8,16 +11,6 @@ use std::alloc::Global;
 use std::process::Abort;
 use trials::{Setup, TrialResult, Verdict, batch, trial};
 use world::World;
-
-/// A value for each block: 100 and its number, or 7.
-fn values(rt: &impl Abort, alloc: Global, blocks: u32, rises: bool) -> Vec<u64> {
-    let mut values = Vec::with_capacity(alloc, blocks as usize).expect(rt, "memory");
-    for block in 0..blocks {
-        let value = if rises { 100 + block as u64 } else { 7 };
-        values.push(value).expect(rt, "memory");
-    }
-    values
-}
 
 /// The protocol's own tables, where a load in I meets a blank cell if that is wanted.
 fn tables(blank: bool) -> Tables {
@@ -28,35 +21,21 @@ fn tables(blank: bool) -> Tables {
     }
 }
 
+/// A world whose blocks open at 100 and their number each, or at 7.
 fn opened(rt: &impl Abort, alloc: Global, shape: Shape, blank: bool, rises: bool) -> World {
-    let opening = values(rt, alloc, shape.blocks(), rises);
-    World::open(alloc, shape, tables(blank), opening).expect(rt, "a world")
-}
-
-/// Compares what can be seen of a block.
-fn same_block(rt: &impl Abort, world: &World, fresh: &World, block: BlockId) {
-    let last = CacheId(world.shape().caches() - 1);
-    same_at(rt, &world.home(block), &fresh.home(block), &block);
-    same_at(rt, &world.latest(block), &fresh.latest(block), &block);
-    let readers = (world.readers(block), world.writer(block));
-    let wanted = (fresh.readers(block), fresh.writer(block));
-    same_at(rt, &readers, &wanted, &block);
-    let lines = (world.line(CacheId(0), block), world.line(last, block));
-    let wanted = (fresh.line(CacheId(0), block), fresh.line(last, block));
-    same_at(rt, &lines, &wanted, &block);
+    let (first, step) = if rises { (100, 1) } else { (7, 0) };
+    let opening = values(rt, alloc, shape.blocks(), first, step);
+    open_world(alloc, shape, tables(blank), opening).expect(rt, "a world")
 }
 
 /// Compares what can be seen of two worlds.
 fn same_world(rt: &impl Abort, alloc: Global, world: &World, fresh: &World) {
-    for block in [0, 1, world.shape().blocks() - 1] {
-        same_block(rt, world, fresh, BlockId(block));
-    }
+    let last_block = world.shape().blocks().saturating_sub(1);
+    let last_cache = world.shape().caches().saturating_sub(1);
+    same_worlds(rt, world, fresh, &[0, 1, last_block], &[0, last_cache]);
     let found = world.enabled(alloc).expect(rt, "memory");
     let wanted = fresh.enabled(alloc).expect(rt, "memory");
     same(rt, &found.as_slice(), &wanted.as_slice());
-    same(rt, &world.tested(), &fresh.tested());
-    let ends = (world.empty(), world.broken());
-    same(rt, &ends, &(fresh.empty(), fresh.broken()));
 }
 
 /// Compares a world that begins again with one that opens, before these steps and after them.
@@ -149,7 +128,7 @@ const ROUNDS: [Round<'static>; 5] = [
 ];
 
 fn plays(rt: &impl Abort, alloc: Global, round: &Round<'_>) {
-    let shape = Shape::new(round.caches, round.blocks).expect(rt, "a shape");
+    let shape = shape_of(rt, round.caches, round.blocks);
     let mut world = opened(rt, alloc, shape, round.blank, true);
     begins_again(rt, alloc, &mut world, round);
 }
@@ -165,8 +144,8 @@ fn worlds_begin_again(rt: HostRuntime) {
 fn largest(rt: &impl Abort, alloc: Global, shape: Shape) -> Setup {
     let acks = acting(rt, CacheState::IsD, &[CacheAction::InvAck]);
     let tables = with_entry(CacheState::IsD, CacheEvent::Inv, acks);
-    let opening = values(rt, alloc, shape.blocks(), true);
-    Setup::new(shape, tables, opening, 42, 100).expect(rt, "a setup")
+    let opening = values(rt, alloc, shape.blocks(), 100, 1);
+    open_setup(shape, tables, opening, 42, 100).expect(rt, "a setup")
 }
 
 /// Compares a few results with those of the trials alone, each of which opens a world.
@@ -198,10 +177,7 @@ const RACE: &str = r#"{"both":[{"op":"load","core":4095,"block":65535},
     {"op":"store","core":0,"block":65535,"value":9}]}"#;
 
 fn race(rt: &impl Abort, alloc: Global, setup: &Setup) {
-    let tree = Scenario::read(alloc, alloc, RACE.as_bytes(), setup.shape()).expect(
-        rt,
-        "a scenario",
-    );
+    let tree = read_scenario(alloc, RACE, setup.shape()).expect(rt, "a scenario");
     let results = batch(alloc, &tree, setup, 56).expect(rt, "a batch");
     are_alone(rt, alloc, &tree, setup, results.as_slice());
     same(
@@ -213,7 +189,6 @@ fn race(rt: &impl Abort, alloc: Global, setup: &Setup) {
 
 #[test]
 fn a_batch_in_the_largest_shape(rt: HostRuntime) {
-    let shape = Shape::new(4096, 65_536).expect(&rt, "a shape");
-    let setup = largest(&rt, rt.alloc(), shape);
+    let setup = largest(&rt, rt.alloc(), shape_of(&rt, 4096, 65_536));
     race(&rt, rt.alloc(), &setup);
 }

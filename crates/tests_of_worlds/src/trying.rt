@@ -1,5 +1,5 @@
 use crate::asserting::{same, same_at};
-use crate::making::{scenario, setup, with_entry};
+use crate::making::{open_setup, scenario, setup, shape_of, values, with_entry};
 use crate::recordings::{ONE_LOAD_TEXT, writes};
 use base::{BlockId, CacheId, Place, Shape};
 use both_tables::Tables;
@@ -166,10 +166,9 @@ fn batches_of_trials(rt: HostRuntime) {
 }
 
 /// Why a setup of one cache and two blocks that open at so many values isn't made.
-fn refusal(rt: &impl Abort, alloc: Global, values: usize, limit: u32) -> Option<SetupFault> {
-    let shape = Shape::new(1, 2).expect(rt, "a shape");
-    let opening = vec![in alloc; 0; values].expect(rt, "memory");
-    Setup::new(shape, Tables::baseline(), opening, 0, limit).err()
+fn refusal(rt: &impl Abort, alloc: Global, count: u32, limit: u32) -> Option<SetupFault> {
+    let opening = values(rt, alloc, count, 0, 0);
+    open_setup(shape_of(rt, 1, 2), Tables::baseline(), opening, 0, limit).err()
 }
 
 /// Compares what the widest setup holds, and how it refuses a batch.
@@ -186,13 +185,13 @@ fn refuses(rt: &impl Abort, alloc: Global, widest: &Setup) {
 
 #[test]
 fn setups_and_batches_that_are_refused(rt: HostRuntime) {
-    for (values, limit, fault) in &[
+    for (count, limit, fault) in &[
         (1, 1, SetupFault::OpeningLength),
         (3, 1_000_001, SetupFault::OpeningLength),
         (2, 1_000_001, SetupFault::OverLimit),
     ] {
-        let refused = refusal(&rt, rt.alloc(), *values, *limit);
-        same_at(&rt, &refused, &Some(*fault), values);
+        let refused = refusal(&rt, rt.alloc(), *count, *limit);
+        same_at(&rt, &refused, &Some(*fault), count);
     }
     let widest = setup(&rt, rt.alloc(), 1, 2, Tables::baseline(), 0, 1_000_000);
     refuses(&rt, rt.alloc(), &widest);

@@ -2,9 +2,10 @@
 
 use crate::asserting::{same, same_at};
 use crate::entries::entry_of;
+use crate::making::{shape_of, values};
 use crate::recordings::{FIRST_TEXT, ONE_LOAD_TEXT, fault_of, is_refused, writes};
 use base::controller::Protocol;
-use base::{Buffer, Faltering, Shape};
+use base::{Buffer, Faltering};
 use both_tables::Tables;
 use record::{MoveFault, ReadFault, ReadKind, Recording, WriteFault, move_text};
 use std::alloc::Global;
@@ -236,11 +237,11 @@ fn is_of_seats(rt: &impl Abort, alloc: Global, recording: &Recording) {
 #[test]
 fn a_recording_of_seats(rt: HostRuntime) {
     let alloc = rt.alloc();
-    let shape = Shape::new(1, 1).expect(&rt, "a shape");
-    let opening = vec![in alloc; 0].expect(&rt, "memory");
+    let opening = values(&rt, alloc, 1, 0, 0);
+    let shape = shape_of(&rt, 1, 1);
     let opened = Recording::open_seats(alloc, shape, Tables::baseline(), opening, 3);
     let mut recording = opened.expect(&rt, "a recording");
-    let entry = entry_of("ask 0 0 load = load 0 7").expect(&rt, "an entry");
+    let entry = entry_of(&rt, "ask 0 0 load = load 0 7");
     recording.push_by(entry, 2).expect(&rt, "memory");
     is_of_seats(&rt, alloc, &recording);
 }

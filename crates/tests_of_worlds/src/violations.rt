@@ -1,6 +1,7 @@
 use crate::asserting::{same, same_at};
+use crate::entries::outcome_of;
 use crate::making::{acting, opened, step_of, with_entry};
-use base::{BlockId, CacheId, Outcome, Place};
+use base::{BlockId, CacheId, Place};
 use both_tables::Tables;
 use cache_table::{CacheAction, CacheEntry, CacheEvent, CacheState};
 use machine::Actor;
@@ -19,7 +20,7 @@ fn see(
 ) -> Option<Violation> {
     let step = step_of(rt, made);
     let outcome = world.step(step).expect(rt, "memory");
-    same_at(rt, &Some(outcome), &Outcome::read(came.as_bytes()), &made);
+    same_at(rt, &outcome, &outcome_of(rt, came), &made);
     watch.see(world, step, outcome)
 }
 
@@ -33,8 +34,7 @@ fn see_told(
 ) -> Option<Violation> {
     let step = step_of(rt, made);
     let told = world.make(step).expect(rt, "memory");
-    let wanted = Outcome::read(came.as_bytes());
-    same_at(rt, &Some(told.outcome), &wanted, &made);
+    same_at(rt, &told.outcome, &outcome_of(rt, came), &made);
     let found = watch.see_made(world, step, &told);
     same_at(rt, &violation_after(world, step, &told), &found, &made);
     found

@@ -1,5 +1,6 @@
 use crate::asserting::{same, same_at};
-use crate::making::{opened, step_of, with_entry};
+use crate::entries::outcome_of;
+use crate::making::{open_world, opened, shape_of, step_of, values, with_entry};
 use base::{BlockId, CacheId, Outcome, Place, Shape, Step};
 use both_tables::Tables;
 use cache_table::{CacheEntry, CacheEvent, CacheState};
@@ -16,15 +17,6 @@ fn steps(rt: &impl Abort, alloc: Global, text: &str) -> Vec<Step> {
         steps.push(step_of(rt, line)).expect(rt, "memory");
     }
     steps
-}
-
-fn outcomes(rt: &impl Abort, alloc: Global, text: &str) -> Vec<Outcome> {
-    let mut outcomes = Vec::new(alloc);
-    for line in text.split(',') {
-        let outcome = Outcome::read(line.as_bytes()).expect(rt, "an outcome");
-        outcomes.push(outcome).expect(rt, "memory");
-    }
-    outcomes
 }
 
 /// Makes a step that has to be foreseen by `ready`.
@@ -56,12 +48,19 @@ fn ran(rt: &impl Abort, alloc: Global, world: &mut World, steps: &[Step]) -> Vec
     found
 }
 
+/// Compares the outcomes of steps.
+fn have_come(rt: &impl Abort, found: &[Outcome], came: &str) {
+    same_at(rt, &found.len(), &came.split(',').count(), &came);
+    for (outcome, text) in found.iter().zip(came.split(',')) {
+        same_at(rt, outcome, &outcome_of(rt, text), &came);
+    }
+}
+
 /// Makes these steps in one run, and compares their outcomes.
 fn runs(rt: &impl Abort, alloc: Global, world: &mut World, made: &str, came: &str) {
     let steps = steps(rt, alloc, made);
-    let wanted = outcomes(rt, alloc, came);
     let found = ran(rt, alloc, world, steps.as_slice());
-    same_at(rt, &found.as_slice(), &wanted.as_slice(), &made);
+    have_come(rt, found.as_slice(), came);
 }
 
 const WORKED: [(u32, &str, &str); 9] = [
@@ -300,11 +299,6 @@ fn worlds_that_come_to_an_end(rt: HostRuntime) {
     breaks(&rt, rt.alloc(), &mut world);
 }
 
-fn two_blocks(rt: &impl Abort, alloc: Global, opening: Vec<u64>) -> Result<World, OpenFault> {
-    let shape = Shape::new(1, 2).expect(rt, "a shape");
-    World::open(alloc, shape, Tables::baseline(), opening)
-}
-
 /// Compares what can be seen of a world of one cache and two blocks that open at 3 and 4.
 fn has_opened(rt: &impl Abort, world: &World) {
     same(rt, &Ok(world.shape()), &Shape::new(1, 2));
@@ -315,10 +309,11 @@ fn has_opened(rt: &impl Abort, world: &World) {
 
 #[test]
 fn an_opening_of_two_blocks(rt: HostRuntime) {
-    let opening = vec![in rt.alloc(); 3, 4].expect(&rt, "memory");
-    let world = two_blocks(&rt, rt.alloc(), opening).expect(&rt, "a world");
+    let (shape, tables) = (shape_of(&rt, 1, 2), Tables::baseline());
+    let opening = values(&rt, rt.alloc(), 2, 3, 1);
+    let world = open_world(rt.alloc(), shape, tables, opening).expect(&rt, "a world");
     has_opened(&rt, &world);
-    let opening = vec![in rt.alloc(); 0].expect(&rt, "memory");
-    let refused = two_blocks(&rt, rt.alloc(), opening).err();
+    let opening = values(&rt, rt.alloc(), 1, 0, 0);
+    let refused = open_world(rt.alloc(), shape, tables, opening).err();
     same(&rt, &refused, &Some(OpenFault::OpeningLength));
 }
