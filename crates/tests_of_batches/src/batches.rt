@@ -1,5 +1,11 @@
-use crate::served_as;
-use command_lines::{run, run_over};
+use crate::cases::{
+    Case, are_served, holds, same_number, serve, serve_over, served_as, text_of, told_as,
+};
+use command_lines::Served;
+use std::alloc::Global;
+use std::process::Abort;
+use std::sync::Wait;
+use std::thread::Threads;
 
 pub const RACING_PAIR: &str =
     r#"{"both":[{"op":"load","core":0,"block":0},{"op":"store","core":1,"block":0,"value":9}]}"#;
@@ -10,170 +16,203 @@ const ONE_LOAD_TEXT: &str =
     "msi-recording 2\nprotocol msi\nshape 1 1\nseats 0\nopening 0\ncells 0\nentries 3\n\
     ask 0 0 load = sent\nrequest 0 0 = moved\nresponse 0 0 = load 0 0\nend\n";
 
+const CUT_TEXT: &str =
+    "msi-recording 2\nprotocol msi\nshape 2 1\nseats 0\nopening 0\ncells 0\nentries 6\n\
+    ask 1 0 store 9 = sent\nrequest 0 0 = moved\nask 0 0 load = sent\n\
+    response 0 0 = store 1 9\nrequest 0 0 = moved\nforward 0 1 = moved\nend\n";
+
 #[test]
 fn a_racing_pair(rt: HostRuntime) {
-    let alloc = rt.alloc();
     let six = "msi trial --caches 2 --seed 42 --number 54 --limit 6";
-    let recording =
-        "msi-recording 2\nprotocol msi\nshape 2 1\nseats 0\nopening 0\ncells 0\nentries 6\n\
-         ask 1 0 store 9 = sent\nrequest 0 0 = moved\nask 0 0 load = sent\n\
-         response 0 0 = store 1 9\nrequest 0 0 = moved\nforward 0 1 = moved\nend\n";
-    let served = run(&rt, alloc, six, RACING_PAIR).expect(&rt, "served");
-    served_as(&rt, &served, 0, recording, "verdict cut 6\n");
+    let served = serve(&rt, rt.alloc(), six, RACING_PAIR);
+    served_as(&rt, six, &served, 0, CUT_TEXT, "verdict cut 6\n");
     let hundred = "msi trial --caches 2 --seed 42 --number 54 --limit 100";
-    let served = run(&rt, alloc, hundred, RACING_PAIR).expect(&rt, "served");
-    assert_eq!(rt;
-        (served.status, served.errors.as_slice()),
-        (0, b"verdict quiet 8\n".as_slice())
-    );
+    let served = serve(&rt, rt.alloc(), hundred, RACING_PAIR);
+    told_as(&rt, hundred, &served, 0, "verdict quiet 8\n");
 }
 
-/// Trials of one load under a table of changed cells, and what a trial and a batch of three of them print.
-#[derive(Clone, Copy)]
-struct Tried {
-    table: &'static str,
-    limit: u32,
-    status: u8,
-    verdict: &'static str,
-    lines: &'static str,
-}
-
-const ONE_LOAD_TRIED: [Tried; 4] = [
-    Tried {
-        table: "{}",
-        limit: 9,
-        status: 0,
-        verdict: "verdict quiet 3\n",
-        lines: "0 quiet 3\n1 quiet 3\n2 quiet 3\ntotal quiet 3\n",
-    },
-    Tried {
-        table: "{}",
-        limit: 2,
-        status: 0,
-        verdict: "verdict cut 2\n",
-        lines: "0 cut 2\n1 cut 2\n2 cut 2\ntotal cut 3\n",
-    },
-    Tried {
-        table: r#"{"directory":[{"state":"I","event":"GetS","entry":"stall"}]}"#,
-        limit: 9,
-        status: 0,
-        verdict: "verdict stuck 1\n",
-        lines: "0 stuck 1\n1 stuck 1\n2 stuck 1\ntotal stuck 3\n",
-    },
-    Tried {
-        table: r#"{"cache":[{"state":"I","event":"Load","entry":"blank"}]}"#,
-        limit: 9,
-        status: 1,
-        verdict: "verdict broke 1 blank cache 0 block 0\n",
-        lines: "0 broke 1 blank cache 0 block 0\n1 broke 1 blank cache 0 block 0\n2 broke 1 blank cache 0 block 0\ntotal broke 3\n",
-    },
+/// Tables of changed cells, command lines of a trial and of a batch of three trials of one load, how both end, and what they print.
+const ONE_LOAD_TRIED: &[(&str, &str, &str, usize, &str, &str)] = &[
+    (
+        "{}",
+        "msi trial --caches 1 --tables table.json --seed 5 --limit 9 --number 8",
+        "msi batch --caches 1 --tables table.json --seed 5 --limit 9 --trials 3",
+        0,
+        "verdict quiet 3\n",
+        "0 quiet 3\n1 quiet 3\n2 quiet 3\ntotal quiet 3\n",
+    ),
+    (
+        "{}",
+        "msi trial --caches 1 --tables table.json --seed 5 --limit 2 --number 8",
+        "msi batch --caches 1 --tables table.json --seed 5 --limit 2 --trials 3",
+        0,
+        "verdict cut 2\n",
+        "0 cut 2\n1 cut 2\n2 cut 2\ntotal cut 3\n",
+    ),
+    (
+        r#"{"directory":[{"state":"I","event":"GetS","entry":"stall"}]}"#,
+        "msi trial --caches 1 --tables table.json --seed 5 --limit 9 --number 8",
+        "msi batch --caches 1 --tables table.json --seed 5 --limit 9 --trials 3",
+        0,
+        "verdict stuck 1\n",
+        "0 stuck 1\n1 stuck 1\n2 stuck 1\ntotal stuck 3\n",
+    ),
+    (
+        r#"{"cache":[{"state":"I","event":"Load","entry":"blank"}]}"#,
+        "msi trial --caches 1 --tables table.json --seed 5 --limit 9 --number 8",
+        "msi batch --caches 1 --tables table.json --seed 5 --limit 9 --trials 3",
+        1,
+        "verdict broke 1 blank cache 0 block 0\n",
+        "0 broke 1 blank cache 0 block 0\n1 broke 1 blank cache 0 block 0\n2 broke 1 blank cache 0 block 0\ntotal broke 3\n",
+    ),
 ];
+
+fn are_tried<R: Threads + Wait + Abort + Sync>(rt: &R, alloc: Global) {
+    for (table, trial, batch, status, verdict, lines) in ONE_LOAD_TRIED {
+        let made = serve_over(rt, alloc, trial, table, ONE_LOAD);
+        told_as(rt, trial, &made, *status, verdict);
+        let served = serve_over(rt, alloc, batch, table, ONE_LOAD);
+        served_as(rt, batch, &served, *status, lines, "");
+    }
+}
 
 #[test]
 fn one_load(rt: HostRuntime) {
-    let alloc = rt.alloc();
-    for row in ONE_LOAD_TRIED {
-        let trial = format!(in alloc;
-            "msi trial --caches 1 --tables table.json --seed 5 --limit {} --number 8",
-            row.limit
-        )
-        .expect(&rt, "memory");
-        let made = run_over(&rt, alloc, trial.as_str(), row.table, ONE_LOAD).expect(&rt, "served");
-        assert_eq!(rt; made.status, row.status);
-        assert_eq!(rt; made.errors.as_slice(), row.verdict.as_bytes());
-        let batch = format!(in alloc;
-            "msi batch --caches 1 --tables table.json --seed 5 --limit {} --trials 3",
-            row.limit
-        )
-        .expect(&rt, "memory");
-        let served = run_over(&rt, alloc, batch.as_str(), row.table, ONE_LOAD).expect(
-            &rt, "served",
-        );
-        served_as(&rt, &served, row.status, row.lines, "");
-    }
+    are_tried(&rt, rt.alloc());
     let line = "msi trial --caches 1 --seed 5 --limit 9 --number 8";
-    let made = run(&rt, alloc, line, ONE_LOAD).expect(&rt, "served");
-    served_as(&rt, &made, 0, ONE_LOAD_TEXT, "verdict quiet 3\n");
+    let made = serve(&rt, rt.alloc(), line, ONE_LOAD);
+    served_as(&rt, line, &made, 0, ONE_LOAD_TEXT, "verdict quiet 3\n");
+}
+
+/// A replay of what a trial recorded ends as the trial did, and says nothing on the errors.
+fn is_replayed<R: Threads + Wait + Abort + Sync>(rt: &R, alloc: Global, made: &Served) {
+    let line = "msi replay";
+    let replayed = serve(rt, alloc, line, text_of(rt, &made.output));
+    told_as(rt, line, &replayed, made.status as usize, "");
 }
 
 #[test]
 fn what_a_trial_recorded_is_replayed(rt: HostRuntime) {
-    let alloc = rt.alloc();
     let early = r#"{"cache":[{"state":"I","event":"Load","entry":{"next":"S","do":[]}}]}"#;
     let batch = "msi batch --caches 2 --tables table.json --seed 1 --limit 100 --trials 20";
-    let served = run_over(&rt, alloc, batch, early, RACING_PAIR).expect(&rt, "served");
-    assert_eq!(rt; served.status, 1);
+    let served = serve_over(&rt, rt.alloc(), batch, early, RACING_PAIR);
+    same_number(&rt, batch, served.status as usize, 1);
     let trial = "msi trial --caches 2 --tables table.json --seed 1 --limit 100 --number 0";
-    let served = run_over(&rt, alloc, trial, early, RACING_PAIR).expect(&rt, "served");
-    let recording = str::from_utf8(served.output.as_slice()).expect(&rt, "a text");
-    let replayed = run(&rt, alloc, "msi replay", recording).expect(&rt, "served");
-    assert_eq!(rt;
-        (replayed.status, replayed.errors.is_empty()),
-        (served.status, true)
-    );
+    let made = serve_over(&rt, rt.alloc(), trial, early, RACING_PAIR);
+    is_replayed(&rt, rt.alloc(), &made);
 }
+
+/// A sequence in 48 sequences.
+const DEEP: &str =
+    "{\"seq\":[{\"seq\":[{\"seq\":[{\"seq\":[{\"seq\":[{\"seq\":[{\"seq\":[{\"seq\":[\
+    {\"seq\":[{\"seq\":[{\"seq\":[{\"seq\":[{\"seq\":[{\"seq\":[{\"seq\":[{\"seq\":[\
+    {\"seq\":[{\"seq\":[{\"seq\":[{\"seq\":[{\"seq\":[{\"seq\":[{\"seq\":[{\"seq\":[\
+    {\"seq\":[{\"seq\":[{\"seq\":[{\"seq\":[{\"seq\":[{\"seq\":[{\"seq\":[{\"seq\":[\
+    {\"seq\":[{\"seq\":[{\"seq\":[{\"seq\":[{\"seq\":[{\"seq\":[{\"seq\":[{\"seq\":[\
+    {\"seq\":[{\"seq\":[{\"seq\":[{\"seq\":[{\"seq\":[{\"seq\":[{\"seq\":[{\"seq\":[\
+    {\"seq\":[]}\
+    ]}]}]}]}]}]}]}]}]}]}]}]}]}]}]}]}]}]}]}]}]}]}]}]}\
+    ]}]}]}]}]}]}]}]}]}]}]}]}]}]}]}]}]}]}]}]}]}]}]}]}";
 
 #[test]
 fn a_scenario_too_deep(rt: HostRuntime) {
-    let alloc = rt.alloc();
-    let mut text = String::new(alloc);
-    for _ in 0..48 {
-        text.push_str(r#"{"seq":["#).expect(&rt, "memory");
-    }
-    text.push_str(r#"{"seq":[]}"#).expect(&rt, "memory");
-    for _ in 0..48 {
-        text.push_str("]}").expect(&rt, "memory");
-    }
     let line = "msi trial --caches 2 --seed 1 --number 0 --limit 9";
-    let served = run(&rt, alloc, line, text.as_str()).expect(&rt, "served");
-    served_as(&rt, &served, 2, "", "msi: scenario refused 4 TooDeep\n");
+    let served = serve(&rt, rt.alloc(), line, DEEP);
+    served_as(
+        &rt,
+        line,
+        &served,
+        2,
+        "",
+        "msi: scenario refused 4 TooDeep\n",
+    );
+}
+
+const TWO_TRIALS: &str = "msi batch --caches 2 --seed 1 --trials 2 --limit 9";
+
+const NONE: &str = r#"{"times":0,"of":{"op":"load","core":0,"block":0}}"#;
+
+/// Scenarios that are refused, one of nothing, and a batch of no trials.
+const SCENARIOS: &[Case] = &[
+    (
+        TWO_TRIALS,
+        "{}",
+        "{",
+        2,
+        "",
+        "msi: scenario refused 1 NotJson\n",
+    ),
+    (
+        TWO_TRIALS,
+        "{}",
+        "{}",
+        2,
+        "",
+        "msi: scenario refused 2 BadShape\n",
+    ),
+    (
+        TWO_TRIALS,
+        "{}",
+        r#"{"any":[]}"#,
+        2,
+        "",
+        "msi: scenario refused 3 EmptyAny\n",
+    ),
+    (
+        TWO_TRIALS,
+        "{}",
+        r#"{"times":1000000,"of":{"times":1000000,"of":{"op":"load","core":0,"block":0}}}"#,
+        2,
+        "",
+        "msi: scenario refused 5 TooLong\n",
+    ),
+    (
+        TWO_TRIALS,
+        "{}",
+        r#"{"op":"load","core":2,"block":0}"#,
+        2,
+        "",
+        "msi: scenario refused 6 OutOfShape\n",
+    ),
+    (
+        TWO_TRIALS,
+        "{}",
+        NONE,
+        0,
+        "0 quiet 0\n1 quiet 0\ntotal quiet 2\n",
+        "",
+    ),
+    (
+        "msi batch --caches 2 --seed 1 --trials 0 --limit 9",
+        "{}",
+        NONE,
+        0,
+        "",
+        "",
+    ),
+];
+
+/// Command lines that are refused, one a line.
+const REFUSED: &str = "msi batch --caches 2 --seed 1 --limit 9
+msi batch --caches 2 --seed 1 --trials 1
+msi batch --caches 2 --trials 1 --limit 9
+msi batch --caches 2 --seed 1 --trials 1000001 --limit 9
+msi batch --caches 2 --seed 1 --trials 1 --limit 1000001
+msi batch --caches 2 --seed -1 --trials 1 --limit 9
+msi batch --caches 2 --seed 1 --trials 1 --limit 9 --workers 0
+msi batch --caches 2 --seed 1 --trials 1 --limit 9 --workers 65
+";
+
+fn are_refused<R: Threads + Wait + Abort + Sync>(rt: &R, alloc: Global) {
+    for line in REFUSED.lines() {
+        let served = serve(rt, alloc, line, NONE);
+        same_number(rt, line, served.status as usize, 2);
+        holds(rt, line, served.output.is_empty());
+    }
 }
 
 #[test]
 fn refused_scenarios(rt: HostRuntime) {
-    let alloc = rt.alloc();
-    let none = r#"{"times":0,"of":{"op":"load","core":0,"block":0}}"#;
-    for (text, status, output, errors) in [
-        ("{", 2, "", "msi: scenario refused 1 NotJson\n"),
-        ("{}", 2, "", "msi: scenario refused 2 BadShape\n"),
-        (r#"{"any":[]}"#, 2, "", "msi: scenario refused 3 EmptyAny\n"),
-        (
-            r#"{"times":1000000,"of":{"times":1000000,"of":{"op":"load","core":0,"block":0}}}"#,
-            2,
-            "",
-            "msi: scenario refused 5 TooLong\n",
-        ),
-        (
-            r#"{"op":"load","core":2,"block":0}"#,
-            2,
-            "",
-            "msi: scenario refused 6 OutOfShape\n",
-        ),
-        (none, 0, "0 quiet 0\n1 quiet 0\ntotal quiet 2\n", ""),
-    ] {
-        let line = "msi batch --caches 2 --seed 1 --trials 2 --limit 9";
-        let served = run(&rt, alloc, line, text).expect(&rt, "served");
-        served_as(&rt, &served, status, output, errors);
-    }
-    let nothing = "msi batch --caches 2 --seed 1 --trials 0 --limit 9";
-    let served = run(&rt, alloc, nothing, none).expect(&rt, "served");
-    served_as(&rt, &served, 0, "", "");
-    for words in [
-        "--seed 1 --limit 9",
-        "--seed 1 --trials 1",
-        "--trials 1 --limit 9",
-        "--seed 1 --trials 1000001 --limit 9",
-        "--seed 1 --trials 1 --limit 1000001",
-        "--seed -1 --trials 1 --limit 9",
-        "--seed 1 --trials 1 --limit 9 --workers 0",
-        "--seed 1 --trials 1 --limit 9 --workers 65",
-    ] {
-        let line = format!(in alloc; "msi batch --caches 2 {words}").expect(&rt, "memory");
-        let served = run(&rt, alloc, line.as_str(), none).expect(&rt, "served");
-        assert_eq!(rt;
-            (served.status, served.output.is_empty()),
-            (2, true),
-            "at {words}"
-        );
-    }
+    are_served(&rt, rt.alloc(), SCENARIOS);
+    are_refused(&rt, rt.alloc());
 }

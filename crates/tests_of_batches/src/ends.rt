@@ -1,7 +1,7 @@
 //! Ends that fail, words and memory that can't be had, and what is refused before the input is read.
 
 use crate::batches::ONE_LOAD;
-use crate::served_as;
+use crate::cases::{same_number, same_text, served_as, text_of};
 use command_lines::{OneFile, Served, recording, serve_line};
 use commands::serve;
 use std::alloc::Global;
@@ -18,6 +18,10 @@ const TRIAL: &str = "msi trial --caches 2 --seed 1 --number 0 --limit 9";
 const RACE: &str = "msi floor --caches 2 --seats 2 --turns 9 --seed 1 --recording";
 
 const BATCH: &str = "msi batch --caches 2 --seed 1 --trials 2 --limit 9";
+
+const DEVICE: &str = "msi: device\n";
+
+const NO_MEMORY: &str = "msi: no memory\n";
 
 /// An input that fails.
 #[derive(Drop)]
@@ -68,19 +72,104 @@ fn run_torn<R: Threads + Wait + Abort + Sync>(
     }
 }
 
-#[test]
-fn an_input_that_fails(rt: HostRuntime) {
-    let alloc = rt.alloc();
-    for line in [PLAY, TRIAL, BATCH, "msi replay", "msi move"] {
-        let served = run_torn(&rt, alloc, line, "{}");
-        served_as(&rt, &served, 3, "", "msi: device\n");
+/// Command lines over an input that fails, the text of the file `table.json`, how they end and what they say on the errors.
+const TORN: &[(&str, &str, usize, &str)] = &[
+    (PLAY, "{}", 3, DEVICE),
+    (TRIAL, "{}", 3, DEVICE),
+    (BATCH, "{}", 3, DEVICE),
+    ("msi replay", "{}", 3, DEVICE),
+    ("msi move", "{}", 3, DEVICE),
+];
+
+const BAD_SHAPE: &str = "msi: tables refused 2 BadShape\n";
+
+/// The same with tables, which come before the input.
+const TABLES: &[(&str, &str, usize, &str)] = &[
+    (
+        "msi play --caches 2 --tables table.json",
+        "[]",
+        2,
+        BAD_SHAPE,
+    ),
+    (
+        "msi trial --caches 2 --seed 1 --number 0 --limit 9 --tables table.json",
+        "[]",
+        2,
+        BAD_SHAPE,
+    ),
+    (
+        "msi batch --caches 2 --seed 1 --trials 2 --limit 9 --tables table.json",
+        "[]",
+        2,
+        BAD_SHAPE,
+    ),
+    ("msi play --caches 2 --tables missing.json", "{}", 3, DEVICE),
+    (
+        "msi trial --caches 2 --seed 1 --number 0 --limit 9 --tables missing.json",
+        "{}",
+        3,
+        DEVICE,
+    ),
+    (
+        "msi batch --caches 2 --seed 1 --trials 2 --limit 9 --tables missing.json",
+        "{}",
+        3,
+        DEVICE,
+    ),
+    ("msi play --caches 2 --tables huge.json", "{}", 3, NO_MEMORY),
+    (
+        "msi trial --caches 2 --seed 1 --number 0 --limit 9 --tables huge.json",
+        "{}",
+        3,
+        NO_MEMORY,
+    ),
+    (
+        "msi batch --caches 2 --seed 1 --trials 2 --limit 9 --tables huge.json",
+        "{}",
+        3,
+        NO_MEMORY,
+    ),
+];
+
+fn are_torn<R: Threads + Wait + Abort + Sync>(
+    rt: &R,
+    alloc: Global,
+    rows: &[(&str, &'static str, usize, &str)],
+) {
+    for (line, text, status, errors) in rows {
+        let served = run_torn(rt, alloc, line, text);
+        served_as(rt, line, &served, *status, "", errors);
     }
 }
 
 #[test]
+fn an_input_that_fails(rt: HostRuntime) {
+    are_torn(&rt, rt.alloc(), TORN);
+}
+
+#[test]
+fn tables_come_before_the_input(rt: HostRuntime) {
+    are_torn(&rt, rt.alloc(), TABLES);
+}
+
+/// Holds that a command line ends for want of a device where its output takes so many bytes and then fails.
+pub fn is_cut_short<R: Threads + Wait + Abort + Sync>(
+    rt: &R,
+    alloc: Global,
+    line: &str,
+    input: &str,
+    left: usize,
+) {
+    let output = Short { left };
+    let served = serve_line(rt, alloc, line, "{}", input.as_bytes(), output);
+    let (status, errors) = served.expect(rt, "served");
+    same_text(rt, line, text_of(rt, &errors), DEVICE);
+    same_number(rt, line, status as usize, 3);
+}
+
+#[test]
 fn an_output_that_fails(rt: HostRuntime) {
-    let alloc = rt.alloc();
-    let recording = recording(alloc, "load 1 7").expect(&rt, "memory");
+    let recording = recording(rt.alloc(), "load 1 7").expect(&rt, "memory");
     for (line, input) in [
         (PLAY, "ask 0 0 load\n"),
         (TRIAL, ONE_LOAD),
@@ -90,31 +179,7 @@ fn an_output_that_fails(rt: HostRuntime) {
         ("msi move", recording.as_str()),
         ("msi tables", ""),
     ] {
-        let output = Short { left: 3 };
-        let (status, errors) = serve_line(&rt, alloc, line, "{}", input.as_bytes(), output).expect(
-            &rt, "served",
-        );
-        assert_eq!(rt;
-            (status, errors.as_slice()),
-            (3, b"msi: device\n".as_slice()),
-            "at {line}"
-        );
-    }
-}
-
-#[test]
-fn tables_come_before_the_input(rt: HostRuntime) {
-    let alloc = rt.alloc();
-    for (file, text, status, said) in [
-        ("table.json", "[]", 2, "msi: tables refused 2 BadShape\n"),
-        ("missing.json", "{}", 3, "msi: device\n"),
-        ("huge.json", "{}", 3, "msi: no memory\n"),
-    ] {
-        for command in [PLAY, TRIAL, BATCH] {
-            let line = format!(in alloc; "{command} --tables {file}").expect(&rt, "memory");
-            let served = run_torn(&rt, alloc, line.as_str(), text);
-            served_as(&rt, &served, status, "", said);
-        }
+        is_cut_short(&rt, rt.alloc(), line, input, 3);
     }
 }
 
@@ -146,9 +211,11 @@ fn run_without_words<R: Threads + Wait + Sync>(
 
 #[test]
 fn words_that_cannot_be_had(rt: HostRuntime) {
-    let alloc = rt.alloc();
-    let bad = run_without_words(&rt, alloc, io::ErrorKind::InvalidData);
-    served_as(&rt, &bad, 2, "", "msi: a word isn't UTF-8\n");
-    let none = run_without_words(&rt, alloc, io::ErrorKind::OutOfMemory);
-    served_as(&rt, &none, 3, "", "msi: no memory\n");
+    for (kind, status, errors) in [
+        (io::ErrorKind::InvalidData, 2, "msi: a word isn't UTF-8\n"),
+        (io::ErrorKind::OutOfMemory, 3, NO_MEMORY),
+    ] {
+        let served = run_without_words(&rt, rt.alloc(), kind);
+        served_as(&rt, errors, &served, status, "", errors);
+    }
 }

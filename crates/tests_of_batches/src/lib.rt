@@ -5,6 +5,8 @@
 #[cfg(test)]
 mod batches;
 #[cfg(test)]
+mod cases;
+#[cfg(test)]
 mod ends;
 #[cfg(test)]
 mod finding;
@@ -12,17 +14,3 @@ mod finding;
 mod racing;
 #[cfg(test)]
 mod sharing;
-
-#[cfg(test)]
-use command_lines::Served;
-#[cfg(test)]
-use std::process::Abort;
-
-/// What a command line came to has to be this.
-#[cfg(test)]
-fn served_as(rt: &impl Abort, served: &Served, status: u8, output: &str, errors: &str) {
-    assert_eq!(rt;
-        served.all(),
-        (status, output.as_bytes(), errors.as_bytes())
-    );
-}

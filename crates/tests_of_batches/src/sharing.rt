@@ -1,41 +1,56 @@
 //! Batches that workers share out, and what is told of their progress.
 
 use crate::batches::{ONE_LOAD, RACING_PAIR};
-use crate::ends::Short;
-use crate::served_as;
-use command_lines::{run, run_over, serve_line};
+use crate::cases::{each_is_served, holds, same_number, serve, serve_over, served_as, text_of};
+use crate::ends::is_cut_short;
+use std::alloc::Global;
+use std::process::Abort;
+use std::sync::Wait;
+use std::thread::Threads;
+
+const QUIET: &str = "0 quiet 3\n1 quiet 3\n2 quiet 3\ntotal quiet 3\n";
+
+const QUIET_LINES: &[&str] = &[
+    "msi batch --caches 1 --seed 5 --limit 9 --trials 3 --workers 1",
+    "msi batch --caches 1 --seed 5 --limit 9 --trials 3 --workers 2",
+    "msi batch --caches 1 --seed 5 --limit 9 --trials 3 --workers 4",
+    "msi batch --caches 1 --seed 5 --limit 9 --trials 3 --workers 64",
+];
+
+const CUT: &str = "0 cut 2\n1 cut 2\n2 cut 2\ntotal cut 3\n";
+
+const CUT_LINES: &[&str] = &[
+    "msi batch --caches 1 --seed 5 --limit 2 --trials 3 --workers 1",
+    "msi batch --caches 1 --seed 5 --limit 2 --trials 3 --workers 2",
+    "msi batch --caches 1 --seed 5 --limit 2 --trials 3 --workers 4",
+    "msi batch --caches 1 --seed 5 --limit 2 --trials 3 --workers 64",
+];
 
 #[test]
 fn workers_print_what_one_prints(rt: HostRuntime) {
-    let alloc = rt.alloc();
-    let quiet = "0 quiet 3\n1 quiet 3\n2 quiet 3\ntotal quiet 3\n";
-    let cut = "0 cut 2\n1 cut 2\n2 cut 2\ntotal cut 3\n";
-    for (limit, output) in [(9, quiet), (2, cut)] {
-        for workers in [1, 2, 4, 64] {
-            let line = format!(in alloc;
-                "msi batch --caches 1 --seed 5 --limit {limit} --trials 3 --workers {workers}"
-            ).expect(&rt, "memory");
-            let served = run(&rt, alloc, line.as_str(), ONE_LOAD).expect(&rt, "served");
-            served_as(&rt, &served, 0, output, "");
-        }
+    each_is_served(&rt, rt.alloc(), QUIET_LINES, ONE_LOAD, 0, QUIET, "");
+    each_is_served(&rt, rt.alloc(), CUT_LINES, ONE_LOAD, 0, CUT, "");
+}
+
+const EARLY: &str = r#"{"cache":[{"state":"I","event":"Load","entry":{"next":"S","do":[]}}]}"#;
+
+/// Holds that workers print this of a race that may break.
+fn are_found<R: Threads + Wait + Abort + Sync>(rt: &R, alloc: Global, output: &str) {
+    for line in [
+        "msi batch --caches 2 --tables table.json --seed 1 --limit 100 --trials 300 --workers 2",
+        "msi batch --caches 2 --tables table.json --seed 1 --limit 100 --trials 300 --workers 4",
+    ] {
+        let served = serve_over(rt, alloc, line, EARLY, RACING_PAIR);
+        served_as(rt, line, &served, 1, output, "");
     }
 }
 
 #[test]
 fn workers_find_what_one_finds(rt: HostRuntime) {
-    let alloc = rt.alloc();
-    let early = r#"{"cache":[{"state":"I","event":"Load","entry":{"next":"S","do":[]}}]}"#;
     let line = "msi batch --caches 2 --tables table.json --seed 1 --limit 100 --trials 300";
-    let alone = run_over(&rt, alloc, line, early, RACING_PAIR).expect(&rt, "served");
-    assert_eq!(rt; alone.status, 1);
-    let output = str::from_utf8(alone.output.as_slice()).expect(&rt, "a text");
-    for shared in [
-        "msi batch --caches 2 --tables table.json --seed 1 --limit 100 --trials 300 --workers 2",
-        "msi batch --caches 2 --tables table.json --seed 1 --limit 100 --trials 300 --workers 4",
-    ] {
-        let served = run_over(&rt, alloc, shared, early, RACING_PAIR).expect(&rt, "served");
-        served_as(&rt, &served, 1, output, "");
-    }
+    let alone = serve_over(&rt, rt.alloc(), line, EARLY, RACING_PAIR);
+    same_number(&rt, line, alone.status as usize, 1);
+    are_found(&rt, rt.alloc(), text_of(&rt, &alone.output));
 }
 
 const TOLD: &str =
@@ -44,38 +59,23 @@ const TOLD: &str =
 
 #[test]
 fn progress_is_told_where_it_is_asked_for(rt: HostRuntime) {
-    let alloc = rt.alloc();
-    let output = "0 quiet 3\n1 quiet 3\n2 quiet 3\ntotal quiet 3\n";
-    for line in [
+    let lines = [
         "msi batch --caches 1 --seed 5 --limit 9 --trials 3 --progress --workers 1",
         "msi batch --caches 1 --seed 5 --limit 9 --trials 3 --progress --workers 4",
-    ] {
-        let served = run(&rt, alloc, line, ONE_LOAD).expect(&rt, "served");
-        served_as(&rt, &served, 0, output, TOLD);
-    }
+    ];
+    each_is_served(&rt, rt.alloc(), &lines, ONE_LOAD, 0, QUIET, TOLD);
     let line = "msi batch --caches 1 --seed 5 --limit 9 --trials 1000 --progress";
-    let served = run(&rt, alloc, line, ONE_LOAD).expect(&rt, "served");
-    let lines = served.errors.iter().filter(|byte| **byte == b'\n').count();
-    assert_eq!(rt; (served.status, lines), (0, 100));
+    let served = serve(&rt, rt.alloc(), line, ONE_LOAD);
+    let told = text_of(&rt, &served.errors);
+    holds(&rt, line, told.ends_with('\n'));
+    same_number(&rt, line, told.lines().count(), 100);
+    same_number(&rt, line, served.status as usize, 0);
 }
 
 #[test]
 fn an_output_that_fails_while_workers_work(rt: HostRuntime) {
-    let alloc = rt.alloc();
     let line = "msi batch --caches 1 --seed 5 --limit 9 --trials 100 --workers 4";
     for left in [0, 10, 15] {
-        let output = Short { left };
-        let (status, errors) = serve_line(
-            &rt,
-            alloc,
-            line,
-            "{}",
-            ONE_LOAD.as_bytes(),
-            output,
-        ).expect(&rt, "served");
-        assert_eq!(rt;
-            (status, errors.as_slice()),
-            (3, b"msi: device\n".as_slice())
-        );
+        is_cut_short(&rt, rt.alloc(), line, ONE_LOAD, left);
     }
 }
