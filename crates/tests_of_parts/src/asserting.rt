@@ -6,7 +6,7 @@ use std::process::Abort;
 /// A call of it is cheaper to prove than `assert_eq!` in place, which is a branch of its caller.
 pub fn same_at<T: PartialEq + Debug, P: Debug>(rt: &impl Abort, found: &T, wanted: &T, at: &P) {
     if found != wanted {
-        panic!(rt; "{found:?} in place of {wanted:?}, at {at:?}");
+        panic!(rt; "assertion failed: {found:?} in place of {wanted:?}, at {at:?}");
     }
 }
 
