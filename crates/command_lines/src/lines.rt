@@ -38,13 +38,6 @@ pub struct Served {
     pub errors: Vec<u8>,
 }
 
-impl Served {
-    /// All of it, to be compared.
-    pub fn all(&self) -> (u8, &[u8], &[u8]) {
-        (self.status, self.output.as_slice(), self.errors.as_slice())
-    }
-}
-
 fn words(alloc: Global, line: &str) -> Result<Vec<String>, AllocError> {
     let mut words = Vec::new(alloc);
     for word in line.split_whitespace() {
