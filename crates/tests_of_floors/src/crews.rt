@@ -2,6 +2,7 @@ ghost use Rattle.std.specs.Prelude.{◌≡◌};
 ghost use Rattle.floor.specs.FloorId.{floor_id};
 
 use crate::asserting::same;
+use crate::floor_ends::{closed, opened};
 use crate::setups::setup;
 use base::{Ask, BlockId, CacheId, NoMemory, Step};
 use floor::{
@@ -250,7 +251,7 @@ fn closes<F: Naming, R: Abort>(
     seats: Vec<Seat<F>>,
     made: usize,
 ) {
-    let closed = floor.close(seats).ok().expect(rt, "closed");
+    let closed = closed(rt, floor, seats);
     compare_closed(rt, alloc, &closed, made)
 }
 
@@ -263,7 +264,7 @@ fn race<F: Naming + Send + Sync, R: Threads + Wait + Abort + Sync>(
 )
     requires { F.floor ≡ floor_id ground setup.now count 600 }
 {
-    let (floor, seats) = Floor::<F>::open(ground, alloc, setup, count, 600).expect(rt, "a floor");
+    let (floor, seats) = opened::<F, R>(rt, alloc, ground, setup, count, 600);
     let back = come_and_play(rt, alloc, &floor, seats, count);
     let (seats, made) = compare_all(rt, alloc, back);
     closes(rt, alloc, floor, seats, made)
@@ -287,7 +288,7 @@ fn nobody<F: Naming + Send + Sync, R: Threads + Wait + Abort + Sync>(
 )
     requires { F.floor ≡ floor_id ground setup.now 2 600 }
 {
-    let (floor, seats) = Floor::<F>::open(ground, alloc, setup, 2, 600).expect(rt, "a floor");
+    let (floor, seats) = opened::<F, R>(rt, alloc, ground, setup, 2, 600);
     let back = come_and_play(rt, alloc, &floor, Vec::new(alloc), 0);
     same(rt, &back.is_empty(), &true);
     closes(rt, alloc, floor, seats, 0)

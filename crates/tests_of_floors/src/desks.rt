@@ -2,9 +2,11 @@ ghost use Rattle.std.specs.Prelude.{◌≡◌, All};
 ghost use Rattle.desk.specs.Plans.{IsResultOf, plan_of};
 
 use crate::asserting::same;
-use crate::jobs::{compare_with_batch, racing_pair};
-use base::NoMemory;
-use desk::{CloseFault, Desk, DeskFault, DeskSeat, Job, Planned, PostFault, work};
+use crate::desk_rows::{
+    closed, closes_as_batch, looks, opened, put_back, put_one, take_two, two_work, worked,
+};
+use crate::jobs::{are_places, compare_with_batch, racing_pair};
+use desk::{CloseFault, Desk, DeskFault, DeskSeat, Job, Planned, PostFault};
 use std::alloc::Global;
 use std::marker::Brand;
 use std::process::Abort;
@@ -41,63 +43,47 @@ fn posts<D: Planned, R: Abort>(
     requires two { IsResultOf D.plan 2 two }
     ensures { (zero.new.desk ≡ desk.now.id) × (one.new.desk ≡ desk.now.id) }
 {
-    same(rt, &desk.look(zero, 2), &None);
-    same(rt, &desk.look(one, 2), &None);
+    looks(rt, desk, zero, 2, None);
+    looks(rt, desk, one, 2, None);
     same(rt, &desk.post(one, 2, two), &Ok(()));
-    same(rt, &desk.look(one, 2), &Some(two));
-    same(rt, &desk.look(zero, 2), &Some(two));
+    looks(rt, desk, one, 2, Some(two));
+    looks(rt, desk, zero, 2, Some(two));
     same(rt, &desk.post(one, 2, two), &Err((PostFault::Already, two)));
     same(
         rt,
         &desk.post(zero, 2, two),
         &Err((PostFault::NotYours, two)),
     );
-    same(rt, &desk.look(zero, 3), &None);
+    looks(rt, desk, zero, 3, None);
 }
 
-/// Takes the last seat of a row.
-fn take_seat<D: Planned, R: Abort>(
+/// Has two seats claim three numbers, of which one is posted.
+fn claim_and_post<D: Planned, R: Abort>(
     rt: &R,
     desk: &Desk<'_, D>,
     seats: &mut Vec<DeskSeat<D>>,
-) -> DeskSeat<D>
-    requires { All (λ seat. seat.desk ≡ desk.now.id) seats.old.items }
-    ensures rest { All (λ seat. seat.desk ≡ desk.now.id) seats.new.items }
-    ensures seat { result.desk ≡ desk.now.id }
-{
-    seats.pop().expect(rt, "a seat")
-}
-
-/// Puts two seats back.
-fn put_back<D: Planned, R: Abort>(
-    rt: &R,
-    desk: &Desk<'_, D>,
-    seats: &mut Vec<DeskSeat<D>>,
-    one: DeskSeat<D>,
-    other: DeskSeat<D>,
+    two: TrialResult,
 )
     requires seats { All (λ seat. seat.desk ≡ desk.now.id) seats.old.items }
-    requires both { (one.desk ≡ desk.now.id) × (other.desk ≡ desk.now.id) }
+    requires two { IsResultOf D.plan 2 two }
     ensures { All (λ seat. seat.desk ≡ desk.now.id) seats.new.items }
 {
-    seats.push(one).expect(rt, "memory");
-    seats.push(other).expect(rt, "memory");
+    let (mut zero, mut one) = take_two(rt, desk, seats);
+    claims(rt, desk, &mut zero, &mut one);
+    posts(rt, desk, &mut zero, &mut one, two);
+    put_back(rt, desk, seats, zero, one);
 }
 
 /// Two seats, three numbers, and one post: the other places stay empty.
 fn two_seats<D: Planned, R: Abort>(rt: &R, alloc: Global, job: &Job)
     requires { D.plan ≡ plan_of job.now }
 {
-    let (desk, mut seats) = Desk::<D>::new(alloc, job, 3, 2).expect(rt, "a desk");
-    let mut one = take_seat(rt, &desk, &mut seats);
-    let mut zero = take_seat(rt, &desk, &mut seats);
-    claims(rt, &desk, &mut zero, &mut one);
     let two = trial(alloc, &job.scenario, &job.setup, 2)
         .expect(rt, "memory")
         .result;
-    posts(rt, &desk, &mut zero, &mut one, two);
-    put_back(rt, &desk, &mut seats, zero, one);
-    let places = desk.close(seats).ok().expect(rt, "closed");
+    let (desk, mut seats) = opened::<D, R>(rt, alloc, job, 3, 2);
+    claim_and_post(rt, &desk, &mut seats, two);
+    let places = closed(rt, desk, seats);
     same(rt, &places.as_slice(), &[None, None, Some(two)].as_slice());
 }
 
@@ -111,12 +97,12 @@ fn three_numbers_and_two_seats(rt: HostRuntime) {
 fn without_a_seat<D: Planned, R: Abort>(rt: &R, alloc: Global, job: &Job)
     requires { D.plan ≡ plan_of job.now }
 {
-    let (desk, mut seats) = Desk::<D>::new(alloc, job, 3, 2).expect(rt, "a desk");
-    let one = take_seat(rt, &desk, &mut seats);
+    let (desk, mut seats) = opened::<D, R>(rt, alloc, job, 3, 2);
+    let one = seats.pop().expect(rt, "a seat");
     let (fault, desk, mut seats) = desk.close(seats).expect_err(rt, "a seat is missing");
     same(rt, &fault, &CloseFault::SeatMissing);
     seats.push(one).expect(rt, "memory");
-    let places = desk.close(seats).ok().expect(rt, "closed");
+    let places = closed(rt, desk, seats);
     same(rt, &places.as_slice(), &[None, None, None].as_slice());
 }
 
@@ -146,18 +132,6 @@ fn desks_that_are_not_made(rt: HostRuntime) {
     }
 }
 
-/// Works off what there is for a seat, and hands the seat back.
-fn worked<D: Planned>(
-    desk: &Desk<'_, D>,
-    mut seat: DeskSeat<D>,
-) -> (DeskSeat<D>, Result<u32, NoMemory>)
-    requires { seat.desk ≡ desk.now.id }
-    ensures { result.0.desk ≡ desk.entry.now.id }
-{
-    let made = work(desk, &mut seat);
-    (seat, made)
-}
-
 /// One seat behind the other works: the first makes all trials, and for the others there is nothing left.
 fn work_in_turn<D: Planned, R: Abort>(
     rt: &R,
@@ -175,7 +149,7 @@ fn work_in_turn<D: Planned, R: Abort>(
         let (seat, made) = worked(desk, seat);
         same(rt, &made, &Ok(left));
         left = 0;
-        back.push(seat).expect(rt, "memory");
+        put_one(rt, desk, &mut back, seat);
     }
     back
 }
@@ -183,10 +157,9 @@ fn work_in_turn<D: Planned, R: Abort>(
 fn one_after_the_other<D: Planned, R: Abort>(rt: &R, alloc: Global, job: &Job, n: u32, count: u32)
     requires { D.plan ≡ plan_of job.now }
 {
-    let (desk, seats) = Desk::<D>::new(alloc, job, n, count).expect(rt, "a desk");
+    let (desk, seats) = opened::<D, R>(rt, alloc, job, n, count);
     let seats = work_in_turn(rt, alloc, &desk, seats, n);
-    let places = desk.close(seats).ok().expect(rt, "closed");
-    compare_with_batch(rt, alloc, job, n, &places)
+    closes_as_batch(rt, alloc, desk, seats, job, n)
 }
 
 /// A seat that works alone, and 64 for three numbers.
@@ -198,32 +171,19 @@ fn seats_that_work_in_turn(rt: HostRuntime) {
     }
 }
 
-/// Two seats that work in two threads, and how much they did.
-fn two_work<D: Planned + Send + Sync, R: Threads + Sync>(
+/// The last two seats of a row work in two threads, and are put back.
+fn work_by_two<D: Planned + Send + Sync, R: Threads + Abort + Sync>(
     rt: &R,
     desk: &Desk<'_, D>,
-    zero: DeskSeat<D>,
-    one: DeskSeat<D>,
-) -> (DeskSeat<D>, DeskSeat<D>, Option<u32>)
-    requires { (zero.desk ≡ desk.now.id) × (one.desk ≡ desk.now.id) }
-    ensures { (result.0.desk ≡ desk.entry.now.id) × (result.1.desk ≡ desk.entry.now.id) }
+    seats: &mut Vec<DeskSeat<D>>,
+) -> Option<u32>
+    requires { All (λ seat. seat.desk ≡ desk.now.id) seats.old.items }
+    ensures { All (λ seat. seat.desk ≡ desk.now.id) seats.new.items }
 {
-    let ((zero, first), (one, second)) = thread::join(
-        rt,
-        move || -> (DeskSeat<D>, Result<u32, NoMemory>)
-            requires { zero.desk ≡ desk.now.id }
-            ensures { result.0.desk ≡ desk.entry.now.id }
-        { worked(desk, zero) },
-        move || -> (DeskSeat<D>, Result<u32, NoMemory>)
-            requires { one.desk ≡ desk.now.id }
-            ensures { result.0.desk ≡ desk.entry.now.id }
-        { worked(desk, one) },
-    );
-    let made = match (first, second) {
-        (Ok(first), Ok(second)) => first.checked_add(second),
-        _ => None,
-    };
-    (zero, one, made)
+    let (zero, one) = take_two(rt, desk, seats);
+    let (zero, one, made) = two_work(rt, desk, zero, one);
+    put_back(rt, desk, seats, zero, one);
+    made
 }
 
 /// Two threads work off a batch.
@@ -234,20 +194,45 @@ fn two_threads<D: Planned + Send + Sync, R: Threads + Abort + Sync>(
 )
     requires { D.plan ≡ plan_of job.now }
 {
-    let (desk, mut seats) = Desk::<D>::new(alloc, job, 200, 2).expect(rt, "a desk");
-    let one = take_seat(rt, &desk, &mut seats);
-    let zero = take_seat(rt, &desk, &mut seats);
-    let (zero, one, made) = two_work(rt, &desk, zero, one);
-    same(rt, &made, &Some(200));
-    put_back(rt, &desk, &mut seats, zero, one);
-    let places = desk.close(seats).ok().expect(rt, "closed");
-    compare_with_batch(rt, alloc, job, 200, &places)
+    let (desk, mut seats) = opened::<D, R>(rt, alloc, job, 200, 2);
+    same(rt, &work_by_two(rt, &desk, &mut seats), &Some(200));
+    closes_as_batch(rt, alloc, desk, seats, job, 200)
 }
 
 #[test]
 fn two_threads_that_work(rt: HostRuntime) {
     let job = racing_pair(&rt, rt.alloc());
     two_threads::<Brand, _>(&rt, rt.alloc(), &job)
+}
+
+/// The last four seats of a row work in four threads, two and two, and are put back.
+fn work_by_four<D: Planned + Send + Sync, R: Threads + Abort + Sync>(
+    rt: &R,
+    desk: &Desk<'_, D>,
+    seats: &mut Vec<DeskSeat<D>>,
+) -> Option<u32>
+    requires { All (λ seat. seat.desk ≡ desk.now.id) seats.old.items }
+    ensures { All (λ seat. seat.desk ≡ desk.now.id) seats.new.items }
+{
+    let (two, three) = take_two(rt, desk, seats);
+    let (zero, one) = take_two(rt, desk, seats);
+    let ((zero, one, front), (two, three, back)) = thread::join(
+        rt,
+        move || -> (DeskSeat<D>, DeskSeat<D>, Option<u32>)
+            requires { (zero.desk ≡ desk.now.id) × (one.desk ≡ desk.now.id) }
+            ensures { (result.0.desk ≡ desk.entry.now.id) × (result.1.desk ≡ desk.entry.now.id) }
+        { two_work(rt, desk, zero, one) },
+        move || -> (DeskSeat<D>, DeskSeat<D>, Option<u32>)
+            requires { (two.desk ≡ desk.now.id) × (three.desk ≡ desk.now.id) }
+            ensures { (result.0.desk ≡ desk.entry.now.id) × (result.1.desk ≡ desk.entry.now.id) }
+        { two_work(rt, desk, two, three) },
+    );
+    put_back(rt, desk, seats, zero, one);
+    put_back(rt, desk, seats, two, three);
+    match (front, back) {
+        (Some(front), Some(back)) => front.checked_add(back),
+        _ => None,
+    }
 }
 
 /// Four threads work off a batch, two and two.
@@ -258,32 +243,9 @@ fn four_threads<D: Planned + Send + Sync, R: Threads + Abort + Sync>(
 )
     requires { D.plan ≡ plan_of job.now }
 {
-    let (desk, mut seats) = Desk::<D>::new(alloc, job, 400, 4).expect(rt, "a desk");
-    let three = take_seat(rt, &desk, &mut seats);
-    let two = take_seat(rt, &desk, &mut seats);
-    let one = take_seat(rt, &desk, &mut seats);
-    let zero = take_seat(rt, &desk, &mut seats);
-    let shared = &desk;
-    let ((zero, one, front), (two, three, back)) = thread::join(
-        rt,
-        move || -> (DeskSeat<D>, DeskSeat<D>, Option<u32>)
-            requires { (zero.desk ≡ shared.now.id) × (one.desk ≡ shared.now.id) }
-            ensures { (result.0.desk ≡ shared.entry.now.id) × (result.1.desk ≡ shared.entry.now.id) }
-        { two_work(rt, shared, zero, one) },
-        move || -> (DeskSeat<D>, DeskSeat<D>, Option<u32>)
-            requires { (two.desk ≡ shared.now.id) × (three.desk ≡ shared.now.id) }
-            ensures { (result.0.desk ≡ shared.entry.now.id) × (result.1.desk ≡ shared.entry.now.id) }
-        { two_work(rt, shared, two, three) },
-    );
-    let made = match (front, back) {
-        (Some(front), Some(back)) => front.checked_add(back),
-        _ => None,
-    };
-    same(rt, &made, &Some(400));
-    put_back(rt, &desk, &mut seats, zero, one);
-    put_back(rt, &desk, &mut seats, two, three);
-    let places = desk.close(seats).ok().expect(rt, "closed");
-    compare_with_batch(rt, alloc, job, 400, &places)
+    let (desk, mut seats) = opened::<D, R>(rt, alloc, job, 400, 4);
+    same(rt, &work_by_four(rt, &desk, &mut seats), &Some(400));
+    closes_as_batch(rt, alloc, desk, seats, job, 400)
 }
 
 #[test]
@@ -327,6 +289,24 @@ fn find_other<D: Planned>(
     None
 }
 
+/// Makes the trial of a number and posts it, and answers whether it could.
+fn is_posted<D: Planned>(
+    alloc: Global,
+    desk: &Desk<'_, D>,
+    seat: &mut DeskSeat<D>,
+    job: &Job,
+    number: u32,
+) -> bool
+    requires seat { seat.old.desk ≡ desk.now.id }
+    requires plan { D.plan ≡ plan_of job.now }
+    ensures { seat.new.desk ≡ desk.now.id }
+{
+    match trial(alloc, &job.scenario, &job.setup, number) {
+        Ok(made) => desk.post(seat, number, made.result).is_ok(),
+        Err(_) => false,
+    }
+}
+
 /// Makes the trial of the next number and posts it, and answers the number.
 fn post_next<D: Planned>(
     alloc: Global,
@@ -339,39 +319,68 @@ fn post_next<D: Planned>(
     ensures { seat.new.desk ≡ desk.now.id }
 {
     let number = desk.claim(seat)?;
-    let made = trial(alloc, &job.scenario, &job.setup, number).ok()?.result;
-    match desk.post(seat, number, made) {
-        Ok(()) => Some(number),
-        Err(_) => None,
+    if is_posted(alloc, desk, seat, job, number) {
+        Some(number)
+    } else {
+        None
     }
+}
+
+/// Two seats that post and find in two threads, and what each finds.
+fn each_finds<D: Planned + Send + Sync, R: Threads + Sync>(
+    rt: &R,
+    alloc: Global,
+    desk: &Desk<'_, D>,
+    zero: DeskSeat<D>,
+    one: DeskSeat<D>,
+    job: &Job,
+) -> (DeskSeat<D>, DeskSeat<D>, [Option<TrialResult>; 2])
+    requires seats { (zero.desk ≡ desk.now.id) × (one.desk ≡ desk.now.id) }
+    requires plan { D.plan ≡ plan_of job.now }
+    ensures { (result.0.desk ≡ desk.entry.now.id) × (result.1.desk ≡ desk.entry.now.id) }
+{
+    let ((zero, first), (one, second)) = thread::join(
+        rt,
+        move || -> (DeskSeat<D>, Option<TrialResult>)
+            requires seat { zero.desk ≡ desk.now.id }
+            requires plan { D.plan ≡ plan_of job.now }
+            ensures { result.0.desk ≡ desk.entry.now.id }
+        { post_and_find(alloc, desk, zero, job) },
+        move || -> (DeskSeat<D>, Option<TrialResult>)
+            requires seat { one.desk ≡ desk.now.id }
+            requires plan { D.plan ≡ plan_of job.now }
+            ensures { result.0.desk ≡ desk.entry.now.id }
+        { post_and_find(alloc, desk, one, job) },
+    );
+    (zero, one, [first, second])
+}
+
+/// The last two seats of a row post and find, and are put back. Answers what each finds.
+fn find_by_two<D: Planned + Send + Sync, R: Threads + Abort + Sync>(
+    rt: &R,
+    alloc: Global,
+    desk: &Desk<'_, D>,
+    seats: &mut Vec<DeskSeat<D>>,
+    job: &Job,
+) -> [Option<TrialResult>; 2]
+    requires seats { All (λ seat. seat.desk ≡ desk.now.id) seats.old.items }
+    requires plan { D.plan ≡ plan_of job.now }
+    ensures { All (λ seat. seat.desk ≡ desk.now.id) seats.new.items }
+{
+    let (zero, one) = take_two(rt, desk, seats);
+    let (zero, one, found) = each_finds(rt, alloc, desk, zero, one, job);
+    put_back(rt, desk, seats, zero, one);
+    found
 }
 
 /// Two threads, of which each finds what the other posted.
 fn two_find<D: Planned + Send + Sync, R: Threads + Abort + Sync>(rt: &R, alloc: Global, job: &Job)
     requires { D.plan ≡ plan_of job.now }
 {
-    let (desk, mut seats) = Desk::<D>::new(alloc, job, 2, 2).expect(rt, "a desk");
-    let one = take_seat(rt, &desk, &mut seats);
-    let zero = take_seat(rt, &desk, &mut seats);
-    let shared = &desk;
-    let ((zero, first), (one, second)) = thread::join(
-        rt,
-        move || -> (DeskSeat<D>, Option<TrialResult>)
-            requires seat { zero.desk ≡ shared.now.id }
-            requires plan { D.plan ≡ plan_of job.now }
-            ensures { result.0.desk ≡ shared.entry.now.id }
-        { post_and_find(alloc, shared, zero, job) },
-        move || -> (DeskSeat<D>, Option<TrialResult>)
-            requires seat { one.desk ≡ shared.now.id }
-            requires plan { D.plan ≡ plan_of job.now }
-            ensures { result.0.desk ≡ shared.entry.now.id }
-        { post_and_find(alloc, shared, one, job) },
-    );
-    assert!(rt; first.is_some() && second.is_some());
-    put_back(rt, &desk, &mut seats, zero, one);
-    let places = desk.close(seats).ok().expect(rt, "closed");
-    // Which seat has which number is up to the threads.
-    assert!(rt; places.contains(&first) && places.contains(&second) && first != second);
+    let (desk, mut seats) = opened::<D, R>(rt, alloc, job, 2, 2);
+    let found = find_by_two(rt, alloc, &desk, &mut seats, job);
+    let places = closed(rt, desk, seats);
+    are_places(rt, &found, &places);
     compare_with_batch(rt, alloc, job, 2, &places)
 }
 

@@ -5,6 +5,7 @@ ghost use Rattle.floor.specs.FloorId.{floor_id};
 
 use crate::asserting::same;
 use crate::entries::entry_of;
+use crate::floor_ends::opened;
 use crate::setups::setup;
 use base::{Ask, BlockId, CacheId, Step};
 use floor::{Chooser, Floor, Gate, Ground, Naming, Receipt, Seat, TurnFault, Wish, crew};
@@ -101,12 +102,49 @@ const ROWS: [Row<'static>; 4] = [
     },
 ];
 
+/// What a chooser was told at its first calls, how often it was asked, and how often somebody came by at a gate.
+#[derive(Drop)]
+struct Notes {
+    asked: AtomicU32,
+    told: [AtomicU64; 6],
+    passed: AtomicU32,
+    ended: AtomicU32,
+}
+
+impl Notes {
+    /// Nobody was asked or came by. (That 9 stands where nobody was told.)
+    fn new() -> Notes {
+        Notes {
+            asked: AtomicU32::new(0),
+            told: [
+                AtomicU64::new(9),
+                AtomicU64::new(9),
+                AtomicU64::new(9),
+                AtomicU64::new(9),
+                AtomicU64::new(9),
+                AtomicU64::new(9),
+            ],
+            passed: AtomicU32::new(0),
+            ended: AtomicU32::new(0),
+        }
+    }
+}
+
+impl Gate for Notes {
+    fn pass(&self, _seat: u32, _call: u32) {
+        self.passed.fetch_add(1, Ordering::SeqCst);
+    }
+
+    fn done(&self, _seat: u32, _call: u32) {
+        self.ended.fetch_add(1, Ordering::SeqCst);
+    }
+}
+
 /// Wishes these one after the other, and notes what it is told.
 #[derive(Drop)]
 struct Plan<'a> {
     wishes: &'a [Wish],
-    told: &'a [AtomicU64],
-    asked: &'a AtomicU32,
+    notes: &'a Notes,
 }
 
 impl<'a, F: Naming> Chooser<F> for Plan<'a> {
@@ -115,28 +153,11 @@ impl<'a, F: Naming> Chooser<F> for Plan<'a> {
             Some(receipt) => receipt.number().saturating_add(1),
             None => 0,
         };
-        let call = self.asked.fetch_add(1, Ordering::SeqCst) as usize;
-        if let Some(place) = self.told.get(call) {
+        let call = self.notes.asked.fetch_add(1, Ordering::SeqCst) as usize;
+        if let Some(place) = self.notes.told.get(call) {
             place.store(told, Ordering::SeqCst);
         }
         self.wishes.get(call).copied()
-    }
-}
-
-/// Counts who comes by.
-#[derive(Drop)]
-struct Counter {
-    passed: AtomicU32,
-    ended: AtomicU32,
-}
-
-impl Gate for Counter {
-    fn pass(&self, _seat: u32, _call: u32) {
-        self.passed.fetch_add(1, Ordering::SeqCst);
-    }
-
-    fn done(&self, _seat: u32, _call: u32) {
-        self.ended.fetch_add(1, Ordering::SeqCst);
     }
 }
 
@@ -156,19 +177,43 @@ fn played<F: Naming + Send + Sync, R: Threads + Wait + Abort + Sync, G: Gate + S
 }
 
 fn compare<F: Naming, R: Abort>(rt: &R, seat: &Seat<F>, lines: &[&str]) {
-    same(rt, &seat.made(), &lines.len());
-    for (receipt, line) in seat.receipts().iter().zip(lines) {
+    let receipts = seat.receipts();
+    same(rt, &receipts.len(), &lines.len());
+    for (number, line) in lines.iter().enumerate() {
+        let receipt = receipts.get(number).expect(rt, "a receipt");
         same(rt, &Some(receipt.entry()), &entry_of(line));
     }
 }
 
-/// Six numbers that nobody is told of.
-fn untold(rt: &impl Abort, alloc: Global) -> Vec<AtomicU64> {
-    let mut numbers = Vec::new(alloc);
-    for _ in 0..6 {
-        numbers.push(AtomicU64::new(9)).expect(rt, "memory");
+/// Has a seat play a row, and compares how it ended and its receipts.
+fn plays_row<F: Naming + Send + Sync, R: Threads + Wait + Abort + Sync>(
+    rt: &R,
+    alloc: Global,
+    floor: &Floor<F>,
+    seat: Seat<F>,
+    row: &Row<'_>,
+    notes: &Notes,
+) {
+    let plan = Plan {
+        wishes: row.wishes,
+        notes,
+    };
+    let (seat, fault) = played(rt, alloc, floor, notes, seat, plan);
+    same(rt, &fault, &row.fault);
+    same(rt, &seat.made(), &row.lines.len());
+    compare(rt, &seat, row.lines);
+}
+
+/// Compares what was noted.
+fn compare_notes(rt: &impl Abort, notes: &Notes, row: &Row<'_>) {
+    let times = notes.asked.load(Ordering::SeqCst) as usize;
+    same(rt, &times, &row.told.len());
+    for (call, told) in row.told.iter().enumerate() {
+        let found = notes.told.get(call).expect(rt, "a call");
+        same(rt, &found.load(Ordering::SeqCst), told);
     }
-    numbers
+    same(rt, &notes.passed.load(Ordering::SeqCst), &row.calls);
+    same(rt, &notes.ended.load(Ordering::SeqCst), &row.calls);
 }
 
 /// Has a seat play a row, and compares what comes of it.
@@ -179,27 +224,9 @@ fn plays_at<F: Naming + Send + Sync, R: Threads + Wait + Abort + Sync>(
     seat: Seat<F>,
     row: &Row<'_>,
 ) {
-    let told = untold(rt, alloc);
-    let asked = AtomicU32::new(0);
-    let gate = Counter {
-        passed: AtomicU32::new(0),
-        ended: AtomicU32::new(0),
-    };
-    let plan = Plan {
-        wishes: row.wishes,
-        told: told.as_slice(),
-        asked: &asked,
-    };
-    let (seat, fault) = played(rt, alloc, floor, &gate, seat, plan);
-    same(rt, &fault, &row.fault);
-    compare(rt, &seat, row.lines);
-    let times = asked.load(Ordering::SeqCst) as usize;
-    same(rt, &times, &row.told.len());
-    for (found, expected) in told.iter().zip(row.told) {
-        same(rt, &found.load(Ordering::SeqCst), expected);
-    }
-    same(rt, &gate.passed.load(Ordering::SeqCst), &row.calls);
-    same(rt, &gate.ended.load(Ordering::SeqCst), &row.calls);
+    let notes = Notes::new();
+    plays_row(rt, alloc, floor, seat, row, &notes);
+    compare_notes(rt, &notes, row);
 }
 
 fn plays<F: Naming + Send + Sync, R: Threads + Wait + Abort + Sync>(
@@ -211,8 +238,7 @@ fn plays<F: Naming + Send + Sync, R: Threads + Wait + Abort + Sync>(
 )
     requires { F.floor ≡ floor_id ground setup.now row.now.seats row.now.capacity }
 {
-    let opened = Floor::<F>::open(ground, alloc, setup, row.seats, row.capacity);
-    let (floor, mut seats) = opened.expect(rt, "a floor");
+    let (floor, mut seats) = opened::<F, R>(rt, alloc, ground, setup, row.seats, row.capacity);
     let seat = seats.pop().expect(rt, "a seat");
     plays_at(rt, alloc, &floor, seat, row)
 }
@@ -258,6 +284,33 @@ impl<'a, F: Naming, R: Wait + Abort> Gate for Neighbour<'a, F, R> {
     }
 }
 
+/// Compares the numbers of a seat's receipts.
+fn are_numbered<F: Naming, R: Abort>(rt: &R, seat: &Seat<F>, numbers: &[u64]) {
+    same(rt, &seat.made(), &numbers.len());
+    for (at, number) in numbers.iter().enumerate() {
+        let receipt = seat.receipts().get(at).expect(rt, "a receipt");
+        same(rt, &receipt.number(), number);
+    }
+}
+
+/// Has a seat make two turns at a gate at which a neighbour makes one before each and one behind it.
+fn plays_beside<F: Naming + Send + Sync, R: Threads + Wait + Abort + Sync>(
+    rt: &R,
+    alloc: Global,
+    floor: &Floor<F>,
+    gate: &Neighbour<'_, F, R>,
+    seat: Seat<F>,
+) {
+    let notes = Notes::new();
+    let plan = Plan {
+        wishes: &[OTHER_LOAD, RESPONSE],
+        notes: &notes,
+    };
+    let (seat, fault) = played(rt, alloc, floor, gate, seat, plan);
+    same(rt, &fault, &None);
+    are_numbered(rt, &seat, &[1, 4]);
+}
+
 fn stands_between<F: Naming + Send + Sync, R: Threads + Wait + Abort + Sync>(
     rt: &R,
     alloc: Global,
@@ -266,25 +319,14 @@ fn stands_between<F: Naming + Send + Sync, R: Threads + Wait + Abort + Sync>(
 )
     requires { F.floor ≡ floor_id ground setup.now 2 9 }
 {
-    let (floor, mut seats) = Floor::<F>::open(ground, alloc, setup, 2, 9).expect(rt, "a floor");
+    let (floor, mut seats) = opened::<F, R>(rt, alloc, ground, setup, 2, 9);
     let seat = seats.pop().expect(rt, "a seat");
     let gate = Neighbour {
         rt,
         floor: &floor,
         seat: Mutex::new(seats.pop().expect(rt, "a seat")),
     };
-    let asked = AtomicU32::new(0);
-    let plan = Plan {
-        wishes: &[OTHER_LOAD, RESPONSE],
-        told: &[],
-        asked: &asked,
-    };
-    let (seat, fault) = played(rt, alloc, &floor, &gate, seat, plan);
-    same(rt, &fault, &None);
-    same(rt, &seat.made(), &2);
-    for (receipt, number) in seat.receipts().iter().zip([1u64, 4]) {
-        same(rt, &receipt.number(), &number);
-    }
+    plays_beside(rt, alloc, &floor, &gate, seat);
 }
 
 #[test]

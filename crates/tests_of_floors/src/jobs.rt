@@ -34,3 +34,17 @@ pub fn compare_with_batch<R: Abort>(
         same(rt, place, &Some(*result));
     }
 }
+
+/// Holds that both were found, and are two of the places. Which seat has which number is up to the threads.
+pub fn are_places(
+    rt: &impl Abort,
+    found: &[Option<TrialResult>; 2],
+    places: &[Option<TrialResult>],
+) {
+    let [first, second] = found;
+    same(rt, &(first.is_some() && second.is_some()), &true);
+    same(rt, &(first != second), &true);
+    for one in found {
+        same(rt, &places.contains(one), &true);
+    }
+}

@@ -7,10 +7,14 @@ mod asserting;
 #[cfg(test)]
 mod crews;
 #[cfg(test)]
+mod desk_rows;
+#[cfg(test)]
 mod desks;
 #[cfg(test)]
 mod ends;
 mod entries;
+#[cfg(test)]
+mod floor_ends;
 #[cfg(test)]
 mod jobs;
 #[cfg(test)]

@@ -3,6 +3,7 @@ ghost use Rattle.floor.specs.FloorId.{floor_id};
 
 use crate::asserting::same;
 use crate::entries::entry_of;
+use crate::floor_ends::{closed, opened};
 use crate::setups::setup;
 use base::{Ask, BlockId, Buffer, CacheId, Step};
 use floor::{CloseFault, Closed, Floor, FloorFault, Ground, Naming, Seat, TurnFault, Wish};
@@ -188,32 +189,23 @@ fn takes_turns<F: Naming, R: Wait + Abort>(
     same(rt, &seat.made(), &row.lines.len());
 }
 
+/// Compares an entry of what is closed, which is the only seat's.
+fn is_entry<F: Naming, R: Abort>(rt: &R, closed: &Closed<F>, number: usize, line: &str) {
+    let found = closed.recording.entries().get(number).copied();
+    same(rt, &found, &entry_of(line));
+    same(rt, &closed.owners.get(number).copied(), &Some(0));
+}
+
 /// Compares what is closed with the entries of a floor's only seat.
 pub fn compare<F: Naming, R: Abort>(rt: &R, closed: &Closed<F>, lines: &[&str]) {
-    let entries = closed.recording.entries();
-    same(rt, &entries.len(), &lines.len());
+    same(rt, &closed.recording.entries().len(), &lines.len());
     same(rt, &closed.owners.len(), &lines.len());
-    for (entry, line) in entries.iter().zip(lines) {
-        same(rt, &Some(*entry), &entry_of(line));
-    }
-    for owner in closed.owners.iter() {
-        same(rt, owner, &0);
+    for (number, line) in lines.iter().enumerate() {
+        is_entry(rt, closed, number, line);
     }
     same(rt, &closed.recording.seats(), &1);
     same(rt, &closed.recording.owner(0), &Some(0));
     same(rt, &closed.violation, &None);
-}
-
-/// The same, and how many entries the recording has when it is replayed.
-fn compare_replayed<F: Naming, R: Abort>(
-    rt: &R,
-    alloc: Global,
-    closed: &Closed<F>,
-    lines: &[&str],
-) {
-    compare(rt, closed, lines);
-    let replayed = replay(alloc, &closed.recording).expect(rt, "a replay");
-    same(rt, &replayed.entries.len(), &lines.len());
 }
 
 /// Compares the text of a recording.
@@ -223,6 +215,24 @@ fn writes(rt: &impl Abort, alloc: Global, recording: &Recording, text: &str) {
     same(rt, &sink.bytes(), &text.as_bytes());
 }
 
+/// Compares what is closed with a row, and how many entries the recording has when it is replayed.
+fn compare_replayed<F: Naming, R: Abort>(rt: &R, alloc: Global, closed: &Closed<F>, row: &Row<'_>) {
+    compare(rt, closed, row.lines);
+    let replayed = replay(alloc, &closed.recording).expect(rt, "a replay");
+    same(rt, &replayed.entries.len(), &row.lines.len());
+    if let Some(text) = row.text {
+        writes(rt, alloc, &closed.recording, text);
+    }
+}
+
+/// Without its seat a floor isn't closed.
+fn misses_its_seat<F: Naming, R: Abort>(rt: &R, alloc: Global, floor: Floor<F>) -> Floor<F> {
+    let refused = floor.close(Vec::new(alloc)).err();
+    let (fault, floor, _) = refused.expect(rt, "a seat is missing");
+    same(rt, &fault, &CloseFault::SeatMissing);
+    floor
+}
+
 fn closes<F: Naming, R: Abort>(
     rt: &R,
     alloc: Global,
@@ -230,14 +240,8 @@ fn closes<F: Naming, R: Abort>(
     seats: Vec<Seat<F>>,
     row: &Row<'_>,
 ) {
-    let refused = floor.close(Vec::new(alloc)).err();
-    let (fault, floor, _) = refused.expect(rt, "a seat is missing");
-    same(rt, &fault, &CloseFault::SeatMissing);
-    let closed = floor.close(seats).ok().expect(rt, "closed");
-    compare_replayed(rt, alloc, &closed, row.lines);
-    if let Some(text) = row.text {
-        writes(rt, alloc, &closed.recording, text);
-    }
+    let floor = misses_its_seat(rt, alloc, floor);
+    compare_replayed(rt, alloc, &closed(rt, floor, seats), row);
 }
 
 fn plays<F: Naming, R: Wait + Abort>(
@@ -249,8 +253,7 @@ fn plays<F: Naming, R: Wait + Abort>(
 )
     requires { F.floor ≡ floor_id ground setup.now 1 row.now.capacity }
 {
-    let opened = Floor::<F>::open(ground, alloc, setup, 1, row.capacity);
-    let (floor, mut seats) = opened.expect(rt, "a floor");
+    let (floor, mut seats) = opened::<F, R>(rt, alloc, ground, setup, 1, row.capacity);
     for seat in seats.iter_mut() {
         takes_turns(rt, &floor, seat, row);
     }
@@ -280,18 +283,22 @@ fn asks_and_responds<F: Naming, R: Wait + Abort>(rt: &R, floor: &Floor<F>, seat:
     same(rt, &Some(receipt.entry()), &absent);
 }
 
-fn foreign_steps<F: Naming, R: Wait + Abort>(rt: &R, alloc: Global, ground: Ground, setup: &Setup)
-    requires { F.floor ≡ floor_id ground setup.now 3 4 }
-{
-    let (floor, mut seats) = Floor::<F>::open(ground, alloc, setup, 3, 4).expect(rt, "a floor");
-    for seat in seats.iter_mut() {
-        asks_and_responds(rt, &floor, seat);
-    }
-    let closed = floor.close(seats).ok().expect(rt, "closed");
+/// Compares what is closed of three seats, of which each made what is everybody's, the first one behind a load.
+fn compare_foreign<F: Naming, R: Abort>(rt: &R, closed: &Closed<F>) {
     same(rt, &closed.owners.as_slice(), &[0u32, 0, 1, 2].as_slice());
     same(rt, &closed.recording.seats(), &3);
     let ends = (closed.recording.owner(0), closed.recording.owner(3));
     same(rt, &ends, &(Some(0), Some(2)));
+}
+
+fn foreign_steps<F: Naming, R: Wait + Abort>(rt: &R, alloc: Global, ground: Ground, setup: &Setup)
+    requires { F.floor ≡ floor_id ground setup.now 3 4 }
+{
+    let (floor, mut seats) = opened::<F, R>(rt, alloc, ground, setup, 3, 4);
+    for seat in seats.iter_mut() {
+        asks_and_responds(rt, &floor, seat);
+    }
+    compare_foreign(rt, &closed(rt, floor, seats));
 }
 
 #[test]

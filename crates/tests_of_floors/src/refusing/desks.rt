@@ -2,6 +2,7 @@ ghost use Rattle.std.specs.Prelude.{◌≡◌, All};
 ghost use Rattle.desk.specs.Plans.{IsResultOf, plan_of};
 
 use crate::asserting::same;
+use crate::desk_rows::looks;
 use crate::jobs::RACING_PAIR;
 use base::Shape;
 use both_tables::Tables;
@@ -13,11 +14,17 @@ use std::process::Abort;
 use std::test::Fail;
 use trials::{Setup, TrialResult, trial};
 
+/// One block that opens at 0.
+fn setup(alloc: Global, shape: Shape) -> Result<Setup, Fail> {
+    let opening = vec![in alloc; 0; 1]?;
+    Ok(Setup::new(shape, Tables::baseline(), opening, 42, 100)?)
+}
+
 /// Two cores that race for one block.
 fn racing_pair(alloc: Global) -> Result<Job, Fail> {
     let shape = Shape::new(2, 1)?;
     let scenario = Scenario::read(alloc, alloc, RACING_PAIR.as_bytes(), shape)?;
-    let setup = Setup::new(shape, Tables::baseline(), vec![in alloc; 0; 1]?, 42, 100)?;
+    let setup = setup(alloc, shape)?;
     Ok(Job { scenario, setup })
 }
 
@@ -34,10 +41,10 @@ fn posted<D: Planned, R: Abort>(
     if let Err((fault, back)) = desk.post(seat, 0, made) {
         same(rt, &fault, &PostFault::NoMemory);
         same(rt, &back, &made);
-        same(rt, &desk.look(seat, 0), &None);
+        looks(rt, desk, seat, 0, None);
         same(rt, &desk.post(seat, 0, made), &Ok(()));
     }
-    same(rt, &desk.look(seat, 0), &Some(made));
+    looks(rt, desk, seat, 0, Some(made));
 }
 
 fn closed<'j, D: Planned, R: Abort>(

@@ -4,6 +4,7 @@ ghost use Rattle.floor.specs.FloorId.{floor_id};
 use crate::asserting::same;
 use crate::crews::{Meeting, Script, cast, played};
 use crate::entries::entry_of;
+use crate::floor_ends::closed;
 use crate::turns::compare;
 use base::{NoMemory, Shape, Step};
 use both_tables::Tables;
@@ -95,7 +96,7 @@ fn loads<F: Naming, R: Wait + Abort>(
     for seat in seats.iter_mut() {
         make(rt, &floor, seat);
     }
-    let closed = floor.close(seats).ok().expect(rt, "closed");
+    let closed = closed(rt, floor, seats);
     compare(rt, &closed, &LOAD);
     is_legal(rt, alloc, &closed.recording, LOAD.len());
 }
@@ -204,7 +205,7 @@ fn race<F: Naming + Send + Sync, R: Threads + Wait + Abort + Sync>(
 {
     let (floor, seats) = Floor::<F>::open(ground, alloc, setup, 3, 600)?;
     let (seats, made) = race_of(rt, alloc, &floor, seats)?;
-    let closed = floor.close(seats).ok().expect(rt, "closed");
+    let closed = closed(rt, floor, seats);
     is_legal(rt, alloc, &closed.recording, made);
     Ok(())
 }
