@@ -70,25 +70,43 @@ cell cache E Fwd-GetS act S data-req data-dir
 cell cache E Fwd-GetM act I data-req
 ";
 
-/// The cell of MSI in place of one of MSI+E. `None` where MSI hasn't got it.
-fn of_msi(line: &str) -> Option<&str> {
-    match line {
-        "cell cache IS^D Fwd-GetS stall" => Some("cell cache IS^D Fwd-GetS blank"),
-        "cell cache IS^D Fwd-GetM stall" => Some("cell cache IS^D Fwd-GetM blank"),
-        "cell directory I GetS act M data-excl set-owner" => {
-            Some("cell directory I GetS act S data-req add-req")
+/// Cells of MSI+E, and those of MSI in their place.
+const OTHERS: &[(&str, &str)] = &[
+    (
+        "cell cache IS^D Fwd-GetS stall",
+        "cell cache IS^D Fwd-GetS blank",
+    ),
+    (
+        "cell cache IS^D Fwd-GetM stall",
+        "cell cache IS^D Fwd-GetM blank",
+    ),
+    (
+        "cell directory I GetS act M data-excl set-owner",
+        "cell directory I GetS act S data-req add-req",
+    ),
+];
+
+/// Whether MSI hasn't got such a cell.
+fn is_new(line: &str) -> bool {
+    line.starts_with("cell cache E ") || line.contains(" Data-Dir-Excl ")
+}
+
+/// The cell of MSI in place of one of MSI+E that it has got, too.
+fn of_msi(line: &str) -> &str {
+    for (found, own) in OTHERS {
+        if line == *found {
+            return own;
         }
-        _ if line.starts_with("cell cache E ") || line.contains(" Data-Dir-Excl ") => None,
-        _ => Some(line),
     }
+    line
 }
 
 /// The cells that MSI has are its own but for those that differ.
 fn has_cells_of_msi(rt: &impl Abort, text: &str) {
     let mut own = CELLS.lines();
     for line in text.lines() {
-        if let Some(cell) = of_msi(line) {
-            same_line(rt, line, Some(cell), own.next());
+        if !is_new(line) {
+            same_line(rt, line, Some(of_msi(line)), own.next());
         }
     }
     same_line(rt, "the end", own.next(), None);
@@ -98,7 +116,7 @@ fn has_cells_of_msi(rt: &impl Abort, text: &str) {
 fn has_new_cells(rt: &impl Abort, text: &str) {
     let mut new = NEW.lines();
     for line in text.lines() {
-        if of_msi(line).is_none() && !line.ends_with(" blank") {
+        if is_new(line) && !line.ends_with(" blank") {
             same_line(rt, line, Some(line), new.next());
         }
     }

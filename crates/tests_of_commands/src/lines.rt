@@ -67,31 +67,40 @@ fn text_of(rt: &impl Abort, alloc: Global, number: u32) -> Vec<u8> {
     text
 }
 
+/// Whether a line was read, or of which kind the fault is.
+fn came_of(read: io::Result<bool>) -> Result<bool, io::ErrorKind> {
+    match read {
+        Ok(is_line) => Ok(is_line),
+        Err(fault) => Err(fault.kind()),
+    }
+}
+
 /// Reads the next line by both, and answers whether there is one. A fault has to be of the same kind.
 fn advance<'a>(
     rt: &impl Abort,
     lines: &mut Lines<Pieces<'a>>,
     plain: &mut plain_lines::Lines<Pieces<'a>>,
 ) -> bool {
-    let waits = (lines.may_wait(), plain.may_wait());
-    holds(rt, "whether a line may be waited for", waits.0 == waits.1);
-    let told = plain.advance().map_err(|fault| fault.kind());
-    let found = lines.advance().map_err(|fault| fault.kind());
+    let waits = lines.may_wait() == plain.may_wait();
+    holds(rt, "whether a line may be waited for", waits);
+    let told = came_of(plain.advance());
+    let found = came_of(lines.advance());
     holds(rt, "whether there is a line", found == told);
     holds(rt, "its number", lines.number() == plain.number());
     holds(rt, "its bytes", lines.line() == plain.line());
     told == Ok(true)
 }
 
-/// Reads an input by both, line by line, and goes on three times where there is no line.
-fn compare(rt: &impl Abort, alloc: Global, text: &[u8], most: usize, fault: Option<usize>) {
-    let input = pieces_of(text, most, fault);
-    let mut plain = plain_lines::Lines::new(alloc, input).expect(rt, "memory");
-    let again = pieces_of(text, most, fault);
-    let mut lines = Lines::new(alloc, again).expect(rt, "memory");
+/// Reads by both so many times, or until there was no line four times.
+fn advance_far<'a>(
+    rt: &impl Abort,
+    lines: &mut Lines<Pieces<'a>>,
+    plain: &mut plain_lines::Lines<Pieces<'a>>,
+    times: usize,
+) {
     let mut ends = 0_u32;
-    for _ in 0..text.len().saturating_add(4) {
-        if !advance(rt, &mut lines, &mut plain) {
+    for _ in 0..times {
+        if !advance(rt, lines, plain) {
             ends = ends.saturating_add(1);
         }
         if ends > 3 {
@@ -100,13 +109,22 @@ fn compare(rt: &impl Abort, alloc: Global, text: &[u8], most: usize, fault: Opti
     }
 }
 
+/// Reads an input by both, line by line, and goes on three times where there is no line.
+fn compare(rt: &impl Abort, alloc: Global, text: &[u8], most: usize, fault: Option<usize>) {
+    let input = pieces_of(text, most, fault);
+    let mut plain = plain_lines::Lines::new(alloc, input).expect(rt, "memory");
+    let again = pieces_of(text, most, fault);
+    let mut lines = Lines::new(alloc, again).expect(rt, "memory");
+    advance_far(rt, &mut lines, &mut plain, text.len().saturating_add(4));
+}
+
 /// The lines of a text, with its last LF, without it, and without it and with a fault behind it.
 fn compare_ends(rt: &impl Abort, alloc: Global, whole: &[u8]) {
     let open = &whole[..whole.len().saturating_sub(1)];
-    for most in PIECES {
-        compare(rt, alloc, whole, most, None);
-        compare(rt, alloc, open, most, None);
-        compare(rt, alloc, open, most, Some(open.len()));
+    for most in &PIECES {
+        compare(rt, alloc, whole, *most, None);
+        compare(rt, alloc, open, *most, None);
+        compare(rt, alloc, open, *most, Some(open.len()));
     }
 }
 

@@ -155,6 +155,10 @@ const MODELS: &[(&str, &str)] = &[
     ),
 ];
 
+fn has_part(rt: &impl Abort, model: &str, text: &str, wanted: &str) {
+    assert_eq!(rt; text.contains(wanted), true, "at {model}: {wanted}");
+}
+
 fn has_cells<R: Threads + Wait + Abort + Sync>(rt: &R, alloc: Global, tables: &str, model: &str) {
     let cells = serve(rt, alloc, tables, CHANGED, "");
     same_text(rt, tables, text_of(rt, &cells.errors), "");
@@ -163,8 +167,7 @@ fn has_cells<R: Threads + Wait + Abort + Sync>(rt: &R, alloc: Global, tables: &s
     let served = serve(rt, alloc, model, CHANGED, "");
     same_text(rt, model, text_of(rt, &served.errors), "");
     same_number(rt, model, served.status as usize, 0);
-    let has_cells = text_of(rt, &served.output).contains(wanted.as_str());
-    assert_eq!(rt; has_cells, true, "at {model}: {wanted}");
+    has_part(rt, model, text_of(rt, &served.output), wanted.as_str());
 }
 
 #[test]

@@ -1,5 +1,6 @@
 //! Texts that are damaged at each of their bytes in turn: something is told of each that is refused, and nothing of the others.
 
+use crate::cases::joined;
 use base::Shape;
 use base::controller::Protocol;
 use both_tables::Tables;
@@ -20,14 +21,16 @@ const SCENARIO: &str =
 /// What stands in place of a byte.
 const DAMAGES: &[&str] = &["", "x", "0", "2", "\"", ",", "]", "}", "-1,"];
 
-/// A text with these bytes in place of one.
-fn damaged(rt: &impl Abort, alloc: Global, text: &str, at: usize, damage: &str) -> Vec<u8> {
-    let (front, rest) = text.as_bytes().split_at(at.min(text.len()));
-    let mut bytes = Vec::new(alloc);
-    for part in [front, damage.as_bytes(), rest.get(1..).unwrap_or(rest)] {
-        bytes.extend_from_slice(part).expect(rt, "memory");
-    }
-    bytes
+/// A text of bytes below 128 with these bytes in place of one.
+fn damaged(rt: &impl Abort, alloc: Global, text: &str, at: usize, damage: &str) -> String {
+    let front = text.get(..at).expect(rt, "a front");
+    let rest = text.get(at.saturating_add(1)..).expect(rt, "a rest");
+    joined(rt, alloc, &[front, damage, rest])
+}
+
+/// Stops a test where it isn't so with these bytes in place of the one there.
+fn is_told_of(rt: &impl Abort, is_so: bool, at: usize, damage: &str) {
+    assert_eq!(rt; is_so, true, "{damage} at {at}");
 }
 
 /// Whether something is told of these tables where they are refused, and nothing else.
@@ -46,17 +49,17 @@ fn scenario_is_told_of(alloc: Global, shape: Shape, bytes: &[u8]) -> bool {
 
 fn damage_tables(rt: &impl Abort, alloc: Global, at: usize) {
     for damage in DAMAGES {
-        let bytes = damaged(rt, alloc, TABLE, at, damage);
-        let is_so = tables_are_told_of(alloc, bytes.as_slice());
-        assert_eq!(rt; is_so, true, "{damage} at {at}");
+        let text = damaged(rt, alloc, TABLE, at, damage);
+        let is_so = tables_are_told_of(alloc, text.as_bytes());
+        is_told_of(rt, is_so, at, damage);
     }
 }
 
 fn damage_scenario(rt: &impl Abort, alloc: Global, shape: Shape, at: usize) {
     for damage in DAMAGES {
-        let bytes = damaged(rt, alloc, SCENARIO, at, damage);
-        let is_so = scenario_is_told_of(alloc, shape, bytes.as_slice());
-        assert_eq!(rt; is_so, true, "{damage} at {at}");
+        let text = damaged(rt, alloc, SCENARIO, at, damage);
+        let is_so = scenario_is_told_of(alloc, shape, text.as_bytes());
+        is_told_of(rt, is_so, at, damage);
     }
 }
 
