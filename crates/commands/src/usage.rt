@@ -328,26 +328,54 @@ const COMMANDS: [Usage; 12] = [
 ];
 
 /// The command line of `msi`.
+// (Constants are built by the function that names them, so who names the commands does nothing else.)
 pub fn msi<'a>(alloc: Global) -> Result<Command<'a>, AllocError> {
-    let mut msi = Command::new(alloc, "msi")
+    with_commands(alloc, program(alloc), &COMMANDS)
+}
+
+/// The program without its commands.
+fn program<'a>(alloc: Global) -> Command<'a> {
+    Command::new(alloc, "msi")
         .version(VERSION)
         .about("Plays, tries out and replays a directory MSI cache-coherence protocol")
         .subcommand_required(true)
-        .after_help(helps::MSI);
-    for usage in &COMMANDS {
-        msi = msi.subcommand(command(alloc, usage)?)?;
+        .after_help(helps::MSI)
+}
+
+fn with_commands<'a>(
+    alloc: Global,
+    program: Command<'a>,
+    usages: &[Usage],
+) -> Result<Command<'a>, AllocError> {
+    let mut program = program;
+    for usage in usages {
+        program = program.subcommand(command(alloc, usage)?)?;
     }
-    Ok(msi)
+    Ok(program)
 }
 
 fn command<'a>(alloc: Global, usage: &Usage) -> Result<Command<'a>, AllocError> {
-    let mut command = Command::new(alloc, usage.name)
+    let command = Command::new(alloc, usage.name)
         .about(usage.about)
         .after_help(usage.after);
-    for choice in usage.choices {
+    explained(alloc, with_options(alloc, command, usage.choices)?)
+}
+
+fn with_options<'a>(
+    alloc: Global,
+    command: Command<'a>,
+    choices: &[Choice],
+) -> Result<Command<'a>, AllocError> {
+    let mut command = command;
+    for choice in choices {
         command = command.arg(option(alloc, choice)?)?;
     }
-    command.arg(option(alloc, &EXPLAIN)?)
+    Ok(command)
+}
+
+/// A command with the option of every command.
+fn explained<'a>(alloc: Global, command: Command<'a>) -> Result<Command<'a>, AllocError> {
+    with_options(alloc, command, &[EXPLAIN])
 }
 
 fn option<'a>(alloc: Global, choice: &Choice) -> Result<Arg<'a>, AllocError> {
