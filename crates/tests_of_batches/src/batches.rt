@@ -16,6 +16,12 @@ const ONE_LOAD_TEXT: &str =
     "msi-recording 2\nprotocol msi\nshape 1 1\nseats 0\nopening 0\ncells 0\nentries 3\n\
     ask 0 0 load = sent\nrequest 0 0 = moved\nresponse 0 0 = load 0 0\nend\n";
 
+/// A table in which a load goes to S before its Data is there.
+pub const EARLY: &str = r#"{"cache":[{"state":"I","event":"Load","entry":{"next":"S","do":[]}}]}"#;
+
+/// What is printed of three trials of one load.
+pub const THREE_QUIET: &str = "0 quiet 3\n1 quiet 3\n2 quiet 3\ntotal quiet 3\n";
+
 const CUT_TEXT: &str =
     "msi-recording 2\nprotocol msi\nshape 2 1\nseats 0\nopening 0\ncells 0\nentries 6\n\
     ask 1 0 store 9 = sent\nrequest 0 0 = moved\nask 0 0 load = sent\n\
@@ -39,7 +45,7 @@ const ONE_LOAD_TRIED: &[(&str, &str, &str, usize, &str, &str)] = &[
         "msi batch --caches 1 --tables table.json --seed 5 --limit 9 --trials 3",
         0,
         "verdict quiet 3\n",
-        "0 quiet 3\n1 quiet 3\n2 quiet 3\ntotal quiet 3\n",
+        THREE_QUIET,
     ),
     (
         "{}",
@@ -93,12 +99,11 @@ fn is_replayed<R: Threads + Wait + Abort + Sync>(rt: &R, alloc: Global, made: &S
 
 #[test]
 fn what_a_trial_recorded_is_replayed(rt: HostRuntime) {
-    let early = r#"{"cache":[{"state":"I","event":"Load","entry":{"next":"S","do":[]}}]}"#;
     let batch = "msi batch --caches 2 --tables table.json --seed 1 --limit 100 --trials 20";
-    let served = serve_over(&rt, rt.alloc(), batch, early, RACING_PAIR);
+    let served = serve_over(&rt, rt.alloc(), batch, EARLY, RACING_PAIR);
     same_number(&rt, batch, served.status as usize, 1);
     let trial = "msi trial --caches 2 --tables table.json --seed 1 --limit 100 --number 0";
-    let made = serve_over(&rt, rt.alloc(), trial, early, RACING_PAIR);
+    let made = serve_over(&rt, rt.alloc(), trial, EARLY, RACING_PAIR);
     is_replayed(&rt, rt.alloc(), &made);
 }
 

@@ -1,6 +1,6 @@
 //! Batches that end behind the first trial of a kind, and their lines in JSON.
 
-use crate::batches::{ONE_LOAD, RACING_PAIR};
+use crate::batches::{EARLY, ONE_LOAD, RACING_PAIR, THREE_QUIET};
 use crate::cases::{Case, are_served, same_number, same_text, text_of};
 use crate::ends::Short;
 use command_lines::serve_over;
@@ -8,8 +8,6 @@ use std::alloc::Global;
 use std::process::Abort;
 use std::sync::Wait;
 use std::thread::Threads;
-
-const EARLY: &str = r#"{"cache":[{"state":"I","event":"Load","entry":{"next":"S","do":[]}}]}"#;
 
 const WAITING: &str = r#"{"directory":[{"state":"I","event":"GetS","entry":"stall"}]}"#;
 
@@ -75,8 +73,6 @@ fn is_printed<R: Threads + Wait + Abort + Sync>(rt: &R, alloc: Global, line: &st
     same_number(rt, line, served.expect(rt, "served") as usize, 0);
     same_text(rt, line, text_of(rt, &output), wanted);
 }
-
-const THREE_QUIET: &str = "0 quiet 3\n1 quiet 3\n2 quiet 3\ntotal quiet 3\n";
 
 /// Nothing of a batch depends on whether its progress is taken.
 #[test]

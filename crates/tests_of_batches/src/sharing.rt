@@ -1,14 +1,12 @@
 //! Batches that workers share out, and what is told of their progress.
 
-use crate::batches::{ONE_LOAD, RACING_PAIR};
+use crate::batches::{EARLY, ONE_LOAD, RACING_PAIR, THREE_QUIET};
 use crate::cases::{each_is_served, holds, same_number, serve, serve_over, served_as, text_of};
 use crate::ends::is_cut_short;
 use std::alloc::Global;
 use std::process::Abort;
 use std::sync::Wait;
 use std::thread::Threads;
-
-const QUIET: &str = "0 quiet 3\n1 quiet 3\n2 quiet 3\ntotal quiet 3\n";
 
 const QUIET_LINES: &[&str] = &[
     "msi batch --caches 1 --seed 5 --limit 9 --trials 3 --workers 1",
@@ -28,11 +26,9 @@ const CUT_LINES: &[&str] = &[
 
 #[test]
 fn workers_print_what_one_prints(rt: HostRuntime) {
-    each_is_served(&rt, rt.alloc(), QUIET_LINES, ONE_LOAD, 0, QUIET, "");
+    each_is_served(&rt, rt.alloc(), QUIET_LINES, ONE_LOAD, 0, THREE_QUIET, "");
     each_is_served(&rt, rt.alloc(), CUT_LINES, ONE_LOAD, 0, CUT, "");
 }
-
-const EARLY: &str = r#"{"cache":[{"state":"I","event":"Load","entry":{"next":"S","do":[]}}]}"#;
 
 /// Holds that workers print this of a race that may break.
 fn are_found<R: Threads + Wait + Abort + Sync>(rt: &R, alloc: Global, output: &str) {
@@ -63,7 +59,7 @@ fn progress_is_told_where_it_is_asked_for(rt: HostRuntime) {
         "msi batch --caches 1 --seed 5 --limit 9 --trials 3 --progress --workers 1",
         "msi batch --caches 1 --seed 5 --limit 9 --trials 3 --progress --workers 4",
     ];
-    each_is_served(&rt, rt.alloc(), &lines, ONE_LOAD, 0, QUIET, TOLD);
+    each_is_served(&rt, rt.alloc(), &lines, ONE_LOAD, 0, THREE_QUIET, TOLD);
     let line = "msi batch --caches 1 --seed 5 --limit 9 --trials 1000 --progress";
     let served = serve(&rt, rt.alloc(), line, ONE_LOAD);
     let told = text_of(&rt, &served.errors);
