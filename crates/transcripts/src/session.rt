@@ -49,7 +49,7 @@ impl Given {
     /// Adds a line of the input so many times, as `N TEXT` says.
     fn put_repeated(&mut self, words: &str) -> Option<()> {
         let (count, line) = words.split_once(' ')?;
-        for _ in 0..count.parse::<u32>().ok()? {
+        for _ in 0..count.parse::<usize>().ok()? {
             put_line(&mut self.input, line)?;
         }
         Some(())
