@@ -1,6 +1,6 @@
 //! Lines that are found in what is read ahead, beside lines that are read piece by piece: over each input both are the same.
 
-use crate::cases::holds;
+use crate::asserting::holds;
 use crate::plain_lines;
 use playing::Lines;
 use std::alloc::Global;

@@ -1,4 +1,6 @@
-use crate::cases::{same_number, text_of};
+//! Stalls that jam: each is shown by steps after which a message is stuck.
+
+use crate::asserting::same_number;
 use base::controller::Protocol;
 use both_tables::{CELLS, CellPlace, Tables};
 use cache_table::CacheEntry;
@@ -27,7 +29,8 @@ fn stalled(protocol: Protocol, cell: CellPlace) -> Tables {
 fn is_shown(rt: &impl Abort, alloc: Global, tables: &Tables) -> bool {
     let mut output = Vec::new(alloc);
     print_certificate(alloc, tables, Format::Plain, &mut output).expect(rt, "printed");
-    text_of(rt, &output).starts_with("safe\nmessages get stuck: cell ")
+    let text = str::from_utf8(output.as_slice()).expect(rt, "a text");
+    text.starts_with("safe\nmessages get stuck: cell ")
 }
 
 /// Whether a stall in this cell jams. It has to be shown then, and not otherwise.

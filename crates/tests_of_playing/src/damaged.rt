@@ -1,6 +1,5 @@
 //! Texts that are damaged at each of their bytes in turn: something is told of each that is refused, and nothing of the others.
 
-use crate::cases::joined;
 use base::Shape;
 use base::controller::Protocol;
 use both_tables::Tables;
@@ -25,7 +24,7 @@ const DAMAGES: &[&str] = &["", "x", "0", "2", "\"", ",", "]", "}", "-1,"];
 fn damaged(rt: &impl Abort, alloc: Global, text: &str, at: usize, damage: &str) -> String {
     let front = text.get(..at).expect(rt, "a front");
     let rest = text.get(at.saturating_add(1)..).expect(rt, "a rest");
-    joined(rt, alloc, &[front, damage, rest])
+    format!(in alloc; "{front}{damage}{rest}").expect(rt, "memory")
 }
 
 /// Stops a test where it isn't so with these bytes in place of the one there.

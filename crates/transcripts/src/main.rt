@@ -1,0 +1,100 @@
+//! Transcripts: a program that goes through sessions of `msi`, in memory, and prints what each command line came to.
+//!
+//! Its standard input is a text of sessions, with empty lines between them. A line says by its mark what it is:
+//!
+//! | Line | What it is |
+//! |---|---|
+//! | `# TEXT` | what the sessions behind it show; it is printed as it stands, as empty lines are |
+//! | `$ WORD ..` | a command line. All those of a session are given the same file and the same input |
+//! | `$! KIND` | one whose words can't be had, for an error of this kind, as `io::ErrorKind` names it |
+//! | `\| TEXT` | a line of the file `table.json`, which is `{}` where a session has none |
+//! | `\|-` | the file `table.json` is the one that a session had last |
+//! | `< TEXT` | a line of the input |
+//! | `<* N TEXT` | the same line so many times |
+//! | `<-` | what the command line before this session printed, as lines of the input |
+//! | `<! KIND` | behind its lines the input fails in this way |
+//! | `>! N KIND`, `!! N KIND` | the output, or the errors, take so many bytes and then fail in this way |
+//! | `>#`, `!#` | of the output, or of the errors, the number of lines is printed |
+//! | `>-`, `!-` | nothing is printed of the output, or of the errors, as where they differ from run to run |
+//!
+//! In a line of the file or of the input `\r` is a CR and `\t` a tab, and behind a `\` at its end there is no LF.
+//!
+//! There is also a file `huge.json`, for which there is no memory, and no other one. What a command line came to is printed behind
+//! its own line: each line of its output behind `> `, each of its errors behind `! `, and its exit status behind `= `. A mark with
+//! parentheses says what isn't printed, as `>(as its input)`, and `>(no LF at the end)` that there is none behind the last line.
+#![tactic(auto)]
+
+mod escapes;
+mod fault;
+mod kinds;
+mod output;
+mod session;
+mod streams;
+
+use crate::fault::Fault;
+use crate::session::Session;
+use std::alloc::Global;
+use std::io;
+use std::process::ExitCode;
+use std::sync::Wait;
+use std::thread::Threads;
+use story::Sheet;
+
+/// Serves the sessions of a text, one behind the other, and tells what they come to.
+fn serve_all<R: Threads + Wait + Sync>(
+    rt: &R,
+    alloc: Global,
+    text: &str,
+    session: &mut Session,
+    told: &mut Sheet,
+) -> Result<(), Fault> {
+    for (place, line) in text.lines().enumerate() {
+        if line.is_empty() || line.starts_with('#') {
+            session.serve(rt, alloc, told)?;
+            session.clear();
+            told.push(line);
+            told.push("\n");
+        } else if session.read(line).is_none() {
+            return Err(Fault::Line(place.saturating_add(1)));
+        }
+    }
+    session.serve(rt, alloc, told)
+}
+
+/// Tells the transcript of a text of sessions, up to what ends it early.
+fn transcribe<R: Threads + Wait + Sync>(
+    rt: &R,
+    alloc: Global,
+    text: &io::Result<String>,
+    told: &mut Sheet,
+) -> Result<(), Fault> {
+    match text {
+        Ok(text) => {
+            let mut session = Session::new(alloc);
+            serve_all(rt, alloc, text.as_str(), &mut session, told)
+        }
+        Err(_) => Err(Fault::Device),
+    }
+}
+
+/// Prints what was told.
+fn print(rt: &HostRuntime, told: &Sheet) -> Result<(), Fault> {
+    let text = told.text()?;
+    match print!(rt; "{text}") {
+        Ok(()) => Ok(()),
+        Err(_) => Err(Fault::Device),
+    }
+}
+
+fn main(rt: HostRuntime) -> ExitCode {
+    let text = io::read_to_string(rt.alloc(), rt.stdin());
+    let mut told = Sheet::new(rt.alloc());
+    let served = transcribe(&rt, rt.alloc(), &text, &mut told);
+    match print(&rt, &told).and(served) {
+        Ok(()) => ExitCode::SUCCESS,
+        Err(fault) => {
+            let _ = eprintln!(rt; "transcripts: {fault}");
+            ExitCode::FAILURE
+        }
+    }
+}

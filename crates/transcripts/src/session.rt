@@ -1,0 +1,198 @@
+use crate::escapes::put_line;
+use crate::fault::Fault;
+use crate::kinds::kind_of;
+use crate::output::{Output, Telling};
+use crate::streams::{Input, OneFile};
+use commands::serve;
+use std::alloc::Global;
+use std::io;
+use std::sync::Wait;
+use std::thread::Threads;
+use story::Sheet;
+
+/// What the command lines of a session are given.
+#[derive(Drop)]
+struct Given {
+    /// The text of the file `table.json` that was told last.
+    table: Sheet,
+    /// Whether it is told in this session.
+    has_table: bool,
+    input: Sheet,
+    input_fault: Option<io::ErrorKind>,
+}
+
+impl Given {
+    fn new(alloc: Global) -> Given {
+        Given {
+            table: Sheet::new(alloc),
+            has_table: false,
+            input: Sheet::new(alloc),
+            input_fault: None,
+        }
+    }
+
+    /// Forgets all but the text of the file.
+    fn clear(&mut self) {
+        self.has_table = false;
+        self.input.clear();
+        self.input_fault = None;
+    }
+
+    fn put_table_line(&mut self, line: &str) -> Option<()> {
+        if !self.has_table {
+            self.table.clear();
+            self.has_table = true;
+        }
+        put_line(&mut self.table, line)
+    }
+
+    /// Adds a line of the input so many times, as `N TEXT` says.
+    fn put_repeated(&mut self, words: &str) -> Option<()> {
+        let (count, line) = words.split_once(' ')?;
+        for _ in 0..count.parse::<u32>().ok()? {
+            put_line(&mut self.input, line)?;
+        }
+        Some(())
+    }
+
+    /// The text of the file `table.json`.
+    fn table(&self) -> Result<&str, Fault> {
+        if self.has_table {
+            return Ok(self.table.text()?);
+        }
+        Ok("{}")
+    }
+}
+
+/// Command lines, what they are given, and what the last one that was served printed.
+#[derive(Drop)]
+pub struct Session {
+    /// The command lines, one a line, with their marks.
+    commands: Sheet,
+    given: Given,
+    output: Output,
+    errors: Output,
+}
+
+impl Session {
+    /// A session of no command line.
+    pub fn new(alloc: Global) -> Session {
+        Session {
+            commands: Sheet::new(alloc),
+            given: Given::new(alloc),
+            output: Output::new(alloc),
+            errors: Output::new(alloc),
+        }
+    }
+
+    /// Forgets the command lines and what they were given, but not what the last of them printed, nor the text of the file.
+    pub fn clear(&mut self) {
+        self.commands.clear();
+        self.given.clear();
+        self.output.open();
+        self.errors.open();
+    }
+
+    /// Reads a line of a session. `None` where it isn't one.
+    pub fn read(&mut self, line: &str) -> Option<()> {
+        let (mark, words) = line.split_once(' ').unwrap_or((line, ""));
+        match mark {
+            "$" => self.put_command(line),
+            "$!" => {
+                let _ = kind_of(words)?;
+                self.put_command(line);
+            }
+            "|" => self.given.put_table_line(words)?,
+            "|-" => self.given.has_table = true,
+            "<" => put_line(&mut self.given.input, words)?,
+            "<*" => self.given.put_repeated(words)?,
+            "<-" => self.given.input.push(self.output.text()?),
+            "<!" => self.given.input_fault = Some(kind_of(words)?),
+            _ => return self.read_ends(mark, words),
+        }
+        Some(())
+    }
+
+    /// Reads a line about an output. `None` where it isn't one.
+    fn read_ends(&mut self, mark: &str, words: &str) -> Option<()> {
+        match mark {
+            ">!" => self.output.narrow(words)?,
+            "!!" => self.errors.narrow(words)?,
+            ">#" => self.output.show(Telling::Count),
+            "!#" => self.errors.show(Telling::Count),
+            ">-" => self.output.show(Telling::Nothing),
+            "!-" => self.errors.show(Telling::Nothing),
+            _ => return None,
+        }
+        Some(())
+    }
+
+    fn put_command(&mut self, line: &str) {
+        self.commands.push(line);
+        self.commands.push("\n");
+    }
+
+    /// Serves its command lines, and tells what each came to.
+    pub fn serve<R: Threads + Wait + Sync>(
+        &mut self,
+        rt: &R,
+        alloc: Global,
+        told: &mut Sheet,
+    ) -> Result<(), Fault> {
+        for line in self.commands.text()?.lines() {
+            let status = serve_line(
+                rt,
+                alloc,
+                line,
+                &self.given,
+                &mut self.output,
+                &mut self.errors,
+            )?;
+            told.push(line);
+            told.push("\n");
+            self.output.tell(told, ">", self.given.input.text()?)?;
+            self.errors.tell(told, "!", "")?;
+            told.push("= ");
+            told.put(&status);
+            told.push("\n");
+        }
+        Ok(())
+    }
+}
+
+/// The exit status of a command line.
+fn serve_line<R: Threads + Wait + Sync>(
+    rt: &R,
+    alloc: Global,
+    line: &str,
+    given: &Given,
+    output: &mut Output,
+    errors: &mut Output,
+) -> Result<u8, Fault> {
+    let mut files = OneFile {
+        alloc,
+        text: given.table()?,
+    };
+    let input = Input {
+        bytes: given.input.text()?.as_bytes(),
+        fault: given.input_fault,
+    };
+    output.clear();
+    errors.clear();
+    let words = words_of(alloc, line);
+    Ok(serve(rt, alloc, &words, &mut files, input, output, errors))
+}
+
+/// The words of a command line, or why they can't be had.
+fn words_of(alloc: Global, line: &str) -> io::Result<Vec<String>> {
+    if let Some(name) = line.strip_prefix("$! ")
+        && let Some(kind) = kind_of(name)
+    {
+        return Err(io::Error::from(kind));
+    }
+    let mut words = Vec::new(alloc);
+    for word in line.split_whitespace().skip(1) {
+        words.push(String::from_str(alloc, word)?)?;
+    }
+    Ok(words)
+}
