@@ -1,5 +1,6 @@
 -- What a step makes of its block, and when it can't fail.
 use Rattle.std.specs.Prelude.{◌≡◌, ◌≤◌, ◌⊎◌, [], false, length}
+use Rattle.base.specs.declared.step.Outcome.{Outcome}
 use Rattle.base.specs.declared.step.Step.{Step}
 use Rattle.network.specs.Traffic.{message_count}
 use Rattle.both_tables.specs.Tables.{Tables}
@@ -19,6 +20,18 @@ pub record Makes (tables : Tables) (old : BlockView) (step : Step) (made : Made)
   pub sent : length (messages_of (decision_of tables step old.state) old.state) ≤ message_count new.state.traffic
   pub lines : new.space.lines ≡ lines_after (decision_of tables step old.state) old.space.lines
   pub idle : acts (decision_of tables step old.state) ≡ false → new.space ≡ old.space
+
+-- there is room for a step now, which will have this outcome
+pub record Foresees (tables : Tables) (old : BlockView) (step : Step) (what : Outcome) (new : BlockView) : Type 0 where
+  pub outcome : what ≡ (transition tables step old.state).outcome
+  pub room : HasSpaceFor (decision_of tables step old.state) old.state new.space
+
+-- a block is as it was, but that it may have room for what was decided: none more where no cell acts
+pub record IsAsBefore (d : Decision) (old new : BlockView) : Type 0 where
+  pub state : new.state ≡ old.state
+  pub marks : new.marks ≡ old.marks
+  pub lines : new.space.lines ≡ old.space.lines
+  pub idle : acts d ≡ false → new.space ≡ old.space
 
 -- a block is in the state that it was in, with right marks and with the same lines kept
 pub record Stays (tables : Tables) (old new : BlockView) : Type 0 where

@@ -1,4 +1,5 @@
-use Rattle.std.specs.Prelude.{ℕ, ◌+◌, ◌<◌, ◌≤◌, List, [], ◌∷◌, slice_index, ◌==◌, Bool, true, false}
+use Rattle.std.specs.Prelude.{◌≡◌, ℕ, ◌+◌, ◌<◌, ◌≤◌, List, [], ◌∷◌, slice_index, ◌==◌, Bool, true, false, IsOk, OnOk}
+use Rattle.std.specs.declared.result.Result.{Result}
 use Rattle.base.specs.declared.ids.CacheId.{CacheId}
 use Rattle.network.specs.declared.message.Message.{Message}
 use Rattle.network.specs.declared.message.Message.TheVariants as message
@@ -60,6 +61,14 @@ pub record UsesRoomFor (messages : List Message) (old new : Room) : Type 0 where
   pub requests : old.requests ≤ new.requests + requests_in messages
   pub links : (cache : ℕ) → slice_index old.links cache ≤ slice_index new.links cache + forwards_in cache messages
   pub responses : old.responses ≤ new.responses + responses_in messages
+
+-- what was asked for has room now, unless it was refused, which it isn't where there was room before; nothing else has changed
+pub record MakesRoom {T E : Type 0} (asked : Room → Type 0) (result : Result T E) (old new : Wiring) : Type 0 where
+  pub traffic : new.traffic ≡ old.traffic
+  pub marks : new.marks ≡ old.marks
+  pub ok : OnOk result (asked new.room)
+  pub succeeds : asked old.room → IsOk result
+  pub room : UsesRoomFor [] old.room new.room
 
 -- how often a cache is listed
 abbrev pub times : ℕ → List CacheId → ℕ

@@ -3,7 +3,7 @@ ghost use Rattle.std.specs.Prelude.{false, length, map, remove, replicate};
 ghost use Rattle.std.specs.Prelude.{slice_get, slice_index, slice_index_or, slice_set};
 ghost use Rattle.std.specs.List.{sum_by};
 ghost use Rattle.network.specs.Traffic.{all_nil};
-ghost use Rattle.network.specs.inner.Links.{KeepsRoom, UsesOneLink, free_of, messages_in, on_link, remarked, room_on, unmarked_one, waiting_of};
+ghost use Rattle.network.specs.inner.Links.{IsLinkRemarked, KeepsLinks, KeepsRoom, UsesOneLink, free_of, messages_in, on_link, room_on, unmarked_one, waiting_of};
 ghost use Rattle.rows.specs.Flags.{IsFirstFrom, IsKth, NoneFrom, is_set, set_count};
 
 use crate::marker::Marker;
@@ -157,8 +157,7 @@ impl Links {
     /// Takes the marks of all messages on a link back. Where none is set it looks at no message.
     #[inline(always)]
     pub fn unmark(&mut self, cache: CacheId)
-        ensures sent { self.new.sent ≡ slice_set self.old.sent cache.0 (remarked (λ forward. false) (slice_index_or self.old.sent cache.0 [])) }
-        ensures room { self.new.room ≡ self.old.room }
+        ensures { IsLinkRemarked cache.0 (λ forward. false) self.old self.new }
     {
         if !self.waiting.contains(cache.0) {
             return;
@@ -172,8 +171,7 @@ impl Links {
     /// Marks the messages on a link, each as is told of it.
     #[inline(always)]
     pub fn mark<K: Marker<Forward>>(&mut self, cache: CacheId, marker: &K)
-        ensures sent { self.new.sent ≡ slice_set self.old.sent cache.0 (remarked (K.told marker.now) (slice_index_or self.old.sent cache.0 [])) }
-        ensures room { self.new.room ≡ self.old.room }
+        ensures { IsLinkRemarked cache.0 (K.told marker.now) self.old self.new }
     {
         if !self.waiting.contains(cache.0) {
             return;
@@ -223,10 +221,9 @@ impl Links {
     #[inline(always)]
     pub fn reserve(&mut self, cache: CacheId, count: usize) -> Result<(), NoMemory>
         requires { cache.0 < length self.old.sent }
-        ensures sent { self.new.sent ≡ self.old.sent }
+        ensures kept { KeepsLinks self.old self.new }
         ensures ok { OnOk result (count ≤ slice_index self.new.room cache.0) }
         ensures succeeds { count ≤ slice_index self.old.room cache.0 → IsOk result }
-        ensures room { KeepsRoom self.old.room self.new.room }
     {
         if count == 0 {
             return Ok(());

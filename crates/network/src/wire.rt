@@ -2,7 +2,7 @@ ghost use Rattle.std.specs.Prelude.{◌≡◌, ◌+◌, ◌<◌, ◌≤◌, ◌^
 ghost use Rattle.std.specs.Prelude.{length, not, remove, slice_get, slice_index_or, true, vec_len};
 ghost use Rattle.std.specs.Vec.{vec_capacity};
 ghost use Rattle.network.specs.Marks.{is_stopped, unmarked, unmarked_count};
-ghost use Rattle.network.specs.inner.Links.{held_count, marks_in, messages_in, one, remarked, remarked_from, unmarked_one};
+ghost use Rattle.network.specs.inner.Links.{IsRemarked, KeepsMessages, held_count, marks_in, messages_in, one, remarked, remarked_from, unmarked_one};
 
 use crate::marker::Marker;
 use base::NoMemory;
@@ -123,16 +123,14 @@ impl<M: Copy> Wire<M> {
 
     /// Marks the messages from a place on, each as is told of it.
     pub fn mark<K: Marker<M>>(&mut self, from: u64, marker: &K)
-        ensures sent { self.new.sent ≡ remarked_from from (K.told marker.now) self.old.sent }
-        ensures room { self.new.room ≡ self.old.room }
+        ensures { IsRemarked from (K.told marker.now) self.old self.new }
     {
         self.held = mark_from(&mut self.marked, from, marker, self.held);
     }
 
     /// Takes all marks back. Where none is set it looks at no message.
     pub fn unmark(&mut self)
-        ensures sent { self.new.sent ≡ remarked (λ message. false) self.old.sent }
-        ensures room { self.new.room ≡ self.old.room }
+        ensures { IsRemarked 0 (λ message. false) self.old self.new }
     {
         if self.held == 0 {
             return;
@@ -179,10 +177,9 @@ impl<M: Copy> Wire<M> {
 
     /// Room for so many more messages. More than the wire still holds are refused.
     pub fn reserve(&mut self, count: usize) -> Result<(), NoMemory>
-        ensures sent { self.new.sent ≡ self.old.sent }
+        ensures kept { KeepsMessages self.old self.new }
         ensures ok { OnOk result (count ≤ self.new.room) }
         ensures succeeds { count ≤ self.old.room → IsOk result }
-        ensures room { self.old.room ≤ self.new.room }
     {
         if count > MOST - self.marked.len() {
             return Err(NoMemory);

@@ -10,6 +10,7 @@ use Rattle.machine.specs.declared.made.Made.{Made}
 use Rattle.machine.specs.Machine.{State}
 use Rattle.machine.specs.Made.{IsTold, place_of}
 use Rattle.cores.specs.Cores.{Core, is_free}
+use Rattle.scenario.specs.Alike.{Alike}
 use Rattle.scenario.specs.Tree.{Tree, Seq, Both, Nil, trees_of}
 use Rattle.scenario.specs.Taking.{offers}
 use Rattle.scenario.specs.Cursors.{remaining, standing}
@@ -94,6 +95,11 @@ pub record IsLevel (l : Laned) : Type 0 where
 pub record IsKept (l : Laned) : Type 0 where
   pub level : IsLevel l
   pub listed : (lane : ℕ) → lane < length l.trees → IsListed l lane
+
+-- a tree is left, or one that is alike; and what is kept of each lane is right
+pub record AreLeft (tree : Tree) (l : Laned) : Type 0 where
+  pub alike : Alike (whole l) tree
+  pub kept : IsKept l
 
 -- where the world isn't broken, the marks beside the offers are right, and so are the counts of what can be put
 pub record AreReady (tables : Tables) (state : State) (cores : List Core) (l : Laned) : Type 0 where

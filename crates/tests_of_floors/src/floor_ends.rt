@@ -3,10 +3,23 @@
 ghost use Rattle.std.specs.Prelude.{◌≡◌};
 ghost use Rattle.floor.specs.FloorId.{floor_id};
 
-use floor::{Closed, Floor, Ground, Naming, Seat};
+use floor::{Closed, Floor, FloorFault, Ground, Naming, Seat};
 use std::alloc::Global;
 use std::process::Abort;
 use trials::Setup;
+
+/// What comes of opening a floor.
+pub fn try_open<F: Naming>(
+    alloc: Global,
+    ground: Ground,
+    setup: &Setup,
+    seats: u32,
+    capacity: u32,
+) -> Result<(Floor<F>, Vec<Seat<F>>), FloorFault>
+    requires { F.floor ≡ floor_id ground setup.now seats capacity }
+{
+    Floor::<F>::open(ground, alloc, setup, seats, capacity)
+}
 
 /// A floor that is opened, and its seats.
 pub fn opened<F: Naming, R: Abort>(
@@ -19,7 +32,7 @@ pub fn opened<F: Naming, R: Abort>(
 ) -> (Floor<F>, Vec<Seat<F>>)
     requires { F.floor ≡ floor_id ground setup.now seats capacity }
 {
-    Floor::<F>::open(ground, alloc, setup, seats, capacity).expect(rt, "a floor")
+    try_open::<F>(alloc, ground, setup, seats, capacity).expect(rt, "a floor")
 }
 
 /// What a floor is closed with, whose seats are all there.

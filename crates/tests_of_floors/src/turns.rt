@@ -3,11 +3,11 @@ ghost use Rattle.floor.specs.FloorId.{floor_id};
 
 use crate::asserting::same;
 use crate::entries::entry_of;
-use crate::floor_ends::{closed, opened};
+use crate::floor_ends::{closed, opened, try_open};
 use crate::setups::setup;
 use base::{Ask, BlockId, Buffer, CacheId, Step};
 use floor::{CloseFault, Closed, Floor, FloorFault, Ground, Naming, Seat, TurnFault, Wish};
-use record::{Entry, Recording, replay};
+use record::{Entry, Recording, ReplayFault, Replayed, replay};
 use std::alloc::Global;
 use std::marker::Brand;
 use std::process::Abort;
@@ -215,10 +215,14 @@ fn writes(rt: &impl Abort, alloc: Global, recording: &Recording, text: &str) {
     same(rt, &sink.bytes(), &text.as_bytes());
 }
 
+pub fn replayed(alloc: Global, recording: &Recording) -> Result<Replayed, ReplayFault> {
+    replay(alloc, recording)
+}
+
 /// Compares what is closed with a row, and how many entries the recording has when it is replayed.
 fn compare_replayed<F: Naming, R: Abort>(rt: &R, alloc: Global, closed: &Closed<F>, row: &Row<'_>) {
     compare(rt, closed, row.lines);
-    let replayed = replay(alloc, &closed.recording).expect(rt, "a replay");
+    let replayed = replayed(alloc, &closed.recording).expect(rt, "a replay");
     same(rt, &replayed.entries.len(), &row.lines.len());
     if let Some(text) = row.text {
         writes(rt, alloc, &closed.recording, text);
@@ -317,7 +321,7 @@ fn refusal<F: Naming>(
 ) -> Option<FloorFault>
     requires { F.floor ≡ floor_id ground setup.now seats capacity }
 {
-    Floor::<F>::open(ground, alloc, setup, seats, capacity).err()
+    try_open::<F>(alloc, ground, setup, seats, capacity).err()
 }
 
 #[test]

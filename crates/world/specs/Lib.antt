@@ -6,6 +6,7 @@ pub mod OneStep
 pub mod Enabled
 pub mod Messages
 pub mod Coherent
+pub mod Again
 pub mod inner
 pub use Rattle.base.specs.Extent
 pub use Rattle.base.specs.Steps

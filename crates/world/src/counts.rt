@@ -102,7 +102,7 @@ impl Counts {
     /// How many there are of all kinds in all blocks.
     pub fn total(&self) -> u64
         ensures total { result ≡ all_in self.now }
-        ensures few { result < 2 ^ 50 }
+        ensures few { all_in self.now < 2 ^ 50 }
     {
         self.requests.total() + self.heads.total() + self.responses.total()
     }

@@ -8,26 +8,15 @@ use blocks::Block;
 use rows::Sparse;
 
 impl World {
-    ghost use Rattle.std.specs.Prelude.{◌≡◌, [], length};
-    ghost use Rattle.machine.specs.Machine.{opened, IsHistory};
-    ghost use Rattle.world.specs.Coherent.{HasBeenSafe, IsUnstuck};
-    ghost use Rattle.world.specs.Keeping.{KeepsNoLine, KeepsNoOther};
+    ghost use Rattle.std.specs.Prelude.{◌≡◌, length};
+    ghost use Rattle.world.specs.Again.{BeginsAgain};
 
     /// Whatever happened to the world, it is one that nothing has happened to from now on: of the same shape, under the same
     /// tables, with these opening values. Blocks that were kept are made as they open in the memory that they have, with no line
     /// kept, and no other block is kept.
     pub fn reset(&mut self, opening: &[u64])
         requires { length opening.now ≡ self.old.shape.blocks }
-        ensures shape { self.new.shape ≡ self.old.shape }
-        ensures tables { self.new.tables ≡ self.old.tables }
-        ensures opening { self.new.opening ≡ opening.now }
-        ensures state { self.new.state ≡ opened self.old.shape opening.now }
-        ensures history { IsHistory self.new.shape self.new.tables opening.now [] self.new.state }
-        ensures safe { HasBeenSafe self.new }
-        ensures unstuck { IsUnstuck self.new }
-        ensures tested { self.new.tested ≡ 0 }
-        ensures kept { KeepsNoOther self.old self.new }
-        ensures lines { KeepsNoLine self.new }
+        ensures { BeginsAgain self.old opening.now self.new }
     {
         self.opening.copy_from_slice(opening);
         self.restart();
@@ -36,16 +25,7 @@ impl World {
     /// Does as [`reset`](World::reset) does, with the opening values that the world has. What it costs is a matter of the blocks
     /// that are kept, and not of how many there are.
     pub fn restart(&mut self)
-        ensures shape { self.new.shape ≡ self.old.shape }
-        ensures tables { self.new.tables ≡ self.old.tables }
-        ensures opening { self.new.opening ≡ self.old.opening }
-        ensures state { self.new.state ≡ opened self.old.shape self.old.opening }
-        ensures history { IsHistory self.new.shape self.new.tables self.new.opening [] self.new.state }
-        ensures safe { HasBeenSafe self.new }
-        ensures unstuck { IsUnstuck self.new }
-        ensures tested { self.new.tested ≡ 0 }
-        ensures kept { KeepsNoOther self.old self.new }
-        ensures lines { KeepsNoLine self.new }
+        ensures { BeginsAgain self.old self.old.opening self.new }
     {
         reset_all(&mut self.blocks, self.opening.as_slice());
         self.counts.clear();

@@ -33,7 +33,7 @@ impl Block {
     ghost use Rattle.blocks.specs.Marking.{marks_of};
     ghost use Rattle.blocks.specs.inner.Named.{DecisionNames};
     ghost use Rattle.blocks.specs.inner.OwnLine.{IsAboutLine};
-    ghost use Rattle.blocks.specs.Steps.{Makes, Stays, WantsNone};
+    ghost use Rattle.blocks.specs.Steps.{Foresees, IsAsBefore, Makes, Stays, WantsNone};
 
     /// Makes the room that a decision wants. Where it is refused nothing has changed.
     #[inline(always)]
@@ -76,15 +76,9 @@ impl Block {
 
     /// Makes the room that a step wants, and answers the outcome that it will have.
     pub fn ready(&mut self, tables: &Tables, step: Step) -> Result<Outcome, NoMemory>
-        ensures state { self.new.state ≡ self.old.state }
-        ensures marks { self.new.marks ≡ self.old.marks }
-        ensures lines { self.new.space.lines ≡ self.old.space.lines }
-        ensures outcome { IfOk result (λ what. what ≡ (transition tables.now step self.old.state).outcome) }
-        ensures room { OnOk result (HasSpaceFor (decision_of tables.now step self.old.state) self.old.state self.new.space) }
-        ensures idle { acts (decision_of tables.now step self.old.state) ≡ false → self.new.space ≡ self.old.space }
-        ensures succeeds { HasSpaceFor (decision_of tables.now step self.old.state) self.old.state self.old.space → IsOk result }
-        ensures sends_nothing { messages_of (decision_of tables.now step self.old.state) self.old.state ≡ [] →
-            wakes_line (decision_of tables.now step self.old.state) ≡ false → IsOk result }
+        ensures ok { IfOk result (λ what. Foresees tables.now self.old step what self.new) }
+        ensures kept { IsAsBefore (decision_of tables.now step self.old.state) self.old self.new }
+        ensures succeeds { WantsNone (decision_of tables.now step self.old.state) self.old.state self.old.space → IsOk result }
     {
         let decision = self.decide(tables, &step);
         self.prepare(&decision)?;

@@ -1,5 +1,5 @@
 use Rattle.std.specs.Prelude.{◌≡◌, ◌≢◌, ℕ, ◌+◌, ◌^◌, ◌<◌, ◌≤◌, ◌++◌, List, [], Option, None, Some, Bool, if◌then◌else◌, not, drop, false, length}
-use Rattle.std.specs.Prelude.{map, slice_index, slice_index_or, take}
+use Rattle.std.specs.Prelude.{map, slice_index, slice_index_or, slice_set, take}
 use Rattle.std.specs.List.{sum_by}
 use Rattle.network.specs.declared.message.Forward.{Forward}
 use Rattle.network.specs.declared.wire.Marked.{Marked}
@@ -30,6 +30,16 @@ remarked mark sent = map (λ m. record { message = m.message; held = mark m.mess
 -- those from a place on have
 abbrev pub remarked_from : {M : Type 0} → ℕ → (M → Bool) → List (Marked M) → List (Marked M)
 remarked_from from mark sent = take from sent ++ remarked mark (drop from sent)
+
+-- a wire's messages from a place on have the marks that are told of them, and nothing else has changed
+pub record IsRemarked {M : Type 0} (from : ℕ) (told : M → Bool) (old new : Wired M) : Type 0 where
+  pub sent : new.sent ≡ remarked_from from told old.sent
+  pub room : new.room ≡ old.room
+
+-- no message has come or gone, and there is no less room
+pub record KeepsMessages {M : Type 0} (old new : Wired M) : Type 0 where
+  pub sent : new.sent ≡ old.sent
+  pub room : old.room ≤ new.room
 
 -- a mark as a number: 1 where it is set
 abbrev pub one : Bool → ℕ
@@ -81,6 +91,16 @@ pub record AreLinked (links : List (List (Marked Forward))) (waits frees : List 
 -- no link has less room
 pub record KeepsRoom (old new : List ℕ) : Type 0 where
   pub each : (cache : ℕ) → slice_index old cache ≤ slice_index new cache
+
+-- no message has come or gone, and no link has less room
+pub record KeepsLinks (old new : Linked) : Type 0 where
+  pub sent : new.sent ≡ old.sent
+  pub room : KeepsRoom old.room new.room
+
+-- the messages on the link to a cache have the marks that are told of them, and nothing else has changed
+pub record IsLinkRemarked (cache : ℕ) (told : Forward → Bool) (old new : Linked) : Type 0 where
+  pub sent : new.sent ≡ slice_set old.sent cache (remarked told (slice_index_or old.sent cache []))
+  pub room : new.room ≡ old.room
 
 -- at most one place went, on the link to this cache
 pub record UsesOneLink (cache : ℕ) (old new : List ℕ) : Type 0 where

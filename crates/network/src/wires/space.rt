@@ -2,7 +2,7 @@
 
 ghost use Rattle.std.specs.Prelude.{◌≡◌, ◌<◌, ◌≤◌, [], IsOk, OnOk};
 ghost use Rattle.std.specs.Prelude.{length, slice_index, true};
-ghost use Rattle.network.specs.Room.{AllBelow, HasPlaces, UsesRoomFor, times};
+ghost use Rattle.network.specs.Room.{AllBelow, HasPlaces, MakesRoom, UsesRoomFor, times};
 
 use crate::wires::Wires;
 use base::{CacheId, NoMemory};
@@ -43,11 +43,7 @@ impl Wires {
     /// Room for so many more requests and responses. Where it is refused no list has changed.
     #[inline(always)]
     pub fn reserve_ends(&mut self, requests: usize, responses: usize) -> Result<(), NoMemory>
-        ensures traffic { self.new.traffic ≡ self.old.traffic }
-        ensures marks { self.new.marks ≡ self.old.marks }
-        ensures ok { OnOk result ((requests ≤ self.new.room.requests) × (responses ≤ self.new.room.responses)) }
-        ensures succeeds { requests ≤ self.old.room.requests → responses ≤ self.old.room.responses → IsOk result }
-        ensures room { UsesRoomFor [] self.old.room self.new.room }
+        ensures { MakesRoom (λ room. (requests ≤ room.requests) × (responses ≤ room.responses)) result self.old self.new }
     {
         self.requests.reserve(requests)?;
         self.responses.reserve(responses)?;
@@ -58,11 +54,7 @@ impl Wires {
     #[inline(always)]
     pub fn reserve_link(&mut self, cache: CacheId, count: usize) -> Result<(), NoMemory>
         requires { cache.0 < length self.old.traffic.links }
-        ensures traffic { self.new.traffic ≡ self.old.traffic }
-        ensures marks { self.new.marks ≡ self.old.marks }
-        ensures ok { OnOk result (count ≤ slice_index self.new.room.links cache.0) }
-        ensures succeeds { count ≤ slice_index self.old.room.links cache.0 → IsOk result }
-        ensures room { UsesRoomFor [] self.old.room self.new.room }
+        ensures { MakesRoom (λ room. count ≤ slice_index room.links cache.0) result self.old self.new }
     {
         self.links.reserve(cache, count)
     }

@@ -27,7 +27,7 @@ impl<'s, A: Allocator, B: Allocator + Clone> Lanes<'s, A, B> {
     ghost use Rattle.scenario.specs.Tree.{Tree};
     ghost use Rattle.schedule.specs.Choices.{chosen_step, rest_after};
     ghost use Rattle.schedule.specs.Fitting.{LanesFit};
-    ghost use Rattle.schedule.specs.Lanes.{AreAsFree, AreReady, Follows, IsKept, IsLevel, IsListed, laned, lanes_of, listed_at, offers_at, whole};
+    ghost use Rattle.schedule.specs.Lanes.{AreLeft, AreAsFree, AreReady, Follows, IsKept, IsLevel, IsListed, laned, lanes_of, listed_at, offers_at, whole};
     ghost use Rattle.schedule.specs.Picks.{IsPicked, choice_of};
     ghost use Rattle.schedule.specs.inner.Changes.{AreCountedAt, ChangesCounts, IsCountedAt, IsCountedIf, IsCountedIn, KeepsOthers};
     ghost use Rattle.schedule.specs.inner.Changes.{TakesFrom, WereReady, counted_at};
@@ -52,8 +52,7 @@ impl<'s, A: Allocator, B: Allocator + Clone> Lanes<'s, A, B> {
     ) -> Result<(), NoMemory>
         requires kept { IsKept (laned self.old) }
         requires picked { IsPicked pick.now (laned self.old) }
-        ensures rest { OnOk result (Alike (whole (laned self.new)) (rest_after (choice_of (laned self.old) pick.now) (whole (laned self.old)))) }
-        ensures kept { OnOk result (IsKept (laned self.new)) }
+        ensures left { OnOk result (AreLeft (rest_after (choice_of (laned self.old) pick.now) (whole (laned self.old))) (laned self.new)) }
         ensures ready { OnOk result ((before : State) (cores_before : List Core) → AreReady world.now.tables before cores_before (laned self.old) →
             Follows world.now.tables (chosen_step (choice_of (laned self.old) pick.now)) made.now before world.now.state cores_before cores.now →
             (turned ≡ false → AreAsFree cores_before cores.now) → AreReady world.now.tables world.now.state cores.now (laned self.new)) }

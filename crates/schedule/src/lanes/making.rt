@@ -38,11 +38,11 @@ impl<'s, A: Allocator, B: Allocator> Lane<'s, A, B> {
 }
 
 impl<'s, A: Allocator, B: Allocator + Clone> Lanes<'s, A, B> {
-    ghost use Rattle.std.specs.Prelude.{◌≡◌, ◌≢◌, true, IfOk, OnOk, length};
+    ghost use Rattle.std.specs.Prelude.{◌≡◌, ◌≢◌, ◌⊎◌, true, IfOk, IsOk, OnOk, length};
     ghost use Rattle.scenario.specs.Alike.{Alike};
     ghost use Rattle.scenario.specs.Tree.{plain};
     ghost use Rattle.schedule.specs.Fitting.{LanesFit, how_many, lane_trees};
-    ghost use Rattle.schedule.specs.Lanes.{AreReady, IsKept, IsLevel, laned, whole};
+    ghost use Rattle.schedule.specs.Lanes.{AreLeft, AreReady, IsKept, IsLevel, laned, whole};
 
     /// All of a scenario is left. So many cores have the lanes noted that may offer an ask of them, which ought to be those of the
     /// world; any other number costs time alone.
@@ -53,8 +53,7 @@ impl<'s, A: Allocator, B: Allocator + Clone> Lanes<'s, A, B> {
         world: &World,
         cores: &Cores,
     ) -> Result<Lanes<'s, A, B>, NoMemory>
-        ensures rest { IfOk result (λ lanes. Alike (whole (laned lanes)) (plain scenario.entry.now)) }
-        ensures kept { IfOk result (λ lanes. IsKept (laned lanes)) }
+        ensures left { IfOk result (λ lanes. AreLeft (plain scenario.entry.now) (laned lanes)) }
         ensures ready { IfOk result (λ lanes. AreReady world.now.tables world.now.state cores.now (laned lanes)) }
         ensures fits { IfOk result (λ lanes. LanesFit lanes (plain scenario.entry.now)) }
     {
@@ -75,14 +74,11 @@ impl<'s, A: Allocator, B: Allocator + Clone> Lanes<'s, A, B> {
         world: &World,
         cores: &Cores,
     ) -> Result<(), NoMemory>
-        ensures rest { OnOk result (Alike (whole (laned self.new)) (plain scenario.entry.now)) }
-        ensures kept { OnOk result (IsKept (laned self.new)) }
+        ensures left { OnOk result (AreLeft (plain scenario.entry.now) (laned self.new)) }
         ensures ready { OnOk result (AreReady world.now.tables world.now.state cores.now (laned self.new)) }
-        ensures fits { LanesFit self.old (plain scenario.entry.now) →
+        ensures fits { LanesFit self.old (plain scenario.entry.now)
+            ⊎ (IsOk result × (length (laned self.old).trees ≢ how_many (lane_trees (plain scenario.entry.now)))) →
             LanesFit self.new (plain scenario.entry.now) }
-        ensures fits_anew { OnOk result (
-            length (laned self.old).trees ≢ how_many (lane_trees (plain scenario.entry.now)) →
-            LanesFit self.new (plain scenario.entry.now)) }
     {
         if self.is_level() && restart_each(&mut self.lanes, scenario) {
             self.list_all(world, cores)?;

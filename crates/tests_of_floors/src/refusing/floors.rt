@@ -2,20 +2,18 @@ ghost use Rattle.std.specs.Prelude.{◌≡◌};
 ghost use Rattle.floor.specs.FloorId.{floor_id};
 
 use crate::asserting::same;
-use crate::crews::{Meeting, Script, cast, played};
 use crate::entries::entry_of;
-use crate::floor_ends::closed;
-use crate::turns::compare;
-use base::{NoMemory, Shape, Step};
-use both_tables::Tables;
-use floor::{CrewFault, Floor, FloorFault, Ground, Naming, Receipt, Seat, TurnFault};
-use record::{Recording, replay};
+use crate::floor_ends::{closed, try_open};
+use crate::setups::open_setup;
+use crate::turns::{compare, replayed};
+use base::{Shape, Step};
+use floor::{Floor, FloorFault, Ground, Naming, Receipt, Seat, TurnFault};
+use record::Recording;
 use std::alloc::Global;
 use std::marker::Brand;
 use std::process::Abort;
 use std::sync::Wait;
 use std::test::Fail;
-use std::thread::Threads;
 use trials::Setup;
 
 /// A load that is asked for and served, of which the last two steps are drawn.
@@ -28,7 +26,7 @@ const LOAD: [&str; 3] = [
 /// So many caches and one block that opens at 0.
 fn setup(alloc: Global, caches: u32) -> Result<Setup, Fail> {
     let shape = Shape::new(caches, 1)?;
-    Ok(Setup::new(shape, Tables::baseline(), vec![in alloc; 0]?, 0, 0)?)
+    Ok(open_setup(shape, vec![in alloc; 0]?)?)
 }
 
 fn ground(rt: &impl Abort, alloc: Global) -> Ground {
@@ -105,7 +103,7 @@ fn loads<F: Naming, R: Wait + Abort>(
 fn tries<F: Naming, R: Wait + Abort>(rt: &R, alloc: Global, ground: Ground, setup: &Setup) -> bool
     requires { F.floor ≡ floor_id ground setup.now 1 9 }
 {
-    match Floor::<F>::open(ground, alloc, setup, 1, 9) {
+    match try_open::<F>(alloc, ground, setup, 1, 9) {
         Ok((floor, seats)) => {
             loads(rt, alloc, floor, seats);
             true
@@ -129,90 +127,12 @@ fn a_floor_and_its_turns(rt: HostRuntime) -> Result<(), Fail> {
     Ok(())
 }
 
-/// Has the seats play their scripts, at the second call where the first one is refused memory. Each waits for the others, which come or
-/// have no thread.
-fn played_at_last<'a, F: Naming + Send + Sync, R: Threads + Wait + Abort + Sync>(
-    rt: &R,
-    alloc: Global,
-    floor: &Floor<F>,
-    gate: &Meeting,
-    members: Vec<(Seat<F>, Script<'a>)>,
-) -> Vec<(Seat<F>, Option<TurnFault>)> {
-    match played(rt, alloc, floor, gate, members) {
-        Ok(back) => back,
-        Err((fault, members)) => {
-            same(rt, &fault, &CrewFault::NoMemory);
-            same(rt, &members.len(), &3);
-            let back = played(rt, alloc, floor, gate, members).ok();
-            back.expect(rt, "a second refusal")
-        }
-    }
-}
-
-/// The seats that came back with no fault or without memory, and how much they made: nothing without a thread.
-fn come_back<F: Naming, R: Abort>(
-    rt: &R,
-    gate: &Meeting,
-    back: Vec<(Seat<F>, Option<TurnFault>)>,
-    mut seats: Vec<Seat<F>>,
-) -> (Vec<Seat<F>>, usize) {
-    let mut made = 0usize;
-    for (seat, ended) in back {
-        let is_right = ended.is_none() || ended == Some(TurnFault::NoMemory);
-        same(rt, &is_right, &true);
-        let played = seat.made() > 0 || ended.is_none();
-        same(rt, &(gate.has_come(seat.number()) || !played), &true);
-        made = made.saturating_add(seat.made());
-        seats.push(seat).expect(rt, "room for each");
-    }
-    (seats, made)
-}
-
 /// Compares how much is recorded, and how much of it is legal.
 fn is_legal(rt: &impl Abort, alloc: Global, recording: &Recording, made: usize) {
     same(rt, &recording.entries().len(), &made);
-    let replayed = match replay(alloc, recording) {
-        Ok(replayed) => replayed,
-        Err(_) => replay(alloc, recording).expect(rt, "a second refusal"),
+    let found = match replayed(alloc, recording) {
+        Ok(found) => found,
+        Err(_) => replayed(alloc, recording).expect(rt, "a second refusal"),
     };
-    same(rt, &replayed.entries.len(), &made);
-}
-
-/// Three seats race, and come back with no fault or without memory. Answers how much they made.
-fn race_of<F: Naming + Send + Sync, R: Threads + Wait + Abort + Sync>(
-    rt: &R,
-    alloc: Global,
-    floor: &Floor<F>,
-    seats: Vec<Seat<F>>,
-) -> Result<(Vec<Seat<F>>, usize), NoMemory> {
-    let gate = Meeting::of(3);
-    let room = Vec::with_capacity(alloc, 3)?;
-    let members = cast(alloc, seats, &gate)?;
-    let back = played_at_last(rt, alloc, floor, &gate, members);
-    let (seats, made) = come_back(rt, &gate, back, room);
-    same(rt, &gate.is_right(), &true);
-    Ok((seats, made))
-}
-
-/// Three seats race, and what they made is legal.
-fn race<F: Naming + Send + Sync, R: Threads + Wait + Abort + Sync>(
-    rt: &R,
-    alloc: Global,
-    ground: Ground,
-    setup: &Setup,
-) -> Result<(), Fail>
-    requires { F.floor ≡ floor_id ground setup.now 3 600 }
-{
-    let (floor, seats) = Floor::<F>::open(ground, alloc, setup, 3, 600)?;
-    let (seats, made) = race_of(rt, alloc, &floor, seats)?;
-    let closed = closed(rt, floor, seats);
-    is_legal(rt, alloc, &closed.recording, made);
-    Ok(())
-}
-
-#[test]
-fn a_crew(rt: HostRuntime) -> Result<(), Fail> {
-    let alloc = rt.alloc();
-    let setup = setup(alloc, 2)?;
-    race::<Brand, _>(&rt, alloc, Ground::new(alloc)?, &setup)
+    same(rt, &found.entries.len(), &made);
 }

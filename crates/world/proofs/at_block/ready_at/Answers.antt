@@ -26,7 +26,7 @@ returns-clause-marked c m =
     let before = subst (IsMarked tables) (sym there) (c.touch.ensures.marked m) in
     let long = ap length c.touch.ensures.others.items ∙ length-set c.args.blocks.now.items c.args.number _ in
     marked-put tables c.touch.new.blocks.items c.args.number c.ready.new.self (omega (arith, long, c.requires))
-    (c.ready.ensures.marks ∙ before ∙ ap (marks_of tables) (sym c.ready.ensures.state))
+    (c.ready.ensures.kept.marks ∙ before ∙ ap (marks_of tables) (sym c.ready.ensures.kept.state))
 
 pub returns-in_err-outcome-clause-others : goal.returns-in_err-outcome-clause-others
 returns-in_err-outcome-clause-others c = grind (arith, common_steps)
@@ -90,4 +90,4 @@ returns-clause-lines c cache =
     let there = rw c.in-Some-get_mut.is at c.get_mut.follows in
     let long = ap length c.touch.ensures.others.items ∙ length-set c.args.blocks.now.items c.args.number _ in
     lines-put c.args.blocks.now.items c.touch.new.blocks.items c.args.number cache _ c.ready.new.self (omega (arith, long, c.requires)) there
-    (ap (λ ls. is_set ls cache) c.ready.ensures.lines) (c.touch.ensures.lines cache)
+    (ap (λ ls. is_set ls cache) c.ready.ensures.kept.lines) (c.touch.ensures.lines cache)

@@ -34,7 +34,7 @@ invariant_of-self-in-Ok-follow g c usable =
     let steps = c.in-Ok.ensures.ok in
     let holds = c.self.invariant usable in
     record {
-      kept = c.in-Ok-follow.ensures.kept;
+      kept = c.in-Ok-follow.ensures.left.kept;
       ready =
           c.in-Ok-follow.ensures.ready w.state cores (subst (λ (t : Tables). AreReady t w.state cores lanes) (sym steps.tables) holds.ready)
           (subst (λ (s : Step). Follows new.tables s c.in-Ok.made w.state new.state cores c.note-turned.new.cores) (c.step-step.ensures lanes)
@@ -68,6 +68,6 @@ returns-clause-ok g c =
         now = now-made w.tables w.state cores (whole lanes) c.args.k choice c.step-step.result c.in-Ok.made c.make.new.self.state
             (c.self.invariant usable).tracked (sym c.in-Some.ensures.choice) (c.step-step.ensures lanes) steps.told c.note-turned.new.cores
             (whole (laned c.follow.new.self)) c.self.inside.usable c.note-turned.ensures.noted usable;
-        alike = c.in-Ok-follow.ensures.rest;
+        alike = c.in-Ok-follow.ensures.left.alike;
       };
     })

@@ -5,7 +5,7 @@ use Rattle.moment.proofs.moments.Moment.open.Goals as goal
 
 pub invariant_of-result : goal.invariant_of-result
 invariant_of-result g c whole = record {
-  kept = c.in_ok-lanes.ensures.kept;
+  kept = c.in_ok-lanes.ensures.left.kept;
   ready = c.in_ok-lanes.ensures.ready;
   tracked =
       tracked-opened c.args.world.shape c.args.world.opening _ _ _ c.requires c.in_ok-cores.ensures

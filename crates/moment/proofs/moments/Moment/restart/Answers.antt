@@ -5,7 +5,7 @@ use Rattle.moment.proofs.moments.Moment.restart.Goals as goal
 
 pub invariant_of-self-2 : goal.invariant_of-self-2
 invariant_of-self-2 g c whole = record {
-  kept = c.in_ok-restart.ensures.kept;
+  kept = c.in_ok-restart.ensures.left.kept;
   ready = c.in_ok-restart.ensures.ready;
   tracked =
       tracked-opened c.self.inside.world.shape c.self.inside.world.opening _ _ _ c.restart.ensures.state c.in_ok-reset.ensures.ok

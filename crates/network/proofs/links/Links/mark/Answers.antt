@@ -1,4 +1,4 @@
-use Rattle.std.proofs.Common.{[], ◌≡◌, Some, ap, arith, get_or, map, not, set, sym, ◌∙◌}
+use Rattle.std.proofs.Common.{[], ◌≡◌, Some, ap, arith, get_or, map, not, refl, set, sym, ◌∙◌}
 use Rattle.std.proofs.lemmas.List.{length-map}
 use Rattle.network.specs.inner.Links.{marks_in, on_link, remarked, room_on}
 use Rattle.network.specs.Marks.{is_stopped}
@@ -20,22 +20,20 @@ invariant_of-self g c =
     (parts-set on_link items i (Some c.in-Some.link.now) c.mark.new.self (remarked told) c.in-Some.ensures.item c.mark.ensures.sent)
     (linked-marked ls i told c.self.inside.waiting c.self.inside.free c.self.inside.count (omega (arith, length-map items on_link)) c.self.invariant))
 
-pub returns-in-Some-clause-sent : goal.returns-in-Some-clause-sent
-returns-in-Some-clause-sent g c =
+pub returns-in-Some : goal.returns-in-Some
+returns-in-Some g c =
+    let told = remarked (g.K.Marker.told c.args.marker.now) in
     rw (← c.self.view_is)
-    (parts-set on_link c.self.inside.links.items c.args.cache.0 (Some c.in-Some.link.now) c.mark.new.self (remarked (g.K.Marker.told c.args.marker.now))
-    c.in-Some.ensures.item c.mark.ensures.sent)
+    (record {
+      sent = parts-set on_link c.self.inside.links.items c.args.cache.0 (Some c.in-Some.link.now) c.mark.new.self told c.in-Some.ensures.item c.mark.ensures.sent;
+      room = parts-set_same room_on c.self.inside.links.items c.args.cache.0 (Some c.in-Some.link.now) c.mark.new.self c.in-Some.ensures.item c.mark.ensures.room;
+    })
 
-pub returns-in-Some-clause-room : goal.returns-in-Some-clause-room
-returns-in-Some-clause-room g c =
-    rw (← c.self.view_is)
-    (parts-set_same room_on c.self.inside.links.items c.args.cache.0 (Some c.in-Some.link.now) c.mark.new.self c.in-Some.ensures.item c.mark.ensures.room)
-
-pub returns-then-not-contains-clause-sent : goal.returns-then-not-contains-clause-sent
-returns-then-not-contains-clause-sent g c =
+pub returns-then-not-contains : goal.returns-then-not-contains
+returns-then-not-contains g c =
     let ls = map on_link c.self.inside.links.items in
     let none = nil-is (get_or ls c.args.cache.0 []) (sym (ap (λ fs. is_set fs c.args.cache.0) c.self.invariant.waiting ∙ waiting-at ls c.args.cache.0)
     ∙ sym c.contains.ensures ∙ c.if-not-contains.true) in
+    let told = remarked (g.K.Marker.told c.args.marker.now) in
     rw (← c.self.view_is)
-    (sym (set-same ls c.args.cache.0 (remarked (g.K.Marker.told c.args.marker.now) (get_or ls c.args.cache.0 [])) []
-    (none ∙ ap (remarked (g.K.Marker.told c.args.marker.now)) (sym none))))
+    (record { sent = sym (set-same ls c.args.cache.0 (told (get_or ls c.args.cache.0 [])) [] (none ∙ ap told (sym none))); room = refl })

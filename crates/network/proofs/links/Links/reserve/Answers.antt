@@ -8,43 +8,41 @@ pub invariant_of-self : goal.invariant_of-self
 invariant_of-self c =
     linked-same _ _ _ _ _
     (parts-set_same on_link c.self.inside.links.items c.args.cache.0 (Some c.in-Some.link.now) c.reserve.new.self c.in-Some.ensures.item
-    c.reserve.ensures.sent) c.self.invariant
+    c.reserve.ensures.kept.sent) c.self.invariant
 
-pub returns-in_err-reserve-clause-sent : goal.returns-in_err-reserve-clause-sent
-returns-in_err-reserve-clause-sent c =
-    rw (← c.self.view_is) (parts-set_same on_link c.self.inside.links.items c.args.cache.0 (Some c.in-Some.link.now) c.reserve.new.self
-    c.in-Some.ensures.item c.reserve.ensures.sent)
-
-pub returns-in_err-reserve-clause-room : goal.returns-in_err-reserve-clause-room
-returns-in_err-reserve-clause-room c =
+pub returns-in_err-reserve-clause-kept : goal.returns-in_err-reserve-clause-kept
+returns-in_err-reserve-clause-kept c =
+    let items = c.self.inside.links.items in
+    let i = c.args.cache.0 in
+    let below = below_messages _ _ (subst (λ (l : Linked). i < length l.sent) (sym c.self.view_is) c.requires) in
     rw (← c.self.view_is)
-    (room-kept c.self.inside.links.items c.args.cache.0 (Some c.in-Some.link.now) c.reserve.new.self
-    (below_messages _ _ (subst (λ (l : Linked). c.args.cache.0 < length l.sent) (sym c.self.view_is) c.requires))
-    c.in-Some.ensures.item c.reserve.ensures.room)
+    (record {
+      sent = parts-set_same on_link items i (Some c.in-Some.link.now) c.reserve.new.self c.in-Some.ensures.item c.reserve.ensures.kept.sent;
+      room = room-kept items i (Some c.in-Some.link.now) c.reserve.new.self below c.in-Some.ensures.item c.reserve.ensures.kept.room;
+    })
 
 pub invariant_of-self-in-Some : goal.invariant_of-self-in-Some
 invariant_of-self-in-Some c =
     linked-same _ _ _ _ _
     (parts-set_same on_link c.self.inside.links.items c.args.cache.0 (Some c.in-Some.link.now) c.reserve.new.self c.in-Some.ensures.item
-    c.reserve.ensures.sent) c.self.invariant
+    c.reserve.ensures.kept.sent) c.self.invariant
 
-pub returns-in-Some-clause-sent : goal.returns-in-Some-clause-sent
-returns-in-Some-clause-sent c =
-    rw (← c.self.view_is) (parts-set_same on_link c.self.inside.links.items c.args.cache.0 (Some c.in-Some.link.now) c.reserve.new.self
-    c.in-Some.ensures.item c.reserve.ensures.sent)
+pub returns-in-Some-clause-kept : goal.returns-in-Some-clause-kept
+returns-in-Some-clause-kept c =
+    let items = c.self.inside.links.items in
+    let i = c.args.cache.0 in
+    let below = below_messages _ _ (subst (λ (l : Linked). i < length l.sent) (sym c.self.view_is) c.requires) in
+    rw (← c.self.view_is)
+    (record {
+      sent = parts-set_same on_link items i (Some c.in-Some.link.now) c.reserve.new.self c.in-Some.ensures.item c.reserve.ensures.kept.sent;
+      room = room-kept items i (Some c.in-Some.link.now) c.reserve.new.self below c.in-Some.ensures.item c.reserve.ensures.kept.room;
+    })
 
 pub returns-in-Some-clause-ok : goal.returns-in-Some-clause-ok
 returns-in-Some-clause-ok c =
     rw (room-set c.self.inside.links.items c.args.cache.0 c.reserve.new.self
     (below_messages _ _ (subst (λ (l : Linked). c.args.cache.0 < length l.sent) (sym c.self.view_is) c.requires)))
     c.in_ok-reserve.ensures.ok
-
-pub returns-in-Some-clause-room : goal.returns-in-Some-clause-room
-returns-in-Some-clause-room c =
-    rw (← c.self.view_is)
-    (room-kept c.self.inside.links.items c.args.cache.0 (Some c.in-Some.link.now) c.reserve.new.self
-    (below_messages _ _ (subst (λ (l : Linked). c.args.cache.0 < length l.sent) (sym c.self.view_is) c.requires))
-    c.in-Some.ensures.item c.reserve.ensures.room)
 
 pub invariant_of-self-2 : goal.invariant_of-self-2
 invariant_of-self-2 c =
@@ -55,13 +53,19 @@ invariant_of-self-2 c =
       | in-Err w ↦ ap (map on_link) w.in-Err.ensures.err
     ]) c.self.invariant
 
-pub returns-clause-sent : goal.returns-clause-sent
-returns-clause-sent c =
+pub returns-clause-kept : goal.returns-clause-kept
+returns-clause-kept c =
+    let items = c.self.inside.links.items in
+    let below = below_messages _ _ (subst (λ (l : Linked). c.args.cache.0 < length l.sent) (sym c.self.view_is) c.requires) in
     rw (← c.self.view_is)
     (elim c.match-put.branch [
-      | in-Ok w ↦ rw w.in-Ok.ensures.ok (parts-set_same on_link c.self.inside.links.items c.args.cache.0 None c.in_ok-link.link
-          c.in_default.ensures.item c.in_ok-link.ensures.sent)
-      | in-Err w ↦ ap (map on_link) w.in-Err.ensures.err
+      | in-Ok w ↦
+          rw w.in-Ok.ensures.ok
+          (record {
+            sent = parts-set_same on_link items c.args.cache.0 None c.in_ok-link.link c.in_default.ensures.item c.in_ok-link.ensures.sent;
+            room = room-kept items c.args.cache.0 None c.in_ok-link.link below c.in_default.ensures.item (omega arith);
+          })
+      | in-Err w ↦ record { sent = ap (map on_link) w.in-Err.ensures.err; room = room-same items c.put.new.self.items w.in-Err.ensures.err }
     ])
 
 pub returns-clause-ok : goal.returns-clause-ok
@@ -77,15 +81,3 @@ returns-clause-ok c =
           c.in_ok-link.ensures.room
       | in-Err w ↦ rw w.result-is tt
     ]
-
-pub returns-clause-room : goal.returns-clause-room
-returns-clause-room c =
-    rw (← c.self.view_is)
-    (elim c.match-put.branch [
-      | in-Ok w ↦
-          rw w.in-Ok.ensures.ok
-          (room-kept c.self.inside.links.items c.args.cache.0 None c.in_ok-link.link
-          (below_messages _ _ (subst (λ (l : Linked). c.args.cache.0 < length l.sent) (sym c.self.view_is) c.requires))
-          c.in_default.ensures.item (omega arith))
-      | in-Err w ↦ room-same c.self.inside.links.items c.put.new.self.items w.in-Err.ensures.err
-    ])

@@ -1,4 +1,4 @@
-use Rattle.std.proofs.Common.{[], ◌≡◌, Bool, Some, ap, arith, false, get_or, map, not, set, sym, ◌∙◌}
+use Rattle.std.proofs.Common.{[], ◌≡◌, Bool, Some, ap, arith, false, get_or, map, not, refl, set, sym, ◌∙◌}
 use Rattle.std.proofs.lemmas.List.{length-map}
 use Rattle.network.specs.inner.Links.{marks_in, on_link, remarked, room_on}
 use Rattle.network.specs.Marks.{is_stopped}
@@ -23,21 +23,20 @@ invariant_of-self c =
     (parts-set on_link items i (Some c.in-Some.link.now) c.unmark.new.self (remarked none) c.in-Some.ensures.item c.unmark.ensures.sent)
     (linked-marked ls i none c.self.inside.waiting c.self.inside.free c.self.inside.count (omega (arith, length-map items on_link)) c.self.invariant))
 
-pub returns-in-Some-clause-sent : goal.returns-in-Some-clause-sent
-returns-in-Some-clause-sent c =
+pub returns-in-Some : goal.returns-in-Some
+returns-in-Some c =
+    let items = c.self.inside.links.items in
+    let i = c.args.cache.0 in
     rw (← c.self.view_is)
-    (parts-set on_link c.self.inside.links.items c.args.cache.0 (Some c.in-Some.link.now) c.unmark.new.self (remarked none)
-    c.in-Some.ensures.item c.unmark.ensures.sent)
+    (record {
+      sent = parts-set on_link items i (Some c.in-Some.link.now) c.unmark.new.self (remarked none) c.in-Some.ensures.item c.unmark.ensures.sent;
+      room = parts-set_same room_on items i (Some c.in-Some.link.now) c.unmark.new.self c.in-Some.ensures.item c.unmark.ensures.room;
+    })
 
-pub returns-in-Some-clause-room : goal.returns-in-Some-clause-room
-returns-in-Some-clause-room c =
-    rw (← c.self.view_is)
-    (parts-set_same room_on c.self.inside.links.items c.args.cache.0 (Some c.in-Some.link.now) c.unmark.new.self c.in-Some.ensures.item c.unmark.ensures.room)
-
-pub returns-then-not-contains-clause-sent : goal.returns-then-not-contains-clause-sent
-returns-then-not-contains-clause-sent c =
+pub returns-then-not-contains : goal.returns-then-not-contains
+returns-then-not-contains c =
     let ls = map on_link c.self.inside.links.items in
     let empty = nil-is (get_or ls c.args.cache.0 []) (sym (ap (λ fs. is_set fs c.args.cache.0) c.self.invariant.waiting ∙ waiting-at ls c.args.cache.0)
     ∙ sym c.contains.ensures ∙ c.if-not-contains.true) in
     rw (← c.self.view_is)
-    (sym (set-same ls c.args.cache.0 (remarked none (get_or ls c.args.cache.0 [])) [] (empty ∙ ap (remarked none) (sym empty))))
+    (record { sent = sym (set-same ls c.args.cache.0 (remarked none (get_or ls c.args.cache.0 [])) [] (empty ∙ ap (remarked none) (sym empty))); room = refl })

@@ -38,20 +38,14 @@ returns-clause-ready g c before cb ready follows free =
           (subst (AreMarked world.tables world.state) (c.mark_again-marked.ensures.left h.2) (right now)) (free h.1)
     ]))
 
-pub returns-in_err-anew-clause-rest : goal.returns-in_err-anew-clause-rest
-returns-in_err-anew-clause-rest g c = grind (arith, common_steps)
-
-pub returns-in_err-anew-clause-kept : goal.returns-in_err-anew-clause-kept
-returns-in_err-anew-clause-kept g c = grind (arith, common_steps)
+pub returns-in_err-anew-clause-left : goal.returns-in_err-anew-clause-left
+returns-in_err-anew-clause-left g c = grind (arith, common_steps)
 
 pub returns-in_err-anew-clause-ready : goal.returns-in_err-anew-clause-ready
 returns-in_err-anew-clause-ready g c = grind (arith, common_steps)
 
-pub returns-clause-rest : goal.returns-clause-rest
-returns-clause-rest g c = grind (arith, common_steps)
-
-pub returns-clause-kept : goal.returns-clause-kept
-returns-clause-kept g c = grind (arith, common_steps)
+pub returns-clause-left : goal.returns-clause-left
+returns-clause-left g c = record { alike = grind (arith, common_steps); kept = grind (arith, common_steps) }
 
 pub count_anew-requires-clause-counted : goal.count_anew-requires-clause-counted
 count_anew-requires-clause-counted g c =

@@ -6,21 +6,17 @@ use Rattle.schedule.specs.Fitting.{lane_trees}
 use Rattle.schedule.proofs.Fitting.{fits-same}
 use Rattle.schedule.proofs.lanes.Lanes.open.Goals as goal
 
-pub returns-clause-rest : goal.returns-clause-rest
-returns-clause-rest g c =
-    subst (λ ts. Alike (Both (trees_of ts)) (plain c.args.scenario.now)) (sym c.in_ok-list_all.ensures.trees) c.in_ok-lanes.ensures.rest
+pub returns-clause-left : goal.returns-clause-left
+returns-clause-left g c = record {
+  alike = subst (λ ts. Alike (Both (trees_of ts)) (plain c.args.scenario.now)) (sym c.in_ok-list_all.ensures.trees) c.in_ok-lanes.ensures.rest;
+  kept = c.in_ok-list_all.ensures.kept;
+}
 
-pub returns-in_err-lanes-clause-rest : goal.returns-in_err-lanes-clause-rest
-returns-in_err-lanes-clause-rest g c = grind (arith, common_steps)
-
-pub returns-in_err-lanes-clause-kept : goal.returns-in_err-lanes-clause-kept
-returns-in_err-lanes-clause-kept g c = grind (arith, common_steps)
+pub returns-in_err-lanes-clause-left : goal.returns-in_err-lanes-clause-left
+returns-in_err-lanes-clause-left g c = grind (arith, common_steps)
 
 pub returns-in_err-lanes-clause-ready : goal.returns-in_err-lanes-clause-ready
 returns-in_err-lanes-clause-ready g c = grind (arith, common_steps)
-
-pub returns-clause-kept : goal.returns-clause-kept
-returns-clause-kept g c = grind (arith, common_steps)
 
 pub returns-clause-ready : goal.returns-clause-ready
 returns-clause-ready g c = grind (arith, common_steps)

@@ -1,5 +1,4 @@
-use Rattle.std.proofs.Common.{◌∙◌, None, [], ap, get_or, length, subst, sym}
-use Rattle.machine.specs.Machine.{IsHistory, opened}
+use Rattle.std.proofs.Common.{◌∙◌, ap, length, sym}
 use Rattle.world.specs.View.{View}
 use Rattle.world.proofs.Openings.{world-valued}
 use Rattle.world.proofs.worlds.World.reset.Goals as goal
@@ -10,15 +9,19 @@ invariant_of-self c =
     c.self.inside.counts c.self.inside.met_blank c.self.invariant
     (ap length c.copy_from_slice.ensures.items ∙ c.requires ∙ ap (λ (w : View). w.shape.blocks) (sym c.self.view_is) ∙ sym c.self.invariant.opening)
 
-pub returns-clause-state : goal.returns-clause-state
-returns-clause-state c =
-    c.restart.ensures.state ∙ ap (opened c.self.inside.shape) c.copy_from_slice.ensures.items
-    ∙ ap (λ (w : View). opened w.shape c.args.opening.now) c.self.view_is
-
-pub returns-clause-history : goal.returns-clause-history
-returns-clause-history c =
-    let new : View = c.restart.new.self in
-    subst (λ vs. IsHistory new.shape new.tables vs [] new.state) (c.restart.ensures.opening ∙ c.copy_from_slice.ensures.items) c.restart.ensures.history
-
-pub returns-clause-kept : goal.returns-clause-kept
-returns-clause-kept c = λ block before. c.restart.ensures.kept block (ap (λ (w : View). get_or w.spaces block None) c.self.view_is ∙ before)
+pub returns : goal.returns
+returns c =
+    let again = rw c.copy_from_slice.ensures.items at c.restart.ensures in
+    rw (← c.self.view_is)
+    (record {
+      shape = again.shape;
+      tables = again.tables;
+      opening = again.opening;
+      state = again.state;
+      history = again.history;
+      safe = again.safe;
+      unstuck = again.unstuck;
+      tested = again.tested;
+      kept = again.kept;
+      lines = again.lines;
+    })

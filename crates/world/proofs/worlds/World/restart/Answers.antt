@@ -1,8 +1,8 @@
-use Rattle.std.proofs.Common.{◌≡◌, ◌∙◌, ℕ, List, None, Some, ap, get_or, false, length, refl, replicate, slice_get, sym}
+use Rattle.std.proofs.Common.{◌≡◌, ◌∙◌, ℕ, List, Some, ap, false, length, refl, replicate, slice_get, sym}
 use Rattle.std.proofs.lemmas.List.{length-map}
 use Rattle.machine.specs.Block.{BlockState}
 use Rattle.machine.specs.Machine.{State, opened}
-use Rattle.world.specs.View.{View, states}
+use Rattle.world.specs.View.{states}
 use Rattle.world.specs.inner.Holding.{AreLined, IsOpened, kept_at}
 use Rattle.world.proofs.Coherence.{been-safe, not-stuck}
 use Rattle.world.specs.Keeping.{has_line}
@@ -39,25 +39,22 @@ invariant_of-self c =
     (c.clear.ensures.requests ∙ ap (λ n. replicate n 0) (counted c)) (c.clear.ensures.heads ∙ ap (λ n. replicate n 0) (counted c))
     (c.clear.ensures.responses ∙ ap (λ n. replicate n 0) (counted c))
 
-pub returns-clause-state : goal.returns-clause-state
-returns-clause-state c = rw (← c.self.view_is) (opened-state c)
-
-pub returns-clause-kept : goal.returns-clause-kept
-returns-clause-kept c = λ block before.
-    keeps-no-other c.self.inside.blocks.items c.reset_all.new.blocks.items block c.reset_all.ensures.none
-    (ap (λ (w : View). get_or w.spaces block None) c.self.view_is ∙ before)
-
-pub returns-clause-lines : goal.returns-clause-lines
-returns-clause-lines c = λ block cache.
-    ap (λ o. has_line o cache) (space-at c.reset_all.new.blocks.items block)
-    ∙ lines-reset c.self.inside.opening.items c.self.inside.shape.caches c.reset_all.new.blocks.items
-    (c.reset_all.ensures.count ∙ c.self.invariant.places ∙ sym c.self.invariant.opening) (again c) block cache
-
-pub returns-clause-history : goal.returns-clause-history
-returns-clause-history c = rw (opened-state c) (record { opens = c.self.invariant.opening; leads = refl })
-
-pub returns-clause-safe : goal.returns-clause-safe
-returns-clause-safe c = been-safe _ _ _ c.self.invariant.shaped.within
-
-pub returns-clause-unstuck : goal.returns-clause-unstuck
-returns-clause-unstuck c = not-stuck _ _ _ c.self.invariant.shaped.within
+pub returns : goal.returns
+returns c =
+    let items = c.reset_all.new.blocks.items in
+    let places = c.reset_all.ensures.count ∙ c.self.invariant.places ∙ sym c.self.invariant.opening in
+    rw (← c.self.view_is)
+    (record {
+      shape = refl;
+      tables = refl;
+      opening = refl;
+      state = opened-state c;
+      history = rw (opened-state c) (record { opens = c.self.invariant.opening; leads = refl });
+      safe = been-safe _ _ _ c.self.invariant.shaped.within;
+      unstuck = not-stuck _ _ _ c.self.invariant.shaped.within;
+      tested = refl;
+      kept = λ block before. keeps-no-other c.self.inside.blocks.items items block c.reset_all.ensures.none before;
+      lines = λ block cache.
+          ap (λ o. has_line o cache) (space-at items block)
+          ∙ lines-reset c.self.inside.opening.items c.self.inside.shape.caches items places (again c) block cache;
+    })

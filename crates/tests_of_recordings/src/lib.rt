@@ -1,0 +1,19 @@
+//! Tests of recordings: their texts in both versions, and their replays.
+#![tactic(auto)]
+
+#[cfg(test)]
+mod asserting;
+#[cfg(test)]
+mod entries;
+#[cfg(test)]
+mod exclusive;
+#[cfg(test)]
+mod making;
+#[cfg(test)]
+mod recordings;
+#[cfg(test)]
+mod refusing;
+#[cfg(test)]
+mod text_replays;
+#[cfg(test)]
+mod versions;

@@ -1,0 +1,15 @@
+//! Tests of scenarios: how each is read, written and taken, as a tree, as a copy and by a cursor.
+#![tactic(auto)]
+
+#[cfg(test)]
+mod asserting;
+#[cfg(test)]
+mod cursors;
+#[cfg(test)]
+mod letters;
+#[cfg(test)]
+mod refusing;
+#[cfg(test)]
+mod scenario_reading;
+#[cfg(test)]
+mod scenario_taking;

@@ -1,0 +1,17 @@
+//! Tests of trials: what can be chosen, what comes of trials and batches, and of moments.
+#![tactic(auto)]
+
+#[cfg(test)]
+mod asserting;
+#[cfg(test)]
+mod choosing;
+#[cfg(test)]
+mod entries;
+#[cfg(test)]
+mod making;
+#[cfg(test)]
+mod refusing;
+#[cfg(test)]
+mod restarting;
+#[cfg(test)]
+mod trying;
