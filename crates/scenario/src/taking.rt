@@ -45,7 +45,7 @@ fn take_one<A: Allocator + Clone>(
     match tree {
         Scenario::One(ask) => {
             let ask = *ask;
-            *tree = Scenario::Seq(Vec::new(alloc));
+            leave(tree, Scenario::Seq(Vec::new(alloc)));
             Ok(ask)
         }
         Scenario::Seq(children) => {
@@ -55,7 +55,7 @@ fn take_one<A: Allocator + Clone>(
         }
         Scenario::Any(children) => {
             let (ask, left) = take_from_any(children, alloc, at)?;
-            *tree = left;
+            leave(tree, left);
             Ok(ask)
         }
         Scenario::Times(turns, child) => {
@@ -84,6 +84,13 @@ fn take_in_turn<A: Allocator + Clone>(
     let ask = take_one(&mut children[offer.child], alloc, offer.at)?;
     drop_front(children, offer.child);
     Ok(ask)
+}
+
+/// This is what is left of a scenario.
+fn leave<A: Allocator>(scenario: &mut Scenario<A>, left: Scenario<A>)
+    ensures { plain scenario.new ≡ plain left }
+{
+    *scenario = left;
 }
 
 /// A row of one child becomes the child.

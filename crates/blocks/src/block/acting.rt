@@ -28,7 +28,7 @@ impl Block {
     ghost use Rattle.std.specs.Prelude.{◌≡◌, [], IfOk, IsOk, OnOk, OnErr, false, length, take};
     ghost use Rattle.base.specs.declared.ids.CacheId.{CacheId};
     ghost use Rattle.blocks.specs.inner.Linking.{IsAtOwn, IsRelinked};
-    ghost use Rattle.machine.specs.Transition.{Fits, carried_out, decision_of, messages_of, transition};
+    ghost use Rattle.machine.specs.Transition.{Fits, carried_out, decision_of};
     ghost use Rattle.blocks.specs.View.{acts, lines_after, moved_to, wakes_line, HasSpaceFor};
     ghost use Rattle.blocks.specs.Marking.{marks_of};
     ghost use Rattle.blocks.specs.inner.Named.{DecisionNames};

@@ -84,6 +84,10 @@ MovesTo t i most new = (flat (tree_left new) ≡ flat (rest t i)) × Within (wan
 abbrev pub Begins : List Progress → ℕ → Tree → ℕ → List Progress → Type 0
 Begins old k t i new = (p : Progress) × (new ≡ slice_set old k p) × MovesTo t i (room t) p
 
+-- the same, where there are so many parts at least by then
+abbrev pub BeginsAmong : ℕ → ℕ → Tree → ℕ → List Progress → Type 0
+BeginsAmong n k t i new = (old : List Progress) × (n ≤ length old) × Begins old k t i new
+
 -- there is a part of this number, and it has an offer k
 abbrev pub OffersAt : List Progress → ℕ → ℕ → Type 0
 OffersAt ps j k = (p : Progress) × (slice_get ps j ≡ Some p) × (k < length (offers (tree_left p)))
@@ -103,6 +107,10 @@ wants_behind (place.InBoth n) = Empty
 -- the new parts are within all that the old ones and these more are within
 abbrev pub Adds : Stock → Stock → Stock → Type 0
 Adds old more new = (most : Stock) → Within old most → Within more most → Within new most
+
+-- the same of these more and those others
+abbrev pub AddsBoth : Stock → Stock → Stock → Stock → Type 0
+AddsBoth old more others new = (most : Stock) → Within old most → Within more most → Within others most → Within new most
 
 -- the row of parts that hold these
 abbrev pub holding : List Stock → Stock

@@ -4,7 +4,7 @@
 ghost use Rattle.std.specs.Prelude.{◌≡◌, ◌<◌, ◌≤◌, OnErr, OnOk, length, map};
 ghost use Rattle.scenario.specs.Cursors.{progress};
 ghost use Rattle.scenario.specs.Stock.{Empty, With, room, room_in_turn, room_of_all, stock};
-ghost use Rattle.scenario.specs.inner.Parts.{Adds, Begins, Grows, IsWholeBut, MovesTo, at_place, bare, holding, parts_of, place_of};
+ghost use Rattle.scenario.specs.inner.Parts.{Adds, AddsBoth, BeginsAmong, Grows, IsWholeBut, MovesTo, at_place, bare, holding, parts_of, place_of};
 ghost use Rattle.scenario.specs.Taking.{offers, offers_in_turn, offers_of_all};
 ghost use Rattle.scenario.specs.Tree as tree;
 ghost use Rattle.scenario.specs.Tree.{plain, plain_all};
@@ -60,8 +60,7 @@ pub(super) fn start_row<'t, A: Allocator, B: Allocator + Clone>(
     ensures held { Adds (stock part.old) (room_in_turn (plain_all children.now)) (stock part.new) }
 {
     let offer = place_in_turn(children, at);
-    make_room(part, alloc, 1)?;
-    start_part(part, 0, &children[offer.child], alloc, offer.at)?;
+    start_part(part, 1, 0, &children[offer.child], alloc, offer.at)?;
     part.move_to(Place::InSeq(&children[offer.child + 1..]));
     Ok(())
 }
@@ -82,8 +81,7 @@ pub(super) fn start_turn<'t, A: Allocator, B: Allocator + Clone>(
     ensures err { OnErr result (progress part.new ≡ progress part.old) }
     ensures held { Adds (stock part.old) (With (room (plain child.now)) Empty) (stock part.new) }
 {
-    make_room(part, alloc, 1)?;
-    start_part(part, 0, child, alloc, at)?;
+    start_part(part, 1, 0, child, alloc, at)?;
     part.move_to(Place::InTimes(turns - 1, child));
     Ok(())
 }
@@ -103,29 +101,37 @@ fn start_both<'t, A: Allocator, B: Allocator + Clone>(
     ensures held { Adds (stock part.old) (room_of_all (plain_all children.now)) (stock part.new) }
 {
     let offer = place_among(children, at);
-    make_room(part, alloc, children.len())?;
-    start_part(part, offer.child, &children[offer.child], alloc, offer.at)?;
+    start_part(
+        part,
+        children.len(),
+        offer.child,
+        &children[offer.child],
+        alloc,
+        offer.at,
+    )?;
     keep_others(part, children, offer.child);
     part.move_to(Place::InBoth(children.len()));
     Ok(())
 }
 
-/// Takes an offer of a tree, in the part of this number.
+/// Takes an offer of a tree, in the part of this number, of so many at least.
 #[cycle(starting)]
 #[tactic(auto, using(crate::proofs::Cursors::parts))]
 fn start_part<'t, A: Allocator, B: Allocator + Clone>(
     part: &mut Part<'t, A, B>,
+    count: usize,
     number: usize,
     tree: &'t Scenario<A>,
     alloc: &B,
     at: usize,
 ) -> Result<(), NoMemory>
-    requires part { number < length (parts_of part.old) }
+    requires part { number < count }
     requires offer { at < length (offers (plain tree.now)) }
-    ensures ok { OnOk result (Begins (parts_of part.old) number (plain tree.now) at (parts_of part.new)) }
+    ensures ok { OnOk result (BeginsAmong count number (plain tree.now) at (parts_of part.new)) }
     ensures err { OnErr result (progress part.new ≡ progress part.old) }
-    ensures held { Adds (stock part.old) (at_place number (room (plain tree.now))) (stock part.new) }
+    ensures held { AddsBoth (stock part.old) (bare count) (at_place number (room (plain tree.now))) (stock part.new) }
 {
+    make_room(part, alloc, count)?;
     match part {
         Part::Begun(_place, parts) => start(&mut parts[number], tree, alloc, at),
         Part::Fresh(_) => unreachable!(),

@@ -71,7 +71,8 @@ start_part-returns-clause-err g t c =
 
 pub start_part-returns-clause-ok : goal.start_part-returns-clause-ok
 start_part-returns-clause-ok g t c =
-    on_ok-map c.start.result _ _ (λ h. (progress c.start.new.part, grind (arith, common_steps, parts, map-set), h)) c.start.ensures.ok
+    let long = c.in_ok-make_room.ensures.room in
+    on_ok-map c.start.result _ _ (λ h. (parts_of c.make_room.new.part, long, (progress c.start.new.part, grind (arith, common_steps, parts, map-set), h))) c.start.ensures.ok
 
 pub start-returns-in-Any-clause-ok : goal.start-returns-in-Any-clause-ok
 start-returns-in-Any-clause-ok g t c =
@@ -104,15 +105,15 @@ start_row-returns-clause-ok g t c =
     let child = c.index-children-offer.result in
     let ss = c.args.children.now in
     let at = slice_get-get_or ss offer.child child c.place_in_turn-offer.ensures.within ∙ ap Some (sym c.index-children-offer.is) in
+    let b = c.in_ok-start_part.ensures.ok in
     let now : progress c.move_to.new.self ≡ InSeq (first_part (parts_of c.start_part.new.part)) (plain_all (drop (offer.child + 1) ss)) =
     c.move_to.ensures.place ∙ ap (λ us. InSeq (first_part (parts_of c.start_part.new.part)) (plain_all us)) (rest-whole ss (offer.child + 1)) in
-    rw now (moves-row ss c.args.at offer.child offer.at child (parts_of c.make_room.new.part) (parts_of c.start_part.new.part) at
-    c.in_ok-make_room.ensures.room c.place_in_turn-offer.ensures.place c.in_ok-start_part.ensures.ok)
+    rw now (moves-row ss c.args.at offer.child offer.at child b.0 (parts_of c.start_part.new.part) at b.1 c.place_in_turn-offer.ensures.place b.2)
 
 pub start_turn-returns-clause-ok : goal.start_turn-returns-clause-ok
 start_turn-returns-clause-ok g t c =
-    rw c.move_to.ensures.place (moves-turn c.args.turns (plain c.args.child.now) c.args.at (parts_of c.make_room.new.part) (parts_of c.start_part.new.part)
-    c.in_ok-make_room.ensures.room c.in_ok-start_part.ensures.ok)
+    let b = c.in_ok-start_part.ensures.ok in
+    rw c.move_to.ensures.place (moves-turn c.args.turns (plain c.args.child.now) c.args.at b.0 (parts_of c.start_part.new.part) b.1 b.2)
 
 pub start_both-returns-clause-ok : goal.start_both-returns-clause-ok
 start_both-returns-clause-ok g t c =
@@ -120,9 +121,9 @@ start_both-returns-clause-ok g t c =
     let child = c.index-children-offer.result in
     let ss = c.args.children.now in
     let at = slice_get-get_or ss offer.child child c.place_among-offer.ensures.within ∙ ap Some (sym c.index-children-offer.is) in
-    rw c.move_to.ensures.place (moves-both ss c.args.at offer.child offer.at child (parts_of c.make_room.new.part) (parts_of c.start_part.new.part)
-    (parts_of c.keep_others.new.part) at c.in_ok-make_room.ensures.room c.place_among-offer.ensures.place c.in_ok-start_part.ensures.ok
-    c.keep_others.ensures.whole)
+    let b = c.in_ok-start_part.ensures.ok in
+    rw c.move_to.ensures.place (moves-both ss c.args.at offer.child offer.at child b.0 (parts_of c.start_part.new.part)
+    (parts_of c.keep_others.new.part) at b.1 c.place_among-offer.ensures.place b.2 c.keep_others.ensures.whole)
 
 pub start-returns-in-One-clause-ok : goal.start-returns-in-One-clause-ok
 start-returns-in-One-clause-ok g t c =
@@ -163,47 +164,29 @@ start-start_turn-requires g t c κs within = grind (arith, common_steps, childre
 pub start-start_both-requires : goal.start-start_both-requires
 start-start_both-requires g t c κs within = grind (arith, common_steps, children)
 
-pub start_both-returns-in_err-make_room-clause-ok : goal.start_both-returns-in_err-make_room-clause-ok
-start_both-returns-in_err-make_room-clause-ok g t c = on_ok-failed _ _ c.from_residual.ensures.0
-
-pub start_both-returns-in_err-make_room-clause-err : goal.start_both-returns-in_err-make_room-clause-err
-start_both-returns-in_err-make_room-clause-err g t c = on_err-always _ _ c.make_room.ensures.same
-
 pub start_both-returns-in_err-start_part-clause-ok : goal.start_both-returns-in_err-start_part-clause-ok
-start_both-returns-in_err-start_part-clause-ok g t c = on_ok-failed _ _ c.from_residual-in_err-start_part.ensures.0
+start_both-returns-in_err-start_part-clause-ok g t c = on_ok-failed _ _ c.from_residual.ensures.0
 
 pub start_both-returns-in_err-start_part-clause-err : goal.start_both-returns-in_err-start_part-clause-err
-start_both-returns-in_err-start_part-clause-err g t c = on_err-always _ _ (c.in_err-start_part.ensures.err ∙ c.make_room.ensures.same)
+start_both-returns-in_err-start_part-clause-err g t c = on_err-always _ _ c.in_err-start_part.ensures.err
 
 pub start_both-returns-clause-err : goal.start_both-returns-clause-err
 start_both-returns-clause-err g t c = tt
 
-pub start_row-returns-in_err-make_room-clause-ok : goal.start_row-returns-in_err-make_room-clause-ok
-start_row-returns-in_err-make_room-clause-ok g t c = on_ok-failed _ _ c.from_residual.ensures.0
-
-pub start_row-returns-in_err-make_room-clause-err : goal.start_row-returns-in_err-make_room-clause-err
-start_row-returns-in_err-make_room-clause-err g t c = on_err-always _ _ c.make_room.ensures.same
-
 pub start_row-returns-in_err-start_part-clause-ok : goal.start_row-returns-in_err-start_part-clause-ok
-start_row-returns-in_err-start_part-clause-ok g t c = on_ok-failed _ _ c.from_residual-in_err-start_part.ensures.0
+start_row-returns-in_err-start_part-clause-ok g t c = on_ok-failed _ _ c.from_residual.ensures.0
 
 pub start_row-returns-in_err-start_part-clause-err : goal.start_row-returns-in_err-start_part-clause-err
-start_row-returns-in_err-start_part-clause-err g t c = on_err-always _ _ (c.in_err-start_part.ensures.err ∙ c.make_room.ensures.same)
+start_row-returns-in_err-start_part-clause-err g t c = on_err-always _ _ c.in_err-start_part.ensures.err
 
 pub start_row-returns-clause-err : goal.start_row-returns-clause-err
 start_row-returns-clause-err g t c = tt
 
-pub start_turn-returns-in_err-make_room-clause-ok : goal.start_turn-returns-in_err-make_room-clause-ok
-start_turn-returns-in_err-make_room-clause-ok g t c = on_ok-failed _ _ c.from_residual.ensures.0
-
-pub start_turn-returns-in_err-make_room-clause-err : goal.start_turn-returns-in_err-make_room-clause-err
-start_turn-returns-in_err-make_room-clause-err g t c = on_err-always _ _ c.make_room.ensures.same
-
 pub start_turn-returns-in_err-start_part-clause-ok : goal.start_turn-returns-in_err-start_part-clause-ok
-start_turn-returns-in_err-start_part-clause-ok g t c = on_ok-failed _ _ c.from_residual-in_err-start_part.ensures.0
+start_turn-returns-in_err-start_part-clause-ok g t c = on_ok-failed _ _ c.from_residual.ensures.0
 
 pub start_turn-returns-in_err-start_part-clause-err : goal.start_turn-returns-in_err-start_part-clause-err
-start_turn-returns-in_err-start_part-clause-err g t c = on_err-always _ _ (c.in_err-start_part.ensures.err ∙ c.make_room.ensures.same)
+start_turn-returns-in_err-start_part-clause-err g t c = on_err-always _ _ c.in_err-start_part.ensures.err
 
 pub start_turn-returns-clause-err : goal.start_turn-returns-clause-err
 start_turn-returns-clause-err g t c = tt
@@ -212,12 +195,15 @@ pub start_both-keep_others-requires-clause-part : goal.start_both-keep_others-re
 start_both-keep_others-requires-clause-part g t c = c.place_among-offer.ensures.within
 
 pub start_both-keep_others-requires-clause-room : goal.start_both-keep_others-requires-clause-room
-start_both-keep_others-requires-clause-room g t c = grind (arith, common_steps, length-set)
+start_both-keep_others-requires-clause-room g t c =
+    let b = c.in_ok-start_part.ensures.ok in
+    let same = ap length b.2.1 in
+    grind (arith, length-set, b.1, same)
 
 pub start_part-unreachable-requires : goal.start_part-unreachable-requires
 start_part-unreachable-requires g t c =
-    let low : c.args.number < 0 = subst (λ p. c.args.number < length (parts_of p)) c.in-Fresh.is c.requires.part in
-    omega (arith, low)
+    let none : length (parts_of c.make_room.new.part) ≡ 0 = ap (λ p. length (parts_of p)) c.in-Fresh.is in
+    omega (arith, none, c.requires.part, c.in_ok-make_room.ensures.room)
 
 pub start_row-overflow_add-offer : goal.start_row-overflow_add-offer
 start_row-overflow_add-offer g t c = grind (arith, common_steps)
@@ -277,17 +263,13 @@ start-returns-in-Both-clause-held g t c =
     let whole = ap plain c.in-Both.is ∙ (plain-Both c.in-Both.children ∙ ap (λ us. tree.Both (plain_all us)) (sym c.as_slice-in-Both.ensures.value)) in
     subst (λ u. Adds (stock c.args.part.now) (room u) (stock c.start_both.new.part)) (sym whole) c.start_both.ensures.held
 
-pub start_both-returns-in_err-make_room-clause-held : goal.start_both-returns-in_err-make_room-clause-held
-start_both-returns-in_err-make_room-clause-held g t c most was wanted =
-    c.make_room.ensures.held most was (all-bare c.args.children.now most wanted)
-
 pub start_both-returns-in_err-start_part-clause-held : goal.start_both-returns-in_err-start_part-clause-held
 start_both-returns-in_err-start_part-clause-held g t c most was wanted =
     let offer = c.place_among-offer.result in
     let child = c.index-children-offer.result in
     let ss = c.args.children.now in
     let at = slice_get-get_or ss offer.child child c.place_among-offer.ensures.within ∙ ap Some (sym c.index-children-offer.is) in
-    c.start_part.ensures.held most (c.make_room.ensures.held most was (all-bare ss most wanted)) (all-room ss offer.child child most at wanted)
+    c.start_part.ensures.held most was (all-bare ss most wanted) (all-room ss offer.child child most at wanted)
 
 pub start_both-returns-clause-held : goal.start_both-returns-clause-held
 start_both-returns-clause-held g t c most was wanted =
@@ -295,13 +277,7 @@ start_both-returns-clause-held g t c most was wanted =
     let child = c.index-children-offer.result in
     let ss = c.args.children.now in
     let at = slice_get-get_or ss offer.child child c.place_among-offer.ensures.within ∙ ap Some (sym c.index-children-offer.is) in
-    rw (c.move_to.ensures.held ∙ c.keep_others.ensures.held)
-    (c.start_part.ensures.held most (c.make_room.ensures.held most was (all-bare ss most wanted)) (all-room ss offer.child child most at wanted))
-
-pub start_row-returns-in_err-make_room-clause-held : goal.start_row-returns-in_err-make_room-clause-held
-start_row-returns-in_err-make_room-clause-held g t c most was wanted =
-    c.make_room.ensures.held most was
-    (turn-bare c.args.children.now c.place_in_turn-offer.result.child most c.place_in_turn-offer.ensures.within wanted)
+    rw (c.move_to.ensures.held ∙ c.keep_others.ensures.held) (c.start_part.ensures.held most was (all-bare ss most wanted) (all-room ss offer.child child most at wanted))
 
 pub start_row-returns-in_err-start_part-clause-held : goal.start_row-returns-in_err-start_part-clause-held
 start_row-returns-in_err-start_part-clause-held g t c most was wanted =
@@ -309,8 +285,7 @@ start_row-returns-in_err-start_part-clause-held g t c most was wanted =
     let child = c.index-children-offer.result in
     let ss = c.args.children.now in
     let at = slice_get-get_or ss offer.child child c.place_in_turn-offer.ensures.within ∙ ap Some (sym c.index-children-offer.is) in
-    c.start_part.ensures.held most (c.make_room.ensures.held most was (turn-bare ss offer.child most c.place_in_turn-offer.ensures.within wanted))
-    (turn-room ss offer.child child most at wanted)
+    c.start_part.ensures.held most was (turn-bare ss offer.child most c.place_in_turn-offer.ensures.within wanted) (turn-room ss offer.child child most at wanted)
 
 pub start_row-returns-clause-held : goal.start_row-returns-clause-held
 start_row-returns-clause-held g t c most was wanted =
@@ -318,16 +293,24 @@ start_row-returns-clause-held g t c most was wanted =
     let child = c.index-children-offer.result in
     let ss = c.args.children.now in
     let at = slice_get-get_or ss offer.child child c.place_in_turn-offer.ensures.within ∙ ap Some (sym c.index-children-offer.is) in
-    rw c.move_to.ensures.held
-    (c.start_part.ensures.held most (c.make_room.ensures.held most was (turn-bare ss offer.child most c.place_in_turn-offer.ensures.within wanted))
-    (turn-room ss offer.child child most at wanted))
+    rw c.move_to.ensures.held (c.start_part.ensures.held most was (turn-bare ss offer.child most c.place_in_turn-offer.ensures.within wanted) (turn-room ss offer.child child most at wanted))
 
 pub start_part-returns-clause-held : goal.start_part-returns-clause-held
-start_part-returns-clause-held g t c most was wanted =
+start_part-returns-clause-held g t c most was bare wanted =
     let items = c.in-Begun.parts.items in
     let within : c.args.number < length items = grind (arith, common_steps, parts, length-map) in
     let old = c.index_mut.result.now in
     let at : slice_get items c.args.number ≡ Some old = slice_get-get_or items c.args.number old within ∙ ap Some (search rules) in
-    let before : Within (holding (map stock items)) most = grind (arith, common_steps, parts, was) in
+    let grown = c.make_room.ensures.held most was bare in
+    let before : Within (holding (map stock items)) most = grind (arith, common_steps, parts, grown) in
     let all = adds-one stock items c.args.number old c.start.new.part (room (plain c.args.tree.now)) at c.start.ensures.held most before wanted in
     grind (arith, common_steps, parts, all)
+
+pub start_part-returns-in_err-make_room-clause-ok : goal.start_part-returns-in_err-make_room-clause-ok
+start_part-returns-in_err-make_room-clause-ok g t c = on_ok-failed _ _ c.from_residual.ensures.0
+
+pub start_part-returns-in_err-make_room-clause-err : goal.start_part-returns-in_err-make_room-clause-err
+start_part-returns-in_err-make_room-clause-err g t c = on_err-always _ _ c.make_room.ensures.same
+
+pub start_part-returns-in_err-make_room-clause-held : goal.start_part-returns-in_err-make_room-clause-held
+start_part-returns-in_err-make_room-clause-held g t c most was bare wanted = c.make_room.ensures.held most was bare
