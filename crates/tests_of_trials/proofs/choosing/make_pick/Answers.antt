@@ -21,3 +21,6 @@ returns-clause-ready g c =
           (subst (λ (t : Tables). IsTold t old.state c.step.result made new.state) (sym steps.tables) steps.told);
       free = λ core apart. refl;
     }) (λ unturned core. refl)
+
+pub returns-clause-kept : goal.returns-clause-kept
+returns-clause-kept g c = (holds c.follow.result c.expect.result c.expect.ensures c.follow.ensures.left).kept
