@@ -5,7 +5,7 @@ use Rattle.base.specs.declared.step.CoreAsk.{CoreAsk}
 use Rattle.scenario.specs.Tree.{Tree, Trees, One, Seq, Any, Times, Both, Nil, Cons}
 use Rattle.scenario.specs.Taking.{ends, all_end, some_ends, offers, offers_in_turn, offers_of_all, left, left_in_turn, left_of_one, left_of_all}
 use Rattle.scenario.specs.Alike.{Alike, Takes, followed, seen}
-use Rattle.scenario.specs.inner.Rests.{flat, flats, rest, rest_in_turn, rest_of_one, rest_of_all, row_of, Leaves}
+use Rattle.scenario.specs.Rests.{flat, flats, rest, rest_in_turn, rest_of_one, rest_of_all, row_of, Leaves}
 use Rattle.scenario.proofs.Alikes.{follow_if}
 use Rattle.scenario.proofs.Places.{is_below, by_test}
 

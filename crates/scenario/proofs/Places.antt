@@ -9,8 +9,8 @@ use Rattle.base.specs.declared.step.CoreAsk.{CoreAsk}
 use Rattle.scenario.specs.declared.tree.Scenario.{Scenario}
 use Rattle.scenario.specs.Tree.{Tree, Trees, Cons, Seq, Any, Both, plain, plain_all, trees_of}
 use Rattle.scenario.specs.Taking.{offers, offers_in_turn, offers_of_all, ends}
-use Rattle.scenario.specs.inner.Parts.{IsOfferOf}
-use Rattle.scenario.specs.inner.Rests.{rest, rest_in_turn, rest_of_one, rest_of_all, row_of, past, IsPlaceInTurn, IsPlaceAmong, Leaves, LeavesInTurn}
+use Rattle.scenario.specs.Seeking.{IsOfferOf}
+use Rattle.scenario.specs.Rests.{rest, rest_in_turn, rest_of_one, rest_of_all, row_of, past, IsPlaceInTurn, IsPlaceAmong, Leaves, LeavesInTurn}
 
 pub past_none : (n i : ℕ) → past n i ≡ None → i < n
 past_none n i e = by_case (nat_lt i n) refl

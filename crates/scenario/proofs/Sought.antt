@@ -7,8 +7,8 @@ use Rattle.base.specs.declared.step.CoreAsk.{CoreAsk}
 use Rattle.scenario.specs.declared.tree.Scenario.{Scenario}
 use Rattle.scenario.specs.Tree.{Tree, plain, plain_all, trees_of}
 use Rattle.scenario.specs.Taking.{ends, offers, offers_in_turn, offers_of_all}
-use Rattle.scenario.specs.inner.Rests.{past}
-use Rattle.scenario.specs.inner.Parts.{IsOfferOf, sought}
+use Rattle.scenario.specs.Rests.{past}
+use Rattle.scenario.specs.Seeking.{IsOfferOf, sought}
 use Rattle.scenario.proofs.Items.{get-map}
 use Rattle.scenario.proofs.Places.{drop_here, is_below, isnt_below}
 

@@ -1,15 +1,13 @@
 pub mod Alike
-pub mod Cursors
 pub mod Limits
 pub mod Nodes
 pub mod Refusals
-pub mod Repeats
+pub mod Rests
 pub mod Saving
 pub mod Says
+pub mod Seeking
 pub mod Shown
-pub mod Stock
 pub mod Taking
-pub mod Telling
 pub mod Tree
 pub mod Words
 pub mod inner

@@ -1,4 +1,1 @@
-pub mod Parts
-pub mod Rests
-pub mod Turns
 pub mod Walk

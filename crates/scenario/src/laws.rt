@@ -1,25 +1,20 @@
 //! What ties offers, what is left and words together, and what the form of scenarios in JSON comes to.
 
 ghost use Rattle.std.specs.Prelude.{Err, IfErr, IfOk, List, None, Ok, Result, Some, [], length, slice_get, true};
-ghost use Rattle.std.specs.Prelude.{ℕ, ◌+◌, ◌<◌, ◌↔◌, ◌∷◌, ◌≡◌, ◌≢◌, ◌≤◌, ◌⊎◌};
+ghost use Rattle.std.specs.Prelude.{ℕ, ◌+◌, ◌<◌, ◌↔◌, ◌∷◌, ◌≡◌, ◌≢◌, ◌⊎◌};
 ghost use Rattle.serde_json.specs.Data.{Data};
 ghost use Rattle.base.specs.Extent.{Extent};
 ghost use Rattle.base.specs.declared.step.CoreAsk.{CoreAsk};
 ghost use Rattle.scenario.specs.Alike.{Alike};
-ghost use Rattle.scenario.specs.Cursors.{Progress, standing};
 ghost use Rattle.scenario.specs.Limits.{FitsTypes, IsWithin, Throughout};
 ghost use Rattle.scenario.specs.Refusals.{IsRefusal, first_fault};
 ghost use Rattle.scenario.specs.Says.{IsTextOf, Says};
 ghost use Rattle.scenario.specs.Shown.{shown};
-ghost use Rattle.scenario.specs.Stock.{FitsIn, most_used, nodes, parts_held, parts_used};
 ghost use Rattle.scenario.specs.Taking.{ends, left, offers};
 ghost use Rattle.scenario.specs.Tree.{Tree};
 ghost use Rattle.scenario.specs.Words.{IsWord};
-ghost use Rattle.scenario.specs.declared.cursor.Cursor.{Cursor};
 ghost use Rattle.scenario.specs.declared.reading.ScenarioFault.{ScenarioFault};
 ghost use Rattle.scenario.specs.declared.reading.ScenarioFault.TheVariants.{NoMemory};
-
-use std::alloc::Allocator;
 
 /// Taking offers reaches every word of a tree and nothing else: the empty list is a word exactly where the tree may end,
 /// and an ask in front of others exactly where it is offered and the others are a word of what is then left.
@@ -39,15 +34,6 @@ pub fn alike_trees_stay_alike()
 /// Alike trees have the same words.
 pub fn alike_trees_have_the_same_words()
     ensures { (s t : Tree) (word : List CoreAsk) → Alike s t → IsWord s word → IsWord t word }
-{}
-
-/// A cursor that fits in a tree holds no more parts than this has nodes, in use or kept for later, nor can it come to have more
-/// in use. It fits in its tree where it is opened ([`Cursor::open`](crate::Cursor::open)) and wherever it is restarted with it
-/// ([`Cursor::restart`](crate::Cursor::restart)), and no [`Cursor::pass`](crate::Cursor::pass) changes that.
-pub fn cursors_stay_small<A: Allocator, B: Allocator>()
-    ensures held { (c : Cursor A B) (t : Tree) → FitsIn c t → parts_held c ≤ nodes t }
-    ensures used { (c : Cursor A B) (t : Tree) → FitsIn c t → most_used (standing c) ≤ nodes t }
-    ensures most { (p : Progress) → parts_used p ≤ most_used p }
 {}
 
 /// A value says one tree at most, and a text is the text of one tree at most, whatever the shape. The value that a tree is

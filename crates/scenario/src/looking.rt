@@ -30,7 +30,7 @@ impl<A: Allocator> Scenario<A> {
 
 #[cycle(ending)]
 #[tactic(auto, using(crate::proofs::Children::children))]
-pub(crate) fn tree_may_end<A: Allocator>(tree: &Scenario<A>) -> bool
+pub fn tree_may_end<A: Allocator>(tree: &Scenario<A>) -> bool
     ensures { result ≡ ends (plain tree.now) }
 {
     match tree {
@@ -43,7 +43,7 @@ pub(crate) fn tree_may_end<A: Allocator>(tree: &Scenario<A>) -> bool
 
 #[cycle(offering)]
 #[tactic(auto, using(crate::proofs::Children::children, crate::proofs::Fronts::fronts))]
-pub(crate) fn offers_of_tree<A: Allocator>(
+pub fn offers_of_tree<A: Allocator>(
     tree: &Scenario<A>,
     out: &mut Vec<CoreAsk>,
 ) -> Result<(), NoMemory>
@@ -66,7 +66,7 @@ pub(crate) fn offers_of_tree<A: Allocator>(
 }
 
 #[cycle(ending)]
-pub(crate) fn all_may_end<A: Allocator>(children: &[Scenario<A>]) -> bool
+pub fn all_may_end<A: Allocator>(children: &[Scenario<A>]) -> bool
     ensures { result ≡ all_end (plain_all children.now) }
 {
     for child in children {
@@ -91,7 +91,7 @@ fn some_may_end<A: Allocator>(children: &[Scenario<A>]) -> bool
 
 #[cycle(offering)]
 #[tactic(auto, using(crate::proofs::Fronts::fronts))]
-pub(crate) fn offers_in_turn<A: Allocator>(
+pub fn offers_in_turn<A: Allocator>(
     children: &[Scenario<A>],
     out: &mut Vec<CoreAsk>,
 ) -> Result<(), NoMemory>

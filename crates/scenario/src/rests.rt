@@ -1,8 +1,6 @@
 //! What is left of a scenario, however it is kept.
 
-use crate::cursor::Cursor;
 use crate::looking::tree_may_end;
-use crate::part::part_may_end;
 use crate::seeking::{count_offers, find_offer, list_offers};
 use crate::tree::Scenario;
 use base::{CoreAsk, NoMemory};
@@ -74,37 +72,5 @@ impl<A: Allocator + Clone> Rest for Scenario<A> {
 
     fn take(&mut self, alloc: A, at: usize) -> Result<Option<CoreAsk>, NoMemory> {
         Scenario::take(self, alloc, at)
-    }
-}
-
-impl<'t, A: Allocator, B: Allocator + Clone> Rest for Cursor<'t, A, B> {
-    ghost use Rattle.scenario.specs.Cursors.{remaining};
-
-    type Alloc = B;
-
-    ghost left = { remaining };
-
-    fn may_end(&self) -> bool {
-        part_may_end(&self.root)
-    }
-
-    fn offers(&self, out: &mut Vec<CoreAsk>) -> Result<(), NoMemory> {
-        list_offers(&self.root, out)
-    }
-
-    fn offer_count(&self) -> usize {
-        count_offers(&self.root)
-    }
-
-    fn offer_at(&self, at: usize) -> Option<CoreAsk> {
-        find_offer(&self.root, at)
-    }
-
-    fn take(&mut self, alloc: B, at: usize) -> Result<Option<CoreAsk>, NoMemory> {
-        let Some(ask) = self.offer_at(at) else {
-            return Ok(None);
-        };
-        self.pass(alloc, at)?;
-        Ok(Some(ask))
     }
 }

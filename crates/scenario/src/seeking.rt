@@ -2,8 +2,9 @@
 
 ghost use Rattle.std.specs.Prelude.{◌≡◌, ◌<◌, ◌+◌, ◌++◌, OnErr, OnOk, IfErr, IfOk, length, map, min, slice_get};
 ghost use Rattle.scenario.specs.Tree.{plain, plain_all, trees_of};
+ghost use Rattle.scenario.specs.Rests.{IsPlaceAmong, IsPlaceInTurn};
 ghost use Rattle.scenario.specs.Taking.{offers, offers_in_turn, offers_of_all};
-ghost use Rattle.scenario.specs.inner.Parts.{IsOfferOf, sought};
+ghost use Rattle.scenario.specs.Seeking.{IsOfferOf, sought};
 
 use crate::looking::{offers_of_tree, tree_may_end};
 use crate::tree::Scenario;
@@ -12,19 +13,19 @@ use std::alloc::Allocator;
 
 /// Where an offer of several trees is.
 #[derive(Clone, Copy)]
-pub(crate) struct Offer {
+pub struct Offer {
     /// The tree that offers it.
-    pub(crate) child: usize,
+    pub child: usize,
     /// Which of that tree's offers it is.
-    pub(crate) at: usize,
+    pub at: usize,
 }
 
 /// What has offers.
-pub(crate) trait HasOffers {
+pub trait HasOffers {
     ghost use Rattle.std.specs.Prelude.{◌≡◌, ◌++◌, OnOk, length, take};
     ghost use Rattle.scenario.specs.Tree.{Tree};
     ghost use Rattle.scenario.specs.Taking.{offers};
-    ghost use Rattle.scenario.specs.inner.Parts.{sought};
+    ghost use Rattle.scenario.specs.Seeking.{sought};
 
     /// The tree whose offers it has.
     ghost tree: { Self → Tree };
@@ -59,7 +60,7 @@ impl<A: Allocator> HasOffers for Scenario<A> {
 
 /// Appends the offers, in order. Where memory is refused, the list is as it was.
 #[tactic(auto, using(crate::proofs::Fronts::fronts))]
-pub(crate) fn list_offers<S: HasOffers>(it: &S, out: &mut Vec<CoreAsk>) -> Result<(), NoMemory>
+pub fn list_offers<S: HasOffers>(it: &S, out: &mut Vec<CoreAsk>) -> Result<(), NoMemory>
     ensures ok { OnOk result (out.new.items ≡ out.old.items ++ offers (S.tree it.now)) }
     ensures err { OnErr result (out.new.items ≡ out.old.items) }
 {
@@ -74,7 +75,7 @@ pub(crate) fn list_offers<S: HasOffers>(it: &S, out: &mut Vec<CoreAsk>) -> Resul
 }
 
 /// How many offers there are, or `usize::MAX` where there are more.
-pub(crate) fn count_offers<S: HasOffers>(it: &S) -> usize
+pub fn count_offers<S: HasOffers>(it: &S) -> usize
     ensures { result ≡ min (length (offers (S.tree it.now))) 18446744073709551615 }
 {
     match it.seek(usize::MAX) {
@@ -84,14 +85,14 @@ pub(crate) fn count_offers<S: HasOffers>(it: &S) -> usize
 }
 
 /// The offer of this number, if there is one.
-pub(crate) fn find_offer<S: HasOffers>(it: &S, at: usize) -> Option<CoreAsk>
+pub fn find_offer<S: HasOffers>(it: &S, at: usize) -> Option<CoreAsk>
     ensures { result ≡ slice_get (offers (S.tree it.now)) at }
 {
     it.seek(at).ok()
 }
 
 /// Where offer `at` of all these is, or how far it is behind the last one.
-pub(crate) fn find_among<S: HasOffers>(items: &[S], at: usize) -> Result<Offer, usize>
+pub fn find_among<S: HasOffers>(items: &[S], at: usize) -> Result<Offer, usize>
     ensures within { IfOk result (λ offer. offer.child < length items.now) }
     ensures ok { IfOk result (λ offer. IsOfferOf (map S.tree items.now) at offer.child offer.at) }
     ensures err { IfErr result (λ behind. at ≡ length (offers_of_all (trees_of (map S.tree items.now))) + behind) }
@@ -112,7 +113,7 @@ pub(crate) fn find_among<S: HasOffers>(items: &[S], at: usize) -> Result<Offer, 
 /// The offer of this number, or how far behind the last one the number is.
 #[cycle(seeking)]
 #[tactic(auto, using(crate::proofs::Children::children))]
-pub(crate) fn seek_in_tree<A: Allocator>(tree: &Scenario<A>, at: usize) -> Result<CoreAsk, usize>
+pub fn seek_in_tree<A: Allocator>(tree: &Scenario<A>, at: usize) -> Result<CoreAsk, usize>
     ensures { result ≡ sought (offers (plain tree.now)) at }
 {
     match tree {
@@ -129,10 +130,7 @@ pub(crate) fn seek_in_tree<A: Allocator>(tree: &Scenario<A>, at: usize) -> Resul
 }
 
 #[cycle(seeking)]
-pub(crate) fn seek_in_turn<A: Allocator>(
-    children: &[Scenario<A>],
-    at: usize,
-) -> Result<CoreAsk, usize>
+pub fn seek_in_turn<A: Allocator>(children: &[Scenario<A>], at: usize) -> Result<CoreAsk, usize>
     ensures { result ≡ sought (offers_in_turn (plain_all children.now)) at }
 {
     let mut further = at;
@@ -167,4 +165,36 @@ fn seek_in_all<A: Allocator>(children: &[Scenario<A>], at: usize) -> Result<Core
         }
     }
     Err(further)
+}
+
+/// Where offer `at` of the children in turn is.
+#[tactic(auto, using(crate::proofs::Children::children))]
+pub fn place_in_turn<A: Allocator>(children: &[Scenario<A>], at: usize) -> Offer
+    requires { at < length (offers_in_turn (plain_all children.now)) }
+    ensures within { result.child < length children.now }
+    ensures place { IsPlaceInTurn children.now at result.child result.at }
+{
+    let mut further = at;
+    for (i, child) in children.iter().enumerate() {
+        match seek_in_tree(child, further) {
+            Ok(_) => return Offer {
+                child: i,
+                at: further,
+            },
+            Err(behind) => further = behind,
+        }
+    }
+    unreachable!()
+}
+
+/// Where offer `at` of all the children is.
+pub fn place_among<A: Allocator>(children: &[Scenario<A>], at: usize) -> Offer
+    requires { at < length (offers_of_all (plain_all children.now)) }
+    ensures within { result.child < length children.now }
+    ensures place { IsPlaceAmong children.now at result.child result.at }
+{
+    match find_among(children, at) {
+        Ok(offer) => offer,
+        Err(_) => unreachable!(),
+    }
 }

@@ -5,11 +5,11 @@ ghost use Rattle.scenario.specs.Tree as tree;
 ghost use Rattle.scenario.specs.Tree.{Trees, plain, plain_all};
 ghost use Rattle.scenario.specs.Taking.{offers, offers_in_turn, offers_of_all};
 ghost use Rattle.scenario.specs.Alike.{Takes};
-ghost use Rattle.scenario.specs.inner.Rests.{IsPlaceAmong, IsPlaceInTurn, Leaves, LeavesInTurn, row_of};
+ghost use Rattle.scenario.specs.Rests.{Leaves, LeavesInTurn, row_of};
 
 use crate::copying::copy_one;
 use crate::making::children_in;
-use crate::seeking::{Offer, find_among, seek_in_tree};
+use crate::seeking::{place_among, place_in_turn, seek_in_tree};
 use crate::tree::Scenario;
 use base::{CoreAsk, NoMemory};
 use std::alloc::Allocator;
@@ -207,37 +207,5 @@ fn drop_front<T: Drop, A: Allocator>(items: &mut Vec<T, A>, n: usize)
 {
     for _ in 0..n {
         items.remove(0);
-    }
-}
-
-/// Where offer `at` of the children in turn is.
-#[tactic(auto, using(crate::proofs::Children::children))]
-pub(crate) fn place_in_turn<A: Allocator>(children: &[Scenario<A>], at: usize) -> Offer
-    requires { at < length (offers_in_turn (plain_all children.now)) }
-    ensures within { result.child < length children.now }
-    ensures place { IsPlaceInTurn children.now at result.child result.at }
-{
-    let mut further = at;
-    for (i, child) in children.iter().enumerate() {
-        match seek_in_tree(child, further) {
-            Ok(_) => return Offer {
-                child: i,
-                at: further,
-            },
-            Err(behind) => further = behind,
-        }
-    }
-    unreachable!()
-}
-
-/// Where offer `at` of all the children is.
-pub(crate) fn place_among<A: Allocator>(children: &[Scenario<A>], at: usize) -> Offer
-    requires { at < length (offers_of_all (plain_all children.now)) }
-    ensures within { result.child < length children.now }
-    ensures place { IsPlaceAmong children.now at result.child result.at }
-{
-    match find_among(children, at) {
-        Ok(offer) => offer,
-        Err(_) => unreachable!(),
     }
 }

@@ -4,16 +4,16 @@ use Rattle.std.proofs.Common.{length, map, get_or, set, refl, sym, ap, ◌∙◌
 use Rattle.std.specs.List.{sum_by}
 use Rattle.std.proofs.lemmas.Bool.{le-leb, lt-leb}
 use Rattle.std.proofs.lemmas.List.Sums.{sum_by-cons}
-use Rattle.scenario.specs.Stock.{FitsIn, Within, nodes, parts_held, room, total_nodes}
+use Rattle.cursors.specs.Stock.{FitsIn, Within, nodes, parts_held, room, total_nodes}
 use Rattle.scenario.specs.Tree.{Tree, Trees, One, Seq, Any, Times, Both, Nil, Cons, plain, plain_all}
-use Rattle.scenario.specs.declared.cursor.Cursor.{Cursor}
+use Rattle.cursors.specs.declared.cursor.Cursor.{Cursor}
 use Rattle.scenario.specs.declared.tree.Scenario.{Scenario}
 use Rattle.scenario.specs.declared.tree.Scenario as scenario
 use Rattle.scenario.specs.declared.tree.Scenario.{out-Scenario, roll-Scenario, roll-out-Scenario}
 use Rattle.scenario.specs.declared.tree.Scenario.TheBlock.{shown-the_row-Scenario-0}
 use Rattle.scenario.specs.declared.tree.Scenario.TheVariants as rows
 use Rattle.std.specs.declared.vec.Vec.{Vec}
-use Rattle.scenario.proofs.Stock.{fit-held}
+use Rattle.cursors.proofs.Stock.{fit-held}
 use Rattle.schedule.specs.declared.lanes.Lane.{Lane}
 use Rattle.schedule.specs.declared.lanes.Lanes.{Lanes}
 use Rattle.schedule.specs.Fitting.{EachFits, LanesFit, how_many, lane_trees, parts_of_lanes}

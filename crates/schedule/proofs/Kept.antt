@@ -17,7 +17,7 @@ use Rattle.scenario.specs.Tree.{Tree, Seq, Nil}
 use Rattle.scenario.specs.Taking.{offers}
 use Rattle.schedule.specs.Choices.{choices_of, offers_from}
 use Rattle.schedule.specs.declared.lanes.Lane.{Lane}
-use Rattle.scenario.specs.Cursors.{remaining}
+use Rattle.cursors.specs.Cursors.{remaining}
 use Rattle.schedule.specs.Lanes.{AreReady, IsKept, Laned, listed_at, offers_at, puttable, tree_of_lane, whole}
 use Rattle.schedule.specs.Listed.{nothing_listed}
 use Rattle.schedule.specs.inner.Marks.{offers_by}

@@ -10,11 +10,11 @@ use Rattle.both_tables.specs.Tables.{Tables}
 use Rattle.machine.specs.Machine.{State}
 use Rattle.scenario.specs.Tree.{Tree, Seq, Both, Nil, trees_of}
 use Rattle.scenario.specs.Alike.{Alike, Seen}
-use Rattle.scenario.specs.Repeats.{Repeats}
+use Rattle.cursors.specs.Repeats.{Repeats}
 use Rattle.scenario.specs.Taking.{left, offers}
 use Rattle.schedule.specs.declared.lanes.Lane.{Lane}
 use Rattle.schedule.specs.declared.lanes.Lanes.{Lanes}
-use Rattle.scenario.specs.Cursors.{remaining}
+use Rattle.cursors.specs.Cursors.{remaining}
 use Rattle.schedule.specs.Lanes.{laned, IsKept, IsLevel, IsListed, Laned, lanes_of, listed_at, offers_at, stocked, tree_of_lane, whole}
 use Rattle.schedule.specs.Listed.{Listed, nothing_listed}
 use Rattle.schedule.specs.inner.Marks.{all_marked}

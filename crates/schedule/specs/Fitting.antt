@@ -1,7 +1,7 @@
 -- When lanes fit in a scenario, and how many parts they hold.
 use Rattle.std.specs.Prelude.{◌+◌, ◌^◌, ℕ, ⊤, if◌then◌else◌, nat_le, List, [], ◌∷◌}
 use Rattle.std.specs.List.{sum_by}
-use Rattle.scenario.specs.Stock.{FitsIn, parts_held}
+use Rattle.cursors.specs.Stock.{FitsIn, parts_held}
 use Rattle.scenario.specs.Tree.{Tree, Trees, One, Seq, Any, Times, Both, Nil, Cons}
 use Rattle.schedule.specs.declared.lanes.Lane.{Lane}
 use Rattle.schedule.specs.declared.lanes.Lanes.{Lanes}

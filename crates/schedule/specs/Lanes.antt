@@ -13,9 +13,9 @@ use Rattle.cores.specs.Cores.{Core, is_free}
 use Rattle.scenario.specs.Alike.{Alike}
 use Rattle.scenario.specs.Tree.{Tree, Seq, Both, Nil, trees_of}
 use Rattle.scenario.specs.Taking.{offers}
-use Rattle.scenario.specs.Cursors.{remaining, standing}
-use Rattle.scenario.specs.Stock.{Stock, stock, wants}
-use Rattle.scenario.specs.declared.cursor.Cursor.{Cursor}
+use Rattle.cursors.specs.Cursors.{remaining, standing}
+use Rattle.cursors.specs.Stock.{Stock, stock, wants}
+use Rattle.cursors.specs.declared.cursor.Cursor.{Cursor}
 use Rattle.schedule.specs.Choices.{offers_from}
 use Rattle.schedule.specs.Listed.{IsMarked, Listed, nothing_listed}
 use Rattle.schedule.specs.declared.lanes.Lanes.{Lanes}

@@ -4,9 +4,9 @@ ghost use Rattle.std.specs.Prelude.{◌≡◌, ◌<◌, ◌+◌, ◌^◌, ◌&&�
 ghost use Rattle.std.specs.Option.{option_map};
 ghost use Rattle.cores.specs.Cores.{is_free};
 ghost use Rattle.rows.specs.Flags.{is_set};
-ghost use Rattle.scenario.specs.Cursors.{remaining};
+ghost use Rattle.cursors.specs.Cursors.{remaining};
 ghost use Rattle.scenario.specs.Taking.{offers};
-ghost use Rattle.scenario.specs.Telling.{Tells};
+ghost use Rattle.cursors.specs.Telling.{Tells};
 ghost use Rattle.schedule.specs.Listed.{is_unheld};
 ghost use Rattle.schedule.specs.inner.Marks.{is_at, marks_by, offers_by};
 ghost use Rattle.schedule.specs.inner.Owned.{AreOf};
@@ -18,7 +18,8 @@ use base::{BlockId, CacheId, CoreAsk, NoMemory};
 use blocks::HeldAsks;
 use cores::Cores;
 use rows::Bits;
-use scenario::{Cursor, Next, Rest};
+use cursors::{Cursor, Next};
+use scenario::Rest;
 use std::alloc::{Allocator, Global};
 use std::marker::Model;
 use std::mem::swap;
@@ -56,7 +57,7 @@ impl Model for Asks {
 impl Asks {
     ghost use Rattle.std.specs.Prelude.{◌≡◌, ◌<◌, ◌+◌, ◌^◌, ℕ, [], ◌∷◌, IfOk, IfSome, OnOk, length, slice_get};
     ghost use Rattle.std.specs.Option.{option_map};
-    ghost use Rattle.scenario.specs.Cursors.{remaining};
+    ghost use Rattle.cursors.specs.Cursors.{remaining};
     ghost use Rattle.scenario.specs.Taking.{offers};
     ghost use Rattle.schedule.specs.inner.Marks.{all_marked, marked_by, offers_by};
     ghost use Rattle.schedule.specs.inner.Owned.{IsMarkedIf};

@@ -7,7 +7,7 @@ mod marking;
 
 use crate::asks::Asks;
 use rows::Sums;
-use scenario::Cursor;
+use cursors::Cursor;
 use std::alloc::Allocator;
 
 /// What is left of a scenario, by its lanes: the trees that go on at once at its top, or itself alone where it is no such row.

@@ -7,7 +7,7 @@ ghost use Rattle.both_tables.specs.Tables.{Tables};
 ghost use Rattle.rand_pcg.specs.Lcg.{next};
 ghost use Rattle.rand_pcg.specs.Pcg.{multiplier_64};
 ghost use Rattle.scenario.specs.Alike.{Alike};
-ghost use Rattle.scenario.specs.Stock.{nodes};
+ghost use Rattle.cursors.specs.Stock.{nodes};
 ghost use Rattle.scenario.specs.Tree.{Tree};
 ghost use Rattle.schedule.specs.Choices.{choices_of};
 ghost use Rattle.schedule.specs.Fitting.{LanesFit, parts_of_lanes};

@@ -3,7 +3,8 @@ use crate::letters::{Moment, letter_of, offered, read};
 use crate::scenario_reading::nested;
 use base::{Ask, BlockId, CacheId, CoreAsk};
 use bumpalo::Bump;
-use scenario::{Cursor, Next, Rest, Scenario};
+use cursors::{Cursor, Next};
+use scenario::{Rest, Scenario};
 use std::alloc::Global;
 use std::process::Abort;
 

@@ -222,7 +222,7 @@ impl<'s, A: Allocator, B: Allocator + Clone> Lanes<'s, A, B> {
 
 impl<'s, A: Allocator, B: Allocator + Clone> Lane<'s, A, B> {
     ghost use Rattle.std.specs.Prelude.{◌≡◌, IfOk, OnOk};
-    ghost use Rattle.scenario.specs.Cursors.{remaining};
+    ghost use Rattle.cursors.specs.Cursors.{remaining};
     ghost use Rattle.scenario.specs.Taking.{offers};
     ghost use Rattle.schedule.specs.Lanes.{stocked};
     ghost use Rattle.schedule.specs.inner.Owned.{IsMarkedIf};

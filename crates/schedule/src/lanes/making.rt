@@ -2,7 +2,7 @@
 
 ghost use Rattle.std.specs.Prelude.{◌≡◌, ◌+◌, ◌≤◌, ◌^◌, ◌++◌, ◌∷◌, [], IfOk, OnOk, true, length, map, replicate};
 ghost use Rattle.scenario.specs.Alike.{Alike};
-ghost use Rattle.scenario.specs.Cursors.{remaining};
+ghost use Rattle.cursors.specs.Cursors.{remaining};
 ghost use Rattle.scenario.specs.Tree.{Both, Cons, Nil, plain, plain_all, trees_of};
 ghost use Rattle.schedule.specs.Fitting.{EachFits, how_many, lane_trees};
 
@@ -11,7 +11,8 @@ use crate::asks::Asks;
 use base::NoMemory;
 use cores::Cores;
 use rows::Sums;
-use scenario::{Cursor, Scenario};
+use cursors::Cursor;
+use scenario::Scenario;
 use std::alloc::{Allocator, Global};
 use world::World;
 
@@ -20,8 +21,8 @@ const MOST_LANES: usize = 1 << 31;
 
 impl<'s, A: Allocator, B: Allocator> Lane<'s, A, B> {
     ghost use Rattle.std.specs.Prelude.{◌≡◌, IfOk};
-    ghost use Rattle.scenario.specs.Cursors.{remaining};
-    ghost use Rattle.scenario.specs.Stock.{FitsIn};
+    ghost use Rattle.cursors.specs.Cursors.{remaining};
+    ghost use Rattle.cursors.specs.Stock.{FitsIn};
     ghost use Rattle.scenario.specs.Tree.{plain};
 
     /// All of a tree is left, and nothing is listed yet.

@@ -1,7 +1,7 @@
 //! Marking the asks of lanes again.
 
 ghost use Rattle.std.specs.Prelude.{◌≡◌, ◌<◌, ℕ, Some, true, length, map, slice_index_or};
-ghost use Rattle.scenario.specs.Cursors.{remaining};
+ghost use Rattle.cursors.specs.Cursors.{remaining};
 ghost use Rattle.schedule.specs.Lanes.{stocked};
 ghost use Rattle.schedule.specs.Listed.{nothing_listed};
 ghost use Rattle.schedule.specs.inner.Changes.{IsMarkedIn};

@@ -3,7 +3,7 @@ use Rattle.std.proofs.lemmas.Grind.{common_steps}
 use Rattle.std.proofs.lemmas.List.{drop_all}
 use Rattle.std.proofs.lemmas.Option.{slice_get-get_or}
 use Rattle.scenario.specs.Tree.{plain, plain_all}
-use Rattle.scenario.specs.inner.Parts.{sought}
+use Rattle.scenario.specs.Seeking.{sought}
 use Rattle.scenario.specs.Taking.{offers_in_turn, offers_of_all}
 use Rattle.scenario.specs.declared.tree.Scenario.TheFolds.{the_lemmas}
 use Rattle.scenario.proofs.Children.{children}

@@ -1,7 +1,7 @@
 use Rattle.std.proofs.Common.{◌≡◌, drop}
 use Rattle.scenario.specs.Tree.{plain_all}
 use Rattle.scenario.specs.Taking.{offers_in_turn, offers_of_all}
-use Rattle.scenario.specs.inner.Parts.{sought}
+use Rattle.scenario.specs.Seeking.{sought}
 use Rattle.scenario.proofs.seeking.+seeking.Given as goal
 
 abbrev pub invariant-seek_in_turn-loop-child : goal.invariant-seek_in_turn-loop-child

@@ -4,7 +4,7 @@ use Rattle.std.proofs.lemmas.Option.{slice_get-get_or}
 use Rattle.std.proofs.lemmas.Result.{IfOk-weaker}
 use Rattle.scenario.specs.Tree.{plain, plain_all}
 use Rattle.scenario.specs.Taking.{offers_in_turn, offers_of_all}
-use Rattle.scenario.specs.inner.Rests.{IsPlaceInTurn, IsPlaceAmong}
+use Rattle.scenario.specs.Rests.{IsPlaceInTurn, IsPlaceAmong}
 use Rattle.scenario.specs.declared.tree.Scenario.TheFolds.{the_lemmas}
 use Rattle.scenario.proofs.Children.{children}
 use Rattle.scenario.proofs.Failing.{if_ok-failed, on_err-always, on_err-map}

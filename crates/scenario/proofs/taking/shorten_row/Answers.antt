@@ -1,7 +1,7 @@
 use Rattle.std.proofs.Common.{◌≡◌, ap, ◌∙◌, arith, rules}
 use Rattle.std.proofs.lemmas.Grind.{common_steps}
 use Rattle.scenario.specs.Tree.{plain, plain_all}
-use Rattle.scenario.specs.inner.Rests.{row_of}
+use Rattle.scenario.specs.Rests.{row_of}
 use Rattle.scenario.proofs.Children.{children, plain-Seq}
 use Rattle.scenario.proofs.taking.shorten_row.Goals as goal
 

@@ -1,7 +1,7 @@
 use Rattle.std.proofs.Common.{◌≡◌, ◌∙◌, ap, arith, length, subst}
 use Rattle.std.proofs.lemmas.Grind.{common_steps}
 use Rattle.std.proofs.lemmas.List.{length-map}
-use Rattle.scenario.specs.Cursors.{remaining}
+use Rattle.cursors.specs.Cursors.{remaining}
 use Rattle.schedule.specs.declared.lanes.Lane.{Lane}
 use Rattle.schedule.specs.Lanes.{Laned, laned, listed_at}
 use Rattle.schedule.specs.inner.Owned.{IsMarkedIf}

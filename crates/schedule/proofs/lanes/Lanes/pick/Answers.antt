@@ -5,7 +5,7 @@ use Rattle.std.specs.Option.{option_map}
 use Rattle.std.proofs.Common.{take}
 use Rattle.schedule.specs.declared.choosing.Choice.TheVariants.{Deliver}
 use Rattle.schedule.specs.declared.lanes.Lane.{Lane}
-use Rattle.scenario.specs.Cursors.{remaining}
+use Rattle.cursors.specs.Cursors.{remaining}
 use Rattle.schedule.specs.Choices.{choices_of}
 use Rattle.schedule.specs.Lanes.{laned, listed_at, whole}
 use Rattle.schedule.specs.Listed.{Listed}

@@ -3,8 +3,8 @@ use Rattle.std.specs.List.{sum}
 use Rattle.std.specs.Vec.{with_item}
 use Rattle.rows.specs.Counts.{Finds}
 use Rattle.scenario.specs.Alike.{Alike}
-use Rattle.scenario.specs.Cursors.{remaining}
-use Rattle.scenario.specs.Repeats.{Repeats}
+use Rattle.cursors.specs.Cursors.{remaining}
+use Rattle.cursors.specs.Repeats.{Repeats}
 use Rattle.scenario.specs.Taking.{left, offers}
 use Rattle.schedule.specs.declared.lanes.Lane.{Lane}
 use Rattle.schedule.specs.declared.lanes.Lanes.{Lanes}

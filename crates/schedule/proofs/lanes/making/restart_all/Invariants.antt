@@ -1,5 +1,5 @@
 use Rattle.std.proofs.Common.{◌≡◌, length, map, take}
-use Rattle.scenario.specs.Cursors.{remaining}
+use Rattle.cursors.specs.Cursors.{remaining}
 use Rattle.scenario.specs.Tree.{plain, plain_all}
 use Rattle.schedule.specs.Fitting.{EachFits}
 use Rattle.schedule.proofs.lanes.making.restart_all.Given as goal

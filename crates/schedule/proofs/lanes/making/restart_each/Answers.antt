@@ -2,7 +2,7 @@ use Rattle.std.proofs.Common.{◌≡◌, ◌≤◌, ◌∙◌, ◌^◌, ◌∷�
 use Rattle.std.specs.declared.vec.Vec.{Vec}
 use Rattle.std.proofs.lemmas.List.{length-set}
 use Rattle.scenario.specs.Alike.{Alike}
-use Rattle.scenario.specs.Cursors.{remaining}
+use Rattle.cursors.specs.Cursors.{remaining}
 use Rattle.scenario.specs.Tree.{Tree, Both, plain, plain_all, trees_of}
 use Rattle.scenario.specs.declared.tree.Scenario.{Scenario}
 use Rattle.scenario.specs.declared.tree.Scenario.TheVariants as made

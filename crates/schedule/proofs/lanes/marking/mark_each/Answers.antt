@@ -1,7 +1,7 @@
 use Rattle.std.proofs.Common.{◌∙◌, ◌≡◌, ◌+◌, ◌<◌, inl, inr, List, ap, get_or, set, sym, subst, arith, length, map}
 use Rattle.std.proofs.lemmas.List.{length-set, length-map, map-set}
 use Rattle.std.proofs.Math.Seq.{map-set_same}
-use Rattle.scenario.specs.Cursors.{remaining}
+use Rattle.cursors.specs.Cursors.{remaining}
 use Rattle.schedule.specs.Lanes.{stocked}
 use Rattle.schedule.specs.Listed.{Listed, nothing_listed}
 use Rattle.schedule.specs.inner.Marks.{marked_by}

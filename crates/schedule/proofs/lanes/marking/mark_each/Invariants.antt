@@ -1,5 +1,5 @@
 use Rattle.std.proofs.Common.{◌≡◌, ◌<◌, ℕ, length, map}
-use Rattle.scenario.specs.Cursors.{remaining}
+use Rattle.cursors.specs.Cursors.{remaining}
 use Rattle.schedule.specs.Lanes.{stocked}
 use Rattle.schedule.proofs.Counting.{IsMarkedSoFar}
 use Rattle.schedule.proofs.lanes.marking.mark_each.Given as goal

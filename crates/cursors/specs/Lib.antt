@@ -1,0 +1,5 @@
+pub mod Cursors
+pub mod Repeats
+pub mod Stock
+pub mod Telling
+pub mod inner

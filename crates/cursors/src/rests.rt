@@ -1,0 +1,40 @@
+//! That a cursor is what is left of a scenario, from which offers are taken.
+
+use crate::cursor::Cursor;
+use crate::part::part_may_end;
+use base::{CoreAsk, NoMemory};
+use scenario::Rest;
+use scenario::seeking::{count_offers, find_offer, list_offers};
+use std::alloc::Allocator;
+
+impl<'t, A: Allocator, B: Allocator + Clone> Rest for Cursor<'t, A, B> {
+    ghost use Rattle.cursors.specs.Cursors.{remaining};
+
+    type Alloc = B;
+
+    ghost left = { remaining };
+
+    fn may_end(&self) -> bool {
+        part_may_end(&self.root)
+    }
+
+    fn offers(&self, out: &mut Vec<CoreAsk>) -> Result<(), NoMemory> {
+        list_offers(&self.root, out)
+    }
+
+    fn offer_count(&self) -> usize {
+        count_offers(&self.root)
+    }
+
+    fn offer_at(&self, at: usize) -> Option<CoreAsk> {
+        find_offer(&self.root, at)
+    }
+
+    fn take(&mut self, alloc: B, at: usize) -> Result<Option<CoreAsk>, NoMemory> {
+        let Some(ask) = self.offer_at(at) else {
+            return Ok(None);
+        };
+        self.pass(alloc, at)?;
+        Ok(Some(ask))
+    }
+}

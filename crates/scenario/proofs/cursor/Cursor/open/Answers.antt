@@ -1,7 +1,0 @@
-use Rattle.scenario.specs.Stock.{room}
-use Rattle.scenario.specs.Tree.{plain}
-use Rattle.scenario.proofs.Stock.{within-same}
-use Rattle.scenario.proofs.cursor.Cursor.open.Goals as goal
-
-pub returns-clause-fits : goal.returns-clause-fits
-returns-clause-fits g c = record { held = tt; wanted = within-same (room (plain c.args.tree.now)) }
