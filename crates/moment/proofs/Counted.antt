@@ -11,7 +11,7 @@ use Rattle.machine.specs.Completions.{Completion}
 use Rattle.machine.specs.Machine.{State}
 use Rattle.machine.specs.Made.{IsTold}
 use Rattle.cores.specs.Cores.{Core, finishing, is_free, issuing, with_core}
-use Rattle.schedule.specs.Lanes.{AreAsFree, Follows}
+use Rattle.lanes.specs.Lanes.{AreAsFree, Follows}
 use Rattle.moment.specs.Moments.{cores_after, with_finished, with_issued}
 use Rattle.moment.specs.inner.Noting.{AreFree}
 use Rattle.moment.proofs.Apart.{free-stays}

@@ -5,7 +5,7 @@ use base::{NoMemory, Step};
 use cores::Cores;
 use machine::Made;
 use scenario::Scenario;
-use schedule::Lanes;
+use lanes::Lanes;
 use std::alloc::{Allocator, Global};
 use std::marker::Model;
 use world::World;

@@ -5,7 +5,7 @@ ghost use Rattle.cores.specs.Cores.{Completes};
 ghost use Rattle.machine.specs.Completions.{completed_by};
 ghost use Rattle.moment.specs.inner.Noting.{AreBusy, AreFree, CanBeNoted, cores_in};
 ghost use Rattle.moment.specs.Moments as spec;
-ghost use Rattle.schedule.specs.Lanes.{AreAsFree};
+ghost use Rattle.lanes.specs.Lanes.{AreAsFree};
 
 use base::{Ask, CacheId, CoreAsk, Outcome, Step};
 use cores::Cores;

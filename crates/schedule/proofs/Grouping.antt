@@ -17,7 +17,7 @@ use Rattle.blocks.specs.declared.block.asking.HeldAsks.{HeldAsks}
 use Rattle.rows.proofs.Lowest.{others-stay}
 use Rattle.rows.specs.Flags.{is_set}
 use Rattle.schedule.specs.inner.Groups.{AreIn, AreKinds, IsIn, Stands}
-use Rattle.schedule.specs.inner.Marks.{is_at, mark_by, marks_by}
+use Rattle.schedule.specs.Marks.{is_at, mark_by, marks_by}
 use Rattle.schedule.specs.declared.groups.Row.{Row}
 use Rattle.schedule.specs.declared.groups.Row.TheVariants.{Empty, One, Mixed}
 use Rattle.schedule.proofs.Marking.{marks-at-length}

@@ -20,8 +20,8 @@ use Rattle.world.specs.Looks.{held_at}
 use Rattle.cores.specs.Cores.{Core, is_free}
 use Rattle.schedule.specs.Choices.{can_be_put, offers_from}
 use Rattle.schedule.specs.Listed.{is_unheld}
-use Rattle.schedule.specs.inner.Marks.{AreHeldAt, is_at, mark_by, marks_by, offers_by}
-use Rattle.schedule.specs.inner.Owned.{AreKept, AreOf}
+use Rattle.schedule.specs.Marks.{AreHeldAt, is_at, mark_by, marks_by, offers_by}
+use Rattle.schedule.specs.Owned.{AreKept, AreOf}
 use Rattle.schedule.specs.declared.choosing.Choice.{Choice}
 use Rattle.schedule.specs.declared.choosing.Choice.TheVariants.{Offer}
 

@@ -1,7 +1,6 @@
 pub mod Choices
 pub mod Listed
-pub mod Lanes
-pub mod Fitting
-pub mod Picks
+pub mod Marks
+pub mod Owned
 pub mod Words
 pub mod inner

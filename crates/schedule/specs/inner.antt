@@ -1,4 +1,1 @@
-pub mod Changes
 pub mod Groups
-pub mod Marks
-pub mod Owned

@@ -8,8 +8,8 @@ ghost use Rattle.cursors.specs.Cursors.{remaining};
 ghost use Rattle.scenario.specs.Taking.{offers};
 ghost use Rattle.cursors.specs.Telling.{Tells};
 ghost use Rattle.schedule.specs.Listed.{is_unheld};
-ghost use Rattle.schedule.specs.inner.Marks.{is_at, marks_by, offers_by};
-ghost use Rattle.schedule.specs.inner.Owned.{AreOf};
+ghost use Rattle.schedule.specs.Marks.{is_at, marks_by, offers_by};
+ghost use Rattle.schedule.specs.Owned.{AreOf};
 ghost use Rattle.schedule.specs.declared.choosing.Choice.TheVariants.{Offer};
 
 use crate::choosing::step_of;
@@ -28,7 +28,7 @@ use world::World;
 /// What a lane offers: asks, at most 4,294,967,295, and beside each whether it wouldn't be held. Whether its core is free isn't
 /// kept, so that a mark changes only where a step went to the core's cache, about the ask's block.
 #[derive(Drop)]
-pub(crate) struct Asks {
+pub struct Asks {
     alloc: Global,
     asks: Vec<CoreAsk>,
     unheld: Bits,
@@ -45,7 +45,7 @@ impl Model for Asks {
     ghost use Rattle.std.specs.Prelude.{◌≡◌, true};
     ghost use Rattle.schedule.specs.Listed.{Listed};
     ghost use Rattle.schedule.specs.inner.Groups.{Cover};
-    ghost use Rattle.schedule.specs.inner.Owned.{AreKept};
+    ghost use Rattle.schedule.specs.Owned.{AreKept};
 
     ghost Value = { Listed };
 
@@ -59,14 +59,14 @@ impl Asks {
     ghost use Rattle.std.specs.Option.{option_map};
     ghost use Rattle.cursors.specs.Cursors.{remaining};
     ghost use Rattle.scenario.specs.Taking.{offers};
-    ghost use Rattle.schedule.specs.inner.Marks.{all_marked, marked_by, offers_by};
-    ghost use Rattle.schedule.specs.inner.Owned.{IsMarkedIf};
+    ghost use Rattle.schedule.specs.Marks.{all_marked, marked_by, offers_by};
+    ghost use Rattle.schedule.specs.Owned.{IsMarkedIf};
     ghost use Rattle.both_tables.specs.Tables.{Tables};
     ghost use Rattle.machine.specs.Machine.{State};
     ghost use Rattle.schedule.specs.declared.choosing.Choice.TheVariants.{Offer};
 
     /// No asks.
-    pub(crate) fn open(alloc: Global) -> Result<Asks, NoMemory> {
+    pub fn open(alloc: Global) -> Result<Asks, NoMemory> {
         let unheld = Bits::open(alloc, 0)?;
         Ok(Asks {
             alloc,
@@ -80,7 +80,7 @@ impl Asks {
     }
 
     /// The asks.
-    pub(crate) fn asks(&self) -> &[CoreAsk]
+    pub fn asks(&self) -> &[CoreAsk]
         ensures value { result.now ≡ self.now.asks }
         ensures short { length self.now.asks < 2 ^ 32 }
     {
@@ -88,7 +88,7 @@ impl Asks {
     }
 
     /// Lists what is offered, and answers whether it was marked. Where that is what was offered before, the marks stay.
-    pub(crate) fn list<A: Allocator, B: Allocator + Clone>(
+    pub fn list<A: Allocator, B: Allocator + Clone>(
         &mut self,
         rest: &Cursor<'_, A, B>,
         world: &World,
@@ -175,7 +175,7 @@ impl Asks {
     }
 
     /// Marks all asks anew.
-    pub(crate) fn mark_all(&mut self, world: &World)
+    pub fn mark_all(&mut self, world: &World)
         ensures { self.new ≡ all_marked world.now.tables world.now.state self.old }
     {
         mark_each(world, self.asks.as_slice(), &mut self.unheld);
@@ -183,7 +183,7 @@ impl Asks {
 
     /// Marks a core's asks about a block anew, of which these are held.
     #[inline(always)]
-    pub(crate) fn mark(&mut self, held: HeldAsks, core: CacheId, block: BlockId)
+    pub fn mark(&mut self, held: HeldAsks, core: CacheId, block: BlockId)
         ensures { self.new ≡ marked_by held core block self.old }
     {
         let asks = self.asks.as_slice();
@@ -195,7 +195,7 @@ impl Asks {
     }
 
     /// How many asks can be put, by their marks.
-    pub(crate) fn count(&self, cores: &Cores) -> u32
+    pub fn count(&self, cores: &Cores) -> u32
         ensures { result ≡ length (offers_by cores.now 0 self.now.asks self.now.unheld) }
     {
         match self.core {
@@ -212,7 +212,7 @@ impl Asks {
 
     /// The place of the k-th of the asks that can be put, by their marks, and that ask; whatever number the first ask has.
     #[inline(always)]
-    pub(crate) fn find(&self, cores: &Cores, k: u32) -> Option<(usize, CoreAsk)>
+    pub fn find(&self, cores: &Cores, k: u32) -> Option<(usize, CoreAsk)>
         ensures there { IfSome result (λ found. found.0 < length self.now.asks) }
         ensures kth { (first : ℕ) → option_map (λ found. Offer (first + found.0) found.1) result
             ≡ slice_get (offers_by cores.now first self.now.asks self.now.unheld) k }

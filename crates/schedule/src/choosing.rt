@@ -82,7 +82,7 @@ impl Choice {
 }
 
 /// The step of putting the ask to its core's cache.
-pub(crate) fn step_of(ask: CoreAsk) -> Step
+pub fn step_of(ask: CoreAsk) -> Step
     ensures { result ≡ step_of ask }
 {
     Step::Ask {

@@ -5,7 +5,7 @@ ghost use Rattle.std.specs.Int.{bit_at};
 ghost use Rattle.base.specs.declared.step.CoreAsk.{CoreAsk};
 ghost use Rattle.blocks.specs.Asking.{holds};
 ghost use Rattle.schedule.specs.inner.Groups.{AreIn, IsIn, Stands};
-ghost use Rattle.schedule.specs.inner.Marks.{is_at, marks_by};
+ghost use Rattle.schedule.specs.Marks.{is_at, marks_by};
 
 use crate::asks::is_at;
 use base::{BlockId, CacheId, CoreAsk};
@@ -52,7 +52,7 @@ impl Groups {
     ghost use Rattle.base.specs.declared.step.CoreAsk.{CoreAsk};
     ghost use Rattle.blocks.specs.Asking.{holds};
     ghost use Rattle.schedule.specs.inner.Groups.{AreKinds, Cover};
-    ghost use Rattle.schedule.specs.inner.Marks.{marks_by};
+    ghost use Rattle.schedule.specs.Marks.{marks_by};
 
     /// Those of no asks.
     pub(crate) fn none() -> Groups {

@@ -1,20 +1,15 @@
-//! What the words are, that the choices are those of what a scenario stands for, and that lanes stay small.
+//! What the words are, and that the choices are those of what a scenario stands for.
 
-ghost use Rattle.std.specs.Prelude.{◌≡◌, ◌≤◌, ◌+◌, ℕ, List};
+ghost use Rattle.std.specs.Prelude.{◌≡◌, ◌+◌, ℕ, List};
 ghost use Rattle.cores.specs.Cores.{Core};
 ghost use Rattle.machine.specs.Machine.{State};
 ghost use Rattle.both_tables.specs.Tables.{Tables};
 ghost use Rattle.rand_pcg.specs.Lcg.{next};
 ghost use Rattle.rand_pcg.specs.Pcg.{multiplier_64};
 ghost use Rattle.scenario.specs.Alike.{Alike};
-ghost use Rattle.cursors.specs.Stock.{nodes};
 ghost use Rattle.scenario.specs.Tree.{Tree};
 ghost use Rattle.schedule.specs.Choices.{choices_of};
-ghost use Rattle.schedule.specs.Fitting.{LanesFit, parts_of_lanes};
 ghost use Rattle.schedule.specs.Words.{dice, dice_after, word};
-ghost use Rattle.schedule.specs.declared.lanes.Lanes.{Lanes};
-
-use std::alloc::Allocator;
 
 /// Dice begin before word 0, and each draw leads to the word behind it.
 pub fn draws_follow_the_words()
@@ -32,11 +27,4 @@ pub fn first_words()
 pub fn alike_trees_give_the_same_choices()
     ensures { (tables : Tables) (state : State) (cores : List Core) (s t : Tree) → Alike s t →
         choices_of tables state cores s ≡ choices_of tables state cores t }
-{}
-
-/// The cursors of lanes that fit in a scenario hold no more parts together than this has nodes, in use or kept for later. Lanes
-/// fit in their scenario where they are opened ([`Lanes::open`](crate::Lanes::open)), and no [`Lanes::follow`](crate::Lanes::follow)
-/// changes that, nor a restart with it ([`Lanes::restart`](crate::Lanes::restart)).
-pub fn lanes_stay_small<A: Allocator, B: Allocator>()
-    ensures { (lanes : Lanes A B) (tree : Tree) → LanesFit lanes tree → parts_of_lanes lanes ≤ nodes tree }
 {}

@@ -5,14 +5,9 @@ mod asks;
 mod choosing;
 mod dice;
 mod groups;
-mod lanes;
 mod laws;
-mod picking;
 
-pub use choosing::{Choice, choices};
+pub use asks::Asks;
+pub use choosing::{Choice, choices, step_of};
 pub use dice::Dice;
-pub use lanes::Lanes;
-pub use laws::{
-    alike_trees_give_the_same_choices, draws_follow_the_words, first_words, lanes_stay_small,
-};
-pub use picking::Pick;
+pub use laws::{alike_trees_give_the_same_choices, draws_follow_the_words, first_words};

@@ -1,4 +1,4 @@
-ghost use Rattle.schedule.specs.Lanes.{AreReady, IsKept, laned};
+ghost use Rattle.lanes.specs.Lanes.{AreReady, IsKept, laned};
 
 use crate::asserting::same;
 use crate::making::{make_all, opened, scenario};
@@ -7,7 +7,8 @@ use base::{Ask, BlockId, CacheId, CoreAsk, Step};
 use cores::Cores;
 use cursors::Cursor;
 use scenario::{Rest, Scenario};
-use schedule::{Choice, Dice, Lanes, choices};
+use lanes::Lanes;
+use schedule::{Choice, Dice, choices};
 use std::alloc::Global;
 use std::process::Abort;
 use world::World;

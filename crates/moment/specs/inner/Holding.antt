@@ -3,7 +3,7 @@ use Rattle.std.specs.Prelude.{◌≡◌, true, List, Some, None, if◌then◌els
 use Rattle.both_tables.specs.Tables.{Tables}
 use Rattle.machine.specs.Machine.{State}
 use Rattle.cores.specs.Cores.{Core}
-use Rattle.schedule.specs.Lanes.{AreReady, IsKept, Laned, laned, whole}
+use Rattle.lanes.specs.Lanes.{AreReady, IsKept, Laned, laned, whole}
 use Rattle.moment.specs.Seen.{Seen}
 use Rattle.moment.specs.declared.moments.Moment.TheInside.{Inside}
 use Rattle.moment.specs.inner.Tracked.{IsTracked}

@@ -4,7 +4,7 @@ use Rattle.std.specs.Int.{bit_at}
 use Rattle.base.specs.declared.step.CoreAsk.{CoreAsk}
 use Rattle.blocks.specs.Asking.{holds}
 use Rattle.blocks.specs.declared.block.asking.HeldAsks.{HeldAsks}
-use Rattle.schedule.specs.inner.Marks.{is_at}
+use Rattle.schedule.specs.Marks.{is_at}
 use Rattle.schedule.specs.declared.groups.Groups.{Groups}
 use Rattle.schedule.specs.declared.groups.Row.{Row}
 use Rattle.schedule.specs.declared.groups.Row.TheVariants.{Empty, One, Mixed}

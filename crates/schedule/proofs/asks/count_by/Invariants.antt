@@ -1,5 +1,5 @@
 use Rattle.std.proofs.Common.{◌≡◌, ◌+◌, drop, length}
-use Rattle.schedule.specs.inner.Marks.{offers_by}
+use Rattle.schedule.specs.Marks.{offers_by}
 use Rattle.schedule.proofs.asks.count_by.Given as goal
 
 abbrev pub invariant-loop-number : goal.invariant-loop-number

@@ -1,5 +1,5 @@
 use Rattle.std.proofs.Common.{◌≡◌, ◌+◌, ℕ, drop, slice_get}
-use Rattle.schedule.specs.inner.Marks.{offers_by}
+use Rattle.schedule.specs.Marks.{offers_by}
 use Rattle.schedule.proofs.asks.find_by.Given as goal
 
 abbrev pub invariant-loop-number : goal.invariant-loop-number

@@ -1,5 +1,5 @@
 use Rattle.std.proofs.Common.{◌≡◌, ◌++◌, drop, length, take}
-use Rattle.schedule.specs.inner.Marks.{marks_by}
+use Rattle.schedule.specs.Marks.{marks_by}
 use Rattle.schedule.proofs.asks.mark_at.Given as goal
 
 abbrev pub invariant-loop-number : goal.invariant-loop-number

@@ -2,7 +2,7 @@ use Rattle.std.proofs.Common.{refl, subst, sym}
 use Rattle.base.specs.declared.step.Step.{Step}
 use Rattle.both_tables.specs.Tables.{Tables}
 use Rattle.machine.specs.Made.{IsTold}
-use Rattle.schedule.specs.Lanes.{AreReady, laned}
+use Rattle.lanes.specs.Lanes.{AreReady, laned}
 use Rattle.world.specs.OneStep.{Steps}
 use Rattle.tests_of_trials.proofs.Unwrapping.{holds, holds-of}
 use Rattle.tests_of_trials.proofs.choosing.make_pick.Goals as goal

@@ -1,4 +1,4 @@
-use Rattle.schedule.specs.Lanes.{AreReady, IsKept, laned}
+use Rattle.lanes.specs.Lanes.{AreReady, IsKept, laned}
 use Rattle.tests_of_trials.proofs.choosing.take_all.Given as goal
 
 abbrev pub invariant-loop-made : goal.invariant-loop-made

@@ -1,8 +1,8 @@
 use Rattle.std.proofs.Common.{◌≡◌, ◌<◌, refl, sym, subst, length, true}
 use Rattle.both_tables.specs.Tables.{Tables}
 use Rattle.base.specs.declared.step.Step.{Step}
-use Rattle.schedule.specs.Lanes.{AreReady, Follows, laned, whole}
-use Rattle.schedule.specs.Picks.{choice_of}
+use Rattle.lanes.specs.Lanes.{AreReady, Follows, laned, whole}
+use Rattle.lanes.specs.Picks.{choice_of}
 use Rattle.moment.specs.Moments.{Moment}
 use Rattle.moment.specs.Seen.{Seen, choices_in}
 use Rattle.moment.proofs.Counted.{follows-noted}

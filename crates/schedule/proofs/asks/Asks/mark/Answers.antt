@@ -1,5 +1,5 @@
 use Rattle.std.proofs.Common.{◌∙◌, ap}
-use Rattle.schedule.specs.inner.Marks.{marks_by}
+use Rattle.schedule.specs.Marks.{marks_by}
 use Rattle.schedule.proofs.Marking.{still-kept}
 use Rattle.schedule.proofs.asks.Asks.mark.Goals as goal
 

@@ -1,0 +1,224 @@
+-- What listing a lane anew, and taking an offer from it, keeps of the lanes.
+use Rattle.std.proofs.Common.{◌≡◌, ◌≢◌, ℕ, ◌<◌, ◌^◌, inl, inr, length, map, Option, Some, None, get_or, set, slice_get}
+use Rattle.std.proofs.Common.{List, [], ◌≤◌, refl, sym, ap, ◌∙◌, subst, arith}
+use Rattle.std.specs.List.{Contains}
+use Rattle.std.proofs.lemmas.List.{length-map, length-set, map-set, get_or-set_same, get_or-set_other}
+use Rattle.std.proofs.lemmas.Bool.{cases_eq}
+use Rattle.base.specs.declared.step.CoreAsk.{CoreAsk}
+use Rattle.rows.specs.Counts.{Finds}
+use Rattle.both_tables.specs.Tables.{Tables}
+use Rattle.machine.specs.Machine.{State}
+use Rattle.scenario.specs.Tree.{Tree, Seq, Both, Nil, trees_of}
+use Rattle.scenario.specs.Alike.{Alike, Seen}
+use Rattle.cursors.specs.Repeats.{Repeats}
+use Rattle.scenario.specs.Taking.{left, offers}
+use Rattle.lanes.specs.declared.lanes.Lane.{Lane}
+use Rattle.lanes.specs.declared.lanes.Lanes.{Lanes}
+use Rattle.cursors.specs.Cursors.{remaining}
+use Rattle.lanes.specs.Lanes.{laned, IsKept, IsLevel, IsListed, Laned, lanes_of, listed_at, offers_at, stocked, tree_of_lane, whole}
+use Rattle.schedule.specs.Listed.{Listed, nothing_listed}
+use Rattle.schedule.specs.Marks.{all_marked}
+use Rattle.lanes.specs.inner.Changes.{KeepsOthers, TakesFrom, marked_in}
+use Rattle.std.proofs.Math.Seq.{map-set_same}
+use Rattle.lanes.proofs.Kept.{found-within, lane-listed, lane-tree, lengths-are}
+use Rattle.lanes.proofs.Rows.{lengths_of, taken-there}
+
+-- a lane was listed anew
+pub record Relists (lane : ℕ) (made : Listed) (old new : Laned) : Type 0 where
+  pub trees : new.trees ≡ old.trees
+  pub written : new.listed ≡ set old.listed lane made
+  pub lengths : new.lengths ≡ set old.lengths lane (length made.asks)
+  pub ready : new.ready ≡ old.ready
+  pub more : (core other : ℕ) → Contains (lanes_of old.reached core) other → Contains (lanes_of new.reached core) other
+  pub reached : (at : ℕ) (ask : CoreAsk) → slice_get made.asks at ≡ Some ask → Contains (lanes_of new.reached ask.core.0) lane
+  pub short : length made.asks < 2 ^ 32
+  pub is : made.asks ≡ offers (tree_of_lane old lane)
+
+pub relisted-at : (lane : ℕ) (made : Listed) (old new : Laned) → Relists lane made old new → IsLevel old → lane < length old.trees → listed_at new lane ≡ made
+relisted-at lane made old new r level low =
+    let many = level.listed in
+    ap (λ xs. get_or xs lane nothing_listed) r.written ∙ get_or-set_same old.listed lane made nothing_listed (omega (arith, low, many))
+
+pub relisted : (lane : ℕ) (made : Listed) (old new : Laned) → Relists lane made old new → IsLevel old → lane < length old.trees → IsListed new lane
+relisted lane made old new r level low =
+    let ml = level.lengths in
+    let here : offers_at new lane ≡ made.asks = ap (λ (l : Listed). l.asks) (relisted-at lane made old new r level low) in
+    record {
+      offered = here ∙ r.is ∙ ap (λ ts. offers (get_or ts lane (Seq Nil))) (sym r.trees);
+      count = ap (λ ns. get_or ns lane 0) r.lengths ∙ get_or-set_same old.lengths lane (length made.asks) 0 (omega (arith, low, ml)) ∙ ap length (sym here);
+      short = subst (λ xs. length xs < 2 ^ 32) (sym here) r.short;
+      reached = λ at ask e. r.reached at ask (ap (λ xs. slice_get xs at) (sym here) ∙ e);
+    }
+
+pub others-kept : (lane : ℕ) (made : Listed) (old new : Laned) → Relists lane made old new → KeepsOthers lane old new
+others-kept lane made old new r =
+    let whole : (other : ℕ) → other ≢ lane → listed_at new other ≡ listed_at old other =
+    λ other ne. ap (λ xs. get_or xs other nothing_listed) r.written ∙ get_or-set_other old.listed lane other made nothing_listed ne in
+    let same : (other : ℕ) → other ≢ lane → offers_at new other ≡ offers_at old other = λ other ne. ap (λ (l : Listed). l.asks) (whole other ne) in
+    record {
+      count = ap length r.trees;
+      ready = r.ready;
+      same = whole;
+      listed = λ other ne h. record {
+        offered = same other ne ∙ h.offered ∙ ap (λ ts. offers (get_or ts other (Seq Nil))) (sym r.trees);
+        count = ap (λ ns. get_or ns other 0) r.lengths ∙ get_or-set_other old.lengths lane other (length made.asks) 0 ne ∙ h.count
+            ∙ ap length (sym (same other ne));
+        short = subst (λ xs. length xs < 2 ^ 32) (sym (same other ne)) h.short;
+        reached = λ at ask e. r.more ask.core.0 other (h.reached at ask (ap (λ xs. slice_get xs at) (sym (same other ne)) ∙ e));
+      };
+    }
+
+-- ---- taking an offer
+
+-- the offer that is found is one of its lane's
+pub found-offered : (lane offer rest : ℕ) (old : Laned) → IsKept old → Finds old.lengths offer lane rest → rest < length (offers (tree_of_lane old lane))
+found-offered lane offer rest old kept found =
+    let low : lane < length old.trees = (let h = found-within old.lengths lane rest found.within in let m = kept.level.lengths in omega (arith, h, m)) in
+    let here = kept.listed lane low in
+    let count = here.count in
+    let offered = ap length here.offered in
+    let within = found.within in
+    omega (arith, count, offered, within)
+
+-- of the lanes before the one that an offer was taken from is listed anew: another tree is left there
+pub record Steps (lane : ℕ) (new : Tree) (old mid : Laned) : Type 0 where
+  pub trees : mid.trees ≡ set old.trees lane new
+  pub listed : mid.listed ≡ old.listed
+  pub lengths : mid.lengths ≡ old.lengths
+  pub ready : mid.ready ≡ old.ready
+  pub reached : mid.reached ≡ old.reached
+
+listed-still : (lane : ℕ) (t : Tree) (old mid : Laned) → Steps lane t old mid → (other : ℕ) → other ≢ lane → IsListed old other → IsListed mid other
+listed-still lane t old mid s other ne h =
+    let same : offers_at mid other ≡ offers_at old other = ap (λ xs. (get_or xs other nothing_listed).asks) s.listed in
+    record {
+      offered = same ∙ h.offered ∙ ap offers (sym (ap (λ ts. get_or ts other (Seq Nil)) s.trees ∙ get_or-set_other old.trees lane other t (Seq Nil) ne));
+      count = ap (λ ns. get_or ns other 0) s.lengths ∙ h.count ∙ ap length (sym same);
+      short = subst (λ xs. length xs < 2 ^ 32) (sym same) h.short;
+      reached = λ at ask e. subst (λ rs. Contains (lanes_of rs ask.core.0) other) (sym s.reached)
+          (h.reached at ask (ap (λ xs. slice_get xs at) (sym same) ∙ e));
+    }
+
+pub takes-from : (lane offer rest : ℕ) (t : Tree) (old mid new : Laned) → IsKept old → Finds old.lengths offer lane rest →
+    Alike t (left (tree_of_lane old lane) rest) → Steps lane t old mid → new.trees ≡ mid.trees → IsLevel new → IsListed new lane → KeepsOthers lane mid new →
+    TakesFrom lane offer old new
+takes-from lane offer rest t old mid new kept found alike steps trees level listed others =
+    let finds : Finds (lengths_of old.trees) offer lane rest = subst (λ ns. Finds ns offer lane rest) (lengths-are old kept) found in
+    let low : lane < length old.trees = (let h = found-within old.lengths lane rest found.within in let m = kept.level.lengths in omega (arith, h, m)) in
+    let many : length new.trees ≡ length old.trees = ap length trees ∙ ap length steps.trees ∙ length-set old.trees lane t in
+    let still : (other : ℕ) → other ≢ lane → IsListed old other → IsListed new other =
+    λ other ne h. others.listed other ne (listed-still lane t old mid steps other ne h) in
+    record {
+      there = low;
+      rest = subst (λ ts. Alike (Both (trees_of ts)) (left (whole old) offer)) (sym (trees ∙ steps.trees))
+          (taken-there old.trees offer lane rest t finds alike);
+      kept = record {
+        level = level;
+        listed = λ other h. elim (cases_eq other lane) [
+          | inl e ↦ subst (IsListed new) (sym e) listed
+          | inr ne ↦ still other ne (kept.listed other (omega (arith, h, many)))
+        ];
+      };
+      others = record {
+        count = many;
+        ready = others.ready ∙ steps.ready;
+        same = λ other ne. others.same other ne ∙ ap (λ xs. get_or xs other nothing_listed) steps.listed;
+        listed = still;
+      };
+    }
+
+abbrev seen-offers : Option Seen → List CoreAsk
+seen-offers None = []
+seen-offers (Some s) = s.offers
+
+-- a lane that offers the same again isn't listed anew
+pub repeated-listed : (lane : ℕ) (t : Tree) (old mid : Laned) → IsKept old → lane < length old.trees → Steps lane t old mid →
+    offers t ≡ offers (tree_of_lane old lane) → IsListed mid lane
+repeated-listed lane t old mid kept low s again =
+    let h = kept.listed lane low in
+    let same : offers_at mid lane ≡ offers_at old lane = ap (λ xs. (get_or xs lane nothing_listed).asks) s.listed in
+    let tree : tree_of_lane mid lane ≡ t = ap (λ ts. get_or ts lane (Seq Nil)) s.trees ∙ get_or-set_same old.trees lane t (Seq Nil) low in
+    record {
+      offered = same ∙ h.offered ∙ sym again ∙ ap offers (sym tree);
+      count = ap (λ ns. get_or ns lane 0) s.lengths ∙ h.count ∙ ap length (sym same);
+      short = subst (λ xs. length xs < 2 ^ 32) (sym same) h.short;
+      reached = λ at ask e. subst (λ rs. Contains (lanes_of rs ask.core.0) lane) (sym s.reached) (h.reached at ask (ap (λ xs. slice_get xs at) (sym same) ∙ e));
+    }
+
+steps-level : (lane : ℕ) (t : Tree) (old mid : Laned) → IsLevel old → Steps lane t old mid → IsLevel mid
+steps-level lane t old mid level s =
+    let many : length mid.trees ≡ length old.trees = ap length s.trees ∙ length-set old.trees lane t in
+    record {
+      listed = ap length s.listed ∙ level.listed ∙ sym many;
+      lengths = ap length s.lengths ∙ level.lengths ∙ sym many;
+      ready = ap length s.ready ∙ level.ready ∙ sym many;
+      few = subst (λ n. n ≤ 2 ^ 31) (sym many) level.few;
+      rows = subst (λ rs. 1 ≤ length rs) (sym s.reached) level.rows;
+    }
+
+pub takes-again : (lane offer rest : ℕ) (t : Tree) (old mid : Laned) → IsKept old → Finds old.lengths offer lane rest →
+    Alike t (left (tree_of_lane old lane) rest) → Repeats (tree_of_lane old lane) → Steps lane t old mid → TakesFrom lane offer old mid
+takes-again lane offer rest t old mid kept found alike repeats steps =
+    let low : lane < length old.trees = (let h = found-within old.lengths lane rest found.within in let m = kept.level.lengths in omega (arith, h, m)) in
+    takes-from lane offer rest t old mid mid kept found alike steps refl (steps-level lane t old mid kept.level steps)
+    (repeated-listed lane t old mid kept low steps (ap seen-offers (alike []) ∙ repeats rest (found-offered lane offer rest old kept found)))
+    (record { count = refl; ready = refl; same = λ other ne. refl; listed = λ other ne h. h })
+
+-- ---- the same of lanes as they are kept
+
+pub lane-low : {A B : Type 0} (l : Lanes A B) (lane : ℕ) → lane < length (laned l).trees → lane < length l.lanes.items
+lane-low l lane low = let many = length-map l.lanes.items (λ x. remaining x.rest) in omega (arith, low, many)
+
+pub lane-relists : {A B : Type 0} (l new : Lanes A B) (lane n : ℕ) (old made : Lane A B) → lane < length l.lanes.items → old ≡ get_or l.lanes.items lane old →
+    new.lanes.items ≡ set l.lanes.items lane made → remaining made.rest ≡ remaining old.rest → made.asks.asks ≡ offers (remaining old.rest) →
+    new.lengths ≡ set l.lengths lane n → n ≡ length made.asks.asks → n < 2 ^ 32 → new.ready ≡ l.ready →
+    ((core other : ℕ) → Contains (lanes_of (laned l).reached core) other → Contains (lanes_of (laned new).reached core) other) →
+    ((at : ℕ) (ask : CoreAsk) → slice_get made.asks.asks at ≡ Some ask → Contains (lanes_of (laned new).reached ask.core.0) lane) →
+    Relists lane made.asks (laned l) (laned new)
+lane-relists l new lane n old made low is lanes rest listed lengths count short ready more reached =
+    let left = ap (map (λ x. remaining x.rest)) lanes
+    ∙ map-set_same (λ x. remaining x.rest) l.lanes.items lane made old (rest ∙ ap (λ x. remaining x.rest) is) in
+    record {
+      trees = left;
+      written = ap (map (λ x. x.asks)) lanes ∙ map-set (λ x. x.asks) l.lanes.items lane made;
+      lengths = lengths ∙ ap (set l.lengths lane) count;
+      ready = ready;
+      more = more;
+      reached = reached;
+      short = subst (λ k. k < 2 ^ 32) count short;
+      is = listed ∙ ap offers (lane-tree l.lanes.items lane old low is);
+    }
+
+pub lane-steps : {A B : Type 0} (l mid : Lanes A B) (lane : ℕ) (old made : Lane A B) → old ≡ get_or l.lanes.items lane old →
+    mid.lanes.items ≡ set l.lanes.items lane made → made.asks ≡ old.asks → mid.lengths ≡ l.lengths → mid.ready ≡ l.ready →
+    mid.reached ≡ l.reached → Steps lane (remaining made.rest) (laned l) (laned mid)
+lane-steps l mid lane old made is lanes same lengths ready reached = record {
+  trees = ap (map (λ x. remaining x.rest)) lanes ∙ map-set (λ x. remaining x.rest) l.lanes.items lane made;
+  listed = ap (map (λ x. x.asks)) lanes ∙ map-set_same (λ x. x.asks) l.lanes.items lane made old (same ∙ ap (λ x. x.asks) is);
+  lengths = lengths;
+  ready = ready;
+  reached = ap (λ v. map (λ of. of.items) v.items) reached;
+}
+
+-- a lane that is marked anew
+pub lane-marked : {A B : Type 0} (tables : Tables) (state : State) (l new : Lanes A B) (lane : ℕ) (old made : Lane A B) → lane < length l.lanes.items →
+    old ≡ get_or l.lanes.items lane old → new.lanes.items ≡ set l.lanes.items lane made → made.rest ≡ old.rest → made.asks ≡ all_marked tables state old.asks →
+    new.lengths ≡ l.lengths → new.ready ≡ l.ready → new.reached ≡ l.reached → laned new ≡ marked_in tables state lane (laned l)
+lane-marked tables state l new lane old made low is lanes rest asks lengths ready reached =
+    let trees = ap (map (λ x. remaining x.rest)) lanes
+    ∙ map-set_same (λ x. remaining x.rest) l.lanes.items lane made old (ap remaining rest ∙ ap (λ x. remaining x.rest) is) in
+    let stocks = ap (map (λ x. stocked x.rest)) lanes
+    ∙ map-set_same (λ x. stocked x.rest) l.lanes.items lane made old (ap stocked rest ∙ ap (λ x. stocked x.rest) is) in
+    let listed = ap (map (λ x. x.asks)) lanes ∙ map-set (λ x. x.asks) l.lanes.items lane made
+    ∙ ap (set (map (λ x. x.asks) l.lanes.items) lane) (asks ∙ ap (all_marked tables state) (lane-listed l.lanes.items lane old low is)) in
+    let rows = ap (λ v. map (λ of. of.items) v.items) reached in
+    λ i. record { trees = trees i; stocks = stocks i; listed = listed i; lengths = lengths i; ready = ready i; reached = rows i }
+
+-- what a lane offers, where it is kept
+pub lane-is : {A B : Type 0} (l new : Lanes A B) (lane : ℕ) (made : Lane A B) → lane < length l.lanes.items → new.lanes.items ≡ set l.lanes.items lane made →
+    listed_at (laned new) lane ≡ made.asks
+lane-is l new lane made low lanes =
+    ap (λ xs. get_or (map (λ x. x.asks) xs) lane nothing_listed) lanes
+    ∙ ap (λ xs. get_or xs lane nothing_listed) (map-set (λ x. x.asks) l.lanes.items lane made)
+    ∙ get_or-set_same (map (λ x. x.asks) l.lanes.items) lane made.asks nothing_listed (let many = length-map l.lanes.items (λ x. x.asks) in omega
+    (arith, low, many))

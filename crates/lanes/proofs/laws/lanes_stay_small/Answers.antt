@@ -1,0 +1,5 @@
+use Rattle.lanes.proofs.Fitting.{lanes-small}
+use Rattle.lanes.proofs.laws.lanes_stay_small.Goals as goal
+
+pub returns : goal.returns
+returns g c = lanes-small

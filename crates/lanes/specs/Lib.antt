@@ -1,0 +1,4 @@
+pub mod Lanes
+pub mod Fitting
+pub mod Picks
+pub mod inner

@@ -1,0 +1,46 @@
+//! What is left of a scenario by its lanes: the trees that go on at once at its top.
+
+mod changing;
+mod counting;
+mod making;
+mod marking;
+
+use cursors::Cursor;
+use rows::Sums;
+use schedule::Asks;
+use std::alloc::Allocator;
+
+/// What is left of a scenario, by its lanes: the trees that go on at once at its top, or itself alone where it is no such row.
+///
+/// Of each lane it keeps what it offers, which of these offers wouldn't be held, and how many of them can be put. So nothing is
+/// listed to count the choices of a moment, or to find one of them. A step changes what can be put for one core: in the lanes of
+/// that core the offers about the step's block are marked again, and what can be put of these lanes is counted by the marks.
+///
+/// A lane has at most 4,294,967,295 offers at once, which would take over 100 GB: more of them are refused for want of memory.
+pub struct Lanes<'s, A: Allocator, B: Allocator> {
+    lanes: Vec<Lane<'s, A, B>>,
+    // Of each lane how many offers it has, and how many of them can be put.
+    lengths: Sums,
+    ready: Sums,
+    // For each core the lanes that may offer an ask of it. A lane too many costs a count.
+    reached: Vec<Vec<u32>>,
+}
+
+impl<'s, A: Allocator, B: Allocator> Drop for Lanes<'s, A, B> {
+    fn drop(self) {
+        // Whoever drops one has a call to prove, and not the drops of all its parts.
+        let Lanes {
+            lanes: _,
+            lengths: _,
+            ready: _,
+            reached: _,
+        } = self;
+    }
+}
+
+/// One of the trees that go on at once: what is left of it, and what that offers.
+#[derive(Drop)]
+pub(crate) struct Lane<'s, A: Allocator, B: Allocator> {
+    rest: Cursor<'s, A, B>,
+    asks: Asks,
+}

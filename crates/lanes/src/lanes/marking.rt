@@ -1,0 +1,139 @@
+//! Marking the asks of lanes again.
+
+ghost use Rattle.std.specs.Prelude.{◌≡◌, ◌<◌, ℕ, Some, true, length, map, slice_index_or};
+ghost use Rattle.cursors.specs.Cursors.{remaining};
+ghost use Rattle.lanes.specs.Lanes.{stocked};
+ghost use Rattle.schedule.specs.Listed.{nothing_listed};
+ghost use Rattle.lanes.specs.inner.Changes.{IsMarkedIn};
+
+use super::changing::row_of;
+use super::{Lane, Lanes};
+use base::{BlockId, CacheId};
+use blocks::HeldAsks;
+use machine::{Actor, Made};
+use std::alloc::Allocator;
+use world::World;
+
+impl<'s, A: Allocator, B: Allocator + Clone> Lanes<'s, A, B> {
+    ghost use Rattle.std.specs.Prelude.{◌≡◌, ◌<◌, ℕ, List, Option, IfSome, false, true, length};
+    ghost use Rattle.base.specs.Steps.{block_of};
+    ghost use Rattle.base.specs.declared.step.Step.{Step};
+    ghost use Rattle.cores.specs.Cores.{Core};
+    ghost use Rattle.both_tables.specs.Tables.{Tables};
+    ghost use Rattle.machine.specs.Machine.{State};
+    ghost use Rattle.lanes.specs.Lanes.{Follows, IsKept, laned, lanes_of, listed_at};
+    ghost use Rattle.schedule.specs.Listed.{IsMarked};
+    ghost use Rattle.lanes.specs.inner.Changes.{AreMarked, IsMarkedIn, ChangesMarks, WereReady, marked_in};
+
+    /// Marks again what a step about a block changed, of which it is told what it came to, but for a lane that is marked already, if
+    /// there is one, and answers whether it did. Where no line holds other asks than before there is nothing to mark.
+    #[inline(always)]
+    pub(super) fn mark_again(
+        &mut self,
+        done: Option<usize>,
+        made: &Made,
+        block: BlockId,
+        world: &World,
+    ) -> bool
+        requires { IsKept (laned self.old) }
+        ensures kept { IsKept (laned self.new) }
+        ensures same { ChangesMarks (laned self.old) (laned self.new) }
+        ensures left { result ≡ false → laned self.new ≡ laned self.old }
+        ensures marked { (now : State) (step : Step) (before : State) (cores_before cores_now : List Core) (but : Option ℕ) →
+            IfSome done (λ lane. IsMarked world.now.tables now (listed_at (laned self.old) lane)) →
+            before.broken ≡ false → now.broken ≡ false → block.0 ≡ block_of step →
+            Follows world.now.tables step made.now before now cores_before cores_now →
+            WereReady world.now.tables before cores_before now but (laned self.old) → AreMarked world.now.tables now (laned self.new) }
+    {
+        let Some(acted) = made.acted else {
+            return false;
+        };
+        let Actor::Line {
+            cache,
+            before,
+            after,
+        } = acted.by
+        else {
+            return false;
+        };
+        let held = world.held_asks(after);
+        if held == world.held_asks(before) {
+            return false;
+        }
+        self.mark_core(done, cache, block, held);
+        true
+    }
+
+    /// Marks anew all that a lane offers, if it isn't marked already.
+    pub(super) fn mark_lane(&mut self, lane: usize, is_marked: bool, world: &World)
+        requires there { lane < length (laned self.old).trees }
+        requires marked { is_marked ≡ true → IsMarked world.now.tables world.now.state (listed_at (laned self.old) lane) }
+        ensures { laned self.new ≡ marked_in world.now.tables world.now.state lane (laned self.old) }
+    {
+        if is_marked {
+            return;
+        }
+        self.lanes[lane].asks.mark_all(world);
+    }
+
+    /// Marks anew the offers of a core about a block, of which these are held, but for a lane that is marked already, if there is one.
+    #[inline(always)]
+    fn mark_core(&mut self, done: Option<usize>, core: CacheId, block: BlockId, held: HeldAsks)
+        requires { IsKept (laned self.old) }
+        ensures kept { IsKept (laned self.new) }
+        ensures same { ChangesMarks (laned self.old) (laned self.new) }
+        ensures each { (lane : ℕ) → lane < length (laned self.old).trees →
+            IsMarkedIn held core block (lanes_of (laned self.old).reached core.0) done
+            (listed_at (laned self.old) lane) (listed_at (laned self.new) lane) lane }
+    {
+        let row = row_of(&self.reached, core);
+        mark_each(
+            held,
+            core,
+            block,
+            done,
+            &mut self.lanes,
+            self.reached[row].as_slice(),
+        );
+    }
+}
+
+/// Marks anew the offers of a core about a block, of which these are held, in each of these lanes, but for one that is marked already,
+/// if there is one.
+#[inline(always)]
+fn mark_each<A: Allocator, B: Allocator>(
+    held: HeldAsks,
+    core: CacheId,
+    block: BlockId,
+    done: Option<usize>,
+    lanes: &mut Vec<Lane<'_, A, B>>,
+    which: &[u32],
+)
+    ensures count { length lanes.new.items ≡ length lanes.old.items }
+    ensures trees { map (λ l. remaining l.rest) lanes.new.items ≡ map (λ l. remaining l.rest) lanes.old.items }
+    ensures stocks { map (λ l. stocked l.rest) lanes.new.items ≡ map (λ l. stocked l.rest) lanes.old.items }
+    ensures each { (lane : ℕ) → lane < length lanes.old.items →
+        IsMarkedIn held core block which.now done
+        (slice_index_or (map (λ l. l.asks) lanes.old.items) lane nothing_listed)
+        (slice_index_or (map (λ l. l.asks) lanes.new.items) lane nothing_listed) lane }
+{
+    for number in which {
+        let lane = *number as usize;
+        if is_lane(done, lane) {
+            continue;
+        }
+        if lane < lanes.len() {
+            lanes[lane].asks.mark(held, core, block);
+        }
+    }
+}
+
+/// Whether there is a lane, and it is this one.
+fn is_lane(of: Option<usize>, lane: usize) -> bool
+    ensures { result ≡ true → of ≡ Some lane }
+{
+    match of {
+        Some(of) => of == lane,
+        None => false,
+    }
+}

@@ -1,9 +1,0 @@
-use Rattle.std.proofs.Common.{◌∙◌}
-use Rattle.scenario.specs.Taking.{offers}
-use Rattle.schedule.specs.Lanes.{laned, whole}
-use Rattle.schedule.proofs.Kept.{all-lengths, none-or-some}
-use Rattle.schedule.proofs.lanes.Lanes.is_done.Goals as goal
-
-pub returns : goal.returns
-returns g c =
-    none-or-some c.total.result (offers (whole (laned c.args.self.now))) (c.total.ensures.total ∙ all-lengths (laned c.args.self.now) c.requires)

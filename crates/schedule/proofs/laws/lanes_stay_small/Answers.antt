@@ -1,5 +1,0 @@
-use Rattle.schedule.proofs.Fitting.{lanes-small}
-use Rattle.schedule.proofs.laws.lanes_stay_small.Goals as goal
-
-pub returns : goal.returns
-returns g c = lanes-small
