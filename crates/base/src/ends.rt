@@ -1,13 +1,12 @@
 //! Where bytes come from and where they go.
 
-mod memory;
+mod slices;
 mod standard;
 
 ghost use Rattle.std.specs.Prelude.{◌≡◌, ◌≤◌, ◌<◌, ℕ, List, Bool, Option, length, take, IfOk, IfErr, OnOk};
 ghost use Rattle.std.specs.Io.KnownBytes.{Appends, WriteAppends, ReadConsumes};
 ghost use Rattle.base.specs.Ends.{MarksFault};
 
-pub use memory::{Buffer, Faltering};
 pub use standard::{FromRead, ToWrite};
 use thiserror::Error;
 

@@ -10,7 +10,7 @@ mod shape;
 mod step;
 pub mod text;
 
-pub use ends::{Buffer, Failed, Faltering, FromRead, PutFault, Sink, Source, ToWrite, put_all};
+pub use ends::{Failed, FromRead, PutFault, Sink, Source, ToWrite, put_all};
 pub use fault::NoMemory;
 pub use ids::{BlockId, CacheId, Place};
 pub use shape::{MOST_BLOCKS, MOST_CACHES, Shape, ShapeFault};

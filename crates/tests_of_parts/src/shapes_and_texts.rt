@@ -1,9 +1,10 @@
 use crate::asserting::{same, same_at};
 use base::text::{cut, number_of, small_number_of, spells_one_step};
 use base::{
-    Ask, BlockId, Buffer, CacheId, Failed, Faltering, FromRead, Outcome, Shape, ShapeFault, Sink,
-    Source, Step, ToWrite, put_all,
+    Ask, BlockId, CacheId, Failed, FromRead, Outcome, Shape, ShapeFault, Sink, Source, Step,
+    ToWrite, put_all,
 };
+use devices::{Buffer, Faltering};
 use std::alloc::Global;
 use std::fmt::Display;
 use std::process::Abort;

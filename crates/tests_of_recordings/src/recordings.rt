@@ -2,9 +2,10 @@ use crate::asserting::{same, same_at};
 use crate::entries::{entry_of, push};
 use crate::making::{shape_of, with_entry, zero};
 use base::controller::Protocol;
-use base::{BlockId, Buffer, CacheId, Faltering, Outcome, Place, Source, Step};
+use base::{BlockId, CacheId, Outcome, Place, Source, Step};
 use both_tables::Tables;
 use cache_table::{CacheEntry, CacheEvent, CacheState};
+use devices::{Buffer, Faltering};
 use monitor::Violation;
 use record::{
     Entry, MOST_ENTRIES, PushFault, ReadFault, ReadKind, Recording, ReplayFault, WriteFault, replay,

@@ -1,6 +1,7 @@
 use crate::asserting::same_at;
 use crate::recordings::{FIRST_TEXT, ONE_LOAD_TEXT};
-use base::{BlockId, CacheId, Faltering, Outcome, Place};
+use base::{BlockId, CacheId, Outcome, Place};
+use devices::Faltering;
 use monitor::Violation;
 use record::{ReadFault, ReadKind, ReplayFault, TextFault, TextReplayed, replay_text};
 use std::alloc::Global;

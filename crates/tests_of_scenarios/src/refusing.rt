@@ -4,8 +4,9 @@
 use crate::asserting::same;
 use crate::letters::{letter_of, offered};
 use crate::scenario_reading::read_within;
-use base::{Buffer, NoMemory};
+use base::NoMemory;
 use cursors::Cursor;
+use devices::Buffer;
 use scenario::{Rest, SaveFault, Scenario, ScenarioFault};
 use std::alloc::Global;
 use std::process::Abort;

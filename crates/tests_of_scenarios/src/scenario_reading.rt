@@ -1,5 +1,6 @@
 use crate::asserting::same_at;
-use base::{Buffer, Faltering, Shape};
+use base::Shape;
+use devices::{Buffer, Faltering};
 use scenario::{SaveFault, Scenario, ScenarioFault};
 use std::alloc::Global;
 use std::process::Abort;

@@ -1,8 +1,9 @@
 use crate::asserting::{same, same_at};
 use crate::making::{open_setup, scenario, setup, shape_of, values, with_entry};
-use base::{BlockId, Buffer, CacheId, Place, Shape};
+use base::{BlockId, CacheId, Place, Shape};
 use both_tables::Tables;
 use cache_table::{CacheEntry, CacheEvent, CacheState};
+use devices::Buffer;
 use directory_table::{DirectoryEntry, DirectoryEvent, DirectoryState};
 use monitor::Violation;
 use record::Recording;
