@@ -3,7 +3,7 @@ use crate::finding::Finding;
 use crate::format::Format;
 use crate::printing::Printer;
 use base::FromRead;
-use record::{ReplayFault, TextFault, TextReplayed, replay_text};
+use replays::{ReplayFault, TextFault, TextReplayed, replay_text};
 use std::alloc::Global;
 use std::io::{Read, Write};
 use story::ViolationObject;

@@ -13,13 +13,11 @@ pub mod Inverses
 pub mod Leading
 pub mod Legible
 pub mod Listed
-pub mod Makings
 pub mod Openings
 pub mod Outs
 pub mod Owners
 pub mod PieceAt
 pub mod Refusals
-pub mod Replays
 pub mod Shapes
 pub mod Splitting
 pub mod Standing

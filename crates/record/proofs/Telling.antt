@@ -25,7 +25,7 @@ use Rattle.record.specs.Recordable.{IsRecordable}
 use Rattle.record.specs.Text.{told}
 use Rattle.record.specs.inner.Drafts.{kept, recorded, told_at, with_told, Kept, lines_left}
 use Rattle.record.specs.inner.Drafts.{HasRead, HasRoom, HasTakenEntry, HasTakenLine, IsReadTo, IsTaken}
-use Rattle.record.specs.inner.Telling.{HasRoomUpTo}
+use Rattle.record.specs.Telling.{HasRoomUpTo}
 use Rattle.record.specs.inner.Readers.{IsReady}
 use Rattle.record.specs.inner.Reading.{IsTakenOff}
 use Rattle.record.proofs.Steps.{fewer-left}

@@ -2,9 +2,10 @@ pub mod View
 pub mod Cells
 pub mod Versions
 pub mod Text
-pub mod Replaying
 pub mod Moving
 pub mod Grammar
 pub mod Recordable
 pub mod Refused
+pub mod Telling
+pub mod TextRead
 pub mod inner

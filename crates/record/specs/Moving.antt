@@ -2,7 +2,7 @@
 use Rattle.std.specs.Prelude.{◌≡◌, ℕ, ◌<◌, List, Option, Bool, true, length, take}
 use Rattle.std.specs.Io.KnownBytes.{Appends}
 use Rattle.record.specs.Refused.{IsRefused}
-use Rattle.record.specs.Replaying.{IsTextRead}
+use Rattle.record.specs.TextRead.{IsTextRead}
 use Rattle.record.specs.Text.{text}
 use Rattle.record.specs.View.{RecordingView}
 use Rattle.record.specs.declared.due.Due.TheVariants.{Header}

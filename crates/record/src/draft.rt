@@ -7,7 +7,7 @@ ghost use Rattle.record.specs.Text.{told_words};
 ghost use Rattle.record.specs.inner.Drafts.{Kept, kept, recorded, HasRead, HasRoom, HasTakenEntry, HasTakenLine, IsReadTo, IsTaken};
 ghost use Rattle.record.specs.inner.Holding.{holds};
 ghost use Rattle.record.specs.inner.Reading.{IsFaultOfTold};
-ghost use Rattle.record.specs.inner.Telling.{HasRoomUpTo};
+ghost use Rattle.record.specs.Telling.{HasRoomUpTo};
 
 use crate::cells::most_cells;
 use crate::due::{Due, Form};

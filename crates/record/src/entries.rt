@@ -7,10 +7,10 @@ use both_tables::Tables;
 use std::alloc::Global;
 
 /// What takes the entries of a text, one after the other. It may keep less of them than the recording of which it tells.
-pub(crate) trait Entries: Drop {
+pub trait Entries: Drop {
     ghost use Rattle.std.specs.Prelude.{◌≡◌, ◌<◌, ◌+◌, ℕ, Option, Some, None, OnOk, length};
     ghost use Rattle.record.specs.View.{RecordingView, opened_of, with_owned};
-    ghost use Rattle.record.specs.inner.Telling.{HasRoomUpTo};
+    ghost use Rattle.record.specs.Telling.{HasRoomUpTo};
 
     // It tells of this recording, or of none yet.
     ghost tells: { Self → Option RecordingView → Type 0 };

@@ -1,6 +1,6 @@
 ghost use Rattle.std.specs.Prelude.{◌≡◌, ◌≢◌, IfOk, IfErr, OnOk, MatchOption, MatchResult, Some, None, true};
 ghost use Rattle.both_tables.specs.declared.cell_places.CellPlace.{CellPlace};
-ghost use Rattle.record.specs.Replaying.{IsTextRead};
+ghost use Rattle.record.specs.TextRead.{HasTold, IsTextRead};
 ghost use Rattle.record.specs.Versions.{HasTextIn};
 ghost use Rattle.record.specs.declared.version.Version.{Version};
 ghost use Rattle.base.specs.Spelling.{words};
@@ -47,8 +47,29 @@ impl Recording {
     }
 }
 
+/// Reads the text that a source gives, in whatever pieces it comes, and hands each entry to what takes them; that is answered.
+///
+/// It is refused as [`Recording::read`](crate::Recording::read) refuses. What takes the entries may keep less of them than a
+/// recording does.
+pub fn read_entries<S: Source, N: Entries>(
+    alloc: Global,
+    source: &mut S,
+    entries: N,
+) -> Result<N, ReadFault>
+    requires none { N.tells entries None }
+    requires space { N.has_room entries 0 }
+    ensures text { IfOk result (HasTold N.tells (S.left source.old) (S.left source.new)) }
+    ensures fault { IfErr result (λ fault. IsRefused (S.left source.old) (S.left source.new) 0 Header fault.line fault.kind) }
+    ensures device { IfErr result (λ fault. fault.kind ≡ ReadKind.Device → S.has_failed source.new ≡ true) }
+{
+    match read_text(alloc, source, entries) {
+        Ok(reader) => Ok(reader.entries()),
+        Err(fault) => Err(fault),
+    }
+}
+
 /// Reads the text that a source gives, whose entries these take.
-pub(crate) fn read_text<S: Source, N: Entries>(
+fn read_text<S: Source, N: Entries>(
     alloc: Global,
     source: &mut S,
     entries: N,

@@ -8,7 +8,8 @@ use base::{Ask, BlockId, CacheId, NoMemory, Step};
 use floor::{
     Chooser, Closed, CrewFault, Floor, Gate, Ground, Naming, Receipt, Seat, TurnFault, Wish, crew,
 };
-use record::{Recording, ReplayFault, Replayed, replay};
+use record::Recording;
+use replays::{ReplayFault, Replayed, replay};
 use std::alloc::Global;
 use std::marker::Brand;
 use std::process::Abort;

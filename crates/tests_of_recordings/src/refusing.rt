@@ -5,7 +5,8 @@ use crate::asserting::same;
 use crate::recordings::{read, replayed};
 use crate::text_replays::ANOTHER_VALUE;
 use base::{CacheId, Outcome};
-use record::{ReadFault, ReadKind, Recording, ReplayFault, TextFault, replay_text};
+use record::{ReadFault, ReadKind, Recording};
+use replays::{ReplayFault, TextFault, replay_text};
 use std::alloc::Global;
 use std::process::Abort;
 

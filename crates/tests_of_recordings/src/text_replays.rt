@@ -3,7 +3,8 @@ use crate::recordings::{FIRST_TEXT, ONE_LOAD_TEXT};
 use base::{BlockId, CacheId, Outcome, Place};
 use devices::Faltering;
 use monitor::Violation;
-use record::{ReadFault, ReadKind, ReplayFault, TextFault, TextReplayed, replay_text};
+use record::{ReadFault, ReadKind};
+use replays::{ReplayFault, TextFault, TextReplayed, replay_text};
 use std::alloc::Global;
 use std::process::Abort;
 

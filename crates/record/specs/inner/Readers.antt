@@ -10,7 +10,7 @@ use Rattle.record.specs.Refused.{ended, limit, HasNoEnd}
 use Rattle.record.specs.View.{RecordingView}
 use Rattle.record.specs.inner.Drafts.{Kept, recorded, lines_before, lines_left, HasRead, HasRoom}
 use Rattle.record.specs.Text.{text}
-use Rattle.record.specs.inner.Telling.{HasRoomUpTo}
+use Rattle.record.specs.Telling.{HasRoomUpTo}
 use Rattle.record.specs.inner.Reading.{BeginsWithEnd, stream}
 
 -- the lines of a source were taken one after the other, they are those of this recording, and its other bytes are still to come

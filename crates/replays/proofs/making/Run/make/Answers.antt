@@ -1,7 +1,7 @@
 use Rattle.std.proofs.Common.{rules}
 use Rattle.machine.proofs.Making.{next-told}
-use Rattle.record.proofs.Makings.{differs-more, made-more}
-use Rattle.record.proofs.making.Run.make.Goals as goal
+use Rattle.replays.proofs.Makings.{differs-more, made-more}
+use Rattle.replays.proofs.making.Run.make.Goals as goal
 
 pub returns-then-ne-clause-differs : goal.returns-then-ne-clause-differs
 returns-then-ne-clause-differs c r done rest is h all =

@@ -3,14 +3,14 @@ ghost use Rattle.machine.specs.Coherence.{Safe};
 ghost use Rattle.machine.specs.Restraint.{AreRestrained};
 ghost use Rattle.record.specs.View.{IsLegal, steps_of};
 ghost use Rattle.monitor.specs.Violations.{AnswersFirst};
-ghost use Rattle.record.specs.Replaying.{FaultOf};
-ghost use Rattle.record.specs.inner.Making.{HasMadeFirst};
-ghost use Rattle.record.specs.inner.SoFar.{IsSoFar};
+ghost use Rattle.replays.specs.Replaying.{FaultOf};
+ghost use Rattle.replays.specs.inner.Making.{HasMadeFirst};
+ghost use Rattle.replays.specs.inner.SoFar.{IsSoFar};
 
 use crate::making::Run;
-use crate::recording::{Entry, Recording};
 use base::Outcome;
 use monitor::{Violation, no_violation_under_restrained_tables, violations_are_what_isnt_safe};
+use record::{Entry, Recording};
 use std::alloc::Global;
 use thiserror::Error;
 

@@ -1,14 +1,13 @@
 //! The replay of a text, of which no entry is kept.
 
 ghost use Rattle.std.specs.Prelude.{◌≡◌, IfOk, IfErr, true};
-ghost use Rattle.record.specs.Replaying.{IsOfDevice, IsTextFault, IsTextReplayed};
+ghost use Rattle.replays.specs.Replaying.{IsOfDevice, IsTextFault, IsTextReplayed};
 
-use crate::fault::ReadFault;
 use crate::making::MadeEntries;
-use crate::reading::read_text;
 use crate::replaying::ReplayFault;
 use base::Source;
 use monitor::{Violation, no_violation_under_restrained_tables, violations_are_what_isnt_safe};
+use record::{ReadFault, read_entries};
 use std::alloc::Global;
 use thiserror::Error;
 
@@ -34,7 +33,7 @@ pub enum TextFault {
 
 /// Makes the steps of a recording while it reads the recording's text, in whatever pieces this comes, and keeps none of them.
 ///
-/// It answers what [`first_violation`](crate::first_violation) answers of what [`Recording::read`](crate::Recording::read)
+/// It answers what [`first_violation`](crate::first_violation) answers of what [`Recording::read`](record::Recording::read)
 /// reads. So it reads on behind an entry that differs, and is refused as a reader is where a fault follows. Want of memory
 /// to make a step is answered where the text has no fault.
 pub fn replay_text<S: Source>(alloc: Global, source: &mut S) -> Result<TextReplayed, TextFault>
@@ -44,11 +43,10 @@ pub fn replay_text<S: Source>(alloc: Global, source: &mut S) -> Result<TextRepla
 {
     violations_are_what_isnt_safe();
     no_violation_under_restrained_tables();
-    let reader = match read_text(alloc, source, MadeEntries::new(alloc)) {
-        Ok(reader) => reader,
+    let made = match read_entries(alloc, source, MadeEntries::new(alloc)) {
+        Ok(made) => made,
         Err(fault) => return Err(TextFault::Read(fault)),
     };
-    let made = reader.entries();
     let entries = made.count();
     match made.first_violation() {
         Ok(violation) => Ok(TextReplayed { entries, violation }),

@@ -3,13 +3,11 @@
 ghost use Rattle.std.specs.Prelude.{◌≡◌, Some};
 ghost use Rattle.std.specs.Option.{option_or, option_zip};
 
-use crate::entries::Entries;
-use crate::recording::Entry;
 use crate::replaying::ReplayFault;
-use crate::told::Told;
 use base::{NoMemory, Shape};
 use both_tables::Tables;
 use monitor::{Violation, Watch};
+use record::{Entries, Entry, Told};
 use std::alloc::Global;
 use world::World;
 
@@ -23,9 +21,9 @@ pub(crate) struct Run {
 
 impl Run {
     ghost use Rattle.std.specs.Prelude.{◌≡◌, ◌∷◌, ◌++◌, [], ℕ, List, IfOk, IfErr, OnOk, length};
-    ghost use Rattle.record.specs.Replaying.{FaultOf};
+    ghost use Rattle.replays.specs.Replaying.{FaultOf};
     ghost use Rattle.record.specs.View.{RecordingView, opened_of};
-    ghost use Rattle.record.specs.inner.Making.{HasMade, HasMadeFirst};
+    ghost use Rattle.replays.specs.inner.Making.{HasMade, HasMadeFirst};
 
     /// A replay of no step yet.
     pub(crate) fn open(
@@ -106,7 +104,7 @@ pub(crate) enum Stage {
 impl Stage {
     ghost use Rattle.std.specs.Prelude.{ℕ};
     ghost use Rattle.record.specs.View.{opened_of};
-    ghost use Rattle.record.specs.inner.Making.{HasCome};
+    ghost use Rattle.replays.specs.inner.Making.{HasCome};
 
     /// No entry was read yet.
     fn open(alloc: Global, shape: Shape, tables: Tables, opening: &[u64]) -> Stage
@@ -147,9 +145,9 @@ pub(crate) struct MadeEntries {
 impl MadeEntries {
     ghost use Rattle.std.specs.Prelude.{◌≡◌, Some, None, IfOk, IfErr, length};
     ghost use Rattle.monitor.specs.Violations.{AnswersFirst};
-    ghost use Rattle.record.specs.Replaying.{FaultOf};
+    ghost use Rattle.replays.specs.Replaying.{FaultOf};
     ghost use Rattle.record.specs.View.{RecordingView, IsLegal, steps_of};
-    ghost use Rattle.record.specs.inner.Making.{has_made};
+    ghost use Rattle.replays.specs.inner.Making.{has_made};
 
     /// No entries yet. It takes no memory.
     pub(crate) fn new(alloc: Global) -> MadeEntries
@@ -186,7 +184,7 @@ impl MadeEntries {
 }
 
 impl Entries for MadeEntries {
-    ghost use Rattle.record.specs.inner.Making.{has_made, needs_none};
+    ghost use Rattle.replays.specs.inner.Making.{has_made, needs_none};
 
     ghost tells = { has_made };
 

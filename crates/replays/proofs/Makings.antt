@@ -10,19 +10,19 @@ use Rattle.world.specs.View.{View, stepped}
 use Rattle.monitor.specs.declared.violation.Violation.{Violation}
 use Rattle.monitor.specs.Watching.{AnswersHistory, SeesNext}
 use Rattle.monitor.proofs.FirstViolations.{first_seen}
-use Rattle.record.specs.declared.making.Run.{Run}
-use Rattle.record.specs.declared.making.Stage.{Stage}
-use Rattle.record.specs.declared.making.Stage.TheVariants.{Closed, Same, Refused}
+use Rattle.replays.specs.declared.making.Run.{Run}
+use Rattle.replays.specs.declared.making.Stage.{Stage}
+use Rattle.replays.specs.declared.making.Stage.TheVariants.{Closed, Same, Refused}
 use Rattle.record.specs.declared.recording.Entry.{Entry}
-use Rattle.record.specs.declared.replaying.ReplayFault.{ReplayFault}
-use Rattle.record.specs.declared.replaying.ReplayFault.TheVariants.{Differs, NoMemory}
+use Rattle.replays.specs.declared.replaying.ReplayFault.{ReplayFault}
+use Rattle.replays.specs.declared.replaying.ReplayFault.TheVariants.{Differs, NoMemory}
 use Rattle.base.specs.Extent.{Extent}
 use Rattle.both_tables.specs.Tables.{Tables}
 use Rattle.record.specs.View.{RecordingView, found_by, opened_of, steps_of, told_by, with_owned}
-use Rattle.record.specs.Replaying.{FaultOf, IsFirstToDiffer}
-use Rattle.record.specs.inner.Making.{HasCome, HasMadeFirst}
-use Rattle.record.specs.inner.SoFar.{IsSoFar}
-use Rattle.record.proofs.Replays.{differs-here, outcomes-push, push-so-far}
+use Rattle.replays.specs.Replaying.{FaultOf, IsFirstToDiffer}
+use Rattle.replays.specs.inner.Making.{HasCome, HasMadeFirst}
+use Rattle.replays.specs.inner.SoFar.{IsSoFar}
+use Rattle.replays.proofs.Replays.{differs-here, outcomes-push, push-so-far}
 
 -- with an entry more to come, those so far are made
 pub to-come : (r : RecordingView) (e : Entry) (owner : Option ℕ) (done : List Entry) (run : Run) → HasMadeFirst r done run →

@@ -14,10 +14,10 @@ use Rattle.machine.specs.Completions.{completions_of}
 use Rattle.monitor.specs.Watching.{HasSeen, LeadTo, AnswersHistory, SeesNext, AreDue, made_after, scene_after}
 use Rattle.record.specs.declared.recording.Entry.{Entry}
 use Rattle.record.specs.View.{RecordingView, steps_of}
-use Rattle.record.specs.Replaying.{IsFirstToDiffer}
+use Rattle.replays.specs.Replaying.{IsFirstToDiffer}
 use Rattle.monitor.specs.Violations.{AnswersFirst}
 use Rattle.monitor.proofs.FirstViolations.{first_seen, first-push}
-use Rattle.record.specs.inner.SoFar.{IsSoFar, steps_in}
+use Rattle.replays.specs.inner.SoFar.{IsSoFar, steps_in}
 
 outcome-at : (tables : Tables) (s : State) (steps : List Step) (k : ℕ) (step : Step) → slice_get steps k ≡ Some step →
     slice_get (outcomes_of tables s steps) k ≡ Some (next tables (state_after tables s (take k steps)) step).outcome

@@ -1,23 +1,20 @@
 -- What a replay finds: the first entry that differs.
 use Rattle.std.specs.Prelude.{◌≡◌, ◌≢◌, ◌↔◌, ℕ, List, Option, Some, None, length, slice_get, take}
 use Rattle.base.specs.declared.step.Outcome.{Outcome}
-use Rattle.std.specs.Io.KnownBytes.{Consumes}
-use Rattle.record.specs.declared.version.Version.{Version}
-use Rattle.record.specs.Text.{text}
-use Rattle.record.specs.Versions.{HasTextIn}
 use Rattle.record.specs.View.{RecordingView, told_by, found_by, steps_of, IsLegal}
 use Rattle.machine.specs.Coherence.{Safe}
 use Rattle.machine.specs.Restraint.{AreRestrained}
 use Rattle.monitor.specs.Violations.{AnswersFirst}
 use Rattle.record.specs.Recordable.{IsRecordable}
+use Rattle.record.specs.TextRead.{IsTextRead}
 use Rattle.record.specs.Refused.{IsRefused}
 use Rattle.record.specs.declared.due.Due.TheVariants.{Header}
 use Rattle.record.specs.declared.fault.ReadKind.TheVariants.{Device}
-use Rattle.record.specs.declared.replaying.ReplayFault.{ReplayFault}
-use Rattle.record.specs.declared.replaying.ReplayFault.TheVariants.{Differs, NoMemory}
-use Rattle.record.specs.declared.text_replaying.TextFault.{TextFault}
-use Rattle.record.specs.declared.text_replaying.TextFault.TheVariants.{Read, Replay}
-use Rattle.record.specs.declared.text_replaying.TextReplayed.{TextReplayed}
+use Rattle.replays.specs.declared.replaying.ReplayFault.{ReplayFault}
+use Rattle.replays.specs.declared.replaying.ReplayFault.TheVariants.{Differs, NoMemory}
+use Rattle.replays.specs.declared.text_replaying.TextFault.{TextFault}
+use Rattle.replays.specs.declared.text_replaying.TextFault.TheVariants.{Read, Replay}
+use Rattle.replays.specs.declared.text_replaying.TextReplayed.{TextReplayed}
 
 -- this entry is the first whose outcome isn't that of its step: another one is told than is found, and those before it are as told
 pub record IsFirstToDiffer (r : RecordingView) (entry : ℕ) (told found : Outcome) : Type 0 where
@@ -25,12 +22,6 @@ pub record IsFirstToDiffer (r : RecordingView) (entry : ℕ) (told found : Outco
   pub is_found : slice_get (found_by r) entry ≡ Some found
   pub differs : told ≢ found
   pub first : take entry (told_by r) ≡ take entry (found_by r)
-
--- what a source had, up to what it has left, was a text of this recording, in either version
-pub record IsTextRead (before after : Option (List ℕ)) (r : RecordingView) : Type 0 where
-  pub version : Version
-  pub told : HasTextIn version r
-  pub read : Consumes before after (text version r)
 
 -- a replay is refused so: the first entry that differs, or want of memory
 abbrev pub FaultOf : RecordingView → ReplayFault → Type 0

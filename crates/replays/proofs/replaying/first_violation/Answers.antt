@@ -5,10 +5,10 @@ use Rattle.monitor.specs.declared.violation.Violation.{Violation}
 use Rattle.monitor.specs.Violations.{AnswersFirst}
 use Rattle.world.specs.View.{View}
 use Rattle.record.specs.View.{RecordingView, steps_of}
-use Rattle.record.specs.declared.replaying.ReplayFault.{ReplayFault}
-use Rattle.record.specs.inner.SoFar.{IsSoFar}
-use Rattle.record.proofs.Makings.{none-made}
-use Rattle.record.proofs.replaying.first_violation.Goals as goal
+use Rattle.replays.specs.declared.replaying.ReplayFault.{ReplayFault}
+use Rattle.replays.specs.inner.SoFar.{IsSoFar}
+use Rattle.replays.proofs.Makings.{none-made}
+use Rattle.replays.proofs.replaying.first_violation.Goals as goal
 
 pub make_all-requires : goal.make_all-requires
 make_all-requires c =

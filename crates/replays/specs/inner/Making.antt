@@ -1,13 +1,13 @@
 -- How far the entries of a text have been made. Only private clauses cite this file.
 use Rattle.std.specs.Prelude.{◌≡◌, ℕ, List, Option, Some, None, length}
-use Rattle.record.specs.Replaying.{FaultOf}
+use Rattle.replays.specs.Replaying.{FaultOf}
 use Rattle.record.specs.View.{RecordingView}
-use Rattle.record.specs.declared.making.MadeEntries.{MadeEntries}
-use Rattle.record.specs.declared.making.Run.{Run}
-use Rattle.record.specs.declared.making.Stage.{Stage}
+use Rattle.replays.specs.declared.making.MadeEntries.{MadeEntries}
+use Rattle.replays.specs.declared.making.Run.{Run}
+use Rattle.replays.specs.declared.making.Stage.{Stage}
 use Rattle.record.specs.declared.recording.Entry.{Entry}
-use Rattle.record.specs.declared.making.Stage.TheVariants.{Closed, Same, Refused}
-use Rattle.record.specs.inner.SoFar.{IsSoFar}
+use Rattle.replays.specs.declared.making.Stage.TheVariants.{Closed, Same, Refused}
+use Rattle.replays.specs.inner.SoFar.{IsSoFar}
 
 -- the first entries of a recording have been made as they are told
 abbrev pub HasMadeFirst : RecordingView → List Entry → Run → Type 0

@@ -1,9 +1,9 @@
 use Rattle.std.proofs.Common.{sym, [], refl, subst, ◌∙◌, arith}
 use Rattle.std.proofs.lemmas.List.{length_push}
-use Rattle.record.specs.inner.Making.{HasCome, HasMade}
+use Rattle.replays.specs.inner.Making.{HasCome, HasMade}
 use Rattle.record.specs.View.{with_owned}
-use Rattle.record.proofs.Makings.{stays-refused, to-come}
-use Rattle.record.proofs.making.MadeEntriesEntries.add.Goals as goal
+use Rattle.replays.proofs.Makings.{stays-refused, to-come}
+use Rattle.replays.proofs.making.MadeEntriesEntries.add.Goals as goal
 
 pub returns-in_default : goal.returns-in_default
 returns-in_default c = record {

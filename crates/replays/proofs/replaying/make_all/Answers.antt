@@ -2,7 +2,7 @@ use Rattle.std.proofs.Common.{◌++◌, ◌+◌, ◌∙◌, List, ap, arith, dro
 use Rattle.std.proofs.lemmas.List.{drop_more, length-take-le}
 use Rattle.record.specs.declared.recording.Entry.{Entry}
 use Rattle.record.proofs.Exits.{handed-on}
-use Rattle.record.proofs.replaying.make_all.Goals as goal
+use Rattle.replays.proofs.replaying.make_all.Goals as goal
 
 pub returns-in_err-make-clause-differs : goal.returns-in_err-make-clause-differs
 returns-in_err-make-clause-differs c =

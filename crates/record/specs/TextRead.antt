@@ -1,0 +1,21 @@
+-- What has been read of a source that had the text of a recording.
+use Rattle.std.specs.Prelude.{ℕ, List, Option, Some}
+use Rattle.std.specs.Io.KnownBytes.{Consumes}
+use Rattle.record.specs.Recordable.{IsRecordable}
+use Rattle.record.specs.Text.{text}
+use Rattle.record.specs.Versions.{HasTextIn}
+use Rattle.record.specs.View.{RecordingView}
+use Rattle.record.specs.declared.version.Version.{Version}
+
+-- what a source had, up to what it has left, was a text of this recording, in either version
+pub record IsTextRead (before after : Option (List ℕ)) (r : RecordingView) : Type 0 where
+  pub version : Version
+  pub told : HasTextIn version r
+  pub read : Consumes before after (text version r)
+
+-- what a source had was a text of a recording, and what has taken the entries tells of it
+pub record HasTold {N : Type 0} (tells : N → Option RecordingView → Type 0) (before after : Option (List ℕ)) (entries : N) : Type 0 where
+  pub recording : RecordingView
+  pub recordable : IsRecordable recording
+  pub read : IsTextRead before after recording
+  pub told : tells entries (Some recording)
