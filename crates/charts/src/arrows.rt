@@ -1,9 +1,7 @@
-use crate::captions::{ArrowText, EndText, length};
-use crate::layout::{LETTER, Layout};
 use crate::marks::Layer;
-use crate::picture::{Arrow, Picture};
-use crate::svg::{Anchor, Pen, Point};
+use crate::svg::{Anchor, Pen};
 use network::Message;
+use pictures::{Arrow, ArrowText, EndText, LETTER, Layout, Picture, Point, length};
 
 /// How far above a row's middle messages come in, and how far below it they go out.
 const BESIDE: i64 = 5;

@@ -1,24 +1,18 @@
 use crate::arrows::draw_arrows;
-use crate::captions::TitleText;
-use crate::fault::ChartFault;
-use crate::layout::Layout;
 use crate::marks::{Layer, draw_guides, draw_rows, draw_standings};
-use crate::picture::{Moment, Picture};
 use crate::style::STYLE;
 use crate::surroundings::{draw_bands, draw_findings, draw_legend, draw_lifelines, draw_plates};
-use crate::svg::{Pen, Point};
+use crate::svg::Pen;
 use base::Shape;
+use pictures::{ChartFault, Layout, Moment, Picture, Point, TitleText};
 use record::Recording;
 use std::alloc::Global;
 use std::io::Write;
 use story::{Part, Sheet, Shown};
 
-/// The most steps that one picture has.
-pub const MOST_ROWS: u64 = 2000;
-
 /// Makes the steps of a recording again, and draws a part of them as a message sequence chart, in SVG.
 ///
-/// It is refused `TooManySteps` where the part has more than [`MOST_ROWS`] steps; nothing is written then.
+/// It is refused `TooManySteps` where the part has more than [`pictures::MOST_ROWS`] steps; nothing is written then.
 pub fn chart<W: Write>(
     alloc: Global,
     recording: &Recording,

@@ -1,12 +1,11 @@
 use crate::arrows::Heading;
-use crate::captions::{
-    AskedText, BlockText, BoxText, MarkText, MomentText, StepText, ask_of, length,
-};
-use crate::layout::{LETTER, Layout, changed, half_box};
-use crate::picture::{Moment, Picture, Standing};
-use crate::svg::{Anchor, Pen, Point};
+use crate::svg::{Anchor, Pen};
 use base::{BlockId, Outcome, Place};
 use monitor::Violation;
+use pictures::{
+    AskedText, BlockText, BoxText, LETTER, Layout, MarkText, Moment, MomentText, Picture, Point,
+    Standing, StepText, ask_of, changed, half_box, length,
+};
 use story::{Happening, Sight};
 
 /// Half of how high a box is.

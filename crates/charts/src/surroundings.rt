@@ -1,7 +1,7 @@
-use crate::captions::{LaneText, ToldText, ViolationText, length};
-use crate::layout::{BAND, LEGEND, LETTER, Layout};
-use crate::picture::Picture;
-use crate::svg::{Anchor, Pen, Point};
+use crate::svg::{Anchor, Pen};
+use pictures::{
+    BAND, LEGEND, LETTER, LaneText, Layout, Picture, Point, ToldText, ViolationText, length,
+};
 
 /// How far below the middle of a row the first band behind it begins.
 const BEHIND: i64 = 14;

@@ -1,23 +1,7 @@
+use pictures::Point;
 use std::alloc::Global;
 use std::fmt;
 use story::Sheet;
-
-/// A place in a picture, in pixels from its upper left corner.
-#[derive(Clone, Copy)]
-pub struct Point {
-    pub x: i64,
-    pub y: i64,
-}
-
-impl Point {
-    /// So far to the right and down of it.
-    pub fn moved(self, right: i64, down: i64) -> Point {
-        Point {
-            x: self.x.saturating_add(right),
-            y: self.y.saturating_add(down),
-        }
-    }
-}
 
 /// To which side of its place a text goes.
 #[derive(Clone, Copy)]

@@ -1,5 +1,5 @@
 use crate::explanation::Explanation;
-use crate::json::line_of;
+use crate::lines::line_of;
 use crate::quoting::Quoted;
 use crate::recorded::{tell_cell, tell_entry, tell_opening, tell_protocol};
 use crate::steps::tell_return;

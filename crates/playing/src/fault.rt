@@ -1,6 +1,6 @@
 use base::{NoMemory, ShapeFault};
 use both_tables::TablesFault;
-use charts::{ChartFault, MOST_ROWS};
+use pictures::{ChartFault, MOST_ROWS};
 use record::{MOST_ENTRIES, MoveFault, PushFault, ReadFault, ReadKind, WriteFault};
 use scenario::ScenarioFault;
 use std::alloc::{AllocError, AllocFailed};

@@ -3,7 +3,7 @@
 use base::Shape;
 use base::controller::Protocol;
 use both_tables::Tables;
-use explaining::{explain_scenario, explain_tables};
+use explaining_json::{explain_scenario, explain_tables};
 use scenario::Scenario;
 use std::alloc::Global;
 use std::process::Abort;

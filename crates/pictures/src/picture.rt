@@ -1,4 +1,3 @@
-use crate::charting::MOST_ROWS;
 use crate::fault::ChartFault;
 use base::{BlockId, CacheId, NoMemory, Place, Shape};
 use cache_table::CacheState;
@@ -6,6 +5,9 @@ use monitor::Violation;
 use record::{Entry, Recording};
 use std::alloc::Global;
 use story::{Happening, List, Part, Shown, Sight, Story, Trip, look, seat_at};
+
+/// The most steps that one picture has.
+pub const MOST_ROWS: u64 = 2000;
 
 /// What is drawn of a part of a recording.
 pub struct Picture {
@@ -39,7 +41,9 @@ impl Drop for Picture {
 /// A message, with the number of the step that served it, if one did.
 #[derive(Clone, Copy)]
 pub struct Arrow {
+    /// The message, from where to where it goes, and the step that has sent it.
     pub trip: Trip,
+    /// The number of the step that served it.
     pub served: Option<u64>,
 }
 
@@ -53,14 +57,18 @@ impl Arrow {
 /// A controller at a moment.
 #[derive(Clone, Copy)]
 pub struct Standing {
+    /// The block that it is of.
     pub block: BlockId,
+    /// What it is.
     pub sight: Sight,
 }
 
 /// A moment at which a picture tells what the controllers are.
 #[derive(Clone, Copy)]
 pub enum Moment {
+    /// Before the first step of the part.
     Start,
+    /// Behind the last one.
     End,
 }
 
@@ -146,6 +154,7 @@ impl Picture {
         self.rows.so_far()
     }
 
+    /// The messages that are on their way in it.
     pub fn arrows(&self) -> &[Arrow] {
         self.arrows.so_far()
     }

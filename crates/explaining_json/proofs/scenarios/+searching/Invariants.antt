@@ -1,5 +1,5 @@
 use Rattle.std.proofs.Common.{◌+◌, ◌*◌}
-use Rattle.explaining.proofs.scenarios.+searching.Given as goal
+use Rattle.explaining_json.proofs.scenarios.+searching.Given as goal
 
 abbrev pub decreases-tell_node : goal.decreases-tell_node
 decreases-tell_node a = 2 * a.levels

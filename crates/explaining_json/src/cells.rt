@@ -1,12 +1,10 @@
 //! The cells of one side.
 
-use crate::explanation::Explanation;
 use crate::json::{items_at, text_at};
 use crate::keys::{tell_keys, tell_kind};
-use crate::nearest::{tell_names, tell_words};
 use crate::places::Place;
-use crate::quoting::Quoted;
 use base::controller::{Listed, MOST_ACTIONS, Protocol, Side, named, named_of};
+use explaining::{Explanation, Quoted, tell_names, tell_words};
 use serde_json::Value;
 
 /// A cell as it is looked at: which of its side it is, counted from 0, and under which protocol.

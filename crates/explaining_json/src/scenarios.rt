@@ -1,8 +1,8 @@
-use crate::explanation::Explanation;
 use crate::json::{items_at, tell_not_json};
 use crate::places::{Key, MOST_TURNS, Path, Place};
 use crate::trees::{has_many, longest, tell_form, tell_shape};
 use base::Shape;
+use explaining::Explanation;
 use serde_json::Value;
 use std::alloc::Global;
 

@@ -3,7 +3,7 @@ use crate::captions::{
 };
 use crate::lanes::{Lane, Lanes};
 use crate::picture::{Moment, Picture};
-use crate::svg::Point;
+use crate::point::Point;
 use base::{NoMemory, Shape};
 use std::alloc::Global;
 use story::{Happening, List, Sight};
@@ -29,6 +29,7 @@ const DOT: i64 = 5;
 
 /// Where the parts of a picture stand.
 pub struct Layout {
+    /// The lifelines.
     pub lanes: Lanes,
     /// The first lifeline.
     first: i64,
@@ -45,7 +46,9 @@ pub struct Layout {
     ends: i64,
     /// The height of the first message that isn't served in the picture.
     tail: i64,
+    /// The height of the legend's first line.
     pub legend: i64,
+    /// How wide and how high the whole is.
     pub size: Point,
 }
 
@@ -80,6 +83,7 @@ struct Longest {
 }
 
 impl Layout {
+    /// Where the parts of a picture stand, of a recording of this shape.
     pub fn of(alloc: Global, picture: &Picture, shape: Shape) -> Result<Layout, NoMemory> {
         let lanes = Lanes::of(alloc, picture, shape)?;
         let longest = Longest::of(picture);

@@ -1,11 +1,11 @@
 use crate::cells::tell_cells;
-use crate::explanation::Explanation;
 use crate::json::{items_at, tell_not_json};
 use crate::keys::{tell_keys, tell_kind};
 use crate::places::Place;
 use base::controller::{Protocol, Side};
 use cache_table::{CacheAction, CacheEvent, CacheState};
 use directory_table::{DirectoryAction, DirectoryEvent, DirectoryState};
+use explaining::Explanation;
 use serde_json::Value;
 use std::alloc::Global;
 

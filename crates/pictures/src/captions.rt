@@ -15,6 +15,7 @@ use story::{
 pub struct BlockText(Option<BlockId>);
 
 impl BlockText {
+    /// The text for a block of a picture.
     pub fn of(picture: &Picture, block: BlockId) -> BlockText {
         if picture.has_blocks() {
             BlockText(Some(block))
@@ -68,6 +69,7 @@ pub struct ArrowText {
 }
 
 impl ArrowText {
+    /// The name on an arrow of a picture.
     pub fn of(picture: &Picture, arrow: &Arrow) -> ArrowText {
         let end = arrow.row_in(picture).unwrap_or(picture.rows().len());
         let is_far = match picture.row_of(arrow.trip.sent) {
@@ -109,11 +111,12 @@ impl fmt::Display for EndText {
 /// What stands in a controller's box: its state.
 #[derive(Clone, Copy)]
 pub struct BoxText {
-    pub sight: Sight,
-    pub block: BlockText,
+    pub(crate) sight: Sight,
+    pub(crate) block: BlockText,
 }
 
 impl BoxText {
+    /// The text for a controller of a block in a picture.
     pub fn of(picture: &Picture, sight: Sight, block: BlockId) -> BoxText {
         BoxText {
             sight,
@@ -134,7 +137,9 @@ impl fmt::Display for BoxText {
 /// What a core asks.
 #[derive(Clone, Copy)]
 pub struct AskedText {
+    /// The ask.
     pub ask: Ask,
+    /// The block that it is about.
     pub block: BlockText,
 }
 
@@ -147,7 +152,9 @@ impl fmt::Display for AskedText {
 /// What stands beside a controller: the load or store that completed, or why nothing was done.
 #[derive(Clone, Copy)]
 pub struct MarkText {
+    /// What the step came to.
     pub outcome: Outcome,
+    /// The block that it is about.
     pub block: BlockText,
 }
 
@@ -216,6 +223,7 @@ pub struct LaneText {
 }
 
 impl LaneText {
+    /// The name of a lifeline of a picture.
     pub fn of(picture: &Picture, lane: Lane) -> LaneText {
         LaneText {
             lane,
@@ -237,7 +245,9 @@ impl fmt::Display for LaneText {
 /// What stands before the controllers at the start, and at the end.
 #[derive(Clone, Copy)]
 pub struct MomentText {
+    /// Which of the two it is.
     pub moment: Moment,
+    /// The block whose controllers they are.
     pub block: BlockText,
 }
 
@@ -273,6 +283,7 @@ impl fmt::Display for ViolationText {
 /// What a picture is about.
 #[derive(Clone, Copy)]
 pub struct TitleText {
+    /// How many steps it has.
     pub steps: usize,
 }
 

@@ -1,10 +1,8 @@
 //! The keys of objects.
 
-use crate::explanation::Explanation;
 use crate::json::kind_of;
-use crate::nearest::tell_words;
 use crate::places::Place;
-use crate::quoting::Quoted;
+use explaining::{Explanation, Quoted, tell_words};
 use serde_json::{Map, Value};
 
 /// How many keys that are too many are told at most.

@@ -1,5 +1,5 @@
 use Rattle.std.proofs.Common.{◌+◌, ◌*◌}
-use Rattle.explaining.proofs.trees.+measuring.Given as goal
+use Rattle.explaining_json.proofs.trees.+measuring.Given as goal
 
 abbrev pub decreases-longest : goal.decreases-longest
 decreases-longest a = 2 * a.levels

@@ -1,12 +1,10 @@
 //! The nodes of a scenario, one by one, and how long its words are.
 
-use crate::explanation::Explanation;
 use crate::json::{items_at, kind_of, text_at};
 use crate::keys::{tell_keys, tell_kind};
-use crate::nearest::tell_words;
 use crate::places::{MOST_TURNS, Path, Place};
-use crate::quoting::Quoted;
 use base::Shape;
+use explaining::{Explanation, Quoted, tell_words};
 use serde_json::Value;
 
 /// How many asks a word has at most.

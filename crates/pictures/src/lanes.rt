@@ -6,7 +6,9 @@ use story::{List, Trip};
 /// A controller that has a lifeline: a cache, or the home of a block.
 #[derive(Clone, Copy)]
 pub enum Lane {
+    /// A cache, at all blocks.
     Cache(CacheId),
+    /// The home of a block.
     Home(BlockId),
 }
 
@@ -21,7 +23,8 @@ pub struct Lanes {
 }
 
 impl Lanes {
-    pub fn of(alloc: Global, picture: &Picture, shape: Shape) -> Result<Lanes, NoMemory> {
+    /// The lifelines of the controllers that take part in a picture.
+    pub(crate) fn of(alloc: Global, picture: &Picture, shape: Shape) -> Result<Lanes, NoMemory> {
         let mut lanes = Lanes {
             order: List::new(alloc),
             caches: vec![in alloc; None; shape.caches() as usize]?,
@@ -44,6 +47,7 @@ impl Lanes {
         Ok(lanes)
     }
 
+    /// The controllers, from left to right.
     pub fn order(&self) -> &[Lane] {
         self.order.so_far()
     }
