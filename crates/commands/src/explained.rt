@@ -1,10 +1,10 @@
 use crate::files::{Files, LoadFault};
 use crate::tasks::{bounds, number, protocol, shape};
 use clap::ArgMatches;
+use console::{Fault, MOST_BYTES};
 use explaining::{
     Explanation, Quoted, explain_ask, explain_recording, explain_scenario, explain_tables, line_of,
 };
-use playing::{Fault, MOST_BYTES};
 use std::alloc::Global;
 use std::io;
 

@@ -4,13 +4,12 @@ use crate::files::Files;
 use crate::kept::{Kept, Noted};
 use crate::tasks::Task;
 use crate::usage;
+use checking::{check, print_certificate, print_tables};
 use clap::error::ErrorKind;
 use clap::{ArgMatches, Error};
+use console::{Fault, Finding};
 use modelling::print_model;
-use playing::{
-    Fault, Finding, check, move_recording, play, play_recording, print_certificate,
-    print_recording, print_tables, replay,
-};
+use playing::{move_recording, play, play_recording, print_recording, replay};
 use std::alloc::Global;
 use std::io;
 use std::io::{Read, Write};
