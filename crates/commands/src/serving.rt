@@ -10,12 +10,13 @@ use clap::{ArgMatches, Error};
 use console::{Fault, Finding};
 use modelling::print_model;
 use playing::{move_recording, play, play_recording, print_recording, replay};
+use racing::race;
 use std::alloc::Global;
 use std::io;
 use std::io::{Read, Write};
 use std::sync::Wait;
 use std::thread::Threads;
-use trying::{batch, one_trial, race};
+use trying::{batch, one_trial};
 
 /// Serves the words of a command line over these files and streams, and answers the exit status. It may wait where threads
 /// race at a floor. The status is

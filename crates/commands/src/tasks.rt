@@ -6,11 +6,12 @@ use checking::Bounds;
 use clap::ArgMatches;
 use console::{Fault, Format};
 use playing::Form;
+use racing::RacePlan;
 use record::MOST_ENTRIES;
 use std::alloc::Global;
 use story::{Layout, Part};
 use trials::Setup;
-use trying::{BatchPlan, RacePlan, Until};
+use trying::{BatchPlan, Until};
 
 /// What a command line asks for, with all that its options and their files say.
 #[derive(Drop)]
