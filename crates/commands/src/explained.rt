@@ -1,9 +1,9 @@
 use crate::files::{Files, LoadFault};
 use crate::tasks::{bounds, number, protocol, shape};
 use clap::ArgMatches;
+use console::{Fault, MOST_BYTES};
 use explaining::{Explanation, Quoted, explain_ask, explain_recording, line_of};
 use explaining_json::{explain_scenario, explain_tables};
-use playing::{Fault, MOST_BYTES};
 use std::alloc::Global;
 use std::io;
 

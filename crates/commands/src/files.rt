@@ -1,4 +1,4 @@
-use playing::Fault;
+use console::Fault;
 use std::io;
 use thiserror::Error;
 

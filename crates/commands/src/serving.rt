@@ -1,22 +1,21 @@
-use crate::again::TrialWords;
 use crate::explained::{Streams, explanation};
 use crate::files::Files;
 use crate::kept::{Kept, Noted};
 use crate::tasks::Task;
-use crate::usage;
+use checking::{check, print_certificate, print_tables};
 use clap::error::ErrorKind;
 use clap::{ArgMatches, Error};
+use console::{Fault, Finding};
 use modelling::print_model;
-use playing::{
-    Fault, Finding, check, move_recording, play, play_recording, print_certificate,
-    print_recording, print_tables, replay,
-};
+use playing::{move_recording, play, play_recording, print_recording, replay};
+use racing::race;
 use std::alloc::Global;
 use std::io;
 use std::io::{Read, Write};
 use std::sync::Wait;
 use std::thread::Threads;
-use trying::{batch, one_trial, race};
+use trying::{batch, one_trial};
+use usage::TrialWords;
 
 /// Serves the words of a command line over these files and streams, and answers the exit status. It may wait where threads
 /// race at a floor. The status is

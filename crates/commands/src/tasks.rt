@@ -2,13 +2,16 @@ use crate::files::Files;
 use base::controller::Protocol;
 use base::{BlockId, Shape};
 use both_tables::Tables;
+use checking::Bounds;
 use clap::ArgMatches;
-use playing::{Bounds, Fault, Form, Format, Layout};
+use console::{Fault, Format};
+use playing::Form;
+use racing::RacePlan;
 use record::MOST_ENTRIES;
 use std::alloc::Global;
-use story::Part;
+use story::{Layout, Part};
 use trials::Setup;
-use trying::{BatchPlan, RacePlan, Until};
+use trying::{BatchPlan, Until};
 
 /// What a command line asks for, with all that its options and their files say.
 #[derive(Drop)]

@@ -3,11 +3,11 @@
 use crate::names::Plain;
 use base::controller::{Entry, Listed, Side};
 use cache_table::{CacheAction, CacheChange, CacheEntry, CacheEvent, CacheState, CacheTable};
+use console::Printer;
 use directory_table::{
     DirectoryAction, DirectoryChange, DirectoryEntry, DirectoryEvent, DirectoryState,
     DirectoryTable,
 };
-use playing::Printer;
 use std::io::Write;
 
 /// Prints at which cells of the caches an event waits, and what the others do.

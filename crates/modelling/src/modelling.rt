@@ -6,8 +6,8 @@ use crate::texts::{
 use base::controller::{Listed, Protocol};
 use both_tables::Tables;
 use cache_table::CacheState;
+use console::{Fault, Finding, Printer};
 use control::{may_read, may_write};
-use playing::{Fault, Finding, Printer};
 use std::alloc::Global;
 use std::io::Write;
 

@@ -1,7 +1,7 @@
 use base::controller::{Listed, Protocol};
 use cache_table::{CacheEvent, CacheState};
+use console::Printer;
 use directory_table::{DirectoryEvent, DirectoryState};
-use playing::Printer;
 use std::fmt;
 use std::io::Write;
 

@@ -3,9 +3,9 @@
 use crate::noting::note;
 use base::{NoMemory, Step};
 use cores::Cores;
+use lanes::Lanes;
 use machine::Made;
 use scenario::Scenario;
-use lanes::Lanes;
 use std::alloc::{Allocator, Global};
 use std::marker::Model;
 use world::World;

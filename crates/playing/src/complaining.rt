@@ -1,6 +1,4 @@
-use crate::fault::Fault;
-use crate::finding::Finding;
-use crate::lines::{Lines, MOST_BYTES};
+use console::{Fault, Finding, Lines, MOST_BYTES};
 use explaining::explain_step;
 use std::alloc::Global;
 use std::io::{Read, Write};

@@ -1,7 +1,5 @@
-use crate::fault::Fault;
-use crate::finding::Finding;
-use crate::printing::Printer;
 use base::{FromRead, ToWrite};
+use console::{Fault, Finding, Printer};
 use record::move_text;
 use std::alloc::Global;
 use std::io::{Read, Write};

@@ -1,8 +1,6 @@
-use crate::fault::Fault;
-use crate::finding::Finding;
-use crate::printing::Printer;
 use base::FromRead;
 use charts::chart;
+use console::{Fault, Finding, Printer};
 use record::Recording;
 use std::alloc::Global;
 use std::io::{Read, Write};

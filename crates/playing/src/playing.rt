@@ -2,13 +2,10 @@ ghost use Rattle.std.specs.Prelude.{◌≡◌, ◌∷◌, ◌++◌, []};
 ghost use Rattle.base.specs.Spelling.{joined, outcome_words};
 
 use crate::complaining::Complaints;
-use crate::fault::Fault;
-use crate::finding::Finding;
-use crate::lines::{Lines, MOST_BYTES};
-use crate::printing::Printer;
 use base::text::Text;
 use base::{NoMemory, Outcome, Shape, Step};
 use both_tables::Tables;
+use console::{Fault, Finding, Lines, MOST_BYTES, Printer};
 use monitor::Watch;
 use std::alloc::Global;
 use std::io;

@@ -1,12 +1,9 @@
 ghost use Rattle.std.specs.Prelude.{◌≡◌};
 
-use crate::fault::Fault;
-use crate::finding::{Finding, Found};
-use crate::lines::Lines;
 use crate::playing::{open, step_of};
-use crate::printing::Printer;
-use base::{Shape, Step, ToWrite};
+use base::{Shape, Step};
 use both_tables::Tables;
+use console::{Fault, Finding, Found, Lines, print_whole};
 use monitor::{Violation, Watch};
 use record::{Entry, Recording};
 use std::alloc::Global;
@@ -49,22 +46,6 @@ fn play_and_print<I: Read + Drop, O: Write + Drop, E: Write>(
     // What is told beside the recording doesn't undo it where nobody takes it.
     let _ = writeln!(errors, "{found}");
     Ok(found.finding())
-}
-
-/// Prints a recording.
-pub fn print_whole<O: Write + Drop>(
-    alloc: Global,
-    recording: &Recording,
-    output: O,
-) -> Result<(), Fault> {
-    let mut printer = Printer::new(alloc, output)?;
-    match recording.write(&mut ToWrite::new(printer.output())) {
-        Ok(()) => match printer.finish(Ok(Finding::Nothing)) {
-            Ok(_) => Ok(()),
-            Err(fault) => Err(fault),
-        },
-        Err(fault) => Err(Fault::from(fault)),
-    }
 }
 
 /// Adds the steps of the input to a recording, up to the first violation, and answers that.

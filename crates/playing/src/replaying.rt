@@ -1,8 +1,5 @@
-use crate::fault::Fault;
-use crate::finding::Finding;
-use crate::format::Format;
-use crate::printing::Printer;
 use base::FromRead;
+use console::{Fault, Finding, Format, Printer};
 use replays::{ReplayFault, TextFault, TextReplayed, replay_text};
 use std::alloc::Global;
 use std::io::{Read, Write};

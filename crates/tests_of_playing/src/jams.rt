@@ -5,8 +5,9 @@ use base::controller::Protocol;
 use both_tables::{CELLS, CellPlace, Tables};
 use cache_table::CacheEntry;
 use certify::{Certificate, certify};
+use checking::print_certificate;
+use console::Format;
 use directory_table::DirectoryEntry;
-use playing::{Format, print_certificate};
 use std::alloc::Global;
 use std::process::Abort;
 

@@ -2,7 +2,7 @@
 
 use crate::asserting::holds;
 use crate::plain_lines;
-use playing::Lines;
+use console::Lines;
 use std::alloc::Global;
 use std::io;
 use std::io::Read;

@@ -1,4 +1,4 @@
-//! Lines of an input as they were read before any was looked for in what is read ahead: what `playing::Lines` has to agree with.
+//! Lines of an input as they were read before any was looked for in what is read ahead: what `console::Lines` has to agree with.
 
 use std::alloc::Global;
 use std::io;

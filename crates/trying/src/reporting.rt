@@ -1,9 +1,10 @@
 use base::NoMemory;
+use console::{Fault, Finding, Format, Printer};
 use indexmap::IndexMap;
-use playing::{Fault, Finding, Format, Printer, ViolationObject};
 use std::alloc::Global;
 use std::io::Write;
 use std::{fmt, io};
+use story::ViolationObject;
 use trials::{TrialResult, Verdict};
 
 /// In how many parts progress is told.

@@ -7,12 +7,12 @@ ghost use Rattle.scenario.specs.Tree.{Both, Cons, Nil, plain, plain_all, trees_o
 ghost use Rattle.lanes.specs.Fitting.{EachFits, how_many, lane_trees};
 
 use super::{Lane, Lanes};
-use schedule::Asks;
 use base::NoMemory;
 use cores::Cores;
-use rows::Sums;
 use cursors::Cursor;
+use rows::Sums;
 use scenario::Scenario;
+use schedule::Asks;
 use std::alloc::{Allocator, Global};
 use world::World;
 

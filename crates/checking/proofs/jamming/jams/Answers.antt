@@ -2,10 +2,10 @@ use Rattle.std.proofs.Common.{Bool, Result, Ok, Err, IfOk, IsTrue}
 use Rattle.both_tables.specs.Tables.{Tables}
 use Rattle.machine.specs.Unstuck.{Flowing}
 use Rattle.world.specs.View.{View}
-use Rattle.playing.specs.Jams.{GetsStuck}
-use Rattle.playing.specs.inner.Leading.{IsFresh, HasGoneOn}
-use Rattle.playing.proofs.Jammed.{stuck-run}
-use Rattle.playing.proofs.jamming.jams.Goals as goal
+use Rattle.checking.specs.Jams.{GetsStuck}
+use Rattle.checking.specs.inner.Leading.{IsFresh, HasGoneOn}
+use Rattle.checking.proofs.Jammed.{stuck-run}
+use Rattle.checking.proofs.jamming.jams.Goals as goal
 
 shown : {E : Type 0} (r : Result Bool E) (tables : Tables) (old new : View) → IsFresh tables old → IfOk r (λ found. IsTrue found → HasGoneOn old new) →
     IfOk r (λ found. IsTrue found → ¬ Flowing new.tables new.state) → IfOk r (λ found. IsTrue found → GetsStuck tables)

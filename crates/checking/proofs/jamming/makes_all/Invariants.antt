@@ -1,5 +1,5 @@
-use Rattle.playing.specs.inner.Leading.{HasGoneOn}
-use Rattle.playing.proofs.jamming.makes_all.Given as goal
+use Rattle.checking.specs.inner.Leading.{HasGoneOn}
+use Rattle.checking.proofs.jamming.makes_all.Given as goal
 
 abbrev pub invariant-loop-line : goal.invariant-loop-line
 invariant-loop-line l = HasGoneOn l.initial.world l.world

@@ -1,13 +1,10 @@
 use crate::cells::text_of;
-use crate::fault::Fault;
-use crate::finding::Finding;
-use crate::format::Format;
 use crate::jamming::jam_from;
 use crate::objects::print_cell_object;
-use crate::printing::Printer;
 use crate::schedules::CACHES;
 use both_tables::{CELLS, CellPlace, Tables};
 use certify::{Certificate, Standing, certify, standing_of};
+use console::{Fault, Finding, Format, Printer};
 use std::alloc::Global;
 use std::io::Write;
 

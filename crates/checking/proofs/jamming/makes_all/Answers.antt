@@ -1,5 +1,5 @@
-use Rattle.playing.proofs.Jammed.{gone-none, gone-more}
-use Rattle.playing.proofs.jamming.makes_all.Goals as goal
+use Rattle.checking.proofs.Jammed.{gone-none, gone-more}
+use Rattle.checking.proofs.jamming.makes_all.Goals as goal
 
 pub loop-line-init : goal.loop-line-init
 loop-line-init c = gone-none c.args.world.now

@@ -1,12 +1,9 @@
-use crate::helps;
+use crate::{VERSION, helps};
 use base::{MOST_BLOCKS, MOST_CACHES};
 use clap::builder::ValueParser;
 use clap::{Arg, ArgAction, Command, value_parser};
 use std::alloc::{AllocError, Global};
 use trials::{MOST_STEPS, MOST_TRIALS};
-
-/// The project's version.
-pub const VERSION: &str = "0.1.0";
 
 /// What an option takes.
 #[derive(Clone, Copy)]

@@ -1,7 +1,7 @@
 ghost use Rattle.std.specs.Prelude.{IfOk, IfSome, IsTrue};
 ghost use Rattle.machine.specs.Unstuck.{Flowing};
-ghost use Rattle.playing.specs.Jams.{GetsStuck};
-ghost use Rattle.playing.specs.inner.Leading.{HasGoneOn, IsFresh};
+ghost use Rattle.checking.specs.Jams.{GetsStuck};
+ghost use Rattle.checking.specs.inner.Leading.{HasGoneOn, IsFresh};
 
 use crate::schedules::{CACHES, schedules_of};
 use base::{NoMemory, Outcome, Shape, Step};

@@ -1,13 +1,11 @@
 use crate::cells::text_of;
 use crate::counting::{Census, longest};
-use crate::fault::Fault;
-use crate::finding::Finding;
 use crate::jamming::jam_from;
-use crate::printing::Printer;
 use base::text::Text;
 use base::{CoreAsk, MOST_BLOCKS, MOST_CACHES, NoMemory, Shape, Step};
 use both_tables::{CELLS, CellPlace, Tables};
 use certify::{Certificate, Standing, certify, standing_of};
+use console::{Fault, Finding, Printer};
 use scenario::Scenario;
 use std::alloc::Global;
 use std::io::{Read, Write};

@@ -1,9 +1,7 @@
-use crate::fault::Fault;
-use crate::finding::Finding;
-use crate::printing::Printer;
 use base::controller::{Listed, Side};
 use both_tables::Tables;
 use cache_table::{CacheChange, CacheEvent, CacheState, CacheTable};
+use console::{Fault, Finding, Printer};
 use directory_table::{DirectoryChange, DirectoryEvent, DirectoryState, DirectoryTable};
 use std::alloc::Global;
 use std::io::Write;

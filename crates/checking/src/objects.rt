@@ -1,6 +1,6 @@
-use crate::printing::Printer;
 use base::controller::MOST_ACTIONS;
 use base::text::{Text, cut};
+use console::Printer;
 use std::io::Write;
 
 /// Prints a cell, spelled as `msi tables` does it, as an object in JSON as a file of changed cells has it, with the key `side`

@@ -1,7 +1,7 @@
 use Rattle.std.proofs.Common.{◌≡◌, ◌∙◌, ℕ, nat_eq, true, sym, arith}
 use Rattle.std.proofs.lemmas.Bool.Decides.{nat_tests}
-use Rattle.playing.proofs.Jammed.{jammed}
-use Rattle.playing.proofs.jamming.is_jammed.Goals as goal
+use Rattle.checking.proofs.Jammed.{jammed}
+use Rattle.checking.proofs.jamming.is_jammed.Goals as goal
 
 none : (n : ℕ) → nat_eq n 0 ≡ true → n ≡ 0
 none n e = grind (arith, nat_tests)

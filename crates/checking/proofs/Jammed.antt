@@ -14,8 +14,8 @@ use Rattle.world.specs.Enabled.{enabled_steps}
 use Rattle.world.specs.Looks.{all_quiet}
 use Rattle.world.specs.View.{View, LeadsOn}
 use Rattle.trials.proofs.Disabled.{nothing-delivers}
-use Rattle.playing.specs.Jams.{GetsStuck}
-use Rattle.playing.specs.inner.Leading.{IsFresh, HasGoneOn}
+use Rattle.checking.specs.Jams.{GetsStuck}
+use Rattle.checking.specs.inner.Leading.{IsFresh, HasGoneOn}
 
 is-quiet : (t : Bool) → ¬ (¬ IsTrue t) → t ≡ true
 is-quiet true h = refl

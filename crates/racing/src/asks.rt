@@ -1,5 +1,5 @@
 use base::{CoreAsk, Shape, Step};
-use playing::{Fault, Lines, MOST_BYTES};
+use console::{Fault, Lines, MOST_BYTES};
 use std::alloc::Global;
 use std::io::Read;
 

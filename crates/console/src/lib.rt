@@ -1,0 +1,16 @@
+//! What the commands of `msi` have in common: the lines that they read, what they print on, what they find, and why they end early.
+#![tactic(auto)]
+
+mod fault;
+mod finding;
+mod format;
+mod lines;
+mod printing;
+mod recording;
+
+pub use fault::{Fault, Refusal};
+pub use finding::{Finding, Found};
+pub use format::Format;
+pub use lines::{Lines, MOST_BYTES};
+pub use printing::Printer;
+pub use recording::print_whole;
