@@ -4,7 +4,7 @@
 #[cfg(test)]
 mod asserting;
 #[cfg(test)]
-mod cursors;
+mod borrowing;
 #[cfg(test)]
 mod letters;
 #[cfg(test)]

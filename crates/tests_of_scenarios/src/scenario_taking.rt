@@ -1,5 +1,5 @@
 use crate::asserting::same;
-use crate::cursors::{Taking, take};
+use crate::borrowing::{Taking, take};
 use crate::letters::{Moment, letter_of, offered, read};
 use bumpalo::Bump;
 use scenario::{Rest, Scenario};
