@@ -7,9 +7,8 @@ use both_tables::Tables;
 use cache_table::{CacheEntry, CacheEvent, CacheState};
 use devices::{Buffer, Faltering};
 use monitor::Violation;
-use record::{
-    Entry, MOST_ENTRIES, PushFault, ReadFault, ReadKind, Recording, ReplayFault, WriteFault, replay,
-};
+use record::{Entry, MOST_ENTRIES, PushFault, ReadFault, ReadKind, Recording, WriteFault};
+use replays::{ReplayFault, replay};
 use std::alloc::Global;
 use std::process::Abort;
 use world::OpenFault;
