@@ -10,5 +10,5 @@ returns-in-Ok-clause-text g c =
       recording = recorded whole.recording;
       recordable = read-recordable whole.recording whole.read.read;
       read = record { version = whole.recording.version; told = read-versioned whole.recording whole.read.read; read = whole.text };
-      told = subst (λ m. g.N.Entries.tells m (Some (recorded whole.recording))) (sym c.entries-reader.ensures) whole.read.told;
+      told = subst (λ m. g.N.Entries.tells m (Some (recorded whole.recording))) (sym c.entries.ensures) whole.read.told;
     }
