@@ -2,9 +2,12 @@
 use Rattle.std.specs.Prelude.{ℕ, List, Option, Some}
 use Rattle.std.specs.Io.KnownBytes.{Consumes}
 use Rattle.record.specs.Recordable.{IsRecordable}
+use Rattle.record.specs.Refused.{IsRefused}
 use Rattle.record.specs.Text.{text}
 use Rattle.record.specs.Versions.{HasTextIn}
 use Rattle.record.specs.View.{RecordingView}
+use Rattle.record.specs.declared.due.Due.TheVariants.{Header}
+use Rattle.record.specs.declared.fault.ReadFault.{ReadFault}
 use Rattle.record.specs.declared.version.Version.{Version}
 
 -- what a source had, up to what it has left, was a text of this recording, in either version
@@ -19,3 +22,7 @@ pub record HasTold {N : Type 0} (tells : N → Option RecordingView → Type 0) 
   pub recordable : IsRecordable recording
   pub read : IsTextRead before after recording
   pub told : tells entries (Some recording)
+
+-- what a source had is refused so: by its first line with a fault, counted from the first one
+abbrev pub IsReadFault : Option (List ℕ) → Option (List ℕ) → ReadFault → Type 0
+IsReadFault before after fault = IsRefused before after 0 Header fault.line fault.kind

@@ -1,6 +1,6 @@
 ghost use Rattle.std.specs.Prelude.{◌≡◌, ◌≢◌, IfOk, IfErr, OnOk, MatchOption, MatchResult, Some, None, true};
 ghost use Rattle.both_tables.specs.declared.cell_places.CellPlace.{CellPlace};
-ghost use Rattle.record.specs.TextRead.{HasTold, IsTextRead};
+ghost use Rattle.record.specs.TextRead.{HasTold, IsReadFault, IsTextRead};
 ghost use Rattle.record.specs.Versions.{HasTextIn};
 ghost use Rattle.record.specs.declared.version.Version.{Version};
 ghost use Rattle.base.specs.Spelling.{words};
@@ -59,7 +59,7 @@ pub fn read_entries<S: Source, N: Entries>(
     requires none { N.tells entries None }
     requires space { N.has_room entries 0 }
     ensures text { IfOk result (HasTold N.tells (S.left source.old) (S.left source.new)) }
-    ensures fault { IfErr result (λ fault. IsRefused (S.left source.old) (S.left source.new) 0 Header fault.line fault.kind) }
+    ensures fault { IfErr result (IsReadFault (S.left source.old) (S.left source.new)) }
     ensures device { IfErr result (λ fault. fault.kind ≡ ReadKind.Device → S.has_failed source.new ≡ true) }
 {
     match read_text(alloc, source, entries) {

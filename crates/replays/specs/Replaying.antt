@@ -6,9 +6,7 @@ use Rattle.machine.specs.Coherence.{Safe}
 use Rattle.machine.specs.Restraint.{AreRestrained}
 use Rattle.monitor.specs.Violations.{AnswersFirst}
 use Rattle.record.specs.Recordable.{IsRecordable}
-use Rattle.record.specs.TextRead.{IsTextRead}
-use Rattle.record.specs.Refused.{IsRefused}
-use Rattle.record.specs.declared.due.Due.TheVariants.{Header}
+use Rattle.record.specs.TextRead.{IsReadFault, IsTextRead}
 use Rattle.record.specs.declared.fault.ReadKind.TheVariants.{Device}
 use Rattle.replays.specs.declared.replaying.ReplayFault.{ReplayFault}
 use Rattle.replays.specs.declared.replaying.ReplayFault.TheVariants.{Differs, NoMemory}
@@ -48,7 +46,7 @@ pub record IsTextNotReplayed (before after : Option (List ℕ)) (fault : ReplayF
 
 -- a text is refused as a reader refuses it, or else the replay of its recording is
 abbrev pub IsTextFault : Option (List ℕ) → Option (List ℕ) → TextFault → Type 0
-IsTextFault before after (Read fault) = IsRefused before after 0 Header fault.line fault.kind
+IsTextFault before after (Read fault) = IsReadFault before after fault
 IsTextFault before after (Replay fault) = IsTextNotReplayed before after fault
 
 -- the device failed
