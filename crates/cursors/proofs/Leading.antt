@@ -3,7 +3,7 @@ use Rattle.std.proofs.Common.{◌≡◌, ℕ, zero, suc, ◌+◌, ◌-◌, ◌<�
 use Rattle.std.proofs.Common.{length, drop, take, map, slice_get, slice_set, refl, sym, ap, ◌∙◌, subst, arith}
 use Rattle.scenario.specs.declared.tree.Scenario.{Scenario}
 use Rattle.scenario.specs.Tree as tree
-use Rattle.scenario.specs.Tree.{Tree, Trees, plain, plain_all, trees_of}
+use Rattle.scenario.specs.Tree.{Tree, plain, plain_all, trees_of}
 use Rattle.scenario.specs.Rests.{flat, flats, rest, row_of, IsPlaceInTurn, IsPlaceAmong}
 use Rattle.cursors.specs.Cursors.{Progress, Whole, InSeq, InTimes, InBoth, Cons, first_part, first_parts}
 use Rattle.cursors.specs.Cursors.{tree_left, trees_left}

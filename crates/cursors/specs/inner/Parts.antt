@@ -1,11 +1,10 @@
 -- For private clauses: the parts that a cursor has, and how far it comes by an offer.
 use Rattle.std.specs.Prelude.{◌≡◌, ◌≤◌, ◌<◌, ◌+◌, ℕ, zero, suc, List, [], ◌∷◌, length, take, map}
-use Rattle.std.specs.Prelude.{Option, Some, IfSome, slice_get, slice_set, Result, Ok, Err}
+use Rattle.std.specs.Prelude.{Some, IfSome, slice_get, slice_set}
 use Rattle.std.specs.Prelude as std
-use Rattle.base.specs.declared.step.CoreAsk.{CoreAsk}
 use Rattle.scenario.specs.Tree.{Tree, Trees, plain, plain_all, trees_of}
 use Rattle.scenario.specs.Tree as tree
-use Rattle.scenario.specs.Taking.{offers, offers_of_all}
+use Rattle.scenario.specs.Taking.{offers}
 use Rattle.scenario.specs.Rests.{flat, rest}
 use Rattle.cursors.specs.Cursors.{Progress, Parts, Nothing, Whole, InSeq, InTimes, InBoth, Nil, Cons}
 use Rattle.cursors.specs.Cursors.{progress, progress_row, tree_left}
