@@ -28,6 +28,7 @@ impl<A: Allocator> Scenario<A> {
     }
 }
 
+/// Whether nothing more need be asked of a tree.
 #[cycle(ending)]
 #[tactic(auto, using(crate::proofs::Children::children))]
 pub fn tree_may_end<A: Allocator>(tree: &Scenario<A>) -> bool
@@ -41,6 +42,7 @@ pub fn tree_may_end<A: Allocator>(tree: &Scenario<A>) -> bool
     }
 }
 
+/// Appends what a tree offers, or a front of it where memory is refused.
 #[cycle(offering)]
 #[tactic(auto, using(crate::proofs::Children::children, crate::proofs::Fronts::fronts))]
 pub fn offers_of_tree<A: Allocator>(
@@ -65,6 +67,7 @@ pub fn offers_of_tree<A: Allocator>(
     }
 }
 
+/// Whether nothing more need be asked of any of these.
 #[cycle(ending)]
 pub fn all_may_end<A: Allocator>(children: &[Scenario<A>]) -> bool
     ensures { result ≡ all_end (plain_all children.now) }
@@ -89,6 +92,7 @@ fn some_may_end<A: Allocator>(children: &[Scenario<A>]) -> bool
     false
 }
 
+/// Appends what children offer that come one behind the other, or a front of it where memory is refused.
 #[cycle(offering)]
 #[tactic(auto, using(crate::proofs::Fronts::fronts))]
 pub fn offers_in_turn<A: Allocator>(

@@ -129,6 +129,7 @@ pub fn seek_in_tree<A: Allocator>(tree: &Scenario<A>, at: usize) -> Result<CoreA
     }
 }
 
+/// The offer of this number of children that come one behind the other, or how far behind the last one the number is.
 #[cycle(seeking)]
 pub fn seek_in_turn<A: Allocator>(children: &[Scenario<A>], at: usize) -> Result<CoreAsk, usize>
     ensures { result ≡ sought (offers_in_turn (plain_all children.now)) at }
