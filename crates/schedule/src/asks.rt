@@ -59,6 +59,7 @@ impl Asks {
     ghost use Rattle.std.specs.Option.{option_map};
     ghost use Rattle.cursors.specs.Cursors.{remaining};
     ghost use Rattle.scenario.specs.Taking.{offers};
+    ghost use Rattle.schedule.specs.Listed.{nothing_listed};
     ghost use Rattle.schedule.specs.Marks.{all_marked, marked_by, offers_by};
     ghost use Rattle.schedule.specs.Owned.{IsMarkedIf};
     ghost use Rattle.both_tables.specs.Tables.{Tables};
@@ -66,7 +67,9 @@ impl Asks {
     ghost use Rattle.schedule.specs.declared.choosing.Choice.TheVariants.{Offer};
 
     /// No asks.
-    pub fn open(alloc: Global) -> Result<Asks, NoMemory> {
+    pub fn open(alloc: Global) -> Result<Asks, NoMemory>
+        ensures { IfOk result (λ asks. asks ≡ nothing_listed) }
+    {
         let unheld = Bits::open(alloc, 0)?;
         Ok(Asks {
             alloc,
