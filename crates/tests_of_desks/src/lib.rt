@@ -1,4 +1,4 @@
-//! Tests of what threads share without a floor: desks, and batches that are spread.
+//! Tests of what threads share without a floor: desks.
 #![tactic(auto)]
 
 #[cfg(test)]
@@ -11,5 +11,3 @@ mod desks;
 mod jobs;
 #[cfg(test)]
 mod refusing;
-#[cfg(test)]
-mod spreading;

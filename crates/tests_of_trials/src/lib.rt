@@ -1,4 +1,4 @@
-//! Tests of trials: what can be chosen, what comes of trials and batches, and of moments.
+//! Tests of trials: what can be chosen, what comes of trials and batches, those that are spread too, and of moments.
 #![tactic(auto)]
 
 #[cfg(test)]
@@ -13,5 +13,7 @@ mod making;
 mod refusing;
 #[cfg(test)]
 mod restarting;
+#[cfg(test)]
+mod spreading;
 #[cfg(test)]
 mod trying;

@@ -1,22 +1,23 @@
 use base::NoMemory;
 use std::alloc::{AllocError, AllocFailed};
-use std::io;
 use thiserror::Error;
 
-/// Why a job wasn't done.
+/// Why a job wasn't done, or a transcript ends early.
 #[derive(Clone, Copy, Debug, Drop, Error)]
 pub enum Fault {
-    #[error("its words are JOB SEED SIZE")]
+    #[error("its words are JOB SEED SIZE, or sessions")]
     Words,
     #[error("no memory")]
     NoMemory,
-    #[error("a device failed")]
+    #[error("the words or standard input can't be read, or standard output can't be written")]
     Device,
     /// `msi` ended with a status that the job doesn't end with.
     #[error("msi ended with {0}")]
     Status(u8),
-    /// What `msi trial` printed isn't text.
-    #[error("not a text")]
+    /// A line of the text is none that a session has.
+    #[error("line {0} is no line of a session")]
+    Line(usize),
+    #[error("msi printed what is no text")]
     NotAText,
 }
 
@@ -35,11 +36,5 @@ impl<T: Drop> From<AllocFailed<T>> for Fault {
 impl From<NoMemory> for Fault {
     fn from(_fault: NoMemory) -> Fault {
         Fault::NoMemory
-    }
-}
-
-impl From<io::Error> for Fault {
-    fn from(_fault: io::Error) -> Fault {
-        Fault::Device
     }
 }

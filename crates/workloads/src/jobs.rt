@@ -1,16 +1,17 @@
 use crate::digest::Digest;
 use crate::fault::Fault;
 use crate::inputs::{all_asks, late_loads, racing_pair, shared_asks, some_asks};
+use crate::output::Output;
 use crate::rerun::rerun;
-use commands::{Files, LoadFault, serve};
+use crate::serving::{serve_line, words_of};
+use crate::streams::Input;
 use std::alloc::Global;
-use std::io;
 use std::sync::Wait;
 use std::thread::Threads;
 use story::Sheet;
 
 /// What a run of the program does.
-#[derive(Clone, Copy, Debug, Drop)]
+#[derive(Clone, Copy)]
 pub enum Job {
     /// So many trials of a pair of cores that race for one block.
     Races,
@@ -102,26 +103,46 @@ impl Job {
     }
 }
 
-/// The file `table.json`, which has the faulty table.
-#[derive(Drop)]
-struct OneFile {
+/// Does a job, or all of them, and tells the name and the digest of each.
+pub fn tell_jobs<R: Threads + Wait + Sync>(
+    rt: &R,
     alloc: Global,
+    name: &str,
+    seed: &str,
+    size: &str,
+    told: &mut Sheet,
+) -> Result<(), Fault> {
+    let (Ok(seed), Ok(size)) = (seed.parse::<u32>(), size.parse::<u32>()) else {
+        return Err(Fault::Words);
+    };
+    if name != "all" {
+        let job = Job::of_name(name).ok_or(Fault::Words)?;
+        return tell_job(rt, alloc, job, seed, size, told);
+    }
+    for job in Job::ALL {
+        tell_job(rt, alloc, job, seed, size, told)?;
+    }
+    Ok(())
 }
 
-impl Files for OneFile {
-    fn load(&mut self, name: &str) -> Result<Vec<u8>, LoadFault> {
-        if name != "table.json" {
-            return Err(LoadFault::Device(io::Error::from(io::ErrorKind::NotFound)));
-        }
-        match String::from_str(self.alloc, FAULTY) {
-            Ok(text) => Ok(text.into_bytes()),
-            Err(_) => Err(LoadFault::NoMemory),
-        }
-    }
+fn tell_job<R: Threads + Wait + Sync>(
+    rt: &R,
+    alloc: Global,
+    job: Job,
+    seed: u32,
+    size: u32,
+    told: &mut Sheet,
+) -> Result<(), Fault> {
+    let digest = digest_of(rt, alloc, job, seed, size)?;
+    told.push(job.name());
+    told.push(" ");
+    told.put(&digest);
+    told.push("\n");
+    Ok(())
 }
 
 /// Does a job, and answers the digest of all that `msi` prints there.
-pub fn digest_of<R: Threads + Wait + Sync>(
+fn digest_of<R: Threads + Wait + Sync>(
     rt: &R,
     alloc: Global,
     job: Job,
@@ -158,12 +179,8 @@ fn batch<R: Threads + Wait + Sync>(
     digest: &mut Digest,
 ) -> Result<(), Fault> {
     let line = format!(in alloc; "msi batch {options} --seed {seed} --trials {trials}")?;
-    let printed = run(rt, alloc, line.as_str(), scenario)?;
-    digest.add_run(
-        printed.status,
-        printed.output.as_slice(),
-        printed.errors.as_slice(),
-    );
+    let printed = run(rt, alloc, line.as_str(), scenario);
+    printed.add_to(digest);
     match printed.status {
         0 | 1 => Ok(()),
         other => Err(Fault::Status(other)),
@@ -174,36 +191,29 @@ fn batch<R: Threads + Wait + Sync>(
 #[derive(Drop)]
 pub struct Printed {
     pub status: u8,
-    pub output: Vec<u8>,
-    pub errors: Vec<u8>,
+    pub output: Output,
+    errors: Output,
 }
 
-/// What a command line comes to over this input.
-pub fn run<R: Threads + Wait + Sync>(
-    rt: &R,
-    alloc: Global,
-    line: &str,
-    input: &str,
-) -> Result<Printed, Fault> {
-    let mut words = Vec::new(alloc);
-    for word in line.split_whitespace() {
-        words.push(String::from_str(alloc, word)?)?;
+impl Printed {
+    pub fn add_to(&self, digest: &mut Digest) {
+        digest.add_run(self.status, self.output.bytes(), self.errors.bytes());
     }
-    let mut files = OneFile { alloc };
-    let mut output = Vec::new(alloc);
-    let mut errors = Vec::new(alloc);
-    let status = serve(
-        rt,
-        alloc,
-        &Ok(words),
-        &mut files,
-        input.as_bytes(),
-        &mut output,
-        &mut errors,
-    );
-    Ok(Printed {
+}
+
+/// What a command line comes to over this input, where the file `table.json` has the faulty table.
+pub fn run<R: Threads + Wait + Sync>(rt: &R, alloc: Global, line: &str, input: &str) -> Printed {
+    let mut output = Output::new(alloc);
+    let mut errors = Output::new(alloc);
+    let words = words_of(alloc, line);
+    let input = Input {
+        bytes: input.as_bytes(),
+        fault: None,
+    };
+    let status = serve_line(rt, alloc, &words, FAULTY, input, &mut output, &mut errors);
+    Printed {
         status,
         output,
         errors,
-    })
+    }
 }

@@ -1,22 +1,33 @@
-//! The jobs that users of `msi` wait for, over inputs that a seed makes: what `bench/run` times.
+//! `msi` in memory: the jobs that users of `msi` wait for, over inputs that a seed makes, which `bench/run` times; and sessions of
+//! `msi`, which `rt ci` compares with what has to come of them.
 //!
 //! `workloads JOB SEED SIZE` does one job, and `workloads all SEED SIZE` does each of them. It prints a digest of all that
-//! `msi` prints there.
+//! `msi` prints there. `workloads sessions` goes through the sessions of its standard input, and prints what each command line
+//! came to (`sessions.rt` tells how they are written).
 #![tactic(auto)]
 
 mod digest;
+mod escapes;
 mod fault;
 mod inputs;
 mod jobs;
+mod kinds;
+mod output;
 mod rerun;
+mod serving;
+mod session;
+mod sessions;
+mod streams;
 
 use crate::fault::Fault;
-use crate::jobs::{Job, digest_of};
+use crate::jobs::tell_jobs;
+use crate::sessions::transcribe;
 use std::alloc::Global;
 use std::process::ExitCode;
 use std::sync::Wait;
 use std::thread::Threads;
 use std::{env, io};
+use story::Sheet;
 
 /// The words of the command line, the program's name first.
 fn words(rt: &HostRuntime) -> io::Result<Vec<String>> {
@@ -27,52 +38,57 @@ fn words(rt: &HostRuntime) -> io::Result<Vec<String>> {
     Ok(words)
 }
 
-/// Does the jobs that the words name, and answers a line for each.
+/// What standard input has, where the words ask for sessions.
+fn given(rt: &HostRuntime, words: &io::Result<Vec<String>>) -> Option<io::Result<String>> {
+    match words {
+        Ok(words) if matches!(words.as_slice(), [_, word] if word.as_str() == "sessions") => {
+            Some(io::read_to_string(rt.alloc(), rt.stdin()))
+        }
+        _ => None,
+    }
+}
+
+/// Goes through the sessions, or else does the jobs that the words name, and tells what they come to.
 fn work<R: Threads + Wait + Sync>(
     rt: &R,
     alloc: Global,
-    words: io::Result<Vec<String>>,
-) -> Result<String, Fault> {
-    let words = words?;
-    let [_, name, seed, size] = words.as_slice() else {
-        return Err(Fault::Words);
-    };
-    let seed = number_of(seed.as_str())?;
-    let size = number_of(size.as_str())?;
-    if name.as_str() != "all" {
-        let job = Job::of_name(name.as_str()).ok_or(Fault::Words)?;
-        return line_of(rt, alloc, job, seed, size);
+    words: &io::Result<Vec<String>>,
+    sessions: &Option<io::Result<String>>,
+    told: &mut Sheet,
+) -> Result<(), Fault> {
+    match (sessions, words) {
+        (Some(Ok(text)), _) => transcribe(rt, alloc, text.as_str(), told),
+        (Some(Err(_)), _) | (None, Err(_)) => Err(Fault::Device),
+        (None, Ok(words)) => match words.as_slice() {
+            [_, name, seed, size] => tell_jobs(
+                rt,
+                alloc,
+                name.as_str(),
+                seed.as_str(),
+                size.as_str(),
+                told,
+            ),
+            _ => Err(Fault::Words),
+        },
     }
-    let mut lines = String::new(alloc);
-    for job in Job::ALL {
-        lines.push_str(line_of(rt, alloc, job, seed, size)?.as_str())?;
-    }
-    Ok(lines)
 }
 
-fn number_of(word: &str) -> Result<u32, Fault> {
-    word.parse::<u32>().map_err(|_| Fault::Words)
-}
-
-/// Does a job, and answers its name and its digest.
-fn line_of<R: Threads + Wait + Sync>(
-    rt: &R,
-    alloc: Global,
-    job: Job,
-    seed: u32,
-    size: u32,
-) -> Result<String, Fault> {
-    let digest = digest_of(rt, alloc, job, seed, size)?;
-    Ok(format!(in alloc; "{} {digest}\n", job.name())?)
+/// Prints what was told.
+fn print(rt: &HostRuntime, told: &Sheet) -> Result<(), Fault> {
+    let text = told.text()?;
+    match print!(rt; "{text}") {
+        Ok(()) => Ok(()),
+        Err(_) => Err(Fault::Device),
+    }
 }
 
 fn main(rt: HostRuntime) -> ExitCode {
     let words = words(&rt);
-    match work(&rt, rt.alloc(), words) {
-        Ok(lines) => match print!(rt; "{lines}") {
-            Ok(()) => ExitCode::SUCCESS,
-            Err(_) => ExitCode::FAILURE,
-        },
+    let sessions = given(&rt, &words);
+    let mut told = Sheet::new(rt.alloc());
+    let done = work(&rt, rt.alloc(), &words, &sessions, &mut told);
+    match print(&rt, &told).and(done) {
+        Ok(()) => ExitCode::SUCCESS,
         Err(fault) => {
             let _ = eprintln!(rt; "workloads: {fault}");
             ExitCode::FAILURE

@@ -1,6 +1,7 @@
 use crate::digest::Digest;
 use crate::fault::Fault;
 use crate::jobs::{Printed, run};
+use crate::output::Output;
 use std::alloc::Global;
 use std::sync::Wait;
 use std::thread::Threads;
@@ -16,22 +17,18 @@ pub fn rerun<R: Threads + Wait + Sync>(
     let line = format!(in alloc;
         "msi trial --caches 4 --blocks 4 --limit 1000000 --seed {seed} --number 0"
     )?;
-    let recording = ended_well(run(rt, alloc, line.as_str(), scenario)?, digest)?;
-    let text = str::from_utf8(recording.as_slice()).map_err(|_| Fault::NotAText)?;
-    let _ = ended_well(run(rt, alloc, "msi replay", text)?, digest)?;
+    let recording = ended_well(run(rt, alloc, line.as_str(), scenario), digest)?;
+    let text = recording.text().ok_or(Fault::NotAText)?;
+    let _ = ended_well(run(rt, alloc, "msi replay", text), digest)?;
     let steps = steps_of(alloc, text)?;
     let line = "msi play --caches 4 --blocks 4";
-    let _ = ended_well(run(rt, alloc, line, steps.as_str())?, digest)?;
+    let _ = ended_well(run(rt, alloc, line, steps.as_str()), digest)?;
     Ok(())
 }
 
 /// The output, where `msi` found no fault. All that it printed is added to the digest.
-fn ended_well(printed: Printed, digest: &mut Digest) -> Result<Vec<u8>, Fault> {
-    digest.add_run(
-        printed.status,
-        printed.output.as_slice(),
-        printed.errors.as_slice(),
-    );
+fn ended_well(printed: Printed, digest: &mut Digest) -> Result<Output, Fault> {
+    printed.add_to(digest);
     match printed.status {
         0 => Ok(printed.output),
         other => Err(Fault::Status(other)),

@@ -2,8 +2,8 @@ use crate::escapes::put_line;
 use crate::fault::Fault;
 use crate::kinds::kind_of;
 use crate::output::{Output, Telling};
-use crate::streams::{Input, OneFile};
-use commands::serve;
+use crate::serving::{serve_line, words_of};
+use crate::streams::Input;
 use std::alloc::Global;
 use std::io;
 use std::sync::Wait;
@@ -61,6 +61,13 @@ impl Given {
             return Ok(self.table.text()?);
         }
         Ok("{}")
+    }
+
+    fn input(&self) -> Result<Input<'_>, Fault> {
+        Ok(Input {
+            bytes: self.input.text()?.as_bytes(),
+            fault: self.input_fault,
+        })
     }
 }
 
@@ -140,7 +147,7 @@ impl Session {
         told: &mut Sheet,
     ) -> Result<(), Fault> {
         for line in self.commands.text()?.lines() {
-            let status = serve_line(
+            let status = status_of(
                 rt,
                 alloc,
                 line,
@@ -161,7 +168,7 @@ impl Session {
 }
 
 /// The exit status of a command line.
-fn serve_line<R: Threads + Wait + Sync>(
+fn status_of<R: Threads + Wait + Sync>(
     rt: &R,
     alloc: Global,
     line: &str,
@@ -169,30 +176,18 @@ fn serve_line<R: Threads + Wait + Sync>(
     output: &mut Output,
     errors: &mut Output,
 ) -> Result<u8, Fault> {
-    let mut files = OneFile {
-        alloc,
-        text: given.table()?,
-    };
-    let input = Input {
-        bytes: given.input.text()?.as_bytes(),
-        fault: given.input_fault,
-    };
-    output.clear();
-    errors.clear();
-    let words = words_of(alloc, line);
-    Ok(serve(rt, alloc, &words, &mut files, input, output, errors))
+    let table = given.table()?;
+    let input = given.input()?;
+    let words = words_behind(alloc, line);
+    Ok(serve_line(rt, alloc, &words, table, input, output, errors))
 }
 
-/// The words of a command line, or why they can't be had.
-fn words_of(alloc: Global, line: &str) -> io::Result<Vec<String>> {
+/// The words of a command line behind its mark, or why they can't be had.
+fn words_behind(alloc: Global, line: &str) -> io::Result<Vec<String>> {
     if let Some(name) = line.strip_prefix("$! ")
         && let Some(kind) = kind_of(name)
     {
         return Err(io::Error::from(kind));
     }
-    let mut words = Vec::new(alloc);
-    for word in line.split_whitespace().skip(1) {
-        words.push(String::from_str(alloc, word)?)?;
-    }
-    Ok(words)
+    words_of(alloc, line.strip_prefix("$").unwrap_or(line))
 }

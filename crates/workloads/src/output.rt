@@ -59,7 +59,12 @@ impl Output {
         Some(())
     }
 
-    /// What it took. `None` where that isn't text.
+    /// What it took.
+    pub fn bytes(&self) -> &[u8] {
+        self.bytes.as_slice()
+    }
+
+    /// The same, where it is text.
     pub fn text(&self) -> Option<&str> {
         str::from_utf8(self.bytes.as_slice()).ok()
     }

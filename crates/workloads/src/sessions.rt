@@ -1,10 +1,11 @@
-//! Transcripts: a program that goes through sessions of `msi`, in memory, and prints what each command line came to.
+//! Sessions of `msi`, in memory, and what each command line came to.
 //!
-//! Its standard input is a text of sessions, with empty lines between them. A line says by its mark what it is:
+//! They stand one behind the other, with empty lines between them. A line says by its mark what it is:
 //!
 //! | Line | What it is |
 //! |---|---|
 //! | `# TEXT` | what the sessions behind it show; it is printed as it stands, as empty lines are |
+//! | `% JOB SEED SIZE` | no session, but a job, or `all` of them; it is printed with the lines that `workloads` prints of it |
 //! | `$ WORD ..` | a command line. All those of a session are given the same file and the same input |
 //! | `$! KIND` | one whose words can't be had, for an error of this kind, as `io::ErrorKind` names it |
 //! | `\| TEXT` | a line of the file `table.json`, which is `{}` where a session has none |
@@ -22,25 +23,26 @@
 //! There is also a file `huge.json`, for which there is no memory, and no other one. What a command line came to is printed behind
 //! its own line: each line of its output behind `> `, each of its errors behind `! `, and its exit status behind `= `. A mark with
 //! parentheses says what isn't printed, as `>(as its input)`, and `>(no LF at the end)` that there is none behind the last line.
-#![tactic(auto)]
-
-mod escapes;
-mod fault;
-mod kinds;
-mod output;
-mod session;
-mod streams;
 
 use crate::fault::Fault;
+use crate::jobs::tell_jobs;
 use crate::session::Session;
 use std::alloc::Global;
-use std::io;
-use std::process::ExitCode;
 use std::sync::Wait;
 use std::thread::Threads;
 use story::Sheet;
 
-/// Serves the sessions of a text, one behind the other, and tells what they come to.
+/// Serves the sessions of a text, one behind the other, and tells what they come to, up to what ends it early.
+pub fn transcribe<R: Threads + Wait + Sync>(
+    rt: &R,
+    alloc: Global,
+    text: &str,
+    told: &mut Sheet,
+) -> Result<(), Fault> {
+    let mut session = Session::new(alloc);
+    serve_all(rt, alloc, text, &mut session, told)
+}
+
 fn serve_all<R: Threads + Wait + Sync>(
     rt: &R,
     alloc: Global,
@@ -49,11 +51,10 @@ fn serve_all<R: Threads + Wait + Sync>(
     told: &mut Sheet,
 ) -> Result<(), Fault> {
     for (place, line) in text.lines().enumerate() {
-        if line.is_empty() || line.starts_with('#') {
+        if line.is_empty() || line.starts_with(['#', '%']) {
             session.serve(rt, alloc, told)?;
             session.clear();
-            told.push(line);
-            told.push("\n");
+            tell_apart(rt, alloc, line, told)?;
         } else if session.read(line).is_none() {
             return Err(Fault::Line(place.saturating_add(1)));
         }
@@ -61,40 +62,19 @@ fn serve_all<R: Threads + Wait + Sync>(
     session.serve(rt, alloc, told)
 }
 
-/// Tells the transcript of a text of sessions, up to what ends it early.
-fn transcribe<R: Threads + Wait + Sync>(
+/// Tells a line that stands between sessions, and what its job comes to, if it has one.
+fn tell_apart<R: Threads + Wait + Sync>(
     rt: &R,
     alloc: Global,
-    text: &io::Result<String>,
+    line: &str,
     told: &mut Sheet,
 ) -> Result<(), Fault> {
-    match text {
-        Ok(text) => {
-            let mut session = Session::new(alloc);
-            serve_all(rt, alloc, text.as_str(), &mut session, told)
-        }
-        Err(_) => Err(Fault::Device),
-    }
-}
-
-/// Prints what was told.
-fn print(rt: &HostRuntime, told: &Sheet) -> Result<(), Fault> {
-    let text = told.text()?;
-    match print!(rt; "{text}") {
-        Ok(()) => Ok(()),
-        Err(_) => Err(Fault::Device),
-    }
-}
-
-fn main(rt: HostRuntime) -> ExitCode {
-    let text = io::read_to_string(rt.alloc(), rt.stdin());
-    let mut told = Sheet::new(rt.alloc());
-    let served = transcribe(&rt, rt.alloc(), &text, &mut told);
-    match print(&rt, &told).and(served) {
-        Ok(()) => ExitCode::SUCCESS,
-        Err(fault) => {
-            let _ = eprintln!(rt; "transcripts: {fault}");
-            ExitCode::FAILURE
-        }
-    }
+    told.push(line);
+    told.push("\n");
+    let Some(words) = line.strip_prefix("% ") else {
+        return Ok(());
+    };
+    let (name, words) = words.split_once(' ').ok_or(Fault::Words)?;
+    let (seed, size) = words.split_once(' ').ok_or(Fault::Words)?;
+    tell_jobs(rt, alloc, name, seed, size, told)
 }
