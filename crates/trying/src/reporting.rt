@@ -15,7 +15,7 @@ const PARTS: u64 = 100;
 const STEPS_A_WRITE: u64 = 100_000;
 
 /// How a batch is made.
-#[derive(Clone, Copy)]
+#[derive(Clone, Copy, Debug, PartialEq, Eq)]
 pub struct BatchPlan {
     /// How many trials it has.
     pub trials: u32,
@@ -30,7 +30,7 @@ pub struct BatchPlan {
 }
 
 /// A kind of trials that are looked for.
-#[derive(Clone, Copy)]
+#[derive(Clone, Copy, Debug, PartialEq, Eq)]
 pub enum Until {
     Broke,
     Stuck,
