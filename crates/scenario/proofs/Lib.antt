@@ -8,6 +8,7 @@ pub mod Flat
 pub mod Fronts
 pub mod Items
 pub mod Lengths
+pub mod Parting
 pub mod Places
 pub mod Reached
 pub mod Refusing

@@ -1,10 +1,11 @@
 -- Where an offer of several children is.
 use Rattle.std.proofs.Common.{◌≡◌, ℕ, zero, suc, ◌+◌, ◌-◌, ◌<◌, ◌≤◌, List, [], ◌∷◌, ◌++◌}
 use Rattle.std.proofs.Common.{Option, Some, None, Bool, true, false, ◌⊎◌, inl, inr}
-use Rattle.std.proofs.Common.{cond, nat_lt, length, drop, take, map, slice_get, slice_set, IfSome, refl, sym}
+use Rattle.std.proofs.Common.{cond, nat_lt, length, drop, take, map, slice_get, slice_set, slice_index_or, IfSome, refl, sym}
 use Rattle.std.proofs.Common.{ap, ◌∙◌, subst, arith, add-one, length-append}
 use Rattle.std.proofs.lemmas.Bool.{cases_lt}
 use Rattle.std.proofs.lemmas.Bool.Decides.{nat_tests}
+use Rattle.std.proofs.lemmas.Option.{slice_get-get_or}
 use Rattle.base.specs.declared.step.CoreAsk.{CoreAsk}
 use Rattle.scenario.specs.declared.tree.Scenario.{Scenario}
 use Rattle.scenario.specs.Tree.{Tree, Trees, Cons, Seq, Any, Both, plain, plain_all, trees_of}
@@ -175,6 +176,11 @@ among (s ∷ ss) i (suc j) k h =
     (among ss (i - length (offers (plain s))) j k (h.0, h.1, h.2, omega (arith, h.3, more)))
 
 -- ---- what stands after a child's offer is taken
+
+-- the child that indexing a list of children reads, where a slice of the list says that it is there
+pub child_at : {A : Type 0} (ss us : List (Scenario A)) (j : ℕ) (s : Scenario A) → us ≡ ss → j < length us → s ≡ slice_index_or ss j s
+    → slice_get ss j ≡ Some s
+child_at ss us j s same within is = slice_get-get_or ss j s (subst (λ vs. j < length vs) same within) ∙ ap Some (sym is)
 
 -- a child that stands for the same tree
 pub same_child : {A : Type 0} (ss : List (Scenario A)) (j : ℕ) (s t : Scenario A) → slice_get ss j ≡ Some s → plain t ≡ plain s

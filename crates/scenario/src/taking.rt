@@ -1,6 +1,6 @@
 //! Taking an offer: the ask goes out, and the scenario becomes what is left.
 
-ghost use Rattle.std.specs.Prelude.{◌≡◌, ◌<◌, ◌≤◌, [], Some, drop, length, vec_capacity, IfNone, IfOk, IfSome, OnErr};
+ghost use Rattle.std.specs.Prelude.{◌≡◌, ◌<◌, ◌≤◌, Some, drop, length, vec_capacity, IfNone, IfOk, IfSome, OnErr};
 ghost use Rattle.scenario.specs.Tree as tree;
 ghost use Rattle.scenario.specs.Tree.{Trees, plain, plain_all};
 ghost use Rattle.scenario.specs.Taking.{offers, offers_in_turn, offers_of_all};
@@ -59,9 +59,9 @@ fn take_one<A: Allocator + Clone>(
             Ok(ask)
         }
         Scenario::Times(turns, child) => {
-            let (ask, turn, parts) = take_from_turn(child, alloc, at)?;
+            let (ask, parts) = take_from_turn(child, alloc, at)?;
             *turns -= 1;
-            put_before(tree, ask, turn, parts);
+            put_before(tree, ask, parts);
             Ok(ask)
         }
         Scenario::Both(children) => take_among(children, alloc, at),
@@ -152,51 +152,50 @@ fn take_among<A: Allocator + Clone>(
     take_one(child, alloc, offer.at)
 }
 
-/// What is left of a turn of the child, which itself stays as it is, and an empty row with room for both.
+/// What is left of a turn of the child, which itself stays as it is, alone in a row with room for both.
 #[cycle(taking)]
 fn take_from_turn<A: Allocator + Clone>(
     child: &mut Scenario<A>,
     alloc: A,
     at: usize,
-) -> Result<(CoreAsk, Scenario<A>, Vec<Scenario<A>, A>), NoMemory>
+) -> Result<(CoreAsk, Vec<Scenario<A>, A>), NoMemory>
     requires { at < length (offers (plain child.old)) }
-    ensures ok { IfOk result (λ taken. Leaves (plain child.old) at (Some taken.0) (plain taken.1)) }
-    ensures parts { IfOk result (λ taken. (taken.2.items ≡ []) × (2 ≤ vec_capacity taken.2)) }
+    ensures ok { IfOk result (λ taken. Leaves (plain child.old) at (Some taken.0) (row_of (plain_all taken.1.items))) }
+    ensures parts { IfOk result (λ taken. (length taken.1.items ≡ 1) × (2 ≤ vec_capacity taken.1)) }
     ensures child { plain child.new ≡ plain child.old }
 {
-    let (mut turn, parts) = copy_with_room(child, &alloc)?;
+    let mut parts = copy_with_room(child, &alloc)?;
     let ask = take_one(child, alloc, at)?;
-    mem::swap(child, &mut turn);
-    Ok((ask, turn, parts))
+    mem::swap(child, &mut parts[0]);
+    Ok((ask, parts))
 }
 
-/// A copy of a scenario, and an empty row with room for both.
+/// A copy of a scenario, alone in a row with room for another child.
 fn copy_with_room<A: Allocator + Clone>(
     scenario: &Scenario<A>,
     alloc: &A,
-) -> Result<(Scenario<A>, Vec<Scenario<A>, A>), NoMemory>
-    ensures copy { IfOk result (λ made. plain made.0 ≡ plain scenario.now) }
-    ensures parts { IfOk result (λ made. (made.1.items ≡ []) × (2 ≤ vec_capacity made.1)) }
+) -> Result<Vec<Scenario<A>, A>, NoMemory>
+    ensures copy { IfOk result (λ parts. row_of (plain_all parts.items) ≡ plain scenario.now) }
+    ensures parts { IfOk result (λ parts. (length parts.items ≡ 1) × (2 ≤ vec_capacity parts)) }
 {
-    let parts = children_in(alloc, 2)?;
-    Ok((copy_one(scenario, alloc)?, parts))
+    let mut parts = children_in(alloc, 2)?;
+    parts.push_reserved(copy_one(scenario, alloc)?);
+    Ok(parts)
 }
 
-/// What is left of a turn goes before the scenario: the row of both stands in its place.
+/// What is left of a turn, alone in a row, goes before the scenario: the row of both stands in its place.
 #[tactic(auto, using(crate::proofs::Children::children))]
 fn put_before<A: Allocator>(
     scenario: &mut Scenario<A>,
     ask: CoreAsk,
-    turn: Scenario<A>,
     mut parts: Vec<Scenario<A>, A>,
 )
-    requires empty { parts.items ≡ [] }
+    requires turn { length parts.items ≡ 1 }
     requires room { 2 ≤ vec_capacity parts }
-    ensures { plain scenario.new ≡ tree.Seq (tree.Cons (plain turn) (tree.Cons (plain scenario.old) tree.Nil)) }
+    ensures { plain scenario.new ≡ tree.Seq (tree.Cons (row_of (plain_all parts.items)) (tree.Cons (plain scenario.old) tree.Nil)) }
 {
     // An ask takes no memory, so it stands in the place until the row does.
     let later = mem::replace(scenario, Scenario::One(ask));
-    parts.push_reserved(turn);
     parts.push_reserved(later);
     *scenario = Scenario::Seq(parts);
 }

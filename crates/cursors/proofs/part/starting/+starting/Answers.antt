@@ -1,4 +1,4 @@
-use Rattle.std.proofs.Common.{◌≡◌, ◌+◌, ◌<◌, Some, drop, length, map, slice_get, refl, ap, sym, subst, ◌∙◌, arith, rules}
+use Rattle.std.proofs.Common.{◌≡◌, suc, ◌+◌, ◌<◌, Some, drop, length, map, slice_get, refl, ap, sym, subst, ◌∙◌, arith, rules}
 use Rattle.std.proofs.lemmas.Grind.{common_steps}
 use Rattle.std.proofs.lemmas.List.{length-map, length-set}
 use Rattle.std.proofs.lemmas.Option.{slice_get-get_or}
@@ -7,6 +7,7 @@ use Rattle.scenario.specs.Limits.{depth, deepest}
 use Rattle.cursors.specs.Stock.{Within, room, stock}
 use Rattle.cursors.specs.inner.Parts.{Adds, MovesTo, holding, parts_of}
 use Rattle.scenario.specs.Rests.{IsPlaceAmong}
+use Rattle.scenario.specs.Taking.{offers_in_turn, offers_of_all}
 use Rattle.scenario.specs.Tree as tree
 use Rattle.scenario.specs.Tree.{plain, plain_all}
 use Rattle.scenario.proofs.Children.{children, plain-Any, plain-Both, plain-Seq}
@@ -14,7 +15,8 @@ use Rattle.cursors.proofs.Cursors.{parts, parts-row}
 use Rattle.scenario.proofs.Failing.{on_err-always, on_err-map, on_ok-failed, on_ok-map}
 use Rattle.scenario.proofs.Fronts.{rest-whole}
 use Rattle.cursors.proofs.Leading.{depth-deepest, moves-any, moves-both, moves-row, moves-turn, same-set}
-use Rattle.scenario.proofs.Places.{within_child, within_turn}
+use Rattle.scenario.proofs.Parting.{deeper_both, deeper_row, within_any, within_both, within_row}
+use Rattle.scenario.proofs.Places.{child_at, within_child, within_turn}
 use Rattle.cursors.proofs.Stock.{adds-one, all-bare, all-room, one-room, turn-bare, turn-room}
 use Rattle.cursors.proofs.Wholes.{map-set}
 use Rattle.cursors.proofs.part.starting.+starting.Goals as goal
@@ -24,26 +26,26 @@ start_both-start_part-requires g t c κs within =
     let offer = c.place_among-offer.result in
     let child = c.index-children-offer.result in
     let ss = c.args.children.now in
-    let at = slice_get-get_or ss offer.child child c.place_among-offer.ensures.within ∙ ap Some (sym c.index-children-offer.is) in
+    let at = child_at ss ss offer.child child refl c.place_among-offer.ensures.within c.index-children-offer.is in
     let low = depth-deepest ss offer.child child at in
     let inside = within_child ss c.args.at offer.child offer.at child at c.place_among-offer.ensures.place in
-    grind (arith, common_steps, low, inside)
+    (omega (arith, low, c.decreases), (within.0, (within.1, (c.place_among-offer.ensures.within, inside))))
 
 pub start_row-start_part-requires : goal.start_row-start_part-requires
 start_row-start_part-requires g t c κs within =
     let offer = c.place_in_turn-offer.result in
     let child = c.index-children-offer.result in
     let ss = c.args.children.now in
-    let at = slice_get-get_or ss offer.child child c.place_in_turn-offer.ensures.within ∙ ap Some (sym c.index-children-offer.is) in
+    let at = child_at ss ss offer.child child refl c.place_in_turn-offer.ensures.within c.index-children-offer.is in
     let low = depth-deepest ss offer.child child at in
     let inside = within_turn ss c.args.at offer.child offer.at child at c.place_in_turn-offer.ensures.place in
-    grind (arith, common_steps, low, inside)
+    (omega (arith, low, c.decreases), (within.0, (within.1, (omega arith, inside))))
 
 pub start_turn-start_part-requires : goal.start_turn-start_part-requires
-start_turn-start_part-requires g t c κs within = grind (arith, common_steps)
+start_turn-start_part-requires g t c κs within = (omega (arith, c.decreases), (within.0, (within.1, (omega arith, c.requires.offer))))
 
 pub start_part-start-requires : goal.start_part-start-requires
-start_part-start-requires g t c κs within = grind (arith, common_steps)
+start_part-start-requires g t c κs within = (omega (arith, c.decreases), (within.0, (within.1, c.requires.offer)))
 
 pub start_part-index_mut-requires : goal.start_part-index_mut-requires
 start_part-index_mut-requires g t c = grind (arith, common_steps, parts, length-map)
@@ -53,12 +55,12 @@ start-start-requires g t c κs within =
     let offer = c.place_among-offer.result in
     let child = c.index.result.now in
     let ss = c.in-Any.children.items in
-    let at : slice_get ss offer.child ≡ Some child = slice_get-get_or ss offer.child child (search rules) ∙ ap Some (search rules) in
+    let at = child_at ss c.as_slice-in-Any.result.now offer.child child c.as_slice-in-Any.ensures.value c.place_among-offer.ensures.within c.index.ensures in
     let place = subst (λ us. IsPlaceAmong us c.args.at offer.child offer.at) c.as_slice-in-Any.ensures.value c.place_among-offer.ensures.place in
     let whole : depth (plain c.args.tree.now) ≡ 1 + deepest (plain_all ss) = ap depth (ap plain c.in-Any.is ∙ plain-Any c.in-Any.children) in
     let low = depth-deepest ss offer.child child at in
     let inside = within_child ss c.args.at offer.child offer.at child at place in
-    grind (arith, common_steps, whole, low, inside)
+    (omega (arith, whole, low, c.decreases), (within.0, (within.1, inside)))
 
 pub start_part-returns-clause-err : goal.start_part-returns-clause-err
 start_part-returns-clause-err g t c =
@@ -79,7 +81,7 @@ start-returns-in-Any-clause-ok g t c =
     let offer = c.place_among-offer.result in
     let child = c.index.result.now in
     let ss = c.in-Any.children.items in
-    let at : slice_get ss offer.child ≡ Some child = slice_get-get_or ss offer.child child (search rules) ∙ ap Some (search rules) in
+    let at = child_at ss c.as_slice-in-Any.result.now offer.child child c.as_slice-in-Any.ensures.value c.place_among-offer.ensures.within c.index.ensures in
     let place = subst (λ us. IsPlaceAmong us c.args.at offer.child offer.at) c.as_slice-in-Any.ensures.value c.place_among-offer.ensures.place in
     let whole = ap plain c.in-Any.is ∙ plain-Any c.in-Any.children in
     on_ok-map c.start.result _ _
@@ -104,7 +106,7 @@ start_row-returns-clause-ok g t c =
     let offer = c.place_in_turn-offer.result in
     let child = c.index-children-offer.result in
     let ss = c.args.children.now in
-    let at = slice_get-get_or ss offer.child child c.place_in_turn-offer.ensures.within ∙ ap Some (sym c.index-children-offer.is) in
+    let at = child_at ss ss offer.child child refl c.place_in_turn-offer.ensures.within c.index-children-offer.is in
     let b = c.in_ok-start_part.ensures.ok in
     let now : progress c.move_to.new.self ≡ InSeq (first_part (parts_of c.start_part.new.part)) (plain_all (drop (offer.child + 1) ss)) =
     c.move_to.ensures.place ∙ ap (λ us. InSeq (first_part (parts_of c.start_part.new.part)) (plain_all us)) (rest-whole ss (offer.child + 1)) in
@@ -120,7 +122,7 @@ start_both-returns-clause-ok g t c =
     let offer = c.place_among-offer.result in
     let child = c.index-children-offer.result in
     let ss = c.args.children.now in
-    let at = slice_get-get_or ss offer.child child c.place_among-offer.ensures.within ∙ ap Some (sym c.index-children-offer.is) in
+    let at = child_at ss ss offer.child child refl c.place_among-offer.ensures.within c.index-children-offer.is in
     let b = c.in_ok-start_part.ensures.ok in
     rw c.move_to.ensures.place (moves-both ss c.args.at offer.child offer.at child b.0 (parts_of c.start_part.new.part)
     (parts_of c.keep_others.new.part) at b.1 c.place_among-offer.ensures.place b.2 c.keep_others.ensures.whole)
@@ -153,16 +155,28 @@ pub start-returns-in-Both-clause-err : goal.start-returns-in-Both-clause-err
 start-returns-in-Both-clause-err g t c = c.start_both.ensures.err
 
 pub start-place_among-offer-requires : goal.start-place_among-offer-requires
-start-place_among-offer-requires g t c = grind (arith, common_steps, children)
+start-place_among-offer-requires g t c =
+    let inside = within_any c.args.tree.now c.in-Any.children c.in-Any.children c.args.at c.in-Any.is refl c.requires in
+    subst (λ us. c.args.at < length (offers_of_all (plain_all us))) (sym c.as_slice-in-Any.ensures.value) inside
 
 pub start-start_row-requires : goal.start-start_row-requires
-start-start_row-requires g t c κs within = grind (arith, common_steps, children)
+start-start_row-requires g t c κs within =
+    let same = sym c.as_slice.ensures.value in
+    let whole = deeper_row c.args.tree.now c.in-Seq.children c.in-Seq.children c.in-Seq.is refl in
+    let low = whole ∙ ap (λ us. suc (deepest (plain_all us))) same in
+    let inside = within_row c.args.tree.now c.in-Seq.children c.in-Seq.children c.args.at c.in-Seq.is refl c.requires in
+    (omega (arith, low, c.decreases), (within.0, (within.1, subst (λ us. c.args.at < length (offers_in_turn (plain_all us))) same inside)))
 
 pub start-start_turn-requires : goal.start-start_turn-requires
 start-start_turn-requires g t c κs within = grind (arith, common_steps, children)
 
 pub start-start_both-requires : goal.start-start_both-requires
-start-start_both-requires g t c κs within = grind (arith, common_steps, children)
+start-start_both-requires g t c κs within =
+    let same = sym c.as_slice-in-Both.ensures.value in
+    let whole = deeper_both c.args.tree.now c.in-Both.children c.in-Both.children c.in-Both.is refl in
+    let low = whole ∙ ap (λ us. suc (deepest (plain_all us))) same in
+    let inside = within_both c.args.tree.now c.in-Both.children c.in-Both.children c.args.at c.in-Both.is refl c.requires in
+    (omega (arith, low, c.decreases), (within.0, (within.1, subst (λ us. c.args.at < length (offers_of_all (plain_all us))) same inside)))
 
 pub start_both-returns-in_err-start_part-clause-ok : goal.start_both-returns-in_err-start_part-clause-ok
 start_both-returns-in_err-start_part-clause-ok g t c = on_ok-failed _ _ c.from_residual.ensures.0
@@ -254,7 +268,7 @@ start-returns-in-Any-clause-held g t c most was wanted =
     let offer = c.place_among-offer.result in
     let child = c.index.result.now in
     let ss = c.in-Any.children.items in
-    let at : slice_get ss offer.child ≡ Some child = slice_get-get_or ss offer.child child (search rules) ∙ ap Some (search rules) in
+    let at = child_at ss c.as_slice-in-Any.result.now offer.child child c.as_slice-in-Any.ensures.value c.place_among-offer.ensures.within c.index.ensures in
     let whole = ap plain c.in-Any.is ∙ plain-Any c.in-Any.children in
     c.start.ensures.held most was (one-room ss offer.child child most at (subst (λ u. Within (room u) most) whole wanted))
 
@@ -268,7 +282,7 @@ start_both-returns-in_err-start_part-clause-held g t c most was wanted =
     let offer = c.place_among-offer.result in
     let child = c.index-children-offer.result in
     let ss = c.args.children.now in
-    let at = slice_get-get_or ss offer.child child c.place_among-offer.ensures.within ∙ ap Some (sym c.index-children-offer.is) in
+    let at = child_at ss ss offer.child child refl c.place_among-offer.ensures.within c.index-children-offer.is in
     c.start_part.ensures.held most was (all-bare ss most wanted) (all-room ss offer.child child most at wanted)
 
 pub start_both-returns-clause-held : goal.start_both-returns-clause-held
@@ -276,7 +290,7 @@ start_both-returns-clause-held g t c most was wanted =
     let offer = c.place_among-offer.result in
     let child = c.index-children-offer.result in
     let ss = c.args.children.now in
-    let at = slice_get-get_or ss offer.child child c.place_among-offer.ensures.within ∙ ap Some (sym c.index-children-offer.is) in
+    let at = child_at ss ss offer.child child refl c.place_among-offer.ensures.within c.index-children-offer.is in
     rw (c.move_to.ensures.held ∙ c.keep_others.ensures.held) (c.start_part.ensures.held most was (all-bare ss most wanted) (all-room ss offer.child child most at wanted))
 
 pub start_row-returns-in_err-start_part-clause-held : goal.start_row-returns-in_err-start_part-clause-held
@@ -284,7 +298,7 @@ start_row-returns-in_err-start_part-clause-held g t c most was wanted =
     let offer = c.place_in_turn-offer.result in
     let child = c.index-children-offer.result in
     let ss = c.args.children.now in
-    let at = slice_get-get_or ss offer.child child c.place_in_turn-offer.ensures.within ∙ ap Some (sym c.index-children-offer.is) in
+    let at = child_at ss ss offer.child child refl c.place_in_turn-offer.ensures.within c.index-children-offer.is in
     c.start_part.ensures.held most was (turn-bare ss offer.child most c.place_in_turn-offer.ensures.within wanted) (turn-room ss offer.child child most at wanted)
 
 pub start_row-returns-clause-held : goal.start_row-returns-clause-held
@@ -292,7 +306,7 @@ start_row-returns-clause-held g t c most was wanted =
     let offer = c.place_in_turn-offer.result in
     let child = c.index-children-offer.result in
     let ss = c.args.children.now in
-    let at = slice_get-get_or ss offer.child child c.place_in_turn-offer.ensures.within ∙ ap Some (sym c.index-children-offer.is) in
+    let at = child_at ss ss offer.child child refl c.place_in_turn-offer.ensures.within c.index-children-offer.is in
     rw c.move_to.ensures.held (c.start_part.ensures.held most was (turn-bare ss offer.child most c.place_in_turn-offer.ensures.within wanted) (turn-room ss offer.child child most at wanted))
 
 pub start_part-returns-clause-held : goal.start_part-returns-clause-held
