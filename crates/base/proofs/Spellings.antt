@@ -19,7 +19,7 @@ use Rattle.base.specs.declared.step.Outcome.TheVariants as outcome
 use Rattle.base.specs.inner.Behind.{kind_word, words_behind, IsNoKindFirst, IsNoNumberFirst, IsNoStepFirst}
 use Rattle.base.specs.declared.text.steps.Kind.{Kind}
 use Rattle.base.specs.declared.text.steps.Kind.TheVariants as kind
-use Rattle.base.proofs.Fronts.{spelled}
+use Rattle.words.proofs.Fronts.{spelled}
 use Rattle.base.specs.Spelling.{words, outcome_words, IsNoOutcome, IsNoOutcomeWord, IsOutcomeWord, IsOutcomeLine, ask_words, step_words, FitsAsk, FitsStep}
 
 same_cache : (c d : CacheId) → c.0 < 2 ^ 32 → d.0 < 2 ^ 32 → decimal c.0 ≡ decimal d.0 → c ≡ d

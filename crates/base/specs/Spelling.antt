@@ -1,6 +1,7 @@
-use Rattle.std.specs.Prelude.{◌≡◌, ◌≢◌, ℕ, ◌<◌, ◌^◌, ⊤, Bool, ◌&&◌, leb, ltb, List, [], ◌∷◌, ◌++◌, Option, Some, None, codes, ◌==◌, length}
+pub use Rattle.words.specs.Words.{words, spaced, joined, IsSpelled, IsNoPair}
+use Rattle.std.specs.Prelude.{◌≡◌, ◌≢◌, ℕ, ◌<◌, ◌^◌, ⊤, Bool, ◌&&◌, leb, ltb, List, [], ◌∷◌, ◌++◌, Option, Some, None, codes, length}
 use Rattle.std.specs.Prelude.{if◌then◌else◌, option_and_then}
-use Rattle.std.specs.List.{find, flat_map, list_all, slice_split}
+use Rattle.std.specs.List.{find, list_all}
 use Rattle.std.specs.Str.{bytes_eq}
 use Rattle.std.specs.Fmt.{decimal}
 use Rattle.base.specs.declared.step.Ask.{Ask}
@@ -11,19 +12,6 @@ use Rattle.base.specs.declared.step.Step.TheVariants as step
 use Rattle.base.specs.declared.step.Outcome.{Outcome}
 use Rattle.base.specs.declared.step.Outcome.TheVariants.{Sent, Moved, Held, Absent, Idle, Blank, Broken}
 use Rattle.base.specs.declared.step.Outcome.TheVariants as outcome
-
--- the words of a line, which stand between its blanks
-abbrev pub words : List ℕ → List (List ℕ)
-words line = slice_split (λ b. b == 32) line
-
--- words with a blank before each
-abbrev pub spaced : List (List ℕ) → List ℕ
-spaced words = flat_map (λ word. 32 ∷ word) words
-
--- words with a blank between two, and none at the ends
-abbrev pub joined : List (List ℕ) → List ℕ
-joined [] = []
-joined (word ∷ words) = word ++ spaced words
 
 -- the first of these things that is spelled so, if there is one
 abbrev pub named_in : {X : Type 0} → (X → List ℕ) → List X → List ℕ → Option X
@@ -95,10 +83,6 @@ FitsOutcome Idle = ⊤
 FitsOutcome Blank = ⊤
 FitsOutcome Broken = ⊤
 
--- the line has these words
-abbrev pub IsSpelled : List ℕ → List (List ℕ) → Type 0
-IsSpelled line parts = words line ≡ parts
-
 -- the line is the text of the step
 abbrev pub IsStepLine : List ℕ → Step → Type 0
 IsStepLine line s = IsSpelled line (step_words s)
@@ -114,10 +98,6 @@ IsOutcomeLine line o = IsSpelled line (outcome_words o)
 -- the line is the text of no outcome
 abbrev pub IsNoOutcome : List ℕ → Type 0
 IsNoOutcome line = (o : Outcome) → FitsOutcome o → words line ≢ outcome_words o
-
--- the line isn't a number below 2 ^ first and a number below 2 ^ second
-abbrev pub IsNoPair : ℕ → ℕ → List ℕ → Type 0
-IsNoPair first second line = (a b : ℕ) → a < 2 ^ first → b < 2 ^ second → words line ≢ decimal a ∷ decimal b ∷ []
 
 -- the line isn't what a core asks
 abbrev pub IsNoAsk : List ℕ → Type 0

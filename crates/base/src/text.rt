@@ -4,7 +4,6 @@ mod ahead;
 mod outcomes;
 mod short;
 mod steps;
-mod words;
 
 pub use short::Text;
 pub use steps::spells_one_step;

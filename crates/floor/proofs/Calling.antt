@@ -2,7 +2,7 @@
 use Rattle.std.proofs.Common.{◌≡◌, ◌≤◌, ℕ, List, [], Option, length, subst}
 use Rattle.atomic_table.specs.Table.{Me}
 use Rattle.monitor.specs.declared.violation.Violation.{Violation}
-use Rattle.record.specs.declared.recording.Entry.{Entry}
+use Rattle.record_lines.specs.declared.entry.Entry.{Entry}
 use Rattle.record.specs.View.{RecordingView}
 use Rattle.world.specs.View.{View}
 use Rattle.floor.specs.declared.tokens.TokenView.{TokenView}

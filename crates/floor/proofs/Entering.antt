@@ -15,7 +15,7 @@ use Rattle.monitor.specs.Scenes.{Answers}
 use Rattle.monitor.specs.Violations.{AnswersFirst}
 use Rattle.monitor.specs.Watching.{HasSeen, LeadTo, AnswersHistory, SeesNext, AreDue, made_after, scene_after}
 use Rattle.monitor.proofs.FirstViolations.{first_seen, first-push}
-use Rattle.record.specs.declared.recording.Entry.{Entry}
+use Rattle.record_lines.specs.declared.entry.Entry.{Entry}
 use Rattle.record.specs.View.{RecordingView, opened_of, steps_of, with_owned}
 use Rattle.trials.specs.Terms.{Terms}
 use Rattle.floor.specs.FloorId.{FloorId}

@@ -1,7 +1,7 @@
 -- What a call at a floor tells of the moment at which it was made.
 use Rattle.std.specs.Prelude.{◌≡◌, ◌≤◌, ℕ, List, [], false, true, length}
 use Rattle.base.specs.declared.step.Step.{Step}
-use Rattle.record.specs.declared.recording.Entry.{Entry}
+use Rattle.record_lines.specs.declared.entry.Entry.{Entry}
 use Rattle.record.specs.View.{IsLegal}
 use Rattle.floor.specs.FloorId.{FloorId}
 use Rattle.floor.specs.Turning.{SeatView, Draws, Follows, is_its, its_ready, recorded}

@@ -1,6 +1,6 @@
 -- What a closed floor's entries, owners and seats are to one another.
 use Rattle.std.specs.Prelude.{◌≡◌, ◌≢◌, ◌<◌, ℕ, List, Some, true, All, length, slice_get, take}
-use Rattle.record.specs.declared.recording.Entry.{Entry}
+use Rattle.record_lines.specs.declared.entry.Entry.{Entry}
 use Rattle.floor.specs.FloorId.{FloorId}
 use Rattle.floor.specs.Turning.{SeatView, is_its}
 use Rattle.floor.specs.Histories.{history}

@@ -1,6 +1,6 @@
 -- What a crew gives back.
 use Rattle.std.specs.Prelude.{◌≡◌, ℕ, List, [], ◌∷◌, ◌++◌}
-use Rattle.record.specs.declared.recording.Entry.{Entry}
+use Rattle.record_lines.specs.declared.entry.Entry.{Entry}
 use Rattle.floor.specs.Turning.{SeatView}
 
 -- the same seat later on, with its old receipts first

@@ -1,6 +1,6 @@
 -- The history of a seat: which entries it owns.
 use Rattle.std.specs.Prelude.{◌+◌, ◌==◌, ℕ, List, [], ◌∷◌, if◌then◌else◌}
-use Rattle.record.specs.declared.recording.Entry.{Entry}
+use Rattle.record_lines.specs.declared.entry.Entry.{Entry}
 
 -- the entries that a seat owns, each with its number, where the first has this number
 abbrev pub owned_from : ℕ → ℕ → List Entry → List ℕ → List (ℕ × Entry)

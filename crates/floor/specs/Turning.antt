@@ -4,7 +4,7 @@ use Rattle.base.specs.declared.step.Step.{Step}
 use Rattle.machine.specs.Machine.{State, next, opened, state_after}
 use Rattle.monitor.specs.declared.violation.Violation.{Violation}
 use Rattle.monitor.specs.Violations.{AnswersFirst}
-use Rattle.record.specs.declared.recording.Entry.{Entry}
+use Rattle.record_lines.specs.declared.entry.Entry.{Entry}
 use Rattle.record.specs.View.{RecordingView, steps_of}
 use Rattle.trials.specs.Terms.{Terms}
 use Rattle.floor.specs.Belonging.{belongs, ready_for}

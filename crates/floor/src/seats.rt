@@ -15,7 +15,7 @@ pub struct Receipt<F: Naming> {
 
 impl<F: Naming> Model for Receipt<F> {
     ghost use Rattle.std.specs.Prelude.{ℕ};
-    ghost use Rattle.record.specs.declared.recording.Entry.{Entry};
+    ghost use Rattle.record_lines.specs.declared.entry.Entry.{Entry};
 
     ghost Value = { ℕ × Entry };
 

@@ -3,22 +3,22 @@ use Rattle.std.proofs.Common.{◌≡◌, ◌+◌, ◌-◌, ◌<◌, ℕ, zero, s
 use Rattle.std.proofs.Common.{arith, length-append}
 use Rattle.std.specs.Prelude.{Option, Ok}
 use Rattle.base.specs.Spelling.{words, joined}
-use Rattle.record.specs.declared.due.Due.{Due}
-use Rattle.record.specs.declared.due.Due.TheVariants.{EntryLine}
-use Rattle.record.specs.declared.due.Form.{Form}
+use Rattle.record_lines.specs.declared.due.Due.{Due}
+use Rattle.record_lines.specs.declared.due.Due.TheVariants.{EntryLine}
+use Rattle.record_lines.specs.declared.due.Form.{Form}
 use Rattle.record.specs.declared.draft.Draft.{Draft}
 use Rattle.record.specs.declared.reader.Reader.{Reader}
-use Rattle.record.specs.declared.recording.Entry.{Entry}
-use Rattle.record.specs.declared.told.Told.{Told}
-use Rattle.record.specs.Grammar.{entries_due, FitsEntry}
+use Rattle.record_lines.specs.declared.entry.Entry.{Entry}
+use Rattle.record_lines.specs.declared.told.Told.{Told}
+use Rattle.record_lines.specs.Grammar.{entries_due, FitsEntry}
 use Rattle.record.specs.Text.{entry_words, told_words}
 use Rattle.record.specs.View.{owner_list, with_owned, RecordingView}
 use Rattle.record.specs.inner.Drafts.{lines_left, recorded, Kept, HasRead, HasRoom, HasTakenLine}
 use Rattle.record.specs.inner.Readers.{IsReady, StillReads}
-use Rattle.record.specs.inner.Reading.{pending, IsEntryTakenOff}
+use Rattle.record_lines.specs.Reading.{pending, IsEntryTakenOff}
 use Rattle.record.proofs.Drafting.{entry-taken}
-use Rattle.record.proofs.Leading.{entry-line}
-use Rattle.record.proofs.Legible.{words-joined}
+use Rattle.record_lines.proofs.Leading.{entry-line}
+use Rattle.record_lines.proofs.Legible.{words-joined}
 use Rattle.record.proofs.Steps.{fewer-left, none-pulled, pulled-gathered, then-gathered, then-taken}
 use Rattle.record.proofs.Telling.{taken-entry}
 

@@ -5,7 +5,7 @@ use Rattle.std.specs.List.{flat_map}
 use Rattle.std.proofs.lemmas.List.{take_more}
 use Rattle.both_tables.specs.Tables.{Tables}
 use Rattle.both_tables.specs.declared.cell_places.CellPlace.{CellPlace}
-use Rattle.record.specs.Cells.{cell_at, cell_words}
+use Rattle.record_lines.specs.Cells.{cell_at, cell_words}
 use Rattle.record.specs.Text.{line, is_changed, changed}
 use Rattle.record.specs.inner.Pieces.{cell_piece}
 

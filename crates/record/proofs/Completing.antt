@@ -22,29 +22,29 @@ use Rattle.both_tables.specs.Tables.{Tables, baseline_of}
 use Rattle.both_tables.specs.declared.cell_places.CellPlace.{CellPlace}
 use Rattle.both_tables.specs.declared.cell_places.CellPlace.TheVariants as place
 use Rattle.both_tables.proofs.CellPlaces.{at-own}
-use Rattle.record.specs.declared.cells.Cell.{Cell}
-use Rattle.record.specs.declared.cells.Cell.TheVariants as cell
-use Rattle.record.specs.declared.recording.Entry.{Entry}
-use Rattle.record.specs.Cells.{cell_at, cell_words, is_known, place_of, FitsCell}
+use Rattle.record_lines.specs.declared.cells.Cell.{Cell}
+use Rattle.record_lines.specs.declared.cells.Cell.TheVariants as cell
+use Rattle.record_lines.specs.declared.entry.Entry.{Entry}
+use Rattle.record_lines.specs.Cells.{cell_at, cell_words, is_known, place_of, FitsCell}
 use Rattle.record.specs.View.{RecordingView}
 use Rattle.record.specs.Text.{text, line, header_words, shape_words, opening_words, cells_words, entries_words, told, told_words, end_words, changed}
 use Rattle.record.specs.Text.{changed_cells}
 use Rattle.base.specs.Extent.{Extent}
 use Rattle.base.specs.declared.controller.protocol.Protocol.{Protocol}
 use Rattle.base.specs.declared.controller.protocol.Protocol.TheVariants.{Msi}
-use Rattle.record.specs.declared.due.Due.{Due}
-use Rattle.record.specs.declared.due.Form.{Form}
-use Rattle.record.specs.declared.told.Told.{Told}
-use Rattle.record.specs.declared.version.Version.{Version}
-use Rattle.record.specs.declared.version.Version.TheVariants.{One, Two}
+use Rattle.record_lines.specs.declared.due.Due.{Due}
+use Rattle.record_lines.specs.declared.due.Form.{Form}
+use Rattle.record_lines.specs.declared.told.Told.{Told}
+use Rattle.record_lines.specs.declared.version.Version.{Version}
+use Rattle.record_lines.specs.declared.version.Version.TheVariants.{One, Two}
 use Rattle.record.specs.Versions.{form, header_leads, protocol_lines, protocol_words, seats_lines, seats_words, CanTell, HasTextIn, IsShapeIn}
 use Rattle.record.proofs.Owners.{are-owners, entries-fit, entries_of, owners_of, told-of}
-use Rattle.record.specs.declared.due.Due.TheVariants.{Header, ProtocolLine, ShapeLine, SeatsLine, OpeningLine, CellCount, CellLine, EntryCount}
-use Rattle.record.specs.declared.due.Due.TheVariants.{EntryLine, EndLine, Nothing}
-use Rattle.record.specs.Grammar.{cells_due}
-use Rattle.record.specs.Grammar.{entries_due, AreValues, FitsEntry, FitsTold, Leads, Follow}
+use Rattle.record_lines.specs.declared.due.Due.TheVariants.{Header, ProtocolLine, ShapeLine, SeatsLine, OpeningLine, CellCount, CellLine, EntryCount}
+use Rattle.record_lines.specs.declared.due.Due.TheVariants.{EntryLine, EndLine, Nothing}
+use Rattle.record_lines.specs.Grammar.{cells_due}
+use Rattle.record_lines.specs.Grammar.{entries_due, AreValues, FitsEntry, FitsTold, Leads, Follow}
 use Rattle.record.specs.Recordable.{AreWhole, IsRecordable}
-use Rattle.record.specs.Refused.{ended, IsWellFormed}
+use Rattle.record_lines.specs.Refused.{ended, IsWellFormed}
 use Rattle.record.specs.inner.Drafts.{IsBaselineFrom}
 use Rattle.record.proofs.Following.{AreListed}
 use Rattle.record.proofs.Listed.{ended-line, listed-all, listed-more, plain-more}

@@ -7,23 +7,23 @@ use Rattle.std.proofs.lemmas.List.{length_push, map-append}
 use Rattle.std.proofs.lemmas.List.Elements.{All-push}
 use Rattle.base.specs.Extent.{Extent, IsWithinLimits}
 use Rattle.base.specs.declared.controller.protocol.Protocol.{Protocol}
-use Rattle.record.specs.declared.due.Form.{Form}
-use Rattle.record.specs.declared.told.Told.{Told}
-use Rattle.record.specs.declared.version.Version.{Version}
-use Rattle.record.specs.declared.version.Version.TheVariants.{One, Two}
+use Rattle.record_lines.specs.declared.due.Form.{Form}
+use Rattle.record_lines.specs.declared.told.Told.{Told}
+use Rattle.record_lines.specs.declared.version.Version.{Version}
+use Rattle.record_lines.specs.declared.version.Version.TheVariants.{One, Two}
 use Rattle.record.specs.Versions.{form, shape_leads_in, protocol_lines, protocol_words, seats_lines, CanTell, IsShapeIn}
 use Rattle.record.proofs.Owners.{more-owners, told-more}
 use Rattle.both_tables.specs.CellPlaces.{place_number}
 use Rattle.both_tables.specs.Tables.{Tables, baseline_of}
 use Rattle.both_tables.specs.declared.cell_places.CellPlace.{CellPlace}
 use Rattle.both_tables.proofs.CellPlaces.{at-own}
-use Rattle.record.specs.declared.cells.Cell.{Cell}
-use Rattle.record.specs.declared.due.Due.{Due}
-use Rattle.record.specs.declared.due.Due.TheVariants.{ProtocolLine, ShapeLine, SeatsLine, OpeningLine, CellCount, CellLine, EntryLine}
-use Rattle.record.specs.declared.due.Due.TheVariants.{EndLine}
-use Rattle.record.specs.declared.recording.Entry.{Entry}
-use Rattle.record.specs.Cells.{cell_at, cell_words, place_of}
-use Rattle.record.specs.Grammar.{cells_due, entries_due, AreValues, FitsEntry, FitsTold, IsListed, IsOwner, Leads}
+use Rattle.record_lines.specs.declared.cells.Cell.{Cell}
+use Rattle.record_lines.specs.declared.due.Due.{Due}
+use Rattle.record_lines.specs.declared.due.Due.TheVariants.{ProtocolLine, ShapeLine, SeatsLine, OpeningLine, CellCount, CellLine, EntryLine}
+use Rattle.record_lines.specs.declared.due.Due.TheVariants.{EndLine}
+use Rattle.record_lines.specs.declared.entry.Entry.{Entry}
+use Rattle.record_lines.specs.Cells.{cell_at, cell_words, place_of}
+use Rattle.record_lines.specs.Grammar.{cells_due, entries_due, AreValues, FitsEntry, FitsTold, IsListed, IsOwner, Leads}
 use Rattle.record.specs.View.{owner_list, AreOwners}
 use Rattle.record.specs.Recordable.{AreWhole}
 use Rattle.record.specs.Text.{head_lines, header_words, shape_words, changed_cells, cells_words, entries_words, told, told_words}

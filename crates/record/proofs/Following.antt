@@ -10,8 +10,8 @@ use Rattle.both_tables.specs.Tables.{Tables, baseline_of}
 use Rattle.both_tables.specs.declared.cell_places.CellPlace.{CellPlace}
 use Rattle.both_tables.specs.declared.cell_places.CellPlace.TheVariants as place
 use Rattle.both_tables.proofs.CellPlaces.{numbers}
-use Rattle.record.specs.declared.cells.Cell.{Cell}
-use Rattle.record.specs.Cells.{cell_at, cell_words, is_known, is_same, most_cells, place_of}
+use Rattle.record_lines.specs.declared.cells.Cell.{Cell}
+use Rattle.record_lines.specs.Cells.{cell_at, cell_words, is_known, is_same, most_cells, place_of}
 use Rattle.record.specs.View.{RecordingView}
 use Rattle.base.specs.Spelling.{joined}
 use Rattle.record.specs.Text.{text, lines, header_words, shape_words, opening_words, cells_words, entries_words, told, told_words, end_words}
@@ -19,23 +19,23 @@ use Rattle.record.specs.Text.{is_changed, changed, changed_cells}
 use Rattle.base.specs.Extent.{Extent}
 use Rattle.base.specs.declared.controller.protocol.Protocol.{Protocol}
 use Rattle.base.specs.declared.controller.protocol.Protocol.TheVariants.{Msi, MsiE}
-use Rattle.record.specs.declared.due.Due.{Due}
-use Rattle.record.specs.declared.due.Form.{Form}
-use Rattle.record.specs.declared.told.Told.{Told}
-use Rattle.record.specs.declared.version.Version.{Version}
-use Rattle.record.specs.declared.version.Version.TheVariants.{One, Two}
+use Rattle.record_lines.specs.declared.due.Due.{Due}
+use Rattle.record_lines.specs.declared.due.Form.{Form}
+use Rattle.record_lines.specs.declared.told.Told.{Told}
+use Rattle.record_lines.specs.declared.version.Version.{Version}
+use Rattle.record_lines.specs.declared.version.Version.TheVariants.{One, Two}
 use Rattle.record.specs.Versions.{form, header_leads, shape_leads_in, most_bytes, protocol_lines, seats_lines, HasTextIn}
 use Rattle.record.proofs.Owners.{told-fit, told-length}
-use Rattle.record.specs.declared.due.Due.TheVariants.{Header, ProtocolLine, ShapeLine, SeatsLine, OpeningLine, CellCount, CellLine, EntryCount}
-use Rattle.record.specs.declared.due.Due.TheVariants.{EntryLine, EndLine, Nothing}
-use Rattle.record.specs.Grammar.{cells_due, entries_due, IsListed, FitsEntry, FitsTold}
-use Rattle.record.specs.Grammar.{Leads, Follow}
-use Rattle.record.specs.Refused.{ended, limit, AreShort, IsWellFormed}
+use Rattle.record_lines.specs.declared.due.Due.TheVariants.{Header, ProtocolLine, ShapeLine, SeatsLine, OpeningLine, CellCount, CellLine, EntryCount}
+use Rattle.record_lines.specs.declared.due.Due.TheVariants.{EntryLine, EndLine, Nothing}
+use Rattle.record_lines.specs.Grammar.{cells_due, entries_due, IsListed, FitsEntry, FitsTold}
+use Rattle.record_lines.specs.Grammar.{Leads, Follow}
+use Rattle.record_lines.specs.Refused.{ended, limit, AreShort, IsWellFormed}
 use Rattle.record.specs.Recordable.{AreWhole, IsRecordable}
 use Rattle.record.proofs.Changed.{changed-cons}
-use Rattle.record.proofs.Legible.{IsLine, words-joined}
-use Rattle.record.proofs.Leading.{IsDue, leads-line, leads-due, leads-short}
-use Rattle.record.proofs.Listed.{few-most, same-self}
+use Rattle.record_lines.proofs.Legible.{IsLine, words-joined}
+use Rattle.record_lines.proofs.Leading.{IsDue, few-most, leads-line, leads-due, leads-short}
+use Rattle.record.proofs.Listed.{same-self}
 use Rattle.record.proofs.Standing.{known-at, IsKnownAt}
 use Rattle.record.proofs.Whole.{flat_map-map}
 

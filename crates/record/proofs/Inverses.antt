@@ -16,32 +16,32 @@ use Rattle.both_tables.specs.CellPlaces.{all_places, place_number}
 use Rattle.both_tables.specs.Tables.{Tables, baseline_of}
 use Rattle.both_tables.specs.declared.cell_places.CellPlace.{CellPlace}
 use Rattle.both_tables.proofs.CellPlaces.{numbers, some_place, at-own}
-use Rattle.record.specs.declared.cells.Cell.{Cell}
-use Rattle.record.specs.declared.recording.Entry.{Entry}
-use Rattle.record.specs.Cells.{cell_at, cell_words}
+use Rattle.record_lines.specs.declared.cells.Cell.{Cell}
+use Rattle.record_lines.specs.declared.entry.Entry.{Entry}
+use Rattle.record_lines.specs.Cells.{cell_at, cell_words}
 use Rattle.record.specs.View.{RecordingView}
 use Rattle.base.specs.Spelling.{joined}
 use Rattle.record.specs.Text.{text, line, lines, shape_words, opening_words, cells_words, entries_words, entry_words, told, told_words, end_words, is_changed}
 use Rattle.record.specs.Text.{changed, changed_cells}
-use Rattle.record.specs.declared.due.Due.TheVariants.{Header}
-use Rattle.record.specs.declared.told.Told.{Told}
-use Rattle.record.specs.declared.version.Version.{Version}
-use Rattle.record.specs.declared.version.Version.TheVariants.{One, Two}
+use Rattle.record_lines.specs.declared.due.Due.TheVariants.{Header}
+use Rattle.record_lines.specs.declared.told.Told.{Told}
+use Rattle.record_lines.specs.declared.version.Version.{Version}
+use Rattle.record_lines.specs.declared.version.Version.TheVariants.{One, Two}
 use Rattle.record.specs.Versions.{HasTextIn}
 use Rattle.record.proofs.Owners.{entries-told, entries_of, owners-told, owners_of, tell, told-fit, told-length}
-use Rattle.record.specs.Grammar.{FitsEntry, FitsTold}
-use Rattle.record.specs.declared.fault.ReadKind.{ReadKind}
-use Rattle.record.specs.Refused.{IsOutside, IsRefused}
+use Rattle.record_lines.specs.Grammar.{FitsEntry, FitsTold}
+use Rattle.record_lines.specs.declared.fault.ReadKind.{ReadKind}
+use Rattle.record_lines.specs.Refused.{IsOutside, IsRefused}
 use Rattle.std.specs.Io.KnownBytes.{Consumes}
 use Rattle.record.specs.Recordable.{AreWhole, IsRecordable}
-use Rattle.record.proofs.Alike.{cell-same, unchanged}
+use Rattle.record_lines.proofs.Alike.{cell-same, unchanged}
 use Rattle.record.proofs.Changed.{changed-cons}
-use Rattle.record.proofs.Legible.{IsLine, joined-open, words-joined}
-use Rattle.record.proofs.Ending.{some-line, one-line_first}
-use Rattle.record.proofs.Leading.{count-same, protocol-same, shape-same, version-same}
-use Rattle.record.proofs.Faulting.{by-same, same-halves}
+use Rattle.record_lines.proofs.Legible.{IsLine, joined-open, words-joined}
+use Rattle.record_lines.proofs.Ending.{some-line, one-line_first}
+use Rattle.record_lines.proofs.Leading.{count-same, protocol-same, shape-same, version-same}
+use Rattle.record_lines.proofs.Faulting.{by-same, same-halves}
 use Rattle.record.proofs.Following.{AreListed, place-own, listed-from, few-listed, recorded-lines, text-whole}
-use Rattle.record.proofs.Refusals.{whole-alone, whole-refused}
+use Rattle.record_lines.proofs.Refusals.{whole-alone, whole-refused}
 use Rattle.record.proofs.Tabled.{tables-same}
 
 -- ---- lines

@@ -3,8 +3,6 @@ use Rattle.std.proofs.Common.{◌≡◌, ◌≢◌, ℕ, zero, suc, ◌+◌, ◌
 use Rattle.std.proofs.lemmas.List.{take_more, append-nil}
 use Rattle.base.proofs.Same.{entry-self}
 use Rattle.base.specs.Spelling.{words}
-use Rattle.base.specs.declared.controller.protocol.Protocol.{Protocol}
-use Rattle.base.specs.declared.controller.protocol.Protocol.TheVariants.{Msi, MsiE}
 use Rattle.cache_table.specs.Names.{action_number}
 use Rattle.cache_table.specs.Table as cache_table
 use Rattle.directory_table.specs.Names as directory_names
@@ -13,27 +11,20 @@ use Rattle.both_tables.specs.CellPlaces.{all_places, place_number}
 use Rattle.both_tables.specs.Tables.{Tables, baseline_of}
 use Rattle.both_tables.specs.declared.cell_places.CellPlace.{CellPlace}
 use Rattle.both_tables.proofs.CellPlaces.{some_place, place_at, at-own, number-at}
-use Rattle.record.specs.declared.cells.Cell.{Cell}
-use Rattle.record.specs.declared.cells.Cell.TheVariants as cell
-use Rattle.record.specs.Cells.{cell_at, is_same, most_cells, place_of}
+use Rattle.record_lines.specs.declared.cells.Cell.{Cell}
+use Rattle.record_lines.specs.declared.cells.Cell.TheVariants as cell
+use Rattle.record_lines.specs.Cells.{cell_at, is_same, place_of}
 use Rattle.record.specs.Text.{changed, changed_cells, is_changed, line}
-use Rattle.record.specs.Grammar.{IsListed}
-use Rattle.record.specs.Refused.{ended}
+use Rattle.record_lines.specs.Grammar.{IsListed}
+use Rattle.record_lines.specs.Refused.{ended}
 use Rattle.record.specs.inner.Drafts.{IsBaselineFrom}
 use Rattle.record.proofs.Changed.{changed-append}
-use Rattle.record.proofs.Words.{spelled-text}
+use Rattle.record_lines.proofs.Words.{spelled-text}
 
 -- ---- a line of these words
 
 pub ended-line : (l : List ℕ) (ws : List (List ℕ)) → words l ≡ ws → ended l ≡ line ws
 ended-line l ws is = ap (λ x. x ++ 10 ∷ []) (spelled-text l ws is)
-
--- ---- the cells of a protocol
-
--- a protocol has no more cells than there are places
-pub few-most : (p : Protocol) → most_cells p ≤ 184
-few-most Msi = omega arith
-few-most MsiE = omega arith
 
 -- ---- the cells that differ, place by place
 

@@ -5,9 +5,9 @@ use Rattle.std.proofs.Common.{append-nil}
 use Rattle.std.specs.List.{All, AllByRecursion}
 use Rattle.std.proofs.lemmas.List.{length_push}
 use Rattle.std.proofs.lemmas.List.Elements.{All-from_recursion, All-push, recursion_from_All}
-use Rattle.record.specs.declared.recording.Entry.{Entry}
-use Rattle.record.specs.declared.told.Told.{Told}
-use Rattle.record.specs.Grammar.{IsOwner, FitsEntry, FitsTold}
+use Rattle.record_lines.specs.declared.entry.Entry.{Entry}
+use Rattle.record_lines.specs.declared.told.Told.{Told}
+use Rattle.record_lines.specs.Grammar.{IsOwner, FitsEntry, FitsTold}
 use Rattle.record.specs.Text.{told}
 use Rattle.record.specs.View.{owner_list, AreOwners}
 

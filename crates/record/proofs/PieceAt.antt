@@ -4,10 +4,10 @@ use Rattle.std.proofs.lemmas.List.{length-map, get_or_append_left, get_or-append
 use Rattle.std.proofs.Math.Seq.{get_or-append_seam}
 use Rattle.both_tables.specs.CellPlaces.{all_places}
 use Rattle.both_tables.specs.declared.cell_places.CellPlace.{CellPlace}
-use Rattle.record.specs.Grammar.{FitsEntry}
-use Rattle.record.specs.declared.recording.Entry.{Entry}
+use Rattle.record_lines.specs.Grammar.{FitsEntry}
+use Rattle.record_lines.specs.declared.entry.Entry.{Entry}
 use Rattle.std.specs.Prelude.{slice_get}
-use Rattle.record.specs.declared.told.Told.{Told}
+use Rattle.record_lines.specs.declared.told.Told.{Told}
 use Rattle.record.proofs.Owners.{tell, told-at, told-length}
 use Rattle.record.specs.View.{RecordingView}
 use Rattle.record.specs.Text.{changed_cells, told}

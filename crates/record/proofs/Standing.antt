@@ -27,10 +27,10 @@ use Rattle.both_tables.specs.Tables.{Tables, baseline_of}
 use Rattle.both_tables.specs.declared.cell_places.CellPlace.{CellPlace}
 use Rattle.both_tables.specs.declared.cell_places.CellPlace.TheVariants as place
 use Rattle.both_tables.proofs.CellPlaces.{some_place, place_at, at-own}
-use Rattle.record.specs.declared.cells.Cell.{Cell}
-use Rattle.record.specs.declared.cells.Cell.TheVariants as cell
-use Rattle.record.specs.Cells.{cell_at, is_known, place_of, FitsCell}
-use Rattle.record.specs.inner.Pieces.{IsInWhole}
+use Rattle.record_lines.specs.declared.cells.Cell.{Cell}
+use Rattle.record_lines.specs.declared.cells.Cell.TheVariants as cell
+use Rattle.record_lines.specs.Cells.{cell_at, is_known, place_of, FitsCell}
+use Rattle.record_lines.specs.Cells.{IsInWhole}
 use Rattle.record.specs.Recordable.{AreWhole}
 use Rattle.std.proofs.lemmas.Bool.{cases_eq}
 

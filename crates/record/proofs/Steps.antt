@@ -8,30 +8,30 @@ use Rattle.std.specs.List.{flat_map}
 use Rattle.std.specs.Io.KnownBytes.{Consumes, IsAtEnd, prepend_known}
 use Rattle.base.specs.Spelling.{words}
 use Rattle.both_tables.specs.CellPlaces.{place_number}
-use Rattle.record.specs.declared.due.Due.{Due}
-use Rattle.record.specs.declared.due.Due.TheVariants.{Header, ProtocolLine, ShapeLine, SeatsLine, OpeningLine, CellCount, CellLine, EntryCount}
-use Rattle.record.specs.declared.due.Due.TheVariants.{EntryLine, EndLine, Nothing}
-use Rattle.record.specs.declared.fault.ReadKind.{ReadKind}
-use Rattle.record.specs.declared.fault.ReadKind.TheVariants.{BadHeader, BadLine, Truncated, CountDiffers, BadOutcome, OverLimit, NoMemory, Device}
-use Rattle.record.specs.declared.fault.ReadKind.TheVariants.{UnknownProtocol}
+use Rattle.record_lines.specs.declared.due.Due.{Due}
+use Rattle.record_lines.specs.declared.due.Due.TheVariants.{Header, ProtocolLine, ShapeLine, SeatsLine, OpeningLine, CellCount, CellLine, EntryCount}
+use Rattle.record_lines.specs.declared.due.Due.TheVariants.{EntryLine, EndLine, Nothing}
+use Rattle.record_lines.specs.declared.fault.ReadKind.{ReadKind}
+use Rattle.record_lines.specs.declared.fault.ReadKind.TheVariants.{BadHeader, BadLine, Truncated, CountDiffers, BadOutcome, OverLimit, NoMemory, Device}
+use Rattle.record_lines.specs.declared.fault.ReadKind.TheVariants.{UnknownProtocol}
 use Rattle.base.specs.Extent.{Extent}
-use Rattle.record.specs.declared.due.Form.{Form}
-use Rattle.record.specs.declared.version.Version.{Version}
-use Rattle.record.specs.declared.version.Version.TheVariants.{One, Two}
+use Rattle.record_lines.specs.declared.due.Form.{Form}
+use Rattle.record_lines.specs.declared.version.Version.{Version}
+use Rattle.record_lines.specs.declared.version.Version.TheVariants.{One, Two}
 use Rattle.record.specs.Versions.{header_leads, shape_leads_in}
 use Rattle.record.specs.declared.reader.Reader.{Reader}
-use Rattle.record.specs.Cells.{place_of}
-use Rattle.record.specs.Grammar.{cells_due, entries_due, Leads, Follow}
-use Rattle.record.specs.Refused.{ended, limit, BeginsFaulty, HasNoEnd, IsFaultOfLine, IsUnfinished, IsFaultOfRest, IsRefused, IsWellFormed}
+use Rattle.record_lines.specs.Cells.{place_of}
+use Rattle.record_lines.specs.Grammar.{cells_due, entries_due, Leads, Follow}
+use Rattle.record_lines.specs.Refused.{ended, limit, BeginsFaulty, HasNoEnd, IsFaultOfLine, IsUnfinished, IsFaultOfRest, IsRefused, IsWellFormed}
 use Rattle.record.specs.Text.{line}
 use Rattle.record.specs.View.{RecordingView}
 use Rattle.record.specs.declared.draft.Draft.{Draft}
 use Rattle.record.specs.inner.Drafts.{kept, told_at, with_told, lines_before, lines_left, HasRead, HasTakenLine, IsReadTo, IsTaken, Kept}
 use Rattle.record.specs.inner.Readers.{HasPulled, HasTaken, IsReading, IsReadWhole}
-use Rattle.record.specs.inner.Reading.{Gathered, AreSomeIf, IsTakenOff, IsWholeIf, pending, stream}
-use Rattle.record.proofs.Streams.{let-go, line-off, none-held, pulled}
-use Rattle.record.proofs.Listed.{few-most}
-use Rattle.record.proofs.Words.{spelled-text}
+use Rattle.record_lines.specs.Reading.{Gathered, AreSomeIf, IsTakenOff, IsWholeIf, pending, stream}
+use Rattle.record_lines.proofs.Streams.{let-go, line-off, none-held, pulled}
+use Rattle.record_lines.proofs.Leading.{few-most}
+use Rattle.record_lines.proofs.Words.{spelled-text}
 
 follow-append : (due mid last : Due) (xs ys : List (List ℕ)) → Follow due xs mid → Follow mid ys last → Follow due (xs ++ ys) last
 follow-append due mid last [] ys first second = subst (λ (d : Due). Follow d ys last) (sym first) second

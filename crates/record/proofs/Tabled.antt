@@ -15,9 +15,9 @@ use Rattle.directory_table.specs.Names as directory_names
 use Rattle.both_tables.specs.Tables.{Tables}
 use Rattle.both_tables.specs.declared.cell_places.CellPlace.{CellPlace}
 use Rattle.both_tables.specs.declared.cell_places.CellPlace.TheVariants as place
-use Rattle.record.specs.declared.cells.Cell.{Cell}
-use Rattle.record.specs.declared.cells.Cell.TheVariants as cell
-use Rattle.record.specs.Cells.{cell_at}
+use Rattle.record_lines.specs.declared.cells.Cell.{Cell}
+use Rattle.record_lines.specs.declared.cells.Cell.TheVariants as cell
+use Rattle.record_lines.specs.Cells.{cell_at}
 use Rattle.record.specs.Recordable.{AreWhole}
 
 get_or-mapped : {X : Type 0} (f : X → ℕ) (xs : List X) (i : ℕ) (d : X) → get_or (map f xs) i (f d) ≡ f (get_or xs i d)

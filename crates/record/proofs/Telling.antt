@@ -6,20 +6,20 @@ use Rattle.std.proofs.lemmas.Bool.{cases_eq}
 use Rattle.std.proofs.lemmas.Result.{IfOk-weaker}
 use Rattle.base.specs.Extent.{Extent}
 use Rattle.both_tables.specs.CellPlaces.{place_number}
-use Rattle.record.specs.declared.due.Form.{Form}
-use Rattle.record.specs.declared.version.Version.{Version}
-use Rattle.record.specs.declared.version.Version.TheVariants.{One, Two}
-use Rattle.record.specs.Refused.{limit}
+use Rattle.record_lines.specs.declared.due.Form.{Form}
+use Rattle.record_lines.specs.declared.version.Version.{Version}
+use Rattle.record_lines.specs.declared.version.Version.TheVariants.{One, Two}
+use Rattle.record_lines.specs.Refused.{limit}
 use Rattle.record.specs.Versions.{header_leads, shape_leads_in, HasTextIn}
 use Rattle.record.specs.declared.draft.Draft.{Draft}
-use Rattle.record.specs.declared.fault.ReadKind.{ReadKind}
-use Rattle.record.specs.declared.due.Due.{Due}
-use Rattle.record.specs.declared.due.Due.TheVariants.{Header, ProtocolLine, ShapeLine, SeatsLine, OpeningLine, CellCount, CellLine, EntryCount, EntryLine}
-use Rattle.record.specs.declared.due.Due.TheVariants.{EndLine, Nothing}
+use Rattle.record_lines.specs.declared.fault.ReadKind.{ReadKind}
+use Rattle.record_lines.specs.declared.due.Due.{Due}
+use Rattle.record_lines.specs.declared.due.Due.TheVariants.{Header, ProtocolLine, ShapeLine, SeatsLine, OpeningLine, CellCount, CellLine, EntryCount, EntryLine}
+use Rattle.record_lines.specs.declared.due.Due.TheVariants.{EndLine, Nothing}
 use Rattle.record.specs.declared.reader.Reader.{Reader}
-use Rattle.record.specs.declared.recording.Entry.{Entry}
-use Rattle.record.specs.Cells.{place_of}
-use Rattle.record.specs.Grammar.{cells_due, entries_due, Leads}
+use Rattle.record_lines.specs.declared.entry.Entry.{Entry}
+use Rattle.record_lines.specs.Cells.{place_of}
+use Rattle.record_lines.specs.Grammar.{cells_due, entries_due, Leads}
 use Rattle.record.specs.View.{AreOwners, RecordingView}
 use Rattle.record.specs.Recordable.{IsRecordable}
 use Rattle.record.specs.Text.{told}
@@ -27,7 +27,7 @@ use Rattle.record.specs.inner.Drafts.{kept, recorded, told_at, with_told, Kept, 
 use Rattle.record.specs.inner.Drafts.{HasRead, HasRoom, HasTakenEntry, HasTakenLine, IsReadTo, IsTaken}
 use Rattle.record.specs.Telling.{HasRoomUpTo}
 use Rattle.record.specs.inner.Readers.{IsReady}
-use Rattle.record.specs.inner.Reading.{IsTakenOff}
+use Rattle.record_lines.specs.Reading.{IsTakenOff}
 use Rattle.record.proofs.Steps.{fewer-left}
 use Rattle.record.proofs.Drafting.{end-taken}
 

@@ -1,11 +1,8 @@
 pub mod View
-pub mod Cells
 pub mod Versions
 pub mod Text
 pub mod Moving
-pub mod Grammar
 pub mod Recordable
-pub mod Refused
 pub mod Telling
 pub mod TextRead
 pub mod inner

@@ -1,14 +1,14 @@
 -- What comes of a recording's text that is written again in version 2.
 use Rattle.std.specs.Prelude.{◌≡◌, ℕ, ◌<◌, List, Option, Bool, true, length, take}
 use Rattle.std.specs.Io.KnownBytes.{Appends}
-use Rattle.record.specs.Refused.{IsRefused}
+use Rattle.record_lines.specs.Refused.{IsRefused}
 use Rattle.record.specs.TextRead.{IsTextRead}
 use Rattle.record.specs.Text.{text}
 use Rattle.record.specs.View.{RecordingView}
-use Rattle.record.specs.declared.due.Due.TheVariants.{Header}
+use Rattle.record_lines.specs.declared.due.Due.TheVariants.{Header}
 use Rattle.record.specs.declared.moving.MoveFault.{MoveFault}
 use Rattle.record.specs.declared.moving.MoveFault.TheVariants.{Read, Write}
-use Rattle.record.specs.declared.version.Version.TheVariants.{Two}
+use Rattle.record_lines.specs.declared.version.Version.TheVariants.{Two}
 
 -- what a source had left and has left, what a sink had and has, and whether the sink has failed
 pub record Passing : Type 0 where

@@ -5,9 +5,9 @@ use Rattle.cache_table.specs.Keeping as cache_table
 use Rattle.directory_table.specs.Keeping as directory_table
 use Rattle.both_tables.specs.Tables.{Tables}
 use Rattle.both_tables.specs.declared.cell_places.CellPlace.{CellPlace}
-use Rattle.record.specs.Cells.{cell_at, FitsCell}
+use Rattle.record_lines.specs.Cells.{cell_at, FitsCell}
 use Rattle.record.specs.View.{AreOwners, RecordingView}
-use Rattle.record.specs.Grammar.{AreValues, FitsEntry}
+use Rattle.record_lines.specs.Grammar.{AreValues, FitsEntry}
 
 -- both tables have all their cells, each of at most eight actions, and keep to their protocol
 pub record AreWhole (tables : Tables) : Type 0 where

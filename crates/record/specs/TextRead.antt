@@ -2,13 +2,13 @@
 use Rattle.std.specs.Prelude.{ℕ, List, Option, Some}
 use Rattle.std.specs.Io.KnownBytes.{Consumes}
 use Rattle.record.specs.Recordable.{IsRecordable}
-use Rattle.record.specs.Refused.{IsRefused}
+use Rattle.record_lines.specs.Refused.{IsRefused}
 use Rattle.record.specs.Text.{text}
 use Rattle.record.specs.Versions.{HasTextIn}
 use Rattle.record.specs.View.{RecordingView}
-use Rattle.record.specs.declared.due.Due.TheVariants.{Header}
-use Rattle.record.specs.declared.fault.ReadFault.{ReadFault}
-use Rattle.record.specs.declared.version.Version.{Version}
+use Rattle.record_lines.specs.declared.due.Due.TheVariants.{Header}
+use Rattle.record_lines.specs.declared.fault.ReadFault.{ReadFault}
+use Rattle.record_lines.specs.declared.version.Version.{Version}
 
 -- what a source had, up to what it has left, was a text of this recording, in either version
 pub record IsTextRead (before after : Option (List ℕ)) (r : RecordingView) : Type 0 where

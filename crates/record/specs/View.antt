@@ -5,7 +5,7 @@ use Rattle.base.specs.declared.step.Step.{Step}
 use Rattle.base.specs.declared.step.Outcome.{Outcome}
 use Rattle.both_tables.specs.Tables.{Tables}
 use Rattle.machine.specs.Machine.{after, opened}
-use Rattle.record.specs.declared.recording.Entry.{Entry}
+use Rattle.record_lines.specs.declared.entry.Entry.{Entry}
 
 -- a world's shape, tables and opening values, and the entries of its steps; and a number of seats, with the seat that owns each entry
 pub record RecordingView : Type 0 where

@@ -2,4 +2,3 @@ pub mod Drafts
 pub mod Holding
 pub mod Pieces
 pub mod Readers
-pub mod Reading

@@ -1,25 +1,23 @@
 ghost use Rattle.std.specs.Prelude.{◌≡◌, ◌≤◌, ◌+◌, ℕ, Some, None, IfOk, IfErr, OnOk};
 ghost use Rattle.base.specs.Spelling.{words};
-ghost use Rattle.record.specs.declared.due.Due.TheVariants as due;
-ghost use Rattle.record.specs.Grammar.{FitsTold, Leads};
-ghost use Rattle.record.specs.Refused.{IsFaultOfLine};
+ghost use Rattle.record_lines.specs.declared.due.Due.TheVariants as due;
+ghost use Rattle.record_lines.specs.Grammar.{FitsTold, Leads};
+ghost use Rattle.record_lines.specs.Refused.{IsFaultOfLine};
 ghost use Rattle.record.specs.Text.{told_words};
 ghost use Rattle.record.specs.inner.Drafts.{Kept, kept, recorded, HasRead, HasRoom, HasTakenEntry, HasTakenLine, IsReadTo, IsTaken};
 ghost use Rattle.record.specs.inner.Holding.{holds};
-ghost use Rattle.record.specs.inner.Reading.{IsFaultOfTold};
+ghost use Rattle.record_lines.specs.Reading.{IsFaultOfTold};
 ghost use Rattle.record.specs.Telling.{HasRoomUpTo};
 
-use crate::cells::most_cells;
-use crate::due::{Due, Form};
 use crate::entries::{Entries, KeptEntries};
-use crate::fault::ReadKind;
-use crate::parsing::{count_of, is_end, opening_of, protocol_of, shape_of, told_of, version_of};
 use crate::reading::{listed_cell, with_cell};
 use crate::recording::{MOST_ENTRIES, MOST_SEATS, Recording};
-use crate::told::Told;
-use crate::version::Version;
 use base::{MOST_BLOCKS, NoMemory, Shape};
 use both_tables::Tables;
+use record_lines::{
+    Due, Form, ReadKind, Told, Version, count_of, is_end, most_cells, opening_of, protocol_of,
+    shape_of, told_of, version_of,
+};
 use std::alloc::Global;
 
 /// What has been read of a recording in front of its entries.

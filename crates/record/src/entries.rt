@@ -1,9 +1,8 @@
 //! What becomes of the entries of a text as they are read.
 
-use crate::recording::Entry;
-use crate::told::Told;
 use base::{NoMemory, Shape};
 use both_tables::Tables;
+use record_lines::{Entry, Told};
 use std::alloc::Global;
 
 /// What takes the entries of a text, one after the other. It may keep less of them than the recording of which it tells.

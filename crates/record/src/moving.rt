@@ -7,13 +7,13 @@ ghost use Rattle.record.specs.View.{RecordingView};
 ghost use Rattle.record.specs.Text.{text};
 ghost use Rattle.record.specs.Recordable.{IsRecordable};
 ghost use Rattle.record.specs.Versions.{HasTextIn};
-ghost use Rattle.record.specs.declared.version.Version.{Version};
-ghost use Rattle.record.specs.declared.version.Version.TheVariants as version;
+ghost use Rattle.record_lines.specs.declared.version.Version.{Version};
+ghost use Rattle.record_lines.specs.declared.version.Version.TheVariants as version;
 
-use crate::fault::ReadFault;
 use crate::recording::Recording;
 use crate::writing::WriteFault;
 use base::{Sink, Source};
+use record_lines::ReadFault;
 use std::alloc::Global;
 use thiserror::Error;
 

@@ -1,21 +1,18 @@
 ghost use Rattle.std.specs.Prelude.{◌≡◌, ◌≢◌, ◌≤◌, ◌<◌, ◌+◌, ◌↔◌, ◌∷◌, [], ℕ, List, Option, None, IfOk, IfErr, OnOk, OnErr, IsTrue, true, false};
 ghost use Rattle.std.specs.Io.KnownBytes.{IsAtEnd};
 ghost use Rattle.base.specs.Spelling.{words};
-ghost use Rattle.record.specs.declared.due.Due.TheVariants as due;
-ghost use Rattle.record.specs.Refused.{IsFaultOfLine, IsFaultOfRest, IsRefused, IsWellFormed};
+ghost use Rattle.record_lines.specs.declared.due.Due.TheVariants as due;
+ghost use Rattle.record_lines.specs.Refused.{IsFaultOfLine, IsFaultOfRest, IsRefused, IsWellFormed};
 ghost use Rattle.record.specs.inner.Drafts.{Kept, recorded, lines_left, HasRead, HasTakenLine};
 ghost use Rattle.record.specs.inner.Holding.{holds};
 ghost use Rattle.record.specs.inner.Readers.{HasPulled, HasReadSome, HasWholeLine, IsReading, IsReadWhole, IsReady, StillReads};
-ghost use Rattle.record.specs.inner.Reading.{pending, IsTakenOff};
+ghost use Rattle.record_lines.specs.Reading.{pending, IsTakenOff};
 
 use crate::draft::Draft;
-use crate::due::Due;
 use crate::entries::{Entries, KeptEntries};
-use crate::fault::ReadKind;
-use crate::lines::{Lines, MOST_PULLED};
 use crate::recording::Recording;
-use crate::told::Told;
 use base::{NoMemory, Source};
+use record_lines::{Due, Lines, MOST_PULLED, ReadKind, Told};
 use std::alloc::Global;
 
 /// A recording that is being read, line by line.

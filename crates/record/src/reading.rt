@@ -2,27 +2,25 @@ ghost use Rattle.std.specs.Prelude.{◌≡◌, ◌≢◌, IfOk, IfErr, OnOk, Mat
 ghost use Rattle.both_tables.specs.declared.cell_places.CellPlace.{CellPlace};
 ghost use Rattle.record.specs.TextRead.{HasTold, IsReadFault, IsTextRead};
 ghost use Rattle.record.specs.Versions.{HasTextIn};
-ghost use Rattle.record.specs.declared.version.Version.{Version};
+ghost use Rattle.record_lines.specs.declared.version.Version.{Version};
 ghost use Rattle.base.specs.Spelling.{words};
-ghost use Rattle.record.specs.declared.cells.Cell as cells;
-ghost use Rattle.record.specs.declared.due.Due.TheVariants.{Header};
-ghost use Rattle.record.specs.Cells.{cell_at, cell_words, is_known, place_of, FitsCell};
-ghost use Rattle.record.specs.Grammar.{IsListed};
+ghost use Rattle.record_lines.specs.declared.cells.Cell as cells;
+ghost use Rattle.record_lines.specs.declared.due.Due.TheVariants.{Header};
+ghost use Rattle.record_lines.specs.Cells.{cell_at, cell_words, is_known, place_of, FitsCell};
+ghost use Rattle.record_lines.specs.Grammar.{IsListed};
 ghost use Rattle.record.specs.View.{RecordingView};
 ghost use Rattle.record.specs.Recordable.{AreWhole, IsRecordable};
-ghost use Rattle.record.specs.Refused.{IsOutside, IsRefused, IsWellFormed};
+ghost use Rattle.record_lines.specs.Refused.{IsOutside, IsRefused, IsWellFormed};
 ghost use Rattle.record.specs.Text.{text};
 ghost use Rattle.record.specs.inner.Readers.{IsReadWhole};
 
-use crate::cell_parsing::cell_of;
-use crate::cells::Cell;
 use crate::entries::{Entries, KeptEntries};
-use crate::fault::{ReadFault, ReadKind};
 use crate::reader::Reader;
 use crate::recording::Recording;
 use base::Source;
 use base::controller::Protocol;
 use both_tables::Tables;
+use record_lines::{Cell, ReadFault, ReadKind, cell_of};
 use std::alloc::Global;
 
 impl Recording {

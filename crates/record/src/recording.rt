@@ -1,7 +1,7 @@
-use crate::told::Told;
 use base::controller::Protocol;
-use base::{NoMemory, Outcome, Shape, Step};
+use base::{NoMemory, Shape};
 use both_tables::Tables;
+use record_lines::{Entry, Told};
 use std::alloc::Global;
 use std::marker::Model;
 use thiserror::Error;
@@ -12,13 +12,6 @@ pub const MOST_ENTRIES: usize = 1_000_000;
 
 /// The most seats that a recording tells of.
 pub const MOST_SEATS: u32 = 64;
-
-/// A step, and what came of it.
-#[derive(Clone, Copy, Debug, PartialEq, Eq)]
-pub struct Entry {
-    pub step: Step,
-    pub outcome: Outcome,
-}
 
 /// Why an entry wasn't added. The faults are tested in this order.
 #[derive(Clone, Copy, Debug, PartialEq, Eq, Error)]

@@ -3,13 +3,13 @@
 ghost use Rattle.std.specs.Prelude.{◌++◌, ◌≡◌, ◌≤◌, [], List, Option, Some, ℕ};
 ghost use Rattle.record.specs.View.{RecordingView};
 ghost use Rattle.record.specs.Text.{lines, text};
-ghost use Rattle.record.specs.declared.due.Due.TheVariants.{Header};
-ghost use Rattle.record.specs.declared.version.Version.{Version};
-ghost use Rattle.record.specs.declared.version.Version.TheVariants as version;
-ghost use Rattle.record.specs.Refused.{AreShort, IsOutside, IsRefused, IsWellFormed};
+ghost use Rattle.record_lines.specs.declared.due.Due.TheVariants.{Header};
+ghost use Rattle.record_lines.specs.declared.version.Version.{Version};
+ghost use Rattle.record_lines.specs.declared.version.Version.TheVariants as version;
+ghost use Rattle.record_lines.specs.Refused.{AreShort, IsOutside, IsRefused, IsWellFormed};
 ghost use Rattle.record.specs.Recordable.{IsRecordable};
 ghost use Rattle.record.specs.Versions.{HasTextIn};
-ghost use Rattle.record.specs.declared.fault.ReadKind.{ReadKind};
+ghost use Rattle.record_lines.specs.declared.fault.ReadKind.{ReadKind};
 
 /// A recording's text, in each version that can tell it, is well formed from the first line to the last, no line of it is too
 /// long, and only want of memory or a device that fails keeps it from being read.

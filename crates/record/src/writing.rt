@@ -2,21 +2,20 @@ ghost use Rattle.std.specs.Prelude.{◌≡◌, ◌≤◌, ◌<◌, ◌+◌, ◌^
 ghost use Rattle.std.specs.Io.KnownBytes.{Appends};
 ghost use Rattle.base.specs.Ends.{MarksFault};
 ghost use Rattle.both_tables.specs.Tables.{baseline_of};
-ghost use Rattle.record.specs.Cells.{cell_at, FitsCell};
+ghost use Rattle.record_lines.specs.Cells.{cell_at, FitsCell, IsInWhole};
 ghost use Rattle.record.specs.View.{IsKept};
-ghost use Rattle.record.specs.declared.version.Version.TheVariants as Version;
+ghost use Rattle.record_lines.specs.declared.version.Version.TheVariants as Version;
 ghost use Rattle.record.specs.Recordable.{AreWhole, IsRecordable};
 ghost use Rattle.record.specs.Text.{text, changed_cells, is_changed};
 ghost use Rattle.record.specs.inner.Pieces.{pieces, head_piece, value_piece, cells_piece, cell_piece, entries_piece, end_piece};
-ghost use Rattle.record.specs.inner.Pieces.{IsInWhole, IsOut, IsCutOff, PieceFits};
+ghost use Rattle.record.specs.inner.Pieces.{IsOut, IsCutOff, PieceFits};
 
-use crate::cells::Cell;
 use crate::recording::Recording;
-use crate::spelling::{cell_line, told_line};
 use base::controller::Protocol;
 use base::text::Text;
 use base::{Shape, Sink, put_all};
 use both_tables::{CELLS, CellPlace, Tables};
+use record_lines::{Cell, cell_line, told_line};
 use thiserror::Error;
 
 /// A sink failed before it had all of a recording's text.

@@ -13,7 +13,7 @@ use Rattle.monitor.proofs.FirstViolations.{first_seen}
 use Rattle.replays.specs.declared.making.Run.{Run}
 use Rattle.replays.specs.declared.making.Stage.{Stage}
 use Rattle.replays.specs.declared.making.Stage.TheVariants.{Closed, Same, Refused}
-use Rattle.record.specs.declared.recording.Entry.{Entry}
+use Rattle.record_lines.specs.declared.entry.Entry.{Entry}
 use Rattle.replays.specs.declared.replaying.ReplayFault.{ReplayFault}
 use Rattle.replays.specs.declared.replaying.ReplayFault.TheVariants.{Differs, NoMemory}
 use Rattle.base.specs.Extent.{Extent}

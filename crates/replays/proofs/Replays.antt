@@ -12,7 +12,7 @@ use Rattle.monitor.specs.declared.violation.Violation.{Violation}
 use Rattle.monitor.specs.Scenes.{Answers}
 use Rattle.machine.specs.Completions.{completions_of}
 use Rattle.monitor.specs.Watching.{HasSeen, LeadTo, AnswersHistory, SeesNext, AreDue, made_after, scene_after}
-use Rattle.record.specs.declared.recording.Entry.{Entry}
+use Rattle.record_lines.specs.declared.entry.Entry.{Entry}
 use Rattle.record.specs.View.{RecordingView, steps_of}
 use Rattle.replays.specs.Replaying.{IsFirstToDiffer}
 use Rattle.monitor.specs.Violations.{AnswersFirst}

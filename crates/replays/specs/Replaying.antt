@@ -7,7 +7,7 @@ use Rattle.machine.specs.Restraint.{AreRestrained}
 use Rattle.monitor.specs.Violations.{AnswersFirst}
 use Rattle.record.specs.Recordable.{IsRecordable}
 use Rattle.record.specs.TextRead.{IsReadFault, IsTextRead}
-use Rattle.record.specs.declared.fault.ReadKind.TheVariants.{Device}
+use Rattle.record_lines.specs.declared.fault.ReadKind.TheVariants.{Device}
 use Rattle.replays.specs.declared.replaying.ReplayFault.{ReplayFault}
 use Rattle.replays.specs.declared.replaying.ReplayFault.TheVariants.{Differs, NoMemory}
 use Rattle.replays.specs.declared.text_replaying.TextFault.{TextFault}

@@ -12,8 +12,8 @@ mod sheet;
 mod starting;
 mod tabling;
 mod telling;
+mod texts;
 mod trips;
-mod words;
 
 pub use fault::ShowFault;
 pub use flights::Flights;
@@ -23,5 +23,5 @@ pub use part::{Cut, Part, Shown};
 pub use sheet::Sheet;
 pub use tabling::{Layout, show};
 pub use telling::{Happening, Sight, Story, look, seat_at};
+pub use texts::{AcksText, AskText, RequestText, RequestorText, SeatText, forward_name};
 pub use trips::Trip;
-pub use words::{AcksText, AskText, RequestText, RequestorText, SeatText, forward_name};

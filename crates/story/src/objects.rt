@@ -1,7 +1,7 @@
 use crate::sheet::Sheet;
 use crate::telling::{Happening, Story};
+use crate::texts::put_message;
 use crate::trips::Trip;
-use crate::words::put_message;
 use base::Place;
 use monitor::Violation;
 use std::fmt;

@@ -1,7 +1,7 @@
 use crate::sheet::Sheet;
 use crate::telling::Story;
+use crate::texts::{put_holdings, put_home, put_line, put_message};
 use crate::trips::Trip;
-use crate::words::{put_holdings, put_home, put_line, put_message};
 use base::{BlockId, CacheId};
 use control::Line;
 use world::World;

@@ -10,7 +10,7 @@ use Rattle.monitor.specs.declared.violation.Violation.{Violation}
 use Rattle.monitor.specs.Scenes.{Scene, IsViolation}
 use Rattle.monitor.specs.Watching.{scene_after}
 use Rattle.record.specs.View.{RecordingView}
-use Rattle.record.specs.declared.recording.Entry.{Entry}
+use Rattle.record_lines.specs.declared.entry.Entry.{Entry}
 use Rattle.monitor.specs.Violations.{IsFirstViolation}
 use Rattle.schedule.specs.Choices.{chosen_step, rest_after}
 use Rattle.schedule.specs.declared.choosing.Choice.{Choice}

@@ -26,7 +26,7 @@ use Rattle.moment.proofs.Places.{same-some}
 use Rattle.moment.specs.Moments.{Moment, choices_at, moment_after}
 use Rattle.moment.specs.Seen as seen
 use Rattle.moment.specs.Seen.{IsAt, Seen, choices_in}
-use Rattle.record.specs.declared.recording.Entry.{Entry}
+use Rattle.record_lines.specs.declared.entry.Entry.{Entry}
 use Rattle.record.specs.View.{RecordingView, steps_of}
 use Rattle.monitor.specs.Violations.{HasNoViolation, IsFirstViolation}
 use Rattle.trials.specs.Terms.{Terms}

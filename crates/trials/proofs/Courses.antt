@@ -15,7 +15,7 @@ use Rattle.schedule.specs.Words.{dice, dice_after}
 use Rattle.schedule.specs.declared.choosing.Choice.{Choice}
 use Rattle.moment.specs.Moments.{IsAtRest, Moment, choices_at}
 use Rattle.moment.specs.Seen.{IsAt, Rests, Seen, choices_in}
-use Rattle.record.specs.declared.recording.Entry.{Entry}
+use Rattle.record_lines.specs.declared.entry.Entry.{Entry}
 use Rattle.record.specs.View.{RecordingView, steps_of}
 use Rattle.monitor.specs.Violations.{HasNoViolation}
 use Rattle.trials.specs.Terms.{Terms}

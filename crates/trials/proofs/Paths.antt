@@ -2,7 +2,7 @@
 use Rattle.std.proofs.Common.{◌≡◌, ◌+◌, ℕ, List, [], ◌∷◌, ◌++◌, Some, length, slice_get, refl, ap, sym, subst, ◌∙◌, inl, inr, arith}
 use Rattle.schedule.specs.Words.{word}
 use Rattle.scenario.specs.Tree.{Tree}
-use Rattle.record.specs.declared.recording.Entry.{Entry}
+use Rattle.record_lines.specs.declared.entry.Entry.{Entry}
 use Rattle.trials.specs.Terms.{Terms}
 use Rattle.moment.specs.Moments.{Moment}
 use Rattle.trials.specs.Moments.{IsNext, IsPath, first_moment}

@@ -4,7 +4,7 @@ use Rattle.std.proofs.Common.{ap, ◌∙◌, subst, arith, add-one}
 use Rattle.both_tables.specs.Tables.{Tables}
 use Rattle.scenario.specs.Tree.{Tree}
 use Rattle.schedule.specs.Choices.{chosen_step}
-use Rattle.record.specs.declared.recording.Entry.{Entry}
+use Rattle.record_lines.specs.declared.entry.Entry.{Entry}
 use Rattle.moment.specs.inner.Tracked.{IsTracked}
 use Rattle.moment.proofs.Chosen.{IsFair, choice-fair, fair-puts}
 use Rattle.moment.proofs.Places.{same-some, get-low, there-is}

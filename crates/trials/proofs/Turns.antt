@@ -12,7 +12,7 @@ use Rattle.both_tables.specs.Tables.{Tables}
 use Rattle.machine.specs.Machine.{State, Next, next}
 use Rattle.machine.specs.Completions.{Completion, completed_by}
 use Rattle.cores.specs.Cores.{Core, issuing, finishing, with_core}
-use Rattle.record.specs.declared.recording.Entry.{Entry}
+use Rattle.record_lines.specs.declared.entry.Entry.{Entry}
 use Rattle.schedule.specs.Choices.{chosen_step}
 use Rattle.moment.specs.Moments.{Moment, put_by, cores_after}
 use Rattle.trials.specs.Moments.{IsNext, entry_of}

@@ -4,7 +4,7 @@ use Rattle.std.specs.List.{flat_map}
 use Rattle.base.specs.declared.step.CoreAsk.{CoreAsk}
 use Rattle.machine.specs.Coherence.{Explained}
 use Rattle.machine.specs.Completions.{Completion, completions}
-use Rattle.record.specs.declared.recording.Entry.{Entry}
+use Rattle.record_lines.specs.declared.entry.Entry.{Entry}
 use Rattle.moment.specs.Moments.{answered, put_by}
 
 -- the completions of entries, in order

@@ -8,7 +8,7 @@ use Rattle.schedule.specs.Choices.{chosen_step, rest_after}
 use Rattle.schedule.specs.Words.{word}
 use Rattle.schedule.specs.declared.choosing.Choice.{Choice}
 use Rattle.moment.specs.Moments.{Moment, choices_at, moment_behind, opened_moment}
-use Rattle.record.specs.declared.recording.Entry.{Entry}
+use Rattle.record_lines.specs.declared.entry.Entry.{Entry}
 use Rattle.trials.specs.Terms.{Terms}
 
 -- the moment at which a trial of a scenario starts

@@ -5,7 +5,7 @@ ghost use Rattle.machine.specs.Coherence.{Safe};
 ghost use Rattle.machine.specs.Restraint.{AreRestrained};
 ghost use Rattle.machine.specs.Going.{AreNeverStuck};
 ghost use Rattle.record.specs.View.{RecordingView, IsLegal, steps_of};
-ghost use Rattle.record.specs.declared.recording.Entry.{Entry};
+ghost use Rattle.record_lines.specs.declared.entry.Entry.{Entry};
 ghost use Rattle.scenario.specs.Tree.{Tree};
 ghost use Rattle.trials.specs.Answering.{AnswersInTurn, AreSequential};
 ghost use Rattle.moment.specs.Moments.{Moment};

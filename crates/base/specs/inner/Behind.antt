@@ -1,24 +1,14 @@
-use Rattle.std.specs.Prelude.{◌≢◌, ℕ, ◌≤◌, ◌<◌, ◌^◌, List, [], ◌∷◌, ◌++◌, Option, Some, None, codes, length, map}
-use Rattle.std.specs.Fmt.{decimal}
-use Rattle.std.specs.Borrow.{Bor}
-use Rattle.base.specs.Spelling.{words, ask_words, step_words, FitsAsk, FitsStep}
+pub use Rattle.words.specs.Words.{words_behind, IsNoNumberFirst}
+use Rattle.std.specs.Prelude.{◌≢◌, ℕ, ◌≤◌, List, ◌∷◌, ◌++◌, codes, length, map}
+use Rattle.base.specs.Spelling.{ask_words, step_words, FitsAsk, FitsStep}
 use Rattle.base.specs.declared.step.Ask.{Ask}
 use Rattle.base.specs.declared.step.Step.{Step}
 use Rattle.base.specs.declared.text.steps.Kind.{Kind}
 use Rattle.base.specs.declared.text.steps.Kind.TheVariants.{Request, Forward, Response}
 
--- the words behind a blank, if there is one
-abbrev pub words_behind : Option (Bor (List ℕ)) → List (List ℕ)
-words_behind None = []
-words_behind (Some rest) = words rest.now
-
 -- these words name no actions, at most eight
 abbrev pub IsNoActions : {A : Type 0} → (A → List ℕ) → List (List ℕ) → Type 0
 IsNoActions {A} action line = (actions : List A) → length actions ≤ 8 → line ≢ map action actions
-
--- the first of these words is no number below 2 ^ bits
-abbrev pub IsNoNumberFirst : ℕ → List (List ℕ) → Type 0
-IsNoNumberFirst bits line = (n : ℕ) (others : List (List ℕ)) → n < 2 ^ bits → line ≢ decimal n ∷ others
 
 -- these words don't begin with those of a step
 abbrev pub IsNoStepFirst : List (List ℕ) → Type 0

@@ -95,7 +95,7 @@ fn push_actions<A: Listed>(text: &mut Text, actions: &[A])
 }
 
 /// The entry that these words spell.
-#[tactic(auto, using(crate::proofs::Lines::not_one))]
+#[tactic(auto, using(words::proofs::Lines::not_one))]
 fn entry_of<S: Listed, A: Listed>(line: &[u8]) -> Option<Entry<S, A>>
     ensures fits { IfSome result HasFewActions }
     ensures entry { MatchOption result (IsNoEntry {S = S} {A = A} S.spelling A.spelling (words line.now))

@@ -10,7 +10,7 @@ ghost use Rattle.base.specs.inner.Behind.{kind_word};
 use crate::ids::{BlockId, CacheId};
 use crate::step::{Ask, Outcome, Step};
 use crate::text::steps::Kind;
-use crate::text::words::{begins_with, digit_of, digits_in_front, has_first_digit};
+use words::{begins_with, digit_of, digits_in_front, has_first_digit};
 
 impl Step {
     /// A step that bytes begin with, with the byte `END` behind it, and what follows that.

@@ -4,8 +4,8 @@ ghost use Rattle.base.specs.Spelling.{joined, outcome_words, FitsOutcome, IsNoOu
 use crate::ids::CacheId;
 use crate::step::Outcome;
 use crate::text::short::Text;
-use crate::text::words::{behind_word, small_and_number};
 use std::fmt;
+use words::{behind_word, small_and_number};
 
 impl Outcome {
     /// The outcome that a line is the text of: words with exactly one blank between two and none at the ends.

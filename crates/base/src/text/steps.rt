@@ -6,8 +6,8 @@ ghost use Rattle.base.specs.inner.Behind.{kind_word, words_behind, IsNoAskFirst,
 use crate::ids::{BlockId, CacheId};
 use crate::step::{Ask, Step};
 use crate::text::short::Text;
-use crate::text::words::{after_word, behind_word, number_in_front, small_in_front};
 use std::fmt;
+use words::{after_word, behind_word, number_in_front, small_in_front};
 
 impl Step {
     /// The step that a line is the text of: words with exactly one blank between two and none at the ends.

@@ -8,7 +8,7 @@ use Rattle.machine.specs.Made.{IsTold}
 use Rattle.machine.specs.Machine.{opened}
 use Rattle.monitor.specs.declared.violation.Violation.{Violation}
 use Rattle.monitor.specs.Watching.{HasSeen}
-use Rattle.record.specs.declared.recording.Entry.{Entry}
+use Rattle.record_lines.specs.declared.entry.Entry.{Entry}
 use Rattle.record.specs.View.{RecordingView, IsLegal, steps_of, with_owned}
 use Rattle.world.specs.View.{View}
 use Rattle.trials.specs.Terms.{Terms}

@@ -1,6 +1,6 @@
 -- How a seat's wish is met.
 use Rattle.std.specs.Prelude.{◌≡◌, ℕ, Option, Some, None}
-use Rattle.record.specs.declared.recording.Entry.{Entry}
+use Rattle.record_lines.specs.declared.entry.Entry.{Entry}
 use Rattle.floor.specs.FloorId.{FloorId}
 use Rattle.floor.specs.Turning.{SeatView, with_receipt}
 use Rattle.floor.specs.Calling.{HadNone, WasDrawn, WasIts}

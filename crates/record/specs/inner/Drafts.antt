@@ -7,16 +7,16 @@ use Rattle.both_tables.specs.CellPlaces.{place_number}
 use Rattle.both_tables.specs.Tables.{Tables, baseline_of}
 use Rattle.both_tables.specs.declared.cell_places.CellPlace.{CellPlace}
 use Rattle.record.specs.declared.draft.Draft.{Draft}
-use Rattle.record.specs.declared.due.Due.{Due}
-use Rattle.record.specs.declared.due.Form.{Form}
-use Rattle.record.specs.declared.recording.Entry.{Entry}
-use Rattle.record.specs.declared.version.Version.{Version}
-use Rattle.record.specs.declared.version.Version.TheVariants.{Two}
+use Rattle.record_lines.specs.declared.due.Due.{Due}
+use Rattle.record_lines.specs.declared.due.Form.{Form}
+use Rattle.record_lines.specs.declared.entry.Entry.{Entry}
+use Rattle.record_lines.specs.declared.version.Version.{Version}
+use Rattle.record_lines.specs.declared.version.Version.TheVariants.{Two}
 use Rattle.record.specs.Versions.{protocol_lines, seats_lines, CanTell, IsShapeIn}
-use Rattle.record.specs.declared.due.Due.TheVariants.{Header, ProtocolLine, ShapeLine, SeatsLine, OpeningLine, CellCount, CellLine, EntryCount}
-use Rattle.record.specs.declared.due.Due.TheVariants.{EntryLine, EndLine, Nothing}
-use Rattle.record.specs.Cells.{cell_at, cell_words}
-use Rattle.record.specs.Grammar.{AreValues, FitsEntry, Leads}
+use Rattle.record_lines.specs.declared.due.Due.TheVariants.{Header, ProtocolLine, ShapeLine, SeatsLine, OpeningLine, CellCount, CellLine, EntryCount}
+use Rattle.record_lines.specs.declared.due.Due.TheVariants.{EntryLine, EndLine, Nothing}
+use Rattle.record_lines.specs.Cells.{cell_at, cell_words}
+use Rattle.record_lines.specs.Grammar.{AreValues, FitsEntry, Leads}
 use Rattle.record.specs.View.{AreOwners, RecordingView}
 use Rattle.record.specs.Recordable.{AreWhole}
 use Rattle.record.specs.Text.{lines, head_lines, header_words, shape_words, cells_words, changed_cells, entries_words, told, told_words}

@@ -1,21 +1,18 @@
 -- What goes out where a recording's text is put into a sink piece by piece. Only private clauses cite this file.
-use Rattle.std.specs.Prelude.{◌≡◌, ℕ, ◌<◌, ◌+◌, List, [], ◌∷◌, ◌++◌, Option, Some, None, if◌then◌else◌, codes, slice_index_or, length, map, take, ◌^◌}
+use Rattle.std.specs.Prelude.{◌≡◌, ℕ, ◌<◌, ◌+◌, List, [], ◌∷◌, ◌++◌, Option, if◌then◌else◌, codes, slice_index_or, length, map, take, ◌^◌}
 use Rattle.std.specs.Fmt.{decimal}
 use Rattle.std.specs.Io.KnownBytes.{Appends}
 use Rattle.base.specs.Extent.{Extent}
 use Rattle.base.specs.declared.controller.protocol.Protocol.{Protocol}
-use Rattle.record.specs.declared.told.Told.{Told}
-use Rattle.record.specs.declared.version.Version.TheVariants.{Two}
+use Rattle.record_lines.specs.declared.told.Told.{Told}
+use Rattle.record_lines.specs.declared.version.Version.TheVariants.{Two}
 use Rattle.record.specs.Versions.{protocol_words, seats_words}
-use Rattle.cache_table.specs.Keeping as cache_table
-use Rattle.directory_table.specs.Keeping as directory_table
 use Rattle.both_tables.specs.CellPlaces.{all_places}
 use Rattle.both_tables.specs.Tables.{Tables}
 use Rattle.both_tables.specs.declared.cell_places.CellPlace.{CellPlace}
-use Rattle.both_tables.specs.declared.cell_places.CellPlace.TheVariants as place
-use Rattle.record.specs.declared.recording.Entry.{Entry}
-use Rattle.record.specs.Cells.{cell_at, cell_words}
-use Rattle.record.specs.Grammar.{FitsEntry}
+use Rattle.record_lines.specs.declared.entry.Entry.{Entry}
+use Rattle.record_lines.specs.Cells.{cell_at, cell_words}
+use Rattle.record_lines.specs.Grammar.{FitsEntry}
 use Rattle.record.specs.View.{RecordingView}
 use Rattle.record.specs.Text.{line, header_words, shape_words, cells_words, changed_cells, is_changed, entries_words, told, told_words, end_words}
 
@@ -52,11 +49,6 @@ cell_piece tables place = if is_changed tables place then line (cell_words (cell
 abbrev pub entries_piece : ℕ → List ℕ
 entries_piece count = line (entries_words count)
 
--- what stands in front of an entry that has an owner, with a blank behind it
-abbrev pub by_text : Option ℕ → List ℕ
-by_text None = []
-by_text (Some seat) = codes "by" ++ (32 ∷ decimal seat) ++ codes " "
-
 -- the line of an entry
 abbrev pub told_piece : Told → List ℕ
 told_piece t = line (told_words t)
@@ -80,8 +72,3 @@ places_before r = length r.opening + 187
 pub record PieceFits (r : RecordingView) (number : ℕ) : Type 0 where
   pub value : (k d : ℕ) → number ≡ k + 1 → k < length r.opening → slice_index_or r.opening k d < 2 ^ 64
   pub entry : (k : ℕ) (d : Entry) → number ≡ places_before r + k → k < length r.entries → FitsEntry (slice_index_or r.entries k d)
-
--- the table of a place has all its cells, and keeps to its protocol
-abbrev pub IsInWhole : Tables → CellPlace → Type 0
-IsInWhole tables (place.Cache state event) = cache_table.IsTable tables.protocol tables.cache
-IsInWhole tables (place.Directory state event) = directory_table.IsTable tables.protocol tables.directory

@@ -3,15 +3,15 @@ use Rattle.std.specs.Prelude.{◌≡◌, ℕ, ◌+◌, ◌≤◌, List, [], Opti
 use Rattle.std.specs.List.{flat_map}
 use Rattle.std.specs.Io.KnownBytes.{Consumes}
 use Rattle.base.specs.Spelling.{words}
-use Rattle.record.specs.declared.due.Due.TheVariants.{Header, Nothing}
+use Rattle.record_lines.specs.declared.due.Due.TheVariants.{Header, Nothing}
 use Rattle.record.specs.declared.reader.Reader.{Reader}
-use Rattle.record.specs.Grammar.{Follow}
-use Rattle.record.specs.Refused.{ended, limit, HasNoEnd}
+use Rattle.record_lines.specs.Grammar.{Follow}
+use Rattle.record_lines.specs.Refused.{ended, limit, HasNoEnd}
 use Rattle.record.specs.View.{RecordingView}
 use Rattle.record.specs.inner.Drafts.{Kept, recorded, lines_before, lines_left, HasRead, HasRoom}
 use Rattle.record.specs.Text.{text}
 use Rattle.record.specs.Telling.{HasRoomUpTo}
-use Rattle.record.specs.inner.Reading.{BeginsWithEnd, stream}
+use Rattle.record_lines.specs.Reading.{BeginsWithEnd, stream}
 
 -- the lines of a source were taken one after the other, they are those of this recording, and its other bytes are still to come
 pub record HasTaken {N : Type 0} (before left : Option (List ℕ)) (reader : Reader N) (r : Kept) : Type 0 where

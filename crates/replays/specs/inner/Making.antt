@@ -5,7 +5,7 @@ use Rattle.record.specs.View.{RecordingView}
 use Rattle.replays.specs.declared.making.MadeEntries.{MadeEntries}
 use Rattle.replays.specs.declared.making.Run.{Run}
 use Rattle.replays.specs.declared.making.Stage.{Stage}
-use Rattle.record.specs.declared.recording.Entry.{Entry}
+use Rattle.record_lines.specs.declared.entry.Entry.{Entry}
 use Rattle.replays.specs.declared.making.Stage.TheVariants.{Closed, Same, Refused}
 use Rattle.replays.specs.inner.SoFar.{IsSoFar}
 

@@ -6,7 +6,7 @@ use Rattle.machine.specs.Machine.{opened, state_after, outcomes_of}
 use Rattle.world.specs.View.{View}
 use Rattle.monitor.specs.declared.violation.Violation.{Violation}
 use Rattle.monitor.specs.Watching.{HasSeen}
-use Rattle.record.specs.declared.recording.Entry.{Entry}
+use Rattle.record_lines.specs.declared.entry.Entry.{Entry}
 use Rattle.record.specs.View.{RecordingView}
 use Rattle.monitor.specs.Violations.{AnswersFirst}
 

@@ -5,7 +5,7 @@ use Rattle.record.specs.inner.Drafts.{recorded}
 use Rattle.record.proofs.Drafting.{entry-taken}
 use Rattle.record.proofs.Telling.{added-room, same-room}
 use Rattle.record.proofs.Exits.{handed-on}
-use Rattle.record.proofs.Splitting.{told-fault}
+use Rattle.record_lines.proofs.Splitting.{told-fault}
 use Rattle.record.proofs.draft.accept_entry.Goals as goal
 
 pub returns-in_err-told-clause-err : goal.returns-in_err-told-clause-err

@@ -2,7 +2,7 @@ use Rattle.std.proofs.Common.{subst}
 use Rattle.std.specs.Io.KnownBytes.{Appends}
 use Rattle.record.specs.View.{RecordingView}
 use Rattle.record.specs.Text.{text}
-use Rattle.record.specs.declared.version.Version.TheVariants.{Two}
+use Rattle.record_lines.specs.declared.version.Version.TheVariants.{Two}
 use Rattle.record.proofs.moving.move_text.Goals as goal
 
 pub returns-in-Ok-write-clause-moved : goal.returns-in-Ok-write-clause-moved

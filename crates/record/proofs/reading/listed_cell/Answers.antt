@@ -1,7 +1,7 @@
 use Rattle.std.proofs.Common.{◌≡◌, true, false, ◌∙◌, sym, arith, ap}
 use Rattle.both_tables.specs.CellPlaces.{place_number}
-use Rattle.record.specs.Cells.{cell_at, is_same, place_of}
-use Rattle.record.proofs.Alike.{in-order, differs, known}
+use Rattle.record_lines.specs.Cells.{cell_at, is_same, place_of}
+use Rattle.record_lines.proofs.Alike.{in-order, differs, known}
 use Rattle.record.proofs.reading.listed_cell.Goals as goal
 
 pub returns-then-is_in : goal.returns-then-is_in

@@ -1,6 +1,6 @@
 use Rattle.std.proofs.Common.{◌+◌, subst, sym}
-use Rattle.record.specs.declared.due.Due.TheVariants.{Header}
-use Rattle.record.specs.Refused.{IsRefused}
+use Rattle.record_lines.specs.declared.due.Due.TheVariants.{Header}
+use Rattle.record_lines.specs.Refused.{IsRefused}
 use Rattle.record.proofs.Steps.{no-room}
 use Rattle.record.proofs.reading.read_text.Goals as goal
 

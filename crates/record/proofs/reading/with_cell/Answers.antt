@@ -5,8 +5,8 @@ use Rattle.cache_table.specs.Keeping as cache_keeping
 use Rattle.cache_table.specs.Table as cache_table
 use Rattle.directory_table.specs.Keeping as directory_keeping
 use Rattle.directory_table.specs.Table as directory_table
-use Rattle.record.specs.declared.cells.Cell.TheVariants as cell
-use Rattle.record.specs.Cells.{is_known, place_of}
+use Rattle.record_lines.specs.declared.cells.Cell.TheVariants as cell
+use Rattle.record_lines.specs.Cells.{is_known, place_of}
 use Rattle.record.proofs.Standing.{cache-here, cache-more, directory-here, directory-more, whole-more}
 use Rattle.record.proofs.reading.with_cell.Goals as goal
 

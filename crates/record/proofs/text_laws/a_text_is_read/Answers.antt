@@ -1,6 +1,6 @@
 use Rattle.record.specs.Text.{text}
 use Rattle.record.proofs.Following.{lines-short, text-whole}
-use Rattle.record.proofs.Refusals.{whole-refused}
+use Rattle.record_lines.proofs.Refusals.{whole-refused}
 use Rattle.record.proofs.text_laws.a_text_is_read.Goals as goal
 
 pub returns-clause-whole : goal.returns-clause-whole

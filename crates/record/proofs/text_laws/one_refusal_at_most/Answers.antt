@@ -1,5 +1,5 @@
-use Rattle.record.proofs.Distinct.{one-refusal}
-use Rattle.record.proofs.Refusals.{whole-refused}
+use Rattle.record_lines.proofs.Distinct.{one-refusal}
+use Rattle.record_lines.proofs.Refusals.{whole-refused}
 use Rattle.record.proofs.text_laws.one_refusal_at_most.Goals as goal
 
 pub returns-clause-one : goal.returns-clause-one

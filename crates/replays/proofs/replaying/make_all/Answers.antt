@@ -1,6 +1,6 @@
 use Rattle.std.proofs.Common.{◌++◌, ◌+◌, ◌∙◌, List, ap, arith, drop, sym, take, take-append-drop}
 use Rattle.std.proofs.lemmas.List.{drop_more, length-take-le}
-use Rattle.record.specs.declared.recording.Entry.{Entry}
+use Rattle.record_lines.specs.declared.entry.Entry.{Entry}
 use Rattle.record.proofs.Exits.{handed-on}
 use Rattle.replays.proofs.replaying.make_all.Goals as goal
 

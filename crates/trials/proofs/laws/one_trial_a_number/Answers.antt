@@ -1,5 +1,5 @@
 use Rattle.std.proofs.Common.{List, map, inl, inr, sym, ◌∙◌, subst}
-use Rattle.record.specs.declared.recording.Entry.{Entry}
+use Rattle.record_lines.specs.declared.entry.Entry.{Entry}
 use Rattle.schedule.specs.Words.{word}
 use Rattle.moment.specs.Moments.{Moment}
 use Rattle.trials.specs.Moments.{first_moment}

@@ -2,7 +2,7 @@ use Rattle.std.proofs.Common.{arith}
 use Rattle.std.proofs.lemmas.Grind.{common_steps}
 use Rattle.std.proofs.lemmas.Result.{IfOk-weaker}
 use Rattle.base.specs.Spelling.{words}
-use Rattle.record.specs.declared.due.Due.TheVariants.{Header, ProtocolLine, ShapeLine, SeatsLine, OpeningLine, CellCount, CellLine, EntryCount}
+use Rattle.record_lines.specs.declared.due.Due.TheVariants.{Header, ProtocolLine, ShapeLine, SeatsLine, OpeningLine, CellCount, CellLine, EntryCount}
 use Rattle.record.specs.inner.Drafts.{kept}
 use Rattle.record.proofs.Drafting.{at-cell_count}
 use Rattle.record.proofs.Telling.{none-yet, read-in_front, same-or-less, same-room, taken-end, taken-entry, taken-entry_count, taken-in_front}

@@ -1,7 +1,7 @@
 use Rattle.std.proofs.Common.{◌≡◌, ap, subst, ◌∙◌, ◌+◌, ◌-◌, true}
 use Rattle.both_tables.specs.CellPlaces.{place_number}
-use Rattle.record.specs.Cells.{is_known}
-use Rattle.record.specs.Grammar.{cells_due}
+use Rattle.record_lines.specs.Cells.{is_known}
+use Rattle.record_lines.specs.Grammar.{cells_due}
 use Rattle.record.specs.inner.Drafts.{kept}
 use Rattle.record.proofs.Drafting.{cell-taken}
 use Rattle.record.proofs.draft.Draft.accept_cell.Goals as goal

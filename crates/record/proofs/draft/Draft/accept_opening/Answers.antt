@@ -1,8 +1,8 @@
 use Rattle.std.proofs.Common.{arith, subst}
 use Rattle.std.proofs.lemmas.Grind.{common_steps}
 use Rattle.base.specs.Spelling.{words}
-use Rattle.record.specs.inner.Reading.{IsBadOpening}
-use Rattle.record.proofs.DueFaults.{opening-fault}
+use Rattle.record_lines.specs.Reading.{IsBadOpening}
+use Rattle.record_lines.proofs.DueFaults.{opening-fault}
 use Rattle.record.proofs.Exits.{handed-on}
 use Rattle.record.proofs.draft.Draft.accept_opening.Goals as goal
 

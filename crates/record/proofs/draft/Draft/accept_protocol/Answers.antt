@@ -2,7 +2,7 @@ use Rattle.std.proofs.Common.{refl}
 use Rattle.base.specs.Spelling.{words}
 use Rattle.record.specs.inner.Drafts.{kept}
 use Rattle.record.proofs.Drafting.{protocol-taken}
-use Rattle.record.proofs.DueFaults.{protocol-fault}
+use Rattle.record_lines.proofs.DueFaults.{protocol-fault}
 use Rattle.record.proofs.Exits.{handed-on}
 use Rattle.record.proofs.draft.Draft.accept_protocol.Goals as goal
 

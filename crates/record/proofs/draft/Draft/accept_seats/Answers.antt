@@ -1,7 +1,7 @@
 use Rattle.std.proofs.Common.{subst}
 use Rattle.base.specs.Spelling.{words}
-use Rattle.record.specs.inner.Reading.{IsBadCount}
-use Rattle.record.proofs.DueFaults.{seats-fault}
+use Rattle.record_lines.specs.Reading.{IsBadCount}
+use Rattle.record_lines.proofs.DueFaults.{seats-fault}
 use Rattle.record.proofs.Exits.{handed-on}
 use Rattle.record.proofs.draft.Draft.accept_seats.Goals as goal
 

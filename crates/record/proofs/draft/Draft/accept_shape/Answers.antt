@@ -1,7 +1,7 @@
 use Rattle.base.specs.Spelling.{words}
 use Rattle.record.specs.inner.Drafts.{kept}
 use Rattle.record.proofs.Drafting.{shape-taken}
-use Rattle.record.proofs.DueFaults.{shape-fault}
+use Rattle.record_lines.proofs.DueFaults.{shape-fault}
 use Rattle.record.proofs.Exits.{handed-on}
 use Rattle.record.proofs.draft.Draft.accept_shape.Goals as goal
 

@@ -1,9 +1,9 @@
 use Rattle.std.proofs.Common.{◌≡◌, ◌<◌, ◌-◌, ap, arith, refl, subst, sym, ◌∙◌}
-use Rattle.record.specs.declared.due.Due.{Due}
+use Rattle.record_lines.specs.declared.due.Due.{Due}
 use Rattle.record.specs.declared.reader.Reader.{Reader}
 use Rattle.record.specs.inner.Drafts.{lines_left, recorded}
 use Rattle.record.specs.inner.Readers.{HasReadSome, IsReading, IsReady}
-use Rattle.record.specs.inner.Reading.{Gathered}
+use Rattle.record_lines.specs.Reading.{Gathered}
 use Rattle.record.proofs.Ahead.{fewer-behind, none-taken, one-left, one-more, still-due, still-ready, with-due}
 use Rattle.record.proofs.reader.Reader.accept_entries.Goals as goal
 use Rattle.record.proofs.reader.Reader.accept_entries.Goals.{else-loop-left-test, then-loop-left-test+in_default-take_entry}

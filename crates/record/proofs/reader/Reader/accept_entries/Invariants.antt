@@ -1,5 +1,5 @@
 use Rattle.std.proofs.Common.{◌≤◌}
-use Rattle.record.specs.Grammar.{entries_due}
+use Rattle.record_lines.specs.Grammar.{entries_due}
 use Rattle.record.specs.inner.Drafts.{lines_left}
 use Rattle.record.specs.inner.Readers.{HasReadSome, IsReady, StillReads}
 use Rattle.record.proofs.Ahead.{with-due}

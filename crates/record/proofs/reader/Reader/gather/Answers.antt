@@ -1,9 +1,9 @@
 use Rattle.std.proofs.Common.{◌≢◌, ◌+◌, ◌-◌, ◌<◌, ap, subst, length, sym, ◌∙◌, refl, rules, arith}
 use Rattle.std.proofs.lemmas.Grind.{common_steps}
-use Rattle.record.specs.declared.due.Due.TheVariants.{Nothing}
-use Rattle.record.specs.declared.fault.ReadKind.TheVariants.{Device, NoMemory}
-use Rattle.record.specs.Refused.{limit, IsUnfinished}
-use Rattle.record.specs.inner.Reading.{pending}
+use Rattle.record_lines.specs.declared.due.Due.TheVariants.{Nothing}
+use Rattle.record_lines.specs.declared.fault.ReadKind.TheVariants.{Device, NoMemory}
+use Rattle.record_lines.specs.Refused.{limit, IsUnfinished}
+use Rattle.record_lines.specs.Reading.{pending}
 use Rattle.record.proofs.Telling.{ready-gathered}
 use Rattle.record.proofs.Exits.{handed-on}
 use Rattle.record.proofs.Steps.{none-if, none-pulled, not-whole, some-if, pulled-gathered, pulled-more, then-longer, unfinished}

@@ -1,7 +1,7 @@
 use Rattle.std.proofs.Common.{◌+◌, ◌-◌, length}
-use Rattle.record.specs.Refused.{limit}
+use Rattle.record_lines.specs.Refused.{limit}
 use Rattle.record.specs.inner.Readers.{HasPulled, IsReady}
-use Rattle.record.specs.inner.Reading.{pending}
+use Rattle.record_lines.specs.Reading.{pending}
 use Rattle.record.proofs.reader.Reader.gather.Given as goal
 
 abbrev pub invariant-loop-self : goal.invariant-loop-self

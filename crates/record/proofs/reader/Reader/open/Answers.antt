@@ -2,8 +2,8 @@ use Rattle.std.proofs.Common.{[], refl, ap, sym, subst}
 use Rattle.std.proofs.KnownBytes.{Consumes-nil}
 use Rattle.std.specs.Io.KnownBytes.{Consumes}
 use Rattle.record.specs.inner.Drafts.{kept}
-use Rattle.record.specs.inner.Reading.{Gathered, stream}
-use Rattle.record.proofs.Streams.{none-held}
+use Rattle.record_lines.specs.Reading.{Gathered, stream}
+use Rattle.record_lines.proofs.Streams.{none-held}
 use Rattle.record.proofs.reader.Reader.open.Goals as goal
 
 pub returns-clause-reading : goal.returns-clause-reading

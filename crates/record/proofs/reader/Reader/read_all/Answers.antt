@@ -1,10 +1,10 @@
 use Rattle.std.proofs.Common.{◌≡◌, ◌<◌, ◌+◌, rules, subst, sym, ◌∙◌, arith}
 use Rattle.std.proofs.lemmas.Grind.{common_steps}
 use Rattle.std.proofs.lemmas.Result.{IfErr-weaker, on_ok_weaker}
-use Rattle.record.specs.declared.due.Due.TheVariants.{Header, Nothing}
-use Rattle.record.specs.Refused.{IsFaultOfRest, IsRefused}
+use Rattle.record_lines.specs.declared.due.Due.TheVariants.{Header, Nothing}
+use Rattle.record_lines.specs.Refused.{IsFaultOfRest, IsRefused}
 use Rattle.record.specs.inner.Drafts.{lines_left}
-use Rattle.record.specs.inner.Reading.{Gathered, pending}
+use Rattle.record_lines.specs.Reading.{Gathered, pending}
 use Rattle.record.proofs.Exits.{handed-on}
 use Rattle.record.proofs.Steps.{fewer-left, line-fault, taken-text, taken-whole, then-gathered, then-refused, then-taken}
 use Rattle.record.proofs.reader.Reader.read_all.Goals as goal

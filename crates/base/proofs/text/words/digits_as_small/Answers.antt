@@ -1,9 +1,0 @@
-use Rattle.std.proofs.Common.{rules}
-use Rattle.base.specs.Spelling.{words}
-use Rattle.base.specs.inner.Behind.{words_behind}
-use Rattle.base.proofs.Fronts.{too-high}
-use Rattle.base.proofs.text.words.digits_as_small.Goals as goal
-
-pub returns-in-Err : goal.returns-in-Err
-returns-in-Err c =
-    too-high (words c.args.line.now) (words_behind c.in_ok-number.rest) c.in_ok-number.number c.in_ok-number.ensures (search rules) c.in-Err.ensures

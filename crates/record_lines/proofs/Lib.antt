@@ -1,0 +1,13 @@
+pub mod Alike
+pub mod Distinct
+pub mod DueFaults
+pub mod Ending
+pub mod Faulting
+pub mod Leading
+pub mod Legible
+pub mod Openings
+pub mod Refusals
+pub mod Shapes
+pub mod Splitting
+pub mod Streams
+pub mod Words

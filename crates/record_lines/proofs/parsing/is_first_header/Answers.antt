@@ -1,0 +1,12 @@
+use Rattle.std.proofs.Common.{◌≡◌, codes, ap, rules}
+use Rattle.base.specs.Spelling.{words}
+use Rattle.record_lines.specs.Text.{header_words}
+use Rattle.record_lines.specs.declared.version.Version.TheVariants.{One}
+use Rattle.record_lines.proofs.Words.{spelled-text}
+use Rattle.record_lines.proofs.parsing.is_first_header.Goals as goal
+
+pub returns : goal.returns
+returns c = (
+  λ yes. (let is : c.args.line.now ≡ codes "msi-recording 1" = search rules in ap words is),
+  λ spelled. (let is : c.args.line.now ≡ codes "msi-recording 1" = spelled-text c.args.line.now (header_words One) spelled in search rules),
+)

@@ -1,0 +1,135 @@
+-- How a text is read line by line.
+use Rattle.std.specs.Prelude.{Bool, true, false, ◌≡◌, ◌≢◌, ℕ, ◌+◌, ◌<◌, ◌≤◌, ◌^◌, List, [], ◌∷◌, ◌++◌, Option, All, codes, length}
+use Rattle.std.specs.Io.KnownBytes.{prepend_known}
+use Rattle.std.specs.Fmt.{decimal}
+use Rattle.base.specs.Extent.{Extent}
+use Rattle.base.specs.declared.controller.protocol.Protocol.{Protocol}
+use Rattle.record_lines.specs.declared.version.Version.{Version}
+use Rattle.record_lines.specs.Versions.{protocol_words, IsShapeIn}
+use Rattle.record_lines.specs.Grammar.{IsOwner}
+use Rattle.base.specs.Spelling.{joined, step_words, FitsStep}
+use Rattle.base.specs.declared.step.Step.{Step}
+use Rattle.record_lines.specs.declared.cells.Cell.{Cell}
+use Rattle.record_lines.specs.Cells.{cell_words, FitsCell}
+use Rattle.record_lines.specs.Text.{by_words, end_words, entry_words, shape_words, opening_words}
+use Rattle.record_lines.specs.declared.entry.Entry.{Entry}
+use Rattle.record_lines.specs.declared.fault.ReadKind.{ReadKind}
+use Rattle.record_lines.specs.declared.fault.ReadKind.TheVariants.{OverLimit, BadLine, BadOutcome, CountDiffers, UnknownProtocol}
+use Rattle.record_lines.specs.Refused.{HasNoEnd, IsHigherCount, IsOtherShape, HasNoOutcome, HasOtherName}
+
+-- what was pulled of a source and isn't taken yet: the line as far as it is gathered, and the bytes ahead; and how many lines were taken
+pub record Gathered : Type 0 where
+  pub line : List ℕ
+  pub ahead : List ℕ
+  pub number : ℕ
+
+-- the bytes that were pulled and aren't taken yet
+abbrev pub pending : Gathered → List ℕ
+pending gathered = gathered.line ++ gathered.ahead
+
+-- all bytes that are still to come
+abbrev pub stream : Gathered → Option (List ℕ) → Option (List ℕ)
+stream gathered left = prepend_known (pending gathered) left
+
+-- the next byte is the end of a line
+abbrev pub BeginsWithEnd : List ℕ → Type 0
+BeginsWithEnd bytes = (behind : List ℕ) × (bytes ≡ 10 ∷ behind)
+
+-- the line, whose end is next, was taken off
+pub record IsTakenOff (old new : Gathered) : Type 0 where
+  pub line : new.line ≡ []
+  pub ahead : old.ahead ≡ 10 ∷ new.ahead
+  pub number : new.number ≡ old.number + 1
+
+-- the line of this entry, no part of which was gathered, was taken off with its end
+pub record IsEntryTakenOff (entry : Entry) (old new : Gathered) : Type 0 where
+  pub none : old.line ≡ []
+  pub ahead : old.ahead ≡ joined (entry_words entry) ++ 10 ∷ new.ahead
+  pub line : new.line ≡ []
+  pub number : new.number ≡ old.number + 1
+
+-- whether there are bytes
+abbrev pub AreSomeIf : Bool → List ℕ → Type 0
+AreSomeIf true bytes = 0 < length bytes
+AreSomeIf false bytes = bytes ≡ []
+
+-- a line that is whole has its end ahead, and of one that isn't nothing is ahead
+abbrev pub IsWholeIf : Bool → List ℕ → Type 0
+IsWholeIf true ahead = BeginsWithEnd ahead
+IsWholeIf false ahead = ahead ≡ []
+
+-- the bytes ahead stand between two ends of a buffer; a line has no end, isn't too long and has its room; and either all of it is
+-- kept apart, or all of it stands in the buffer and is whole
+pub record AreGathered (at end held : ℕ) (kept standing : List ℕ) (capacity : ℕ) : Type 0 where
+  pub in_order : at ≤ end
+  pub within : end ≤ 4096
+  pub behind : held ≤ at
+  pub apart : 0 < held → kept ≡ []
+  pub whole : 0 < held → at < end
+  pub no_end : HasNoEnd (kept ++ standing)
+  pub short : length kept + held ≤ 1400000
+  pub room : 1400000 ≤ capacity
+
+-- why a line of words isn't a count of this name up to this number
+abbrev pub IsBadCount : List ℕ → ℕ → List (List ℕ) → ReadKind → Type 0
+IsBadCount name most line OverLimit = IsHigherCount name most line
+IsBadCount name most line BadLine = ((n : ℕ) → n ≤ most → line ≢ name ∷ decimal n ∷ []) × ¬ IsHigherCount name most line
+IsBadCount name most line other = ⊥
+
+-- why a line of words isn't that of a protocol
+abbrev pub IsBadProtocol : List (List ℕ) → ReadKind → Type 0
+IsBadProtocol line UnknownProtocol = HasOtherName line
+IsBadProtocol line BadLine = ((protocol : Protocol) → line ≢ protocol_words protocol) × ¬ HasOtherName line
+IsBadProtocol line other = ⊥
+
+-- why a line of words isn't that of a shape in this version
+abbrev pub IsBadShape : Version → List (List ℕ) → ReadKind → Type 0
+IsBadShape version line OverLimit = IsOtherShape version line
+IsBadShape version line BadLine = ((shape : Extent) → IsShapeIn version shape → line ≢ shape_words shape) × ¬ IsOtherShape version line
+IsBadShape version line other = ⊥
+
+-- why a line of words isn't that of the opening values of a shape
+abbrev pub IsBadOpening : ℕ → List (List ℕ) → ReadKind → Type 0
+IsBadOpening blocks line BadLine = (values : List ℕ) → length values ≡ blocks → All (λ value. value < 2 ^ 64) values → line ≢ opening_words values
+IsBadOpening blocks line other = ⊥
+
+-- no cell is spelled so
+abbrev pub IsNoCell : List (List ℕ) → Type 0
+IsNoCell line = (cell : Cell) → FitsCell cell → line ≢ cell_words cell
+
+-- a step, an equals sign and something behind it stand in no line of these words
+abbrev pub HasNoStep : List (List ℕ) → Type 0
+HasNoStep line = (s : Step) (first : List ℕ) (others : List (List ℕ)) → FitsStep s → line ≢ step_words s ++ codes "=" ∷ first ∷ others
+
+-- a step, an equals sign and an outcome: or where they aren't, why
+abbrev pub IsBadEntry : List (List ℕ) → ReadKind → Type 0
+IsBadEntry line BadOutcome = HasNoOutcome 0 line
+IsBadEntry line BadLine = HasNoStep line
+IsBadEntry line other = ⊥
+
+-- in front of no entry of these seats stands whose it is
+abbrev pub HasNoOwned : ℕ → List (List ℕ) → Type 0
+HasNoOwned seats line =
+    (owner : Option ℕ) (s : Step) (first : List ℕ) (others : List (List ℕ)) → IsOwner seats owner → FitsStep s →
+    line ≢ by_words owner ++ (step_words s ++ codes "=" ∷ first ∷ others)
+
+-- why a line of words isn't that of an entry that is told where there are so many seats
+abbrev pub IsBadTold : ℕ → List (List ℕ) → ReadKind → Type 0
+IsBadTold seats line BadOutcome = HasNoOutcome seats line
+IsBadTold seats line BadLine = HasNoOwned seats line
+IsBadTold seats line other = ⊥
+
+-- where an entry is due of so many seats, why a line isn't one
+abbrev pub IsFaultOfTold : ℕ → List (List ℕ) → ReadKind → Type 0
+IsFaultOfTold seats line CountDiffers = line ≡ end_words
+IsFaultOfTold seats line BadOutcome = HasNoOutcome seats line
+IsFaultOfTold seats line BadLine = HasNoOwned seats line × (line ≢ end_words)
+IsFaultOfTold seats line other = ⊥
+
+-- no seat of so many stands in front of a line, with something behind it
+abbrev pub HasNoSeat : ℕ → List (List ℕ) → Type 0
+HasNoSeat seats line = (seat : ℕ) (first : List ℕ) (others : List (List ℕ)) → seat < seats → line ≢ codes "by" ∷ decimal seat ∷ first ∷ others
+
+-- nobody's words stand in front of a line, with something behind them
+abbrev pub HasNoBy : ℕ → List (List ℕ) → Type 0
+HasNoBy seats line = (owner : Option ℕ) (first : List ℕ) (others : List (List ℕ)) → IsOwner seats owner → line ≢ by_words owner ++ first ∷ others

@@ -1,0 +1,4 @@
+pub mod Alike
+pub mod Fronts
+pub mod Lines
+pub mod Numbers
