@@ -1,12 +1,12 @@
 -- A step leaves the cores as they were, but for that of the cache whose cell acted.
-use Rattle.std.proofs.Common.{◌≡◌, ◌≢◌, ℕ, List, [], ◌∷◌, Bool, true, false, if◌then◌else◌, Option, Some, None, slice_get, refl, subst, sym, ap, ◌∙◌}
+use Rattle.std.proofs.Common.{◌≡◌, ◌≢◌, ℕ, List, [], ◌∷◌, Bool, true, false, if◌then◌else◌, Option, Some, None, slice_get, refl, subst, sym, ap, ◌∙◌, arith}
 use Rattle.std.specs.Prelude.{is_none}
 use Rattle.std.specs.Option.{option_map}
 use Rattle.base.specs.Steps.{block_of}
 use Rattle.base.specs.declared.ids.CacheId.{CacheId}
 use Rattle.base.specs.declared.ids.Place.{Place}
 use Rattle.base.specs.declared.ids.Place.TheVariants.{Cache}
-use Rattle.base.specs.declared.step.Ask.TheVariants.{Load, Store, Replace}
+use Rattle.base.specs.declared.step.Ask.TheVariants.{Load, Store}
 use Rattle.base.specs.declared.step.CoreAsk.{CoreAsk}
 use Rattle.base.specs.declared.step.Step.{Step}
 use Rattle.base.specs.declared.step.Step.TheVariants as step
@@ -14,13 +14,11 @@ use Rattle.base.specs.declared.step.Outcome.{Outcome}
 use Rattle.base.specs.declared.step.Outcome.TheVariants as outcome
 use Rattle.control.specs.declared.line.Line.{Line}
 use Rattle.control.specs.declared.line.LineCompletion.{LineCompletion}
-use Rattle.control.specs.declared.line.LineCompletion.TheVariants as done
 use Rattle.control.specs.LineEffect.{line_completes}
 use Rattle.both_tables.specs.Tables.{Tables}
 use Rattle.machine.specs.declared.decision.Decision.{Decision}
 use Rattle.machine.specs.declared.decision.Decision.TheVariants.{Refused, AtLine, AtHome}
 use Rattle.machine.specs.declared.decision.Origin.{Origin}
-use Rattle.machine.specs.declared.decision.Origin.TheVariants as origin
 use Rattle.machine.specs.Block.{BlockState}
 use Rattle.machine.specs.Completions.{Completion, completed_by}
 use Rattle.machine.specs.declared.made.Acted.{Acted}
@@ -73,39 +71,10 @@ Completes (outcome.Store at value) core = core ≢ at.0
 Completes other core = Unit {0}
 
 put-apart : (s : Step) (what : Outcome) (core : ℕ) → Asks s core → NoAskOf core (put_by s what)
-put-apart (step.Ask cache block Replace) what core h = tt
-put-apart (step.Ask cache block Load) outcome.Sent core h = (h, tt)
-put-apart (step.Ask cache block Load) outcome.Moved core h = tt
-put-apart (step.Ask cache block Load) (outcome.Load at v) core h = (h, tt)
-put-apart (step.Ask cache block Load) (outcome.Store at v) core h = (h, tt)
-put-apart (step.Ask cache block Load) outcome.Held core h = tt
-put-apart (step.Ask cache block Load) outcome.Absent core h = tt
-put-apart (step.Ask cache block Load) outcome.Idle core h = tt
-put-apart (step.Ask cache block Load) outcome.Blank core h = tt
-put-apart (step.Ask cache block Load) outcome.Broken core h = tt
-put-apart (step.Ask cache block (Store x)) outcome.Sent core h = (h, tt)
-put-apart (step.Ask cache block (Store x)) outcome.Moved core h = tt
-put-apart (step.Ask cache block (Store x)) (outcome.Load at v) core h = (h, tt)
-put-apart (step.Ask cache block (Store x)) (outcome.Store at v) core h = (h, tt)
-put-apart (step.Ask cache block (Store x)) outcome.Held core h = tt
-put-apart (step.Ask cache block (Store x)) outcome.Absent core h = tt
-put-apart (step.Ask cache block (Store x)) outcome.Idle core h = tt
-put-apart (step.Ask cache block (Store x)) outcome.Blank core h = tt
-put-apart (step.Ask cache block (Store x)) outcome.Broken core h = tt
-put-apart (step.Request block i) what core h = tt
-put-apart (step.Forward block cache) what core h = tt
-put-apart (step.Response block i) what core h = tt
+put-apart s what core h = grind (arith)
 
 done-apart : (s : Step) (what : Outcome) (core : ℕ) → Completes what core → NoneDoneBy core (completed_by s what)
-done-apart s outcome.Sent core h = tt
-done-apart s outcome.Moved core h = tt
-done-apart s (outcome.Load at v) core h = (h, tt)
-done-apart s (outcome.Store at v) core h = (h, tt)
-done-apart s outcome.Held core h = tt
-done-apart s outcome.Absent core h = tt
-done-apart s outcome.Idle core h = tt
-done-apart s outcome.Blank core h = tt
-done-apart s outcome.Broken core h = tt
+done-apart s what core h = grind (arith)
 
 both-apart : (s : Step) (what : Outcome) (cores : List Core) (core : ℕ) → Asks s core → Completes what core →
     is_free (cores_after s what cores) core ≡ is_free cores core
@@ -115,12 +84,7 @@ both-apart s what cores core asks completes =
 
 outcome-apart : (cache : CacheId) (from : Origin) (completion : Option LineCompletion) (core : ℕ) → core ≢ cache.0 → Completes
     (outcome_of cache from completion) core
-outcome-apart cache origin.Core None core ne = tt
-outcome-apart cache (origin.Request i) None core ne = tt
-outcome-apart cache (origin.Head at) None core ne = tt
-outcome-apart cache (origin.Response i) None core ne = tt
-outcome-apart cache from (Some (done.Load value)) core ne = ne
-outcome-apart cache from (Some (done.Store value)) core ne = ne
+outcome-apart cache from completion core ne = grind (arith)
 
 -- ---- where a step goes
 
@@ -138,12 +102,7 @@ asks-there (step.Forward block at) b cache core e ne = tt
 asks-there (step.Response block i) b cache core e ne = tt
 
 moved-puts-none : (s : Step) → put_by s outcome.Moved ≡ []
-moved-puts-none (step.Ask cache block Load) = refl
-moved-puts-none (step.Ask cache block (Store x)) = refl
-moved-puts-none (step.Ask cache block Replace) = refl
-moved-puts-none (step.Request block i) = refl
-moved-puts-none (step.Forward block cache) = refl
-moved-puts-none (step.Response block i) = refl
+moved-puts-none s = grind (arith)
 
 nothing-put : (s : Step) (what : Outcome) (cores : List Core) (core : ℕ) → put_by s what ≡ [] → completed_by s what ≡ [] →
     is_free (cores_after s what cores) core ≡ is_free cores core

@@ -1,12 +1,12 @@
 -- What a step changes of what the lines wait for.
-use Rattle.std.proofs.Common.{◌≡◌, ◌⊎◌, inl, inr, ℕ, List, [], ◌∷◌, Option, Some, None, true, false, slice_get, refl, ap, ◌∙◌, subst}
+use Rattle.std.proofs.Common.{◌≡◌, ◌⊎◌, inl, inr, ℕ, List, [], ◌∷◌, Option, Some, None, true, false, slice_get, refl, ap, ◌∙◌, subst, arith}
 use Rattle.std.specs.Prelude.{if◌then◌else◌}
 use Rattle.base.specs.Steps.{block_of}
 use Rattle.base.specs.declared.ids.CacheId.{CacheId}
 use Rattle.base.specs.declared.ids.BlockId.{BlockId}
 use Rattle.base.specs.declared.ids.Place.TheVariants.{Dir, Cache}
 use Rattle.base.specs.declared.step.Ask.{Ask}
-use Rattle.base.specs.declared.step.Ask.TheVariants.{Load, Store, Replace}
+use Rattle.base.specs.declared.step.Ask.TheVariants.{Load, Store}
 use Rattle.base.specs.declared.step.CoreAsk.{CoreAsk}
 use Rattle.base.specs.declared.step.Step.{Step}
 use Rattle.base.specs.declared.step.Step.TheVariants as step
@@ -96,46 +96,14 @@ Effect before s made = Stays before s made ⊎ Puts before s made ⊎ PutsDone b
 -- ---- nothing happens
 
 pub none-put : (s : Step) (what : Outcome) → IsRefusal what → put_by s what ≡ []
-none-put (step.Ask cache block Replace) what r = refl
-none-put (step.Ask cache block Load) outcome.Sent r = absurd r
-none-put (step.Ask cache block Load) outcome.Moved r = absurd r
-none-put (step.Ask cache block Load) (outcome.Load at v) r = absurd r
-none-put (step.Ask cache block Load) (outcome.Store at v) r = absurd r
-none-put (step.Ask cache block Load) outcome.Held r = refl
-none-put (step.Ask cache block Load) outcome.Absent r = refl
-none-put (step.Ask cache block Load) outcome.Idle r = refl
-none-put (step.Ask cache block Load) outcome.Blank r = refl
-none-put (step.Ask cache block Load) outcome.Broken r = refl
-none-put (step.Ask cache block (Store x)) outcome.Sent r = absurd r
-none-put (step.Ask cache block (Store x)) outcome.Moved r = absurd r
-none-put (step.Ask cache block (Store x)) (outcome.Load at v) r = absurd r
-none-put (step.Ask cache block (Store x)) (outcome.Store at v) r = absurd r
-none-put (step.Ask cache block (Store x)) outcome.Held r = refl
-none-put (step.Ask cache block (Store x)) outcome.Absent r = refl
-none-put (step.Ask cache block (Store x)) outcome.Idle r = refl
-none-put (step.Ask cache block (Store x)) outcome.Blank r = refl
-none-put (step.Ask cache block (Store x)) outcome.Broken r = refl
-none-put (step.Request block i) what r = refl
-none-put (step.Forward block cache) what r = refl
-none-put (step.Response block i) what r = refl
+none-put s what r = grind (arith)
 
 pub none-done : (s : Step) (what : Outcome) → IsRefusal what → completed_by s what ≡ []
-none-done s outcome.Sent r = absurd r
-none-done s outcome.Moved r = absurd r
-none-done s (outcome.Load at v) r = absurd r
-none-done s (outcome.Store at v) r = absurd r
-none-done s outcome.Held r = refl
-none-done s outcome.Absent r = refl
-none-done s outcome.Idle r = refl
-none-done s outcome.Blank r = refl
-none-done s outcome.Broken r = refl
+none-done s what r = grind (arith)
 
 -- a delivery puts nothing
 pub delivery-puts-none : (s : Step) (what : Outcome) → IsDelivery s → put_by s what ≡ []
-delivery-puts-none (step.Ask cache block a) what d = absurd d
-delivery-puts-none (step.Request block i) what d = refl
-delivery-puts-none (step.Forward block cache) what d = refl
-delivery-puts-none (step.Response block i) what d = refl
+delivery-puts-none s what d = grind (arith)
 
 -- a decision that is made of the block where a step goes
 record Here (before : State) (s : Step) (b : BlockState) : Type 0 where
@@ -237,17 +205,10 @@ asked cache block a = record { core = cache; block = block; ask = a }
 
 ask-put : (cache : CacheId) (block : BlockId) (a : Ask) (c : Option LineCompletion) → Completes a →
     put_by (step.Ask cache block a) (outcome_of cache origin.Core c) ≡ asked cache block a ∷ []
-ask-put cache block Load None e = refl
-ask-put cache block Load (Some (done.Load v)) e = refl
-ask-put cache block Load (Some (done.Store v)) e = refl
-ask-put cache block (Store x) None e = refl
-ask-put cache block (Store x) (Some (done.Load v)) e = refl
-ask-put cache block (Store x) (Some (done.Store v)) e = refl
-ask-put cache block Replace c e = absurd e
+ask-put cache block a c e = grind (arith)
 
 answers-ask : (cache : CacheId) (block : BlockId) (c : LineCompletion) → answered (of_line cache block.0 c) ≡ asked cache block (settled_ask c)
-answers-ask cache block (done.Load v) = refl
-answers-ask cache block (done.Store v) = refl
+answers-ask cache block c = grind (arith)
 
 ask-acts : (before : State) (cache : CacheId) (block : BlockId) (a : Ask) (b : BlockState) (line : Line) (state : CacheState) (actions : List CacheAction)
     → Here before (step.Ask cache block a) b → slice_get b.lines cache.0 ≡ Some line → AskDoes a (line_completes (line_input.Ask a) state line) line
