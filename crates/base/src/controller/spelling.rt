@@ -49,19 +49,29 @@ impl<S: Listed, E: Listed, A: Listed> Change<S, E, A> {
         ensures change { MatchOption result (IsNoChange {S = S} {E = E} {A = A} S.spelling E.spelling A.spelling side (words line.now))
             (λ c. words line.now ≡ change_words S.spelling E.spelling A.spelling side c) }
     {
-        let (first, rest) = cut(line);
-        let (side_word, rest) = cut(rest?);
-        let (state, rest) = cut(rest?);
-        let (event, rest) = cut(rest?);
-        let rest = rest?;
+        let (first, Some(rest)) = cut(line) else {
+            return None;
+        };
+        let (side_word, Some(rest)) = cut(rest) else {
+            return None;
+        };
+        let (state, Some(rest)) = cut(rest) else {
+            return None;
+        };
+        let (event, Some(rest)) = cut(rest) else {
+            return None;
+        };
         if first != b"cell".as_slice() || side_word != side.name().as_bytes() {
             return None;
         }
-        Some(Change {
-            state: named::<S>(state)?,
-            event: named::<E>(event)?,
-            entry: entry_of::<S, A>(rest)?,
-        })
+        match (named::<S>(state), named::<E>(event), entry_of::<S, A>(rest)) {
+            (Some(state), Some(event), Some(entry)) => Some(Change {
+                state,
+                event,
+                entry,
+            }),
+            _ => None,
+        }
     }
 }
 
