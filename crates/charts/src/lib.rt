@@ -9,3 +9,4 @@ mod surroundings;
 mod svg;
 
 pub use charting::chart;
+pub use pictures::{ChartFault, MOST_ROWS};

@@ -13,7 +13,7 @@ use Rattle.machine.specs.Unstuck.{Flowing}
 use Rattle.world.specs.Enabled.{enabled_steps}
 use Rattle.world.specs.Looks.{all_quiet}
 use Rattle.world.specs.View.{View, LeadsOn}
-use Rattle.trials.proofs.Disabled.{nothing-delivers}
+use Rattle.schedule.proofs.Disabled.{nothing-delivers}
 use Rattle.checking.specs.Jams.{GetsStuck}
 use Rattle.checking.specs.inner.Leading.{IsFresh, HasGoneOn}
 

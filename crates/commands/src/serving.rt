@@ -14,8 +14,17 @@ use std::io;
 use std::io::{Read, Write};
 use std::sync::Wait;
 use std::thread::Threads;
-use trying::{batch, one_trial};
-use usage::TrialWords;
+use trying::{MOST_STEPS, MOST_TRIALS, MOST_WORKERS, batch, one_trial};
+use usage::{Limits, TrialWords};
+
+/// What numbers `msi` takes.
+const LIMITS: Limits = Limits {
+    steps: MOST_STEPS,
+    trials: MOST_TRIALS,
+    workers: MOST_WORKERS,
+    seats: racing::MOST_SEATS,
+    model_caches: modelling::MOST_CACHES,
+};
 
 /// Serves the words of a command line over these files and streams, and answers the exit status. It may wait where threads
 /// race at a floor. The status is
@@ -36,7 +45,7 @@ pub fn serve<R: Threads + Wait + Sync, F: Files, I: Read + Drop, O: Write + Drop
         Ok(words) => words.as_slice(),
         Err(error) => return refuse(&Fault::of_words(error), &mut errors),
     };
-    let read = match usage::msi(alloc) {
+    let read = match usage::msi(alloc, &LIMITS) {
         Ok(msi) => msi.try_get_matches_from(words),
         Err(_) => return refuse(&Fault::NoMemory, &mut errors),
     };

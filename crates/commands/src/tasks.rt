@@ -5,13 +5,12 @@ use both_tables::Tables;
 use checking::Bounds;
 use clap::ArgMatches;
 use console::{Fault, Format};
-use playing::Form;
+use playing::{Form, Layout};
 use racing::RacePlan;
 use record::MOST_ENTRIES;
 use std::alloc::Global;
-use story::{Layout, Part};
-use trials::Setup;
-use trying::{BatchPlan, Until};
+use story::Part;
+use trying::{BatchPlan, Setup, SetupFault, Until};
 
 /// What a command line asks for, with all that its options and their files say.
 #[derive(Drop)]
@@ -187,7 +186,12 @@ fn setup<F: Files>(
     let tables = tables(alloc, options, files)?;
     let opening = vec![in alloc; 0; shape.blocks() as usize]?;
     let seed = options.get_one::<u64>("seed").unwrap_or(0);
-    Ok(Setup::new(shape, tables, opening, seed, limit)?)
+    Setup::new(shape, tables, opening, seed, limit).map_err(not_made)
+}
+
+/// Why trials can't be made. None of it comes: `clap` has tested the limit, and each block has its opening value.
+fn not_made(_fault: SetupFault) -> Fault {
+    Fault::Setup
 }
 
 /// The own tables of the protocol that is named, with the cells of the named file laid over them where one is named.

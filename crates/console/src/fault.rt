@@ -1,13 +1,10 @@
 use base::{NoMemory, ShapeFault};
 use both_tables::TablesFault;
-use pictures::{ChartFault, MOST_ROWS};
 use record::{MOST_ENTRIES, MoveFault, PushFault, ReadFault, ReadKind, WriteFault};
 use scenario::ScenarioFault;
 use std::alloc::{AllocError, AllocFailed};
 use std::{fmt, io};
-use story::ShowFault;
 use thiserror::Error;
-use trials::SetupFault;
 
 /// Why a command ends early. Its text is what `msi` prints on standard error.
 #[derive(Clone, Copy, Debug, Error)]
@@ -31,8 +28,8 @@ pub enum Fault {
     #[error("msi: {0}")]
     Shape(ShapeFault),
     /// The options aren't those of trials.
-    #[error("msi: {0}")]
-    Setup(SetupFault),
+    #[error("msi: trials can't be made so")]
+    Setup,
     /// The overrides of the tables are refused.
     #[error("msi: tables refused {0}")]
     Tables(Refusal<TablesFault>),
@@ -42,9 +39,9 @@ pub enum Fault {
     /// The recording is refused at a line, counted from 1.
     #[error("msi: recording line {0} refused {1}")]
     Recording(u64, Refusal<ReadKind>),
-    /// More steps are chosen than a picture has room for.
-    #[error("msi: {0} steps, and a picture has room for {MOST_ROWS}: choose fewer, by --from and --steps or by --block")]
-    TooManySteps(u64),
+    /// More steps are chosen, which is the first number, than a picture has room for, which is the second.
+    #[error("msi: {0} steps, and a picture has room for {1}: choose fewer, by --from and --steps or by --block")]
+    TooManySteps(u64, u64),
     /// A read or a write failed.
     #[error("msi: device")]
     Device,
@@ -71,11 +68,11 @@ impl Fault {
             | Fault::TooManyEntries
             | Fault::TooManyTurns
             | Fault::Shape(_)
-            | Fault::Setup(_)
+            | Fault::Setup
             | Fault::Tables(_)
             | Fault::Scenario(_)
             | Fault::Recording(..)
-            | Fault::TooManySteps(_) => 2,
+            | Fault::TooManySteps(..) => 2,
             Fault::Device | Fault::NoMemory => 3,
         }
     }
@@ -117,34 +114,9 @@ impl From<ReadFault> for Fault {
     }
 }
 
-impl From<ShowFault> for Fault {
-    fn from(fault: ShowFault) -> Fault {
-        match fault {
-            ShowFault::Device => Fault::Device,
-            ShowFault::NoMemory => Fault::NoMemory,
-        }
-    }
-}
-
-impl From<ChartFault> for Fault {
-    fn from(fault: ChartFault) -> Fault {
-        match fault {
-            ChartFault::TooManySteps(count) => Fault::TooManySteps(count),
-            ChartFault::Device => Fault::Device,
-            ChartFault::NoMemory => Fault::NoMemory,
-        }
-    }
-}
-
 impl From<ShapeFault> for Fault {
     fn from(fault: ShapeFault) -> Fault {
         Fault::Shape(fault)
-    }
-}
-
-impl From<SetupFault> for Fault {
-    fn from(fault: SetupFault) -> Fault {
-        Fault::Setup(fault)
     }
 }
 

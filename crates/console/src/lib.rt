@@ -5,6 +5,7 @@ mod fault;
 mod finding;
 mod format;
 mod lines;
+mod objects;
 mod printing;
 mod recording;
 
@@ -12,5 +13,6 @@ pub use fault::{Fault, Refusal};
 pub use finding::{Finding, Found};
 pub use format::Format;
 pub use lines::{Lines, MOST_BYTES};
+pub use objects::ViolationObject;
 pub use printing::Printer;
 pub use recording::print_whole;

@@ -16,3 +16,4 @@ pub use floors::{Floor, FloorFault, MOST_SEATS};
 pub use grounds::{Ground, Naming};
 pub use halls::{Hall, TurnFault};
 pub use seats::{Receipt, Seat};
+pub use trials::{Setup, SetupFault};

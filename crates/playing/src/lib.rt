@@ -3,13 +3,18 @@
 
 mod complaining;
 mod moving;
+mod objects;
+mod output;
 mod picturing;
 mod playing;
 mod recording;
 mod replaying;
+mod starting;
+mod tabling;
 
 pub use moving::move_recording;
 pub use picturing::{Form, print_recording};
 pub use playing::play;
 pub use recording::play_recording;
 pub use replaying::replay;
+pub use tabling::{Layout, show};

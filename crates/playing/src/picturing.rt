@@ -1,10 +1,11 @@
+use crate::tabling::{Layout, show};
 use base::FromRead;
-use charts::chart;
+use charts::{ChartFault, MOST_ROWS, chart};
 use console::{Fault, Finding, Printer};
 use record::Recording;
 use std::alloc::Global;
 use std::io::{Read, Write};
-use story::{Layout, Part, Shown, show};
+use story::{Part, Shown};
 
 /// How a recording is shown.
 #[derive(Clone, Copy, Debug, PartialEq, Eq)]
@@ -49,8 +50,17 @@ fn write_part<W: Write>(
     output: &mut W,
 ) -> Result<Shown, Fault> {
     match form {
-        Form::Table(layout) => show(alloc, recording, part, layout, output).map_err(Fault::from),
-        Form::Chart => chart(alloc, recording, part, output).map_err(Fault::from),
+        Form::Table(layout) => show(alloc, recording, part, layout, output),
+        Form::Chart => chart(alloc, recording, part, output).map_err(not_drawn),
+    }
+}
+
+/// Why there is no chart.
+fn not_drawn(fault: ChartFault) -> Fault {
+    match fault {
+        ChartFault::TooManySteps(count) => Fault::TooManySteps(count, MOST_ROWS),
+        ChartFault::Device => Fault::Device,
+        ChartFault::NoMemory => Fault::NoMemory,
     }
 }
 

@@ -1,9 +1,8 @@
 use base::FromRead;
-use console::{Fault, Finding, Format, Printer};
+use console::{Fault, Finding, Format, Printer, ViolationObject};
 use replays::{ReplayFault, TextFault, TextReplayed, replay_text};
 use std::alloc::Global;
 use std::io::{Read, Write};
-use story::ViolationObject;
 
 /// Reads a recording from the input and makes its steps again meanwhile, and prints whether they had the outcomes that it
 /// tells, and the first violation.

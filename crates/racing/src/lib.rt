@@ -5,4 +5,5 @@ mod asks;
 mod players;
 mod racing;
 
+pub use floor::MOST_SEATS;
 pub use racing::{RacePlan, race};

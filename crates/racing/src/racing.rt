@@ -5,7 +5,7 @@ use crate::asks::read_asks;
 use crate::players::{Open, Player};
 use base::{CoreAsk, NoMemory};
 use console::{Fault, Finding, Found, Printer, print_whole};
-use floor::{Floor, Ground, Naming, Seat, TurnFault, crew};
+use floor::{Floor, Ground, Naming, Seat, Setup, TurnFault, crew};
 use record::Recording;
 use replays::replay;
 use std::alloc::Global;
@@ -13,7 +13,6 @@ use std::io::{Read, Write};
 use std::marker::Brand;
 use std::sync::Wait;
 use std::thread::Threads;
-use trials::Setup;
 
 /// How a race is made, and what is printed of it.
 #[derive(Clone, Copy, Debug)]

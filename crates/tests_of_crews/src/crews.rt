@@ -6,7 +6,8 @@ use crate::floor_ends::{closed, opened};
 use crate::setups::setup;
 use base::{Ask, BlockId, CacheId, NoMemory, Step};
 use floor::{
-    Chooser, Closed, CrewFault, Floor, Gate, Ground, Naming, Receipt, Seat, TurnFault, Wish, crew,
+    Chooser, Closed, CrewFault, Floor, Gate, Ground, Naming, Receipt, Seat, Setup, TurnFault, Wish,
+    crew,
 };
 use record::Recording;
 use replays::{ReplayFault, Replayed, replay};
@@ -16,7 +17,6 @@ use std::process::Abort;
 use std::sync::Wait;
 use std::sync::atomic::{AtomicBool, AtomicU32, Ordering};
 use std::thread::Threads;
-use trials::Setup;
 
 const LOOKS: u32 = 1_000_000_000;
 

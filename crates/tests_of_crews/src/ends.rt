@@ -8,14 +8,13 @@ use crate::entries::entry_of;
 use crate::floor_ends::opened;
 use crate::setups::setup;
 use base::{Ask, BlockId, CacheId, Step};
-use floor::{Chooser, Floor, Gate, Ground, Naming, Receipt, Seat, TurnFault, Wish, crew};
+use floor::{Chooser, Floor, Gate, Ground, Naming, Receipt, Seat, Setup, TurnFault, Wish, crew};
 use std::alloc::Global;
 use std::marker::Brand;
 use std::process::Abort;
 use std::sync::atomic::{AtomicU32, AtomicU64, Ordering};
 use std::sync::{Mutex, Wait};
 use std::thread::Threads;
-use trials::Setup;
 
 const LOAD: Wish = Wish::Step(Step::Ask {
     cache: CacheId(0),

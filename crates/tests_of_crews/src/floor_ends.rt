@@ -3,10 +3,9 @@
 ghost use Rattle.std.specs.Prelude.{◌≡◌};
 ghost use Rattle.floor.specs.FloorId.{floor_id};
 
-use floor::{Closed, Floor, FloorFault, Ground, Naming, Seat};
+use floor::{Closed, Floor, FloorFault, Ground, Naming, Seat, Setup};
 use std::alloc::Global;
 use std::process::Abort;
-use trials::Setup;
 
 /// What comes of opening a floor.
 pub fn try_open<F: Naming>(

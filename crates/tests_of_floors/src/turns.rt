@@ -7,14 +7,13 @@ use crate::floor_ends::{closed, opened, try_open};
 use crate::setups::setup;
 use base::{Ask, BlockId, CacheId, Step};
 use devices::Buffer;
-use floor::{CloseFault, Closed, Floor, FloorFault, Ground, Naming, Seat, TurnFault, Wish};
+use floor::{CloseFault, Closed, Floor, FloorFault, Ground, Naming, Seat, Setup, TurnFault, Wish};
 use record::{Entry, Recording};
 use replays::{ReplayFault, Replayed, replay};
 use std::alloc::Global;
 use std::marker::Brand;
 use std::process::Abort;
 use std::sync::Wait;
-use trials::Setup;
 
 const LOAD: Step = Step::Ask {
     cache: CacheId(0),

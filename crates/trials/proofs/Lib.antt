@@ -4,7 +4,6 @@ pub mod Tracked
 pub mod Walks
 pub mod Turns
 pub mod Verdicts
-pub mod Disabled
 pub mod Rests
 pub mod Agreeing
 pub mod Courses

@@ -32,7 +32,7 @@ use Rattle.moment.specs.inner.Tracked.{pending_at}
 use Rattle.moment.specs.inner.Tracked.{outstanding}
 use Rattle.moment.proofs.CoreSteps.{free-tells}
 use Rattle.moment.specs.inner.Tracked.{IsTracked, Waits}
-use Rattle.trials.proofs.Disabled.{front-empty, back-empty, nothing-delivers}
+use Rattle.schedule.proofs.Disabled.{front-empty, back-empty, nothing-delivers}
 
 -- ---- a world in which no step is blank doesn't break
 

@@ -5,5 +5,7 @@ mod reporting;
 mod sharing;
 mod trying;
 
+pub use desk::MOST_SEATS as MOST_WORKERS;
 pub use reporting::{BatchPlan, Until};
+pub use trials::{MOST_STEPS, MOST_TRIALS, Setup, SetupFault};
 pub use trying::{batch, one_trial};

@@ -1,10 +1,8 @@
 use base::NoMemory;
-use console::{Fault, Finding, Format, Printer};
-use indexmap::IndexMap;
+use console::{Fault, Finding, Format, Printer, ViolationObject};
 use std::alloc::Global;
 use std::io::Write;
 use std::{fmt, io};
-use story::ViolationObject;
 use trials::{TrialResult, Verdict};
 
 /// In how many parts progress is told.
@@ -69,6 +67,13 @@ impl fmt::Display for TrialObject {
     }
 }
 
+/// How many trials of a kind there were.
+#[derive(Clone, Copy)]
+struct Count {
+    kind: &'static str,
+    trials: u32,
+}
+
 /// What a batch prints: a line for each trial in order of their numbers, and at the end how many there were of each kind,
 /// in the order in which the kinds came first. Where progress is asked for, it is told on the errors, as long as somebody
 /// takes it.
@@ -81,7 +86,7 @@ pub struct Report<O: Write + Drop, E: Write + Drop> {
     fault: Option<Fault>,
     // How many steps the trials made whose lines may not be put out yet.
     waiting: u64,
-    tally: IndexMap<&'static str, u32>,
+    tally: Vec<Count>,
     plan: BatchPlan,
     done: u32,
     steps: u64,
@@ -118,7 +123,7 @@ impl<O: Write + Drop, E: Write + Drop> Report<O, E> {
             errors,
             fault: None,
             waiting: 0,
-            tally: IndexMap::new(alloc),
+            tally: Vec::new(alloc),
             plan,
             done: 0,
             steps: 0,
@@ -189,11 +194,7 @@ impl<O: Write + Drop, E: Write + Drop> Report<O, E> {
     }
 
     fn count(&mut self, made: TrialResult) {
-        let kind = made.verdict.name();
-        let before = self.tally.get(&kind).copied().unwrap_or(0);
-        if self.tally.insert(kind, before.saturating_add(1)).is_err() {
-            self.fault = Some(Fault::NoMemory);
-        }
+        self.count_kind(made.verdict.name());
         self.done = self.done.saturating_add(1);
         self.steps = self.steps.saturating_add(u64::from(made.steps));
         match made.verdict {
@@ -207,6 +208,18 @@ impl<O: Write + Drop, E: Write + Drop> Report<O, E> {
             .is_some_and(|until| until.is_met_by(made.verdict))
         {
             self.met = Some(made.number);
+        }
+    }
+
+    fn count_kind(&mut self, kind: &'static str) {
+        for count in self.tally.iter_mut() {
+            if count.kind == kind {
+                count.trials = count.trials.saturating_add(1);
+                return;
+            }
+        }
+        if self.tally.push(Count { kind, trials: 1 }).is_err() {
+            self.fault = Some(Fault::NoMemory);
         }
     }
 
@@ -253,11 +266,11 @@ impl<O: Write + Drop, E: Write + Drop> Report<O, E> {
     }
 
     fn print_totals(&mut self) -> Result<Finding, Fault> {
-        for (kind, count) in self.tally.iter() {
+        for Count { kind, trials } in self.tally.iter() {
             match self.plan.format {
-                Format::Plain => self.printer.line(format_args!("total {kind} {count}")),
+                Format::Plain => self.printer.line(format_args!("total {kind} {trials}")),
                 Format::Json => self.printer.line(format_args!(
-                    "{{\"total\":\"{kind}\",\"trials\":{count}}}"
+                    "{{\"total\":\"{kind}\",\"trials\":{trials}}}"
                 )),
             }
         }

@@ -13,21 +13,44 @@ pub struct TrialWords<'m, 'a> {
 
 impl fmt::Display for TrialWords<'_, '_> {
     fn fmt<W: fmt::Write>(&self, f: &mut fmt::Formatter<W>) -> fmt::Result {
-        write!(f, "{} trial", Quoted(self.program))?;
-        for name in ["caches", "blocks", "limit"] {
-            if let Some(number) = self.options.get_one::<u32>(name) {
-                write!(f, " --{name} {number}")?;
-            }
+        write!(
+            f,
+            "{} trial{}{}{}{}{}{} --number {}",
+            Quoted(self.program),
+            Given("caches", self.options.get_one::<u32>("caches")),
+            Given("blocks", self.options.get_one::<u32>("blocks")),
+            Given("limit", self.options.get_one::<u32>("limit")),
+            GivenWord("protocol", self.options.get_str("protocol")),
+            GivenWord("tables", self.options.get_str("tables")),
+            Given("seed", self.options.get_one::<u64>("seed")),
+            self.number
+        )
+    }
+}
+
+/// An option behind a blank, where it was given a number.
+#[derive(Clone, Copy)]
+struct Given<N>(&'static str, Option<N>);
+
+impl<N: fmt::Display> fmt::Display for Given<N> {
+    fn fmt<W: fmt::Write>(&self, f: &mut fmt::Formatter<W>) -> fmt::Result {
+        match &self.1 {
+            Some(number) => write!(f, " --{} {number}", self.0),
+            None => Ok(()),
         }
-        for name in ["protocol", "tables"] {
-            if let Some(word) = self.options.get_str(name) {
-                write!(f, " --{name} {}", Quoted(word))?;
-            }
+    }
+}
+
+/// An option behind a blank, where it was given a word.
+#[derive(Clone, Copy)]
+struct GivenWord<'w>(&'static str, Option<&'w str>);
+
+impl fmt::Display for GivenWord<'_> {
+    fn fmt<W: fmt::Write>(&self, f: &mut fmt::Formatter<W>) -> fmt::Result {
+        match self.1 {
+            Some(word) => write!(f, " --{} {}", self.0, Quoted(word)),
+            None => Ok(()),
         }
-        if let Some(seed) = self.options.get_one::<u64>("seed") {
-            write!(f, " --seed {seed}")?;
-        }
-        write!(f, " --number {}", self.number)
     }
 }
 
@@ -40,14 +63,23 @@ impl fmt::Display for Quoted<'_> {
         if !self.0.is_empty() && self.0.bytes().all(is_plain) {
             return f.write_str(self.0);
         }
-        f.write_str("'")?;
-        for letter in self.0.chars() {
-            match letter {
-                '\'' => f.write_str("'\\''")?,
-                other => write!(f, "{other}")?,
+        write!(f, "'{}'", Escaped(self.0))
+    }
+}
+
+/// A word with what a shell reads between quotes as a quote, in place of each.
+#[derive(Clone, Copy)]
+struct Escaped<'w>(&'w str);
+
+impl fmt::Display for Escaped<'_> {
+    fn fmt<W: fmt::Write>(&self, f: &mut fmt::Formatter<W>) -> fmt::Result {
+        for (place, piece) in self.0.split('\'').enumerate() {
+            if place > 0 {
+                f.write_str("'\\''")?;
             }
+            f.write_str(piece)?;
         }
-        f.write_str("'")
+        Ok(())
     }
 }
 

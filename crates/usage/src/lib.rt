@@ -3,9 +3,11 @@
 
 mod again;
 mod helps;
+mod limits;
 mod usage;
 
 pub use again::TrialWords;
+pub use limits::Limits;
 pub use usage::msi;
 
 /// The project's version.

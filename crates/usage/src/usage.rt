@@ -1,9 +1,9 @@
+use crate::limits::{Limits, Most};
 use crate::{VERSION, helps};
 use base::{MOST_BLOCKS, MOST_CACHES};
 use clap::builder::ValueParser;
 use clap::{Arg, ArgAction, Command, value_parser};
 use std::alloc::{AllocError, Global};
-use trials::{MOST_STEPS, MOST_TRIALS};
 
 /// What an option takes.
 #[derive(Clone, Copy)]
@@ -16,6 +16,8 @@ enum Takes {
     File,
     /// A number from the first to the second.
     Number(u32, u32),
+    /// A number from the first to this limit.
+    UpTo(u32, Most),
     /// A number of 64 bits.
     Seed,
     /// One of these words.
@@ -55,7 +57,7 @@ const MODEL_CACHES: Choice = Choice {
     name: "caches",
     value: "N",
     help: "How many caches the model's block has, 1 to 8",
-    takes: Takes::Number(1, modelling::MOST_CACHES),
+    takes: Takes::UpTo(1, Most::ModelCaches),
     left_out: LeftOut::Refused,
 };
 
@@ -103,7 +105,7 @@ const TRIALS: Choice = Choice {
     name: "trials",
     value: "N",
     help: "How many trials are made, at most 1000000",
-    takes: Takes::Number(0, MOST_TRIALS),
+    takes: Takes::UpTo(0, Most::Trials),
     left_out: LeftOut::Refused,
 };
 
@@ -111,7 +113,7 @@ const LIMIT: Choice = Choice {
     name: "limit",
     value: "L",
     help: "How many steps a trial may make, at most 1000000",
-    takes: Takes::Number(0, MOST_STEPS),
+    takes: Takes::UpTo(0, Most::Steps),
     left_out: LeftOut::Refused,
 };
 
@@ -119,7 +121,7 @@ const WORKERS: Choice = Choice {
     name: "workers",
     value: "W",
     help: "Among how many threads the trials are shared out, 1 to 64",
-    takes: Takes::Number(1, desk::MOST_SEATS),
+    takes: Takes::UpTo(1, Most::Workers),
     left_out: LeftOut::Default("1"),
 };
 
@@ -164,7 +166,7 @@ const SEATS: Choice = Choice {
     name: "seats",
     value: "N",
     help: "How many seats take turns, a thread each, 1 to 64",
-    takes: Takes::Number(1, floor::MOST_SEATS),
+    takes: Takes::UpTo(1, Most::Seats),
     left_out: LeftOut::Refused,
 };
 
@@ -326,8 +328,8 @@ const COMMANDS: [Usage; 12] = [
 
 /// The command line of `msi`.
 // (Constants are built by the function that names them, so who names the commands does nothing else.)
-pub fn msi<'a>(alloc: Global) -> Result<Command<'a>, AllocError> {
-    with_commands(alloc, program(alloc), &COMMANDS)
+pub fn msi<'a>(alloc: Global, limits: &Limits) -> Result<Command<'a>, AllocError> {
+    with_commands(alloc, program(alloc), &COMMANDS, limits)
 }
 
 /// The program without its commands.
@@ -343,56 +345,83 @@ fn with_commands<'a>(
     alloc: Global,
     program: Command<'a>,
     usages: &[Usage],
+    limits: &Limits,
 ) -> Result<Command<'a>, AllocError> {
     let mut program = program;
     for usage in usages {
-        program = program.subcommand(command(alloc, usage)?)?;
+        program = with_command(alloc, program, usage, limits)?;
     }
     Ok(program)
 }
 
-fn command<'a>(alloc: Global, usage: &Usage) -> Result<Command<'a>, AllocError> {
+fn with_command<'a>(
+    alloc: Global,
+    program: Command<'a>,
+    usage: &Usage,
+    limits: &Limits,
+) -> Result<Command<'a>, AllocError> {
+    program.subcommand(command(alloc, usage, limits)?)
+}
+
+fn command<'a>(alloc: Global, usage: &Usage, limits: &Limits) -> Result<Command<'a>, AllocError> {
     let command = Command::new(alloc, usage.name)
         .about(usage.about)
         .after_help(usage.after);
-    explained(alloc, with_options(alloc, command, usage.choices)?)
+    let command = with_options(alloc, command, usage.choices, limits)?;
+    with_options(alloc, command, &[EXPLAIN], limits)
 }
 
 fn with_options<'a>(
     alloc: Global,
     command: Command<'a>,
     choices: &[Choice],
+    limits: &Limits,
 ) -> Result<Command<'a>, AllocError> {
     let mut command = command;
     for choice in choices {
-        command = command.arg(option(alloc, choice)?)?;
+        command = with_option(alloc, command, choice, limits)?;
     }
     Ok(command)
 }
 
-/// A command with the option of every command.
-fn explained<'a>(alloc: Global, command: Command<'a>) -> Result<Command<'a>, AllocError> {
-    with_options(alloc, command, &[EXPLAIN])
+fn with_option<'a>(
+    alloc: Global,
+    command: Command<'a>,
+    choice: &Choice,
+    limits: &Limits,
+) -> Result<Command<'a>, AllocError> {
+    command.arg(option(alloc, choice, limits)?)
 }
 
-fn option<'a>(alloc: Global, choice: &Choice) -> Result<Arg<'a>, AllocError> {
+fn option<'a>(alloc: Global, choice: &Choice, limits: &Limits) -> Result<Arg<'a>, AllocError> {
     let arg = Arg::new(alloc, choice.name)
         .long(choice.name)
         .help(choice.help);
-    let arg = match choice.takes {
-        Takes::Nothing => return Ok(arg.action(ArgAction::SetTrue)),
-        Takes::NothingBeside(other) => return arg.action(ArgAction::SetTrue).conflicts_with(other),
-        Takes::File => arg,
-        Takes::Number(least, most) => arg.value_parser(value_parser!(u32).range(
-            i64::from(least)..=i64::from(most),
-        )),
-        Takes::Seed => arg.value_parser(value_parser!(u64)),
-        Takes::Word(words) => arg.value_parser(ValueParser::Names(words)),
-    };
+    match choice.takes {
+        Takes::Nothing => Ok(arg.action(ArgAction::SetTrue)),
+        Takes::NothingBeside(other) => arg.action(ArgAction::SetTrue).conflicts_with(other),
+        _ => Ok(with_value(arg, choice, limits)),
+    }
+}
+
+/// An option's argument with what it takes.
+fn with_value<'a>(arg: Arg<'a>, choice: &Choice, limits: &Limits) -> Arg<'a> {
     let arg = arg.value_name(choice.value).action(ArgAction::Set);
-    Ok(match choice.left_out {
+    let arg = match choice.left_out {
         LeftOut::Refused => arg.required(true),
         LeftOut::Default(word) => arg.default_value(word),
         LeftOut::Nothing => arg,
-    })
+    };
+    match choice.takes {
+        Takes::Nothing | Takes::NothingBeside(_) | Takes::File => arg,
+        Takes::Number(least, most) => within(arg, least, most),
+        Takes::UpTo(least, most) => within(arg, least, limits.of(most)),
+        Takes::Seed => arg.value_parser(value_parser!(u64)),
+        Takes::Word(words) => arg.value_parser(ValueParser::Names(words)),
+    }
+}
+
+/// An argument that takes a number between these.
+fn within<'a>(arg: Arg<'a>, least: u32, most: u32) -> Arg<'a> {
+    arg.value_parser(value_parser!(u32).range(i64::from(least)..=i64::from(most)))
 }

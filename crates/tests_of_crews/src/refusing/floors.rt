@@ -6,7 +6,7 @@ use crate::crews::{Meeting, Script, cast, played, replayed};
 use crate::floor_ends::{closed, try_open};
 use crate::setups::open_setup;
 use base::{NoMemory, Shape};
-use floor::{CrewFault, Floor, Ground, Naming, Seat, TurnFault};
+use floor::{CrewFault, Floor, Ground, Naming, Seat, Setup, TurnFault};
 use record::Recording;
 use std::alloc::Global;
 use std::marker::Brand;
@@ -14,7 +14,6 @@ use std::process::Abort;
 use std::sync::Wait;
 use std::test::Fail;
 use std::thread::Threads;
-use trials::Setup;
 
 /// So many caches and one block that opens at 0.
 fn setup(alloc: Global, caches: u32) -> Result<Setup, Fail> {

@@ -7,14 +7,13 @@ use crate::floor_ends::{closed, try_open};
 use crate::setups::open_setup;
 use crate::turns::{compare, replayed};
 use base::{Shape, Step};
-use floor::{Floor, FloorFault, Ground, Naming, Receipt, Seat, TurnFault};
+use floor::{Floor, FloorFault, Ground, Naming, Receipt, Seat, Setup, TurnFault};
 use record::Recording;
 use std::alloc::Global;
 use std::marker::Brand;
 use std::process::Abort;
 use std::sync::Wait;
 use std::test::Fail;
-use trials::Setup;
 
 /// A load that is asked for and served, of which the last two steps are drawn.
 const LOAD: [&str; 3] = [

@@ -1,16 +1,15 @@
-use crate::fault::ShowFault;
 use crate::objects::put_object;
 use crate::output::Output;
-use crate::part::{Part, Shown};
-use crate::sheet::Sheet;
 use crate::starting::put_start;
-use crate::telling::{Happening, Sight, Story, seat_at};
-use crate::texts::{SeatText, put_holdings, put_home, put_line, put_message};
-use crate::trips::Trip;
 use base::NoMemory;
+use console::Fault;
 use record::{Entry, Recording};
 use std::alloc::Global;
 use std::io::Write;
+use story::{
+    Happening, Part, SeatText, Sheet, Shown, Sight, Story, Trip, put_holdings, put_home, put_line,
+    put_message, seat_at,
+};
 
 /// What the columns have. The first has the numbers of the entries, and a table for the eye leaves that out.
 const HEADINGS: [&str; 6] = ["step", "outcome", "serves", "changes", "sends", "finds"];
@@ -35,7 +34,7 @@ pub fn show<W: Write>(
     part: Part,
     layout: Layout,
     output: &mut W,
-) -> Result<Shown, ShowFault> {
+) -> Result<Shown, Fault> {
     let mut table = Table::open(alloc, layout);
     if layout == Layout::Columns {
         table.measure(alloc, recording, part)?;
@@ -195,7 +194,7 @@ impl Table {
             (Layout::Columns, Ok(line)) => self.write_columns(line.as_bytes(), output),
             (Layout::Tabs, Ok(line)) => self.write_tabs(line.as_bytes(), output),
             (Layout::Objects, Ok(line)) => output.put(line.as_bytes()),
-            (_, Err(NoMemory)) => output.fail(ShowFault::NoMemory),
+            (_, Err(NoMemory)) => output.fail(Fault::NoMemory),
         }
         output.put(b"\n");
     }

@@ -22,7 +22,6 @@ use Rattle.blocks.specs.Looks.{is_held}
 use Rattle.world.specs.Enabled.{enabled_steps, unless_held, requests_from, head_from, heads_from, responses_from, requests_enabled, heads_in}
 use Rattle.blocks.specs.Looks.{held_in}
 use Rattle.world.specs.Enabled.{responses_enabled, of_each, all_enabled}
-use Rattle.moment.proofs.Places.{same-some}
 
 pub front-empty : {X : Type 0} (xs ys : List X) → xs ++ ys ≡ [] → xs ≡ []
 front-empty [] ys e = refl
@@ -32,6 +31,9 @@ pub back-empty : {X : Type 0} (xs ys : List X) → xs ++ ys ≡ [] → ys ≡ []
 back-empty [] ys e = e
 back-empty (x ∷ xs) ys e = absurd (cc e)
 
+same-block : (b c : BlockState) → Some b ≡ Some c → b ≡ c
+same-block b c e = cc e
+
 further : (i k : ℕ) → i + 1 + k ≡ i + suc k
 further i k = omega arith
 
@@ -39,7 +41,7 @@ none-of-each : (f : BlockId → BlockState → List Step) (i : ℕ) (bs : List B
     slice_get bs k ≡ Some b → f (record { 0 = i + k }) b ≡ []
 none-of-each f i [] k b e at = absurd (cc at)
 none-of-each f i (x ∷ bs) zero b e at =
-    ap (λ (y : BlockState). f (record { 0 = i + 0 }) y) (sym (same-some x b at)) ∙ ap (λ n. f (record { 0 = n }) x) (nothing-more i)
+    ap (λ (y : BlockState). f (record { 0 = i + 0 }) y) (sym (same-block x b at)) ∙ ap (λ n. f (record { 0 = n }) x) (nothing-more i)
     ∙ front-empty (f (record { 0 = i }) x) (of_each f (i + 1) bs) e
   where
     nothing-more : (i : ℕ) → i + 0 ≡ i

@@ -1,9 +1,6 @@
-use crate::sheet::Sheet;
-use crate::telling::Story;
-use crate::texts::{put_holdings, put_home, put_line, put_message};
-use crate::trips::Trip;
 use base::{BlockId, CacheId};
 use control::Line;
+use story::{Sheet, Story, Trip, put_holdings, put_home, put_line, put_message};
 use world::World;
 
 /// Puts the state at a moment of a story, of those blocks that are looked at: each home, the lines that aren't as they
