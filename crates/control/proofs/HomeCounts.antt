@@ -1,3 +1,4 @@
+use Rattle.std.proofs.lemmas.Bool.Decides.{nat_tests}
 use Rattle.std.proofs.Common.{◌≡◌, ◌≢◌, ◌≤◌, ℕ, ◌+◌, ◌<◌, List, [], ◌∷◌, length}
 use Rattle.std.proofs.Common.{get_or, set, refl, sym, ◌∙◌, ap, zero, suc, arith, Option}
 use Rattle.std.proofs.Common.{Some, None, Bool, true, false, ltb, lt-ltb, le-ltb, ◌==◌, ◌&&◌, ◌||◌, not, inl, inr, if◌then◌else◌}
@@ -117,21 +118,7 @@ owner-left-with (Some o) home = refl
 -- the owner after one action
 owner-left : (from : CacheId) (value : Option ℕ) (a : DirectoryAction) (home : Home)
     → (home_changed (Some from) value a home).owner ≡ owner_left from a home.owner
-owner-left from value action.DataReq home = refl
-owner-left from value action.DataAcks home = refl
-owner-left from value action.InvSharers home = refl
-owner-left from value action.FwdGetS home = refl
-owner-left from value action.FwdGetM home = refl
-owner-left from value action.PutAck home = refl
-owner-left from value action.AddReq home = refl
-owner-left from value action.AddOwner home = owner-left-with home.owner home
-owner-left from value action.RemoveReq home = refl
-owner-left from value action.ClearSharers home = refl
-owner-left from value action.ClearOwner home = refl
-owner-left from value action.SetOwner home = refl
-owner-left from None action.CopyData home = refl
-owner-left from value action.DataExcl home = refl
-owner-left from (Some v) action.CopyData home = refl
+owner-left from value a home = grind (arith, owner-left-with)
 
 -- a flag is up only where there is one
 flagged : (n k : ℕ) (flags : List Bool) (up : Bool) → length flags ≡ n → (k < n → get_or flags k false ≡ up) →
@@ -206,20 +193,7 @@ forwards-to k from value (a ∷ actions) home =
 -- a cache that is neither the owner nor the sender owns nothing after an action, is no sharer where it was none, and is sent nothing
 unowned : (k : ℕ) (from : CacheId) (owner : Option CacheId) (a : DirectoryAction) → owns owner (cache k) ≡ false → k ≢ from.0
     → owns (owner_left from a owner) (cache k) ≡ false
-unowned k from owner action.DataReq o ne = o
-unowned k from owner action.DataAcks o ne = o
-unowned k from owner action.InvSharers o ne = o
-unowned k from owner action.FwdGetS o ne = o
-unowned k from owner action.FwdGetM o ne = o
-unowned k from owner action.PutAck o ne = o
-unowned k from owner action.AddReq o ne = o
-unowned k from owner action.AddOwner o ne = o
-unowned k from owner action.RemoveReq o ne = o
-unowned k from owner action.ClearSharers o ne = o
-unowned k from owner action.ClearOwner o ne = refl
-unowned k from owner action.SetOwner o ne = ne_eqb from.0 k (λ e. ne (sym e))
-unowned k from owner action.CopyData o ne = o
-unowned k from owner action.DataExcl o ne = o
+unowned k from owner a o ne = grind (arith, nat_tests)
 
 unshared : (k : ℕ) (from : CacheId) (owner : Option CacheId) (a : DirectoryAction) → owns owner (cache k) ≡ false → k ≢ from.0
     → sharer_left (cache k) from owner a false ≡ false
@@ -240,20 +214,7 @@ unshared k from owner action.DataExcl o ne = refl
 
 unsent : (k : ℕ) (from : CacheId) (owner : Option CacheId) (a : DirectoryAction) → owns owner (cache k) ≡ false → k ≢ from.0
     → one_if (is_sent_to (cache k) from owner false a) ≡ 0
-unsent k from owner action.DataReq o ne = refl
-unsent k from owner action.DataAcks o ne = refl
-unsent k from owner action.InvSharers o ne = refl
-unsent k from owner action.FwdGetS o ne = ap one_if o
-unsent k from owner action.FwdGetM o ne = ap one_if o
-unsent k from owner action.PutAck o ne = ap one_if (ne_eqb from.0 k (λ e. ne (sym e)))
-unsent k from owner action.AddReq o ne = refl
-unsent k from owner action.AddOwner o ne = refl
-unsent k from owner action.RemoveReq o ne = refl
-unsent k from owner action.ClearSharers o ne = refl
-unsent k from owner action.ClearOwner o ne = refl
-unsent k from owner action.SetOwner o ne = refl
-unsent k from owner action.CopyData o ne = refl
-unsent k from owner action.DataExcl o ne = refl
+unsent k from owner a o ne = grind (arith, nat_tests)
 
 unnamed-by : (flag : Bool) (k : ℕ) (from : CacheId) (owner : Option CacheId) (actions : List DirectoryAction) → owns owner (cache k) ≡ false →
     k ≢ from.0
@@ -311,20 +272,7 @@ owner-requests None kind to = refl
 owner-requests (Some o) kind to = refl
 
 message-requests : (from : CacheId) (a : DirectoryAction) (home : Home) → requests_in (home_message (Some from) a home) ≡ 0
-message-requests from action.DataReq home = refl
-message-requests from action.DataAcks home = refl
-message-requests from action.InvSharers home = invalidations-requests from home.sharers 0
-message-requests from action.FwdGetS home = owner-requests home.owner forward.FwdGetS from
-message-requests from action.FwdGetM home = owner-requests home.owner forward.FwdGetM from
-message-requests from action.PutAck home = refl
-message-requests from action.AddReq home = refl
-message-requests from action.AddOwner home = refl
-message-requests from action.RemoveReq home = refl
-message-requests from action.ClearSharers home = refl
-message-requests from action.ClearOwner home = refl
-message-requests from action.SetOwner home = refl
-message-requests from action.CopyData home = refl
-message-requests from action.DataExcl home = refl
+message-requests from a home = grind (arith, invalidations-requests, owner-requests)
 
 pub requests-by : (from : CacheId) (value : Option ℕ) (actions : List DirectoryAction) (home : Home)
     → requests_in (home_messages (Some from) value actions home) ≡ 0
@@ -360,20 +308,7 @@ owner-responses None kind to = refl
 owner-responses (Some o) kind to = refl
 
 message-responses : (from : CacheId) (a : DirectoryAction) (home : Home) → responses_in (home_message (Some from) a home) ≡ replies_of a
-message-responses from action.DataReq home = refl
-message-responses from action.DataAcks home = refl
-message-responses from action.InvSharers home = invalidations-responses from home.sharers 0
-message-responses from action.FwdGetS home = owner-responses home.owner forward.FwdGetS from
-message-responses from action.FwdGetM home = owner-responses home.owner forward.FwdGetM from
-message-responses from action.PutAck home = refl
-message-responses from action.AddReq home = refl
-message-responses from action.AddOwner home = refl
-message-responses from action.RemoveReq home = refl
-message-responses from action.ClearSharers home = refl
-message-responses from action.ClearOwner home = refl
-message-responses from action.SetOwner home = refl
-message-responses from action.CopyData home = refl
-message-responses from action.DataExcl home = refl
+message-responses from a home = grind (arith, invalidations-responses, owner-responses)
 
 pub responses-by : (from : CacheId) (value : Option ℕ) (actions : List DirectoryAction) (home : Home)
     → responses_in (home_messages (Some from) value actions home) ≡ replies_by actions
@@ -426,20 +361,7 @@ room-on_links k from actions home room sender owner sharers =
 -- without an invalidation nothing is sent to a cache that is neither the owner nor the sender
 unsent-on : (k : ℕ) (from : CacheId) (owner : Option CacheId) (sharer : Bool) (a : DirectoryAction) → is_invalidation a ≡ false
     → owns owner (cache k) ≡ false → k ≢ from.0 → one_if (is_sent_to (cache k) from owner sharer a) ≡ 0
-unsent-on k from owner sharer action.DataReq i o ne = refl
-unsent-on k from owner sharer action.DataAcks i o ne = refl
-unsent-on k from owner sharer action.InvSharers i o ne = absurd (cc i)
-unsent-on k from owner sharer action.FwdGetS i o ne = ap one_if o
-unsent-on k from owner sharer action.FwdGetM i o ne = ap one_if o
-unsent-on k from owner sharer action.PutAck i o ne = ap one_if (ne_eqb from.0 k (λ e. ne (sym e)))
-unsent-on k from owner sharer action.AddReq i o ne = refl
-unsent-on k from owner sharer action.AddOwner i o ne = refl
-unsent-on k from owner sharer action.RemoveReq i o ne = refl
-unsent-on k from owner sharer action.ClearSharers i o ne = refl
-unsent-on k from owner sharer action.ClearOwner i o ne = refl
-unsent-on k from owner sharer action.SetOwner i o ne = refl
-unsent-on k from owner sharer action.CopyData i o ne = refl
-unsent-on k from owner sharer action.DataExcl i o ne = refl
+unsent-on k from owner sharer a i o ne = grind (arith, nat_tests)
 
 unsent-by : (flag : Bool) (k : ℕ) (from : CacheId) (owner : Option CacheId) (sharer : Bool) (actions : List DirectoryAction)
     → invalidates actions ≡ false → owns owner (cache k) ≡ false → k ≢ from.0 → forwards_by flag (cache k) from owner sharer actions ≡ 0

@@ -17,42 +17,13 @@ messages-front cache value to (a ∷ actions) (suc i) d h =
     rw e (messages-front cache value to actions i d (omega arith))
 
 requests-of : (cache : CacheId) (value : ℕ) (to : Option CacheId) (a : CacheAction) → requests_in (line_message cache value to a) ≡ requests_of a
-requests-of cache value to action.GetS = refl
-requests-of cache value to action.GetM = refl
-requests-of cache value to action.PutS = refl
-requests-of cache value to action.PutM = refl
-requests-of cache value None action.InvAck = refl
-requests-of cache value (Some c) action.InvAck = refl
-requests-of cache value None action.DataReq = refl
-requests-of cache value (Some c) action.DataReq = refl
-requests-of cache value to action.DataDir = refl
+requests-of cache value to a = grind (arith)
 
 responses-of : (cache : CacheId) (value : ℕ) (to : Option CacheId) (a : CacheAction) → responses_in (line_message cache value to a) ≡ responses_of to a
-responses-of cache value None action.GetS = refl
-responses-of cache value None action.GetM = refl
-responses-of cache value None action.PutS = refl
-responses-of cache value None action.PutM = refl
-responses-of cache value None action.InvAck = refl
-responses-of cache value None action.DataReq = refl
-responses-of cache value None action.DataDir = refl
-responses-of cache value (Some c) action.GetS = refl
-responses-of cache value (Some c) action.GetM = refl
-responses-of cache value (Some c) action.PutS = refl
-responses-of cache value (Some c) action.PutM = refl
-responses-of cache value (Some c) action.InvAck = refl
-responses-of cache value (Some c) action.DataReq = refl
-responses-of cache value (Some c) action.DataDir = refl
+responses-of cache value to a = grind (arith)
 
 forwards-of : (k : ℕ) (cache : CacheId) (value : ℕ) (to : Option CacheId) (a : CacheAction) → forwards_in k (line_message cache value to a) ≡ 0
-forwards-of k cache value to action.GetS = refl
-forwards-of k cache value to action.GetM = refl
-forwards-of k cache value to action.PutS = refl
-forwards-of k cache value to action.PutM = refl
-forwards-of k cache value None action.InvAck = refl
-forwards-of k cache value (Some c) action.InvAck = refl
-forwards-of k cache value None action.DataReq = refl
-forwards-of k cache value (Some c) action.DataReq = refl
-forwards-of k cache value to action.DataDir = refl
+forwards-of k cache value to a = grind (arith)
 
 -- how many requests, responses and forwards the actions of a line send
 pub requests-by : (cache : CacheId) (value : ℕ) (to : Option CacheId) (actions : List CacheAction)

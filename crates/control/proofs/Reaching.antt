@@ -1,16 +1,14 @@
 -- Whom the actions of a home can't reach, they send nothing.
-use Rattle.std.proofs.Common.{◌≡◌, ◌≢◌, ◌∙◌, ℕ, List, [], ◌∷◌, Option, Bool, true, false, ◌&&◌, ◌||◌, length, not, refl, sym, ap, ltb, arith}
-use Rattle.std.proofs.Math.Bool.{and-false}
-use Rattle.std.proofs.lemmas.Bool.{ne_eqb}
+use Rattle.std.proofs.lemmas.Bool.Decides.{nat_tests}
+use Rattle.std.proofs.Common.{◌≡◌, ◌≢◌, ℕ, List, [], ◌∷◌, Option, Bool, true, false, ◌&&◌, ◌||◌, length, refl, ltb, arith}
 use Rattle.base.specs.declared.ids.CacheId.{CacheId}
 use Rattle.network.specs.Room.{Room, one_if}
 use Rattle.directory_table.specs.declared.actions.DirectoryAction.{DirectoryAction}
-use Rattle.directory_table.specs.declared.actions.DirectoryAction.TheVariants as action
 use Rattle.control.specs.declared.home.Home.{Home}
 use Rattle.control.specs.Sharing.{shares}
 use Rattle.control.specs.inner.Counting.{is_sent_to, owner_left, sharer_left, forwards_by, HasRoomOnLink, HasRoomToOwner}
 use Rattle.control.specs.inner.Counting.{may_reach_owner, may_reach_sender, reaches_owner, reaches_sender}
-use Rattle.control.proofs.HomeCounts.{cache, eqb-self}
+use Rattle.control.proofs.HomeCounts.{cache}
 
 neither : (a b : Bool) → (a || b) ≡ false → (a ≡ false) × (b ≡ false)
 neither true b e = absurd (cc e)
@@ -19,21 +17,7 @@ neither false b e = (refl, e)
 -- the sender
 sender-on : (from : CacheId) (owner : Option CacheId) (sharer : Bool) (a : DirectoryAction) → may_reach_sender a ≡ false →
     one_if (is_sent_to from from owner sharer a) ≡ 0
-sender-on from owner sharer action.DataReq e = refl
-sender-on from owner sharer action.DataAcks e = refl
-sender-on from owner sharer action.InvSharers e =
-    ap one_if (ap (λ (b : Bool). sharer && not b) (eqb-self from.0)) ∙ ap one_if (and-false sharer)
-sender-on from owner sharer action.FwdGetS e = absurd (cc e)
-sender-on from owner sharer action.FwdGetM e = absurd (cc e)
-sender-on from owner sharer action.PutAck e = absurd (cc e)
-sender-on from owner sharer action.AddReq e = refl
-sender-on from owner sharer action.AddOwner e = refl
-sender-on from owner sharer action.RemoveReq e = refl
-sender-on from owner sharer action.ClearSharers e = refl
-sender-on from owner sharer action.ClearOwner e = refl
-sender-on from owner sharer action.SetOwner e = refl
-sender-on from owner sharer action.CopyData e = refl
-sender-on from owner sharer action.DataExcl e = refl
+sender-on from owner sharer a e = grind (arith, nat_tests)
 
 sender-by : (flag : Bool) (from : CacheId) (owner : Option CacheId) (sharer : Bool) (actions : List DirectoryAction) →
     reaches_sender actions ≡ false → forwards_by flag from from owner sharer actions ≡ 0
@@ -55,20 +39,7 @@ room-on_sender from actions home room e =
 -- any other cache but the sharers
 other-on : (k : ℕ) (from : CacheId) (owner : Option CacheId) (sharer : Bool) (a : DirectoryAction) → may_reach_owner a ≡ false → k ≢ from.0 →
     one_if (is_sent_to (cache k) from owner sharer a) ≡ 0
-other-on k from owner sharer action.DataReq e ne = refl
-other-on k from owner sharer action.DataAcks e ne = refl
-other-on k from owner sharer action.InvSharers e ne = absurd (cc e)
-other-on k from owner sharer action.FwdGetS e ne = absurd (cc e)
-other-on k from owner sharer action.FwdGetM e ne = absurd (cc e)
-other-on k from owner sharer action.PutAck e ne = ap one_if (ne_eqb from.0 k (λ same. ne (sym same)))
-other-on k from owner sharer action.AddReq e ne = refl
-other-on k from owner sharer action.AddOwner e ne = refl
-other-on k from owner sharer action.RemoveReq e ne = refl
-other-on k from owner sharer action.ClearSharers e ne = refl
-other-on k from owner sharer action.ClearOwner e ne = refl
-other-on k from owner sharer action.SetOwner e ne = refl
-other-on k from owner sharer action.CopyData e ne = refl
-other-on k from owner sharer action.DataExcl e ne = refl
+other-on k from owner sharer a e ne = grind (arith, nat_tests)
 
 other-by : (flag : Bool) (k : ℕ) (from : CacheId) (owner : Option CacheId) (sharer : Bool) (actions : List DirectoryAction) →
     reaches_owner actions ≡ false → k ≢ from.0 → forwards_by flag (cache k) from owner sharer actions ≡ 0

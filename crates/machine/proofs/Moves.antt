@@ -204,14 +204,7 @@ home-goes tables k b input from own stays met =
     ]
 
 data-serves : (p : Protocol) (s : DirectoryState) → HomeServes (directory_baseline.baseline_entry p s home_event.Data)
-data-serves Msi home.I = tt
-data-serves Msi home.S = tt
-data-serves Msi home.M = tt
-data-serves Msi home.SD = tt
-data-serves MsiE home.I = tt
-data-serves MsiE home.S = tt
-data-serves MsiE home.M = tt
-data-serves MsiE home.SD = tt
+data-serves p s = grind (arith)
 
 data-stays : (s : DirectoryState) → MayWaitAtHome s home_event.Data → ⊥
 data-stays home.I h = h

@@ -19,7 +19,7 @@ use Rattle.network.specs.declared.message.Response.{Response}
 use Rattle.network.specs.declared.message.Response.TheVariants.{Data, InvAck, DataExcl}
 use Rattle.network.specs.Traffic.{link}
 use Rattle.cache_table.specs.declared.state.CacheState.{CacheState}
-use Rattle.cache_table.specs.declared.state.CacheState.TheVariants.{I, IsD, ImAd, ImA, S, SmAd, SmA, M, MiA, SiA, IiA, E}
+use Rattle.cache_table.specs.declared.state.CacheState.TheVariants.{IsD, E}
 use Rattle.cache_table.specs.declared.event.CacheEvent.{CacheEvent}
 use Rattle.cache_table.specs.declared.event.CacheEvent.TheVariants as event
 use Rattle.cache_table.specs.Table as cache_table
@@ -77,30 +77,7 @@ IsOld event.DataDirExcl = ⊥
 IsOld other = Unit {0}
 
 same-entry : (s : CacheState) (e : CacheEvent) → s ≢ E → (s ≡ IsD → IsOld e) → cache_baseline.msi_entry s e ≡ cache_baseline.msi_e_entry s e
-same-entry I e n o = refl
-same-entry IsD event.Load n o = refl
-same-entry IsD event.Store n o = refl
-same-entry IsD event.Replacement n o = refl
-same-entry IsD event.FwdGetS n o = absurd (o refl)
-same-entry IsD event.FwdGetM n o = absurd (o refl)
-same-entry IsD event.Inv n o = refl
-same-entry IsD event.PutAck n o = refl
-same-entry IsD event.DataDirZero n o = refl
-same-entry IsD event.DataDirMore n o = refl
-same-entry IsD event.DataOwner n o = refl
-same-entry IsD event.InvAck n o = refl
-same-entry IsD event.LastInvAck n o = refl
-same-entry IsD event.DataDirExcl n o = absurd (o refl)
-same-entry ImAd e n o = refl
-same-entry ImA e n o = refl
-same-entry S e n o = refl
-same-entry SmAd e n o = refl
-same-entry SmA e n o = refl
-same-entry M e n o = refl
-same-entry MiA e n o = refl
-same-entry SiA e n o = refl
-same-entry IiA e n o = refl
-same-entry E e n o = absurd (n refl)
+same-entry s e n o = grind (arith)
 
 -- an input at a line comes to the same there
 at-line-same : (cache : CacheId) (input : LineInput) (from : Origin) (found : Option Line) →
@@ -115,16 +92,7 @@ at-line-same cache input from (Some line) n o =
 
 same-home : (s : DirectoryState) (e : DirectoryEvent) → (s ≡ home.I → e ≢ home_event.GetS) →
     directory_baseline.msi_entry s e ≡ directory_baseline.msi_e_entry s e
-same-home home.I home_event.GetS n = absurd (n refl refl)
-same-home home.I home_event.GetM n = refl
-same-home home.I home_event.PutSNotLast n = refl
-same-home home.I home_event.PutSLast n = refl
-same-home home.I home_event.PutMOwner n = refl
-same-home home.I home_event.PutMNonOwner n = refl
-same-home home.I home_event.Data n = refl
-same-home home.S e n = refl
-same-home home.M e n = refl
-same-home home.SD e n = refl
+same-home s e n = grind (arith)
 
 at-home-same : (b : BlockState) (input : HomeInput) (from : Origin) →
     (b.home.state ≡ home.I → event_at_home b.home.owner b.home.sharers input ≢ home_event.GetS) →

@@ -1,10 +1,9 @@
 -- Under restrained tables that keep going no run is stuck.
-use Rattle.std.proofs.Common.{◌≡◌, ◌≢◌, ℕ, ◌≤◌, List, [], ◌∷◌, refl, ap, sym, ◌∙◌, Option}
+use Rattle.std.proofs.Common.{◌≡◌, ◌≢◌, ℕ, ◌≤◌, List, [], ◌∷◌, refl, ap, sym, ◌∙◌, Option, arith}
 use Rattle.std.proofs.Common.{Some, None, Bool, true, false, if◌then◌else◌, slice_get, replicate, zero, suc, inl, subst}
 use Rattle.base.specs.Extent.{Extent, IsWithinLimits}
 use Rattle.base.specs.Steps.{block_of}
 use Rattle.base.specs.declared.controller.protocol.Protocol.{Protocol}
-use Rattle.base.specs.declared.controller.protocol.Protocol.TheVariants.{Msi, MsiE}
 use Rattle.base.specs.declared.ids.BlockId.{BlockId}
 use Rattle.base.specs.declared.step.Step.{Step}
 use Rattle.base.specs.declared.step.Step.TheVariants as step
@@ -14,9 +13,7 @@ use Rattle.machine.specs.Block.{BlockState, opened_block}
 use Rattle.machine.specs.Restraint.{AreRestrained}
 use Rattle.machine.specs.Going.{AreNeverStuck, KeepsGoing, ServesAsks, IsSettled}
 use Rattle.cache_table.specs.declared.state.CacheState.{CacheState}
-use Rattle.cache_table.specs.declared.state.CacheState.TheVariants.{I, S, M, E}
 use Rattle.cache_table.specs.declared.event.CacheEvent.{CacheEvent}
-use Rattle.cache_table.specs.declared.event.CacheEvent.TheVariants.{Load}
 use Rattle.cache_table.specs.Table.{CacheEntry}
 use Rattle.cache_table.specs.Baseline.{baseline_entry}
 use Rattle.cache_table.proofs.BaselineCells.{cell-baseline}
@@ -40,15 +37,7 @@ use Rattle.machine.proofs.Safety.{few-enough, own-restrained}
 
 -- no reached state is broken
 not-blank : (o : Outcome) → (o ≡ outcome.Blank → ⊥) → is_blank o ≡ false
-not-blank outcome.Sent h = refl
-not-blank outcome.Moved h = refl
-not-blank (outcome.Load cache value) h = refl
-not-blank (outcome.Store cache value) h = refl
-not-blank outcome.Held h = refl
-not-blank outcome.Absent h = refl
-not-blank outcome.Idle h = refl
-not-blank outcome.Blank h = absurd (h refl)
-not-blank outcome.Broken h = refl
+not-blank o h = grind (arith)
 
 whole-in : (P : BlockState → Type 0) (tables : Tables) (caches : ℕ) → Guards P tables caches → (s : State) (d : Step) (found : Option BlockState) →
     found ≡ slice_get s.blocks (block_of d) → EachBlock P s → s.broken ≡ false → (next_at tables s d found).state.broken ≡ false
@@ -201,13 +190,7 @@ own-going p = record { cache = λ s e x. inl x; directory = λ s e x. inl x }
 
 -- and serve asks
 settled-serves : (p : Protocol) (e : CacheEvent) (s : CacheState) → IsSettled s → Serves (baseline_entry p s e)
-settled-serves Msi Load I h = tt
-settled-serves MsiE Load I h = tt
-settled-serves p e I h = tt
-settled-serves p e S h = tt
-settled-serves p e M h = tt
-settled-serves p e E h = tt
-settled-serves p e s h = absurd h
+settled-serves p e s h = grind (arith)
 
 own-serves-asks : (p : Protocol) → ServesAsks (baseline_of p)
 own-serves-asks p = record {

@@ -23,7 +23,6 @@ use Rattle.network.proofs.Sending.{all_sent-append}
 use Rattle.cache_table.specs.Table.{CacheEntry}
 use Rattle.base.specs.declared.controller.entry.Entry.TheVariants as entry
 use Rattle.cache_table.specs.declared.actions.CacheAction.{CacheAction}
-use Rattle.cache_table.specs.declared.actions.CacheAction.TheVariants as cache_action
 use Rattle.cache_table.specs.Table as cache_table_cells
 use Rattle.directory_table.specs.declared.state.DirectoryState.{DirectoryState}
 use Rattle.directory_table.specs.declared.state.DirectoryState.TheVariants as home
@@ -109,15 +108,7 @@ sent-fewer w k m h z a d = elim (cases_eq a k) as (λ _. owed_to (forward_sent k
 -- a line sends nothing on links
 message-links : (cache : CacheId) (value : ℕ) (to : Option CacheId) (a : CacheAction) (w : Traffic) →
     (all_sent (line_message cache value to a) w).links ≡ w.links
-message-links cache value to cache_action.GetS w = refl
-message-links cache value to cache_action.GetM w = refl
-message-links cache value to cache_action.PutS w = refl
-message-links cache value to cache_action.PutM w = refl
-message-links cache value None cache_action.InvAck w = refl
-message-links cache value (Some c) cache_action.InvAck w = refl
-message-links cache value None cache_action.DataReq w = refl
-message-links cache value (Some c) cache_action.DataReq w = refl
-message-links cache value to cache_action.DataDir w = refl
+message-links cache value to a w = grind (arith)
 
 messages-links : (cache : CacheId) (value : ℕ) (to : Option CacheId) (actions : List CacheAction) (w : Traffic) →
     (all_sent (line_messages cache value to actions) w).links ≡ w.links

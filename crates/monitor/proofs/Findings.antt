@@ -3,7 +3,6 @@ use Rattle.std.proofs.lemmas.Bool.Decides.{leb_tells}
 use Rattle.base.specs.declared.ids.CacheId.{CacheId}
 use Rattle.base.specs.declared.ids.BlockId.{BlockId}
 use Rattle.base.specs.declared.step.Outcome.{Outcome}
-use Rattle.base.specs.declared.step.Outcome.TheVariants as outcome
 use Rattle.monitor.specs.declared.violation.Violation.{Violation}
 use Rattle.monitor.specs.declared.violation.Violation.TheVariants.{Blank, SecondWriter, WriterBesideReader, StaleLoad}
 use Rattle.monitor.specs.Scenes.{Scene, Answers, HasNone, IsLeast, IsLoadOf, IsLookedAt, IsViolation, Shows, rank}
@@ -59,15 +58,7 @@ least-one P m n one other =
 
 -- an outcome is a load of one value at most
 load-one : (what : Outcome) (v w : ℕ) → IsLoadOf v what → IsLoadOf w what → v ≡ w
-load-one (outcome.Load cache loaded) v w one other = one ∙ sym other
-load-one outcome.Sent v w one other = absurd one
-load-one outcome.Moved v w one other = absurd one
-load-one (outcome.Store cache value) v w one other = absurd one
-load-one outcome.Held v w one other = absurd one
-load-one outcome.Absent v w one other = absurd one
-load-one outcome.Idle v w one other = absurd one
-load-one outcome.Blank v w one other = absurd one
-load-one outcome.Broken v w one other = absurd one
+load-one what v w one other = grind (arith)
 
 -- two numbers of a cache or a block
 cache-one : (c d : CacheId) → c.0 ≡ d.0 → c ≡ d
@@ -119,15 +110,7 @@ violation-one scene one other a b =
 
 -- an outcome that is a load is looked at
 looked_at-load : (what : Outcome) (value : ℕ) → IsLoadOf value what → IsLookedAt what
-looked_at-load (outcome.Load cache loaded) value h = tt
-looked_at-load (outcome.Store cache stored) value h = tt
-looked_at-load outcome.Sent value h = tt
-looked_at-load outcome.Moved value h = tt
-looked_at-load outcome.Blank value h = tt
-looked_at-load outcome.Held value h = h
-looked_at-load outcome.Absent value h = h
-looked_at-load outcome.Idle value h = h
-looked_at-load outcome.Broken value h = h
+looked_at-load what value h = grind (arith)
 
 -- what has a violation is looked at
 pub none-otherwise : (scene : Scene) → ¬ IsLookedAt scene.outcome → HasNone scene

@@ -1,5 +1,5 @@
 -- What there is to see where a step's block isn't crowded.
-use Rattle.std.proofs.Common.{◌≡◌, ◌≢◌, ◌<◌, ◌≤◌, ℕ, List, None, refl, inl, inr, arith}
+use Rattle.std.proofs.Common.{◌≡◌, ◌≢◌, ◌<◌, ◌≤◌, ℕ, List, None, inl, inr, arith}
 use Rattle.base.specs.Steps.{block_of}
 use Rattle.base.specs.declared.ids.CacheId.{CacheId}
 use Rattle.base.specs.declared.step.Outcome.{Outcome}
@@ -43,25 +43,9 @@ none-loaded scene none (StaleLoad block got due) low high s = none got s.1.loade
 
 -- what isn't a load is none of any value
 pub not-loaded : (what : Outcome) → ((cache : CacheId) (value : ℕ) → ¬ (what ≡ outcome.Load cache value)) → (value : ℕ) → ¬ IsLoadOf value what
-not-loaded (outcome.Load cache loaded) not value h = not cache loaded refl
-not-loaded (outcome.Store cache stored) not value h = h
-not-loaded outcome.Sent not value h = h
-not-loaded outcome.Moved not value h = h
-not-loaded outcome.Held not value h = h
-not-loaded outcome.Absent not value h = h
-not-loaded outcome.Idle not value h = h
-not-loaded outcome.Blank not value h = h
-not-loaded outcome.Broken not value h = h
+not-loaded what not value h = grind (arith)
 
 -- what isn't a store leaves the values
 pub not-stored : (values : List ℕ) (block : ℕ) (what : Outcome) → ((cache : CacheId) (value : ℕ) → ¬ (what ≡ outcome.Store cache value)) →
     noted values block what ≡ values
-not-stored values block (outcome.Store cache stored) not = absurd (not cache stored refl)
-not-stored values block (outcome.Load cache loaded) not = refl
-not-stored values block outcome.Sent not = refl
-not-stored values block outcome.Moved not = refl
-not-stored values block outcome.Held not = refl
-not-stored values block outcome.Absent not = refl
-not-stored values block outcome.Idle not = refl
-not-stored values block outcome.Blank not = refl
-not-stored values block outcome.Broken not = refl
+not-stored values block what not = grind (arith)

@@ -75,15 +75,7 @@ completions-split tables s (x ∷ front) step later =
 
 -- a step completes one ask at most
 one-at-most : (step : Step) (o : Outcome) → (completed_by step o ≡ []) ⊎ ((c : Completion) × (completed_by step o ≡ c ∷ []))
-one-at-most step (outcome.Load cache value) = inr (_, refl)
-one-at-most step (outcome.Store cache value) = inr (_, refl)
-one-at-most step outcome.Sent = inl refl
-one-at-most step outcome.Moved = inl refl
-one-at-most step outcome.Held = inl refl
-one-at-most step outcome.Absent = inl refl
-one-at-most step outcome.Idle = inl refl
-one-at-most step outcome.Blank = inl refl
-one-at-most step outcome.Broken = inl refl
+one-at-most step o = grind (arith)
 
 nothing-there : {X : Type 0} (before : List X) (c : X) (rest : List X) → [] ≡ before ++ c ∷ rest → ⊥
 nothing-there [] c rest e = absurd (cc e)
