@@ -1,4 +1,4 @@
-pub mod Ends
+pub use Rattle.devices.specs.Ends
 pub mod Extent
 pub mod Spelling
 pub mod Protocols

@@ -3,14 +3,13 @@
 #![tactic(auto)]
 
 pub mod controller;
-mod ends;
 mod fault;
 mod ids;
 mod shape;
 mod step;
 pub mod text;
 
-pub use ends::{Failed, FromRead, PutFault, Sink, Source, ToWrite, put_all};
+pub use devices::{Failed, FromRead, PutFault, Sink, Source, ToWrite, put_all};
 pub use fault::NoMemory;
 pub use ids::{BlockId, CacheId, Place};
 pub use shape::{MOST_BLOCKS, MOST_CACHES, Shape, ShapeFault};

@@ -1,4 +1,4 @@
-use base::{Failed, Sink};
+use crate::ends::{Failed, Sink};
 use std::alloc::Global;
 
 /// A sink in memory. A call fails where there was no memory for its bytes.

@@ -1,4 +1,4 @@
-use base::{Failed, Sink, Source};
+use crate::ends::{Failed, Sink, Source};
 
 /// An end that gives or takes little at a time, and fails at one of its calls: a device for tests.
 #[derive(Drop)]
@@ -59,7 +59,7 @@ impl<E> Faltering<E> {
 impl<E: Source> Source for Faltering<E> {
     ghost use Rattle.std.specs.Prelude.{◌≡◌, ◌<◌, ◌≤◌, ◌-◌, IfOk, IsErr, length, max, true};
     ghost use Rattle.std.specs.Io.KnownBytes.{ReadConsumes};
-    ghost use Rattle.base.specs.Ends.{MarksFault};
+    ghost use Rattle.devices.specs.Ends.{MarksFault};
 
     ghost left = { λ f. E.left f.end };
 
@@ -92,7 +92,7 @@ impl<E: Source> Source for Faltering<E> {
 impl<E: Sink> Sink for Faltering<E> {
     ghost use Rattle.std.specs.Prelude.{◌≡◌, ◌<◌, ◌≤◌, ◌-◌, IfOk, IsErr, length, max, true};
     ghost use Rattle.std.specs.Io.KnownBytes.{WriteAppends};
-    ghost use Rattle.base.specs.Ends.{MarksFault};
+    ghost use Rattle.devices.specs.Ends.{MarksFault};
 
     ghost taken = { λ f. E.taken f.end };
 

@@ -5,7 +5,7 @@ mod standard;
 
 ghost use Rattle.std.specs.Prelude.{◌≡◌, ◌≤◌, ◌<◌, ℕ, List, Bool, Option, length, take, IfOk, IfErr, OnOk};
 ghost use Rattle.std.specs.Io.KnownBytes.{Appends, WriteAppends, ReadConsumes};
-ghost use Rattle.base.specs.Ends.{MarksFault};
+ghost use Rattle.devices.specs.Ends.{MarksFault};
 
 pub use standard::{FromRead, ToWrite};
 use thiserror::Error;
