@@ -10,6 +10,7 @@ use crate::controller::entry::{Change, Entry, Side};
 use crate::controller::listed::{Listed, named};
 use crate::text::{Text, cut};
 use std::fmt;
+use words::behind_word;
 
 impl Side {
     ghost use Rattle.base.specs.Entries.{side_word};
@@ -18,6 +19,7 @@ impl Side {
     pub fn name(self) -> &'static str
         ensures name { result.now ≡ side_word self }
         ensures short { length (side_word self) ≤ 9 }
+        ensures word { words (side_word self) ≡ side_word self ∷ [] }
     {
         match self {
             Side::Cache => "cache",
@@ -49,10 +51,10 @@ impl<S: Listed, E: Listed, A: Listed> Change<S, E, A> {
         ensures change { MatchOption result (IsNoChange {S = S} {E = E} {A = A} S.spelling E.spelling A.spelling side (words line.now))
             (λ c. words line.now ≡ change_words S.spelling E.spelling A.spelling side c) }
     {
-        let (first, Some(rest)) = cut(line) else {
+        let Some(rest) = behind_word(line, b"cell") else {
             return None;
         };
-        let (side_word, Some(rest)) = cut(rest) else {
+        let Some(rest) = behind_word(rest, side.name().as_bytes()) else {
             return None;
         };
         let (state, Some(rest)) = cut(rest) else {
@@ -61,9 +63,6 @@ impl<S: Listed, E: Listed, A: Listed> Change<S, E, A> {
         let (event, Some(rest)) = cut(rest) else {
             return None;
         };
-        if first != b"cell".as_slice() || side_word != side.name().as_bytes() {
-            return None;
-        }
         match (named::<S>(state), named::<E>(event), entry_of::<S, A>(rest)) {
             (Some(state), Some(event), Some(entry)) => Some(Change {
                 state,
