@@ -1,11 +1,11 @@
 //! Scenarios read from JSON.
 
-ghost use Rattle.std.specs.Prelude.{◌≡◌, ◌≤◌, [], map, IfOk, IfErr};
+ghost use Rattle.std.specs.Prelude.{ℕ, ◌≡◌, ◌≤◌, List, [], map, IfOk, IfErr};
 ghost use Rattle.serde_json.specs.View.{view, items_view};
 ghost use Rattle.scenario.specs.Tree.{plain};
 ghost use Rattle.scenario.specs.Limits.{IsWithin};
 ghost use Rattle.scenario.specs.Refusals.{IsRefusal, is_in_shape};
-ghost use Rattle.scenario.specs.Says.{IsTextOf};
+ghost use Rattle.scenario.specs.Says.{IsJson, IsTextOf};
 ghost use Rattle.scenario.specs.inner.Walk.{Gives, tree_at, trees_behind};
 
 use crate::fitting::read_numbers;
@@ -93,13 +93,26 @@ impl<A: Allocator + Clone> Scenario<A> {
             Err(error) if error.is_memory() => return Err(ScenarioFault::NoMemory),
             Err(_) => return Err(ScenarioFault::NotJson),
         };
-        let scenario = scenario_at(&alloc, &value, shape, DEEPEST)?;
-        if longest_word(&scenario) > u64::from(LONGEST) {
-            return Err(ScenarioFault::TooLong);
-        }
-        read_numbers(&scenario);
-        Ok(scenario)
+        scenario_of(&alloc, &value, shape)
     }
+}
+
+/// The scenario that the value of a text is, or why it is none of this shape.
+fn scenario_of<A: Allocator + Clone>(
+    alloc: &A,
+    value: &Value,
+    shape: Shape,
+) -> Result<Scenario<A>, ScenarioFault>
+    ensures tree { (bytes : List ℕ) → IsJson bytes (view value.now) → IfOk result (λ s. IsTextOf bytes (plain s)) }
+    ensures within { IfOk result (λ s. IsWithin shape (plain s)) }
+    ensures fault { (bytes : List ℕ) → IsJson bytes (view value.now) → IfErr result (λ f. IsRefusal shape bytes f) }
+{
+    let scenario = scenario_at(alloc, value, shape, DEEPEST)?;
+    if longest_word(&scenario) > u64::from(LONGEST) {
+        return Err(ScenarioFault::TooLong);
+    }
+    read_numbers(&scenario);
+    Ok(scenario)
 }
 
 /// The scenario that the value is, where so many levels are left for it.

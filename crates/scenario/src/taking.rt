@@ -1,6 +1,6 @@
 //! Taking an offer: the ask goes out, and the scenario becomes what is left.
 
-ghost use Rattle.std.specs.Prelude.{◌≡◌, ◌<◌, ◌≤◌, Some, drop, length, vec_capacity, IfNone, IfOk, IfSome, OnErr};
+ghost use Rattle.std.specs.Prelude.{◌≡◌, ◌<◌, ◌≤◌, Some, drop, length, vec_capacity, IfNone, IfOk, IfSome, MatchResult, OnErr};
 ghost use Rattle.scenario.specs.Tree as tree;
 ghost use Rattle.scenario.specs.Tree.{Trees, plain, plain_all};
 ghost use Rattle.scenario.specs.Taking.{offers, offers_in_turn, offers_of_all};
@@ -39,8 +39,7 @@ fn take_one<A: Allocator + Clone>(
     at: usize,
 ) -> Result<CoreAsk, NoMemory>
     requires { at < length (offers (plain tree.old)) }
-    ensures ok { IfOk result (λ ask. Leaves (plain tree.old) at (Some ask) (plain tree.new)) }
-    ensures err { OnErr result (plain tree.new ≡ plain tree.old) }
+    ensures { MatchResult result (λ ask. Leaves (plain tree.old) at (Some ask) (plain tree.new)) (λ _. plain tree.new ≡ plain tree.old) }
 {
     match tree {
         Scenario::One(ask) => {
@@ -49,17 +48,23 @@ fn take_one<A: Allocator + Clone>(
             Ok(ask)
         }
         Scenario::Seq(children) => {
-            let ask = take_in_turn(children, alloc, at)?;
+            let Ok(ask) = take_in_turn(children, alloc, at) else {
+                return Err(NoMemory);
+            };
             shorten_row(tree);
             Ok(ask)
         }
         Scenario::Any(children) => {
-            let (ask, left) = take_from_any(children, alloc, at)?;
+            let Ok((ask, left)) = take_from_any(children, alloc, at) else {
+                return Err(NoMemory);
+            };
             leave(tree, left);
             Ok(ask)
         }
         Scenario::Times(turns, child) => {
-            let (ask, parts) = take_from_turn(child, alloc, at)?;
+            let Ok((ask, parts)) = take_from_turn(child, alloc, at) else {
+                return Err(NoMemory);
+            };
             *turns -= 1;
             put_before(tree, ask, parts);
             Ok(ask)
@@ -77,11 +82,13 @@ fn take_in_turn<A: Allocator + Clone>(
     at: usize,
 ) -> Result<CoreAsk, NoMemory>
     requires { at < length (offers_in_turn (plain_all children.old.items)) }
-    ensures ok { IfOk result (λ ask. LeavesInTurn (plain_all children.old.items) at ask (plain_all children.new.items)) }
-    ensures err { OnErr result (plain_all children.new.items ≡ plain_all children.old.items) }
+    ensures { MatchResult result (λ ask. LeavesInTurn (plain_all children.old.items) at ask (plain_all children.new.items))
+        (λ _. plain_all children.new.items ≡ plain_all children.old.items) }
 {
     let offer = place_in_turn(children.as_slice(), at);
-    let ask = take_one(&mut children[offer.child], alloc, offer.at)?;
+    let Ok(ask) = take_one(&mut children[offer.child], alloc, offer.at) else {
+        return Err(NoMemory);
+    };
     drop_front(children, offer.child);
     Ok(ask)
 }
@@ -127,11 +134,13 @@ fn take_from_any<A: Allocator + Clone>(
     at: usize,
 ) -> Result<(CoreAsk, Scenario<A>), NoMemory>
     requires { at < length (offers_of_all (plain_all children.old.items)) }
-    ensures ok { IfOk result (λ turn. Leaves (tree.Any (plain_all children.old.items)) at (Some turn.0) (plain turn.1)) }
-    ensures err { OnErr result (plain_all children.new.items ≡ plain_all children.old.items) }
+    ensures { MatchResult result (λ turn. Leaves (tree.Any (plain_all children.old.items)) at (Some turn.0) (plain turn.1))
+        (λ _. plain_all children.new.items ≡ plain_all children.old.items) }
 {
     let offer = place_among(children.as_slice(), at);
-    let ask = take_one(&mut children[offer.child], alloc, offer.at)?;
+    let Ok(ask) = take_one(&mut children[offer.child], alloc, offer.at) else {
+        return Err(NoMemory);
+    };
     Ok((ask, children.swap_remove(offer.child)))
 }
 
@@ -144,8 +153,8 @@ fn take_among<A: Allocator + Clone>(
     at: usize,
 ) -> Result<CoreAsk, NoMemory>
     requires { at < length (offers_of_all (plain_all children.old.items)) }
-    ensures ok { IfOk result (λ ask. Leaves (tree.Both (plain_all children.old.items)) at (Some ask) (tree.Both (plain_all children.new.items))) }
-    ensures err { OnErr result (plain_all children.new.items ≡ plain_all children.old.items) }
+    ensures { MatchResult result (λ ask. Leaves (tree.Both (plain_all children.old.items)) at (Some ask) (tree.Both (plain_all children.new.items)))
+        (λ _. plain_all children.new.items ≡ plain_all children.old.items) }
 {
     let offer = place_among(children.as_slice(), at);
     let child = &mut children[offer.child];
@@ -164,8 +173,12 @@ fn take_from_turn<A: Allocator + Clone>(
     ensures parts { IfOk result (λ taken. (length taken.1.items ≡ 1) × (2 ≤ vec_capacity taken.1)) }
     ensures child { plain child.new ≡ plain child.old }
 {
-    let mut parts = copy_with_room(child, &alloc)?;
-    let ask = take_one(child, alloc, at)?;
+    let Ok(mut parts) = copy_with_room(child, &alloc) else {
+        return Err(NoMemory);
+    };
+    let Ok(ask) = take_one(child, alloc, at) else {
+        return Err(NoMemory);
+    };
     mem::swap(child, &mut parts[0]);
     Ok((ask, parts))
 }
@@ -178,8 +191,13 @@ fn copy_with_room<A: Allocator + Clone>(
     ensures copy { IfOk result (λ parts. row_of (plain_all parts.items) ≡ plain scenario.now) }
     ensures parts { IfOk result (λ parts. (length parts.items ≡ 1) × (2 ≤ vec_capacity parts)) }
 {
-    let mut parts = children_in(alloc, 2)?;
-    parts.push_reserved(copy_one(scenario, alloc)?);
+    let Ok(mut parts) = children_in(alloc, 2) else {
+        return Err(NoMemory);
+    };
+    let Ok(copy) = copy_one(scenario, alloc) else {
+        return Err(NoMemory);
+    };
+    parts.push_reserved(copy);
     Ok(parts)
 }
 

@@ -1,70 +1,62 @@
-use Rattle.std.proofs.Common.{◌≡◌, ◌<◌, length, ap, sym, subst, ◌∙◌, arith, rules}
+use Rattle.std.proofs.Common.{◌≡◌, ◌<◌, length, ap, refl, sym, subst, ◌∙◌, arith, rules}
 use Rattle.std.proofs.lemmas.Grind.{common_steps}
-use Rattle.std.proofs.lemmas.Result.{IfOk-weaker}
 use Rattle.scenario.specs.Tree as tree
 use Rattle.scenario.specs.Tree.{plain, plain_all}
 use Rattle.scenario.specs.Taking.{offers, offers_in_turn, offers_of_all}
 use Rattle.scenario.specs.Limits.{depth}
 use Rattle.scenario.specs.Rests.{IsPlaceInTurn, IsPlaceAmong}
 use Rattle.scenario.proofs.Children.{children, plain-Seq}
-use Rattle.scenario.proofs.Failing.{if_ok-failed, on_err-always, on_err-map}
+use Rattle.scenario.proofs.Failing.{match-map}
 use Rattle.scenario.proofs.Parting.{deeper_row, deeper_any, deeper_both, no_deeper, within_row, within_any, within_both, within_turns, left_of_ask, left_of_any, only_child, only_set}
 use Rattle.scenario.proofs.Places.{child_at, same_child, within_turn, within_child, leaves_in_turn, leaves_among, leaves_of_any}
 use Rattle.scenario.proofs.taking.+taking.Goals as goal
 
-pub take_in_turn-returns-in_err-ask-clause-err : goal.take_in_turn-returns-in_err-ask-clause-err
-take_in_turn-returns-in_err-ask-clause-err g t c =
-    let offer = c.place_in_turn-offer.result in
-    let child = c.index_mut.result.now in
-    let ss = c.args.children.now.items in
-    let at = child_at ss c.as_slice.result.now offer.child child c.as_slice.ensures.value c.place_in_turn-offer.ensures.within c.index_mut.ensures.value in
-    on_err-always c.from_residual.result _ (same_child ss offer.child child c.take_one.new.tree at c.in_err-ask.ensures.err)
-
-pub take_in_turn-returns-clause-ok : goal.take_in_turn-returns-clause-ok
-take_in_turn-returns-clause-ok g t c =
+pub take_in_turn-returns : goal.take_in_turn-returns
+take_in_turn-returns g t c =
     let offer = c.place_in_turn-offer.result in
     let child = c.index_mut.result.now in
     let ss = c.args.children.now.items in
     let at = child_at ss c.as_slice.result.now offer.child child c.as_slice.ensures.value c.place_in_turn-offer.ensures.within c.index_mut.ensures.value in
     let place = subst (λ us. IsPlaceInTurn us c.args.at offer.child offer.at) c.as_slice.ensures.value c.place_in_turn-offer.ensures.place in
     let new = c.drop_front.new.items.items in
-    leaves_in_turn ss new c.args.at offer.child offer.at child c.take_one.new.tree c.in_ok-ask.ask at place c.in_ok-ask.ensures.ok c.drop_front.ensures
+    leaves_in_turn ss new c.args.at offer.child offer.at child c.take_one.new.tree c.in-Ok.ask at place c.in-Ok.ensures c.drop_front.ensures
 
-pub take_among-returns-clause-ok : goal.take_among-returns-clause-ok
-take_among-returns-clause-ok g t c =
+pub take_in_turn-returns-in_default : goal.take_in_turn-returns-in_default
+take_in_turn-returns-in_default g t c =
+    let offer = c.place_in_turn-offer.result in
+    let child = c.index_mut.result.now in
+    let ss = c.args.children.now.items in
+    let at = child_at ss c.as_slice.result.now offer.child child c.as_slice.ensures.value c.place_in_turn-offer.ensures.within c.index_mut.ensures.value in
+    same_child ss offer.child child c.take_one.new.tree at c.in_default.ensures
+
+pub take_among-returns : goal.take_among-returns
+take_among-returns g t c =
     let offer = c.place_among-offer.result in
     let child = c.index_mut-child.result.now in
     let ss = c.args.children.now.items in
     let at = child_at ss c.as_slice.result.now offer.child child c.as_slice.ensures.value c.place_among-offer.ensures.within c.index_mut-child.ensures.value in
     let place = subst (λ us. IsPlaceAmong us c.args.at offer.child offer.at) c.as_slice.ensures.value c.place_among-offer.ensures.place in
-    IfOk-weaker c.take_one.result _ _ (λ ask. leaves_among ss c.args.at offer.child offer.at child c.take_one.new.tree ask at place) c.take_one.ensures.ok
+    match-map c.take_one.result (λ ask. leaves_among ss c.args.at offer.child offer.at child c.take_one.new.tree ask at place)
+    (same_child ss offer.child child c.take_one.new.tree at) c.take_one.ensures
 
-pub take_among-returns-clause-err : goal.take_among-returns-clause-err
-take_among-returns-clause-err g t c =
-    let offer = c.place_among-offer.result in
-    let child = c.index_mut-child.result.now in
-    let ss = c.args.children.now.items in
-    let at = child_at ss c.as_slice.result.now offer.child child c.as_slice.ensures.value c.place_among-offer.ensures.within c.index_mut-child.ensures.value in
-    on_err-map c.take_one.result _ _ (same_child ss offer.child child c.take_one.new.tree at) c.take_one.ensures.err
-
-pub take_from_any-returns-in_err-ask-clause-err : goal.take_from_any-returns-in_err-ask-clause-err
-take_from_any-returns-in_err-ask-clause-err g t c =
-    let offer = c.place_among-offer.result in
-    let child = c.index_mut.result.now in
-    let ss = c.args.children.now.items in
-    let at = child_at ss c.as_slice.result.now offer.child child c.as_slice.ensures.value c.place_among-offer.ensures.within c.index_mut.ensures.value in
-    on_err-always c.from_residual.result _ (same_child ss offer.child child c.take_one.new.tree at c.in_err-ask.ensures.err)
-
-pub take_from_any-returns-clause-ok : goal.take_from_any-returns-clause-ok
-take_from_any-returns-clause-ok g t c =
+pub take_from_any-returns : goal.take_from_any-returns
+take_from_any-returns g t c =
     let offer = c.place_among-offer.result in
     let child = c.index_mut.result.now in
     let ss = c.args.children.now.items in
     let at = child_at ss c.as_slice.result.now offer.child child c.as_slice.ensures.value c.place_among-offer.ensures.within c.index_mut.ensures.value in
     let place = subst (λ us. IsPlaceAmong us c.args.at offer.child offer.at) c.as_slice.ensures.value c.place_among-offer.ensures.place in
-    let taken = leaves_of_any ss c.args.at offer.child offer.at child c.take_one.new.tree c.in_ok-ask.ask at place c.in_ok-ask.ensures.ok in
+    let taken = leaves_of_any ss c.args.at offer.child offer.at child c.take_one.new.tree c.in-Ok.ask at place c.in-Ok.ensures in
     let gone : plain c.swap_remove.result ≡ plain c.take_one.new.tree = search rules in
     (taken.0, gone ∙ taken.1)
+
+pub take_from_any-returns-in_default : goal.take_from_any-returns-in_default
+take_from_any-returns-in_default g t c =
+    let offer = c.place_among-offer.result in
+    let child = c.index_mut.result.now in
+    let ss = c.args.children.now.items in
+    let at = child_at ss c.as_slice.result.now offer.child child c.as_slice.ensures.value c.place_among-offer.ensures.within c.index_mut.ensures.value in
+    same_child ss offer.child child c.take_one.new.tree at c.in_default.ensures
 
 pub take_one-take_in_turn-requires : goal.take_one-take_in_turn-requires
 take_one-take_in_turn-requires g t c κs within =
@@ -96,12 +88,6 @@ take_among-take_one-requires g t c κs within =
 pub take_from_any-place_among-offer-requires : goal.take_from_any-place_among-offer-requires
 take_from_any-place_among-offer-requires g t c = subst (λ us. c.args.at < length (offers_of_all (plain_all us))) (sym c.as_slice.ensures.value) c.requires
 
-pub take_from_any-returns-clause-err : goal.take_from_any-returns-clause-err
-take_from_any-returns-clause-err g t c = tt
-
-pub take_from_any-returns-in_err-ask-clause-ok : goal.take_from_any-returns-in_err-ask-clause-ok
-take_from_any-returns-in_err-ask-clause-ok g t c = if_ok-failed _ _ c.from_residual.ensures.0
-
 pub take_from_any-swap_remove-requires : goal.take_from_any-swap_remove-requires
 take_from_any-swap_remove-requires g t c = grind (arith, common_steps)
 
@@ -116,34 +102,46 @@ take_from_any-take_one-requires g t c κs within =
 
 pub take_from_turn-returns-clause-child : goal.take_from_turn-returns-clause-child
 take_from_turn-returns-clause-child g t c =
-    let parts = c.in_ok-parts.ensures.parts in
-    ap plain c.swap.ensures.x_after ∙ (only_child c.in_ok-parts.parts.items c.index_mut.result.now parts.0 c.index_mut.ensures.value ∙ c.in_ok-parts.ensures.copy)
+    let parts = c.in-Ok.ensures.parts in
+    ap plain c.swap.ensures.x_after ∙ (only_child c.in-Ok.parts.items c.index_mut.result.now parts.0 c.index_mut.ensures.value ∙ c.in-Ok.ensures.copy)
 
 pub take_from_turn-returns-clause-ok : goal.take_from_turn-returns-clause-ok
 take_from_turn-returns-clause-ok g t c =
-    let left = only_set c.in_ok-parts.parts.items c.swap.new.y c.in_ok-parts.ensures.parts.0 ∙ ap plain c.swap.ensures.y_after in
-    (c.in_ok-ask.ensures.ok.0, left ∙ c.in_ok-ask.ensures.ok.1)
+    let left = only_set c.in-Ok.parts.items c.swap.new.y c.in-Ok.ensures.parts.0 ∙ ap plain c.swap.ensures.y_after in
+    (c.in-Ok-take_one.ensures.0, left ∙ c.in-Ok-take_one.ensures.1)
 
-pub take_from_turn-returns-in_err-ask-clause-child : goal.take_from_turn-returns-in_err-ask-clause-child
-take_from_turn-returns-in_err-ask-clause-child g t c = c.in_err-ask.ensures.err
+pub take_from_turn-returns-clause-parts : goal.take_from_turn-returns-clause-parts
+take_from_turn-returns-clause-parts g t c = grind (arith, common_steps)
 
-pub take_from_turn-returns-in_err-ask-clause-ok : goal.take_from_turn-returns-in_err-ask-clause-ok
-take_from_turn-returns-in_err-ask-clause-ok g t c = if_ok-failed _ _ c.from_residual-in_err-ask.ensures.0
+pub take_from_turn-returns-in_default-clause-ok : goal.take_from_turn-returns-in_default-clause-ok
+take_from_turn-returns-in_default-clause-ok g t c = tt
+
+pub take_from_turn-returns-in_default-clause-parts : goal.take_from_turn-returns-in_default-clause-parts
+take_from_turn-returns-in_default-clause-parts g t c = tt
+
+pub take_from_turn-returns-in_default-clause-child : goal.take_from_turn-returns-in_default-clause-child
+take_from_turn-returns-in_default-clause-child g t c = refl
+
+pub take_from_turn-returns-in_default-take_one-clause-ok : goal.take_from_turn-returns-in_default-take_one-clause-ok
+take_from_turn-returns-in_default-take_one-clause-ok g t c = tt
+
+pub take_from_turn-returns-in_default-take_one-clause-parts : goal.take_from_turn-returns-in_default-take_one-clause-parts
+take_from_turn-returns-in_default-take_one-clause-parts g t c = tt
+
+pub take_from_turn-returns-in_default-take_one-clause-child : goal.take_from_turn-returns-in_default-take_one-clause-child
+take_from_turn-returns-in_default-take_one-clause-child g t c = c.in_default-take_one.ensures
 
 pub take_from_turn-take_one-requires : goal.take_from_turn-take_one-requires
 take_from_turn-take_one-requires g t c κs within = (omega (arith, c.decreases), (within, c.requires))
+
+pub take_from_turn-index_mut-requires : goal.take_from_turn-index_mut-requires
+take_from_turn-index_mut-requires g t c = grind (arith, common_steps)
 
 pub take_in_turn-drop_front-requires : goal.take_in_turn-drop_front-requires
 take_in_turn-drop_front-requires g t c = grind (arith, common_steps)
 
 pub take_in_turn-place_in_turn-offer-requires : goal.take_in_turn-place_in_turn-offer-requires
 take_in_turn-place_in_turn-offer-requires g t c = subst (λ us. c.args.at < length (offers_in_turn (plain_all us))) (sym c.as_slice.ensures.value) c.requires
-
-pub take_in_turn-returns-clause-err : goal.take_in_turn-returns-clause-err
-take_in_turn-returns-clause-err g t c = tt
-
-pub take_in_turn-returns-in_err-ask-clause-ok : goal.take_in_turn-returns-in_err-ask-clause-ok
-take_in_turn-returns-in_err-ask-clause-ok g t c = if_ok-failed _ _ c.from_residual.ensures.0
 
 pub take_in_turn-take_one-requires : goal.take_in_turn-take_one-requires
 take_in_turn-take_one-requires g t c κs within =
@@ -158,53 +156,35 @@ pub take_one-overflow_sub-turns : goal.take_one-overflow_sub-turns
 take_one-overflow_sub-turns g t c = grind (arith, common_steps, children)
 
 pub take_one-put_before-requires-clause-turn : goal.take_one-put_before-requires-clause-turn
-take_one-put_before-requires-clause-turn g t c = c.in_ok-ask-in-Times.ensures.parts.0
+take_one-put_before-requires-clause-turn g t c = c.in-Ok-take_from_turn.ensures.parts.0
 
 pub take_one-put_before-requires-clause-room : goal.take_one-put_before-requires-clause-room
-take_one-put_before-requires-clause-room g t c = c.in_ok-ask-in-Times.ensures.parts.1
+take_one-put_before-requires-clause-room g t c = c.in-Ok-take_from_turn.ensures.parts.1
 
-pub take_one-returns-in-Both-clause-err : goal.take_one-returns-in-Both-clause-err
-take_one-returns-in-Both-clause-err g t c = grind (arith, common_steps, children)
-
-pub take_one-returns-in-Both-clause-ok : goal.take_one-returns-in-Both-clause-ok
-take_one-returns-in-Both-clause-ok g t c = grind (arith, common_steps, children)
-
-pub take_one-returns-in-One-clause-err : goal.take_one-returns-in-One-clause-err
-take_one-returns-in-One-clause-err g t c = tt
-
-pub take_one-returns-in-One-clause-ok : goal.take_one-returns-in-One-clause-ok
-take_one-returns-in-One-clause-ok g t c = let row = c.leave.ensures ∙ (plain-Seq c.new.result ∙ ap (λ us. tree.Seq (plain_all us)) c.new.ensures.items) in
+pub take_one-returns-in-One : goal.take_one-returns-in-One
+take_one-returns-in-One g t c = let row = c.leave.ensures ∙ (plain-Seq c.new.result ∙ ap (λ us. tree.Seq (plain_all us)) c.new.ensures.items) in
     left_of_ask c.args.tree.now c.in-One.ask _ c.args.at (plain c.leave.new.scenario) c.in-One.is c.in-One.ask-is c.requires row
 
-pub take_one-returns-in_err-ask-in-Any-clause-err : goal.take_one-returns-in_err-ask-in-Any-clause-err
-take_one-returns-in_err-ask-in-Any-clause-err g t c = grind (arith, common_steps, children)
+pub take_one-returns-in-Both : goal.take_one-returns-in-Both
+take_one-returns-in-Both g t c = grind (arith, common_steps, children)
 
-pub take_one-returns-in_err-ask-in-Any-clause-ok : goal.take_one-returns-in_err-ask-in-Any-clause-ok
-take_one-returns-in_err-ask-in-Any-clause-ok g t c = if_ok-failed _ _ c.from_residual-in_err-ask-in-Any.ensures.0
+pub take_one-returns-in_default : goal.take_one-returns-in_default
+take_one-returns-in_default g t c = grind (arith, common_steps, children)
 
-pub take_one-returns-in_err-ask-in-Seq-clause-err : goal.take_one-returns-in_err-ask-in-Seq-clause-err
-take_one-returns-in_err-ask-in-Seq-clause-err g t c = grind (arith, common_steps, children)
+pub take_one-returns-in_default-take_from_any : goal.take_one-returns-in_default-take_from_any
+take_one-returns-in_default-take_from_any g t c = grind (arith, common_steps, children)
 
-pub take_one-returns-in_err-ask-in-Seq-clause-ok : goal.take_one-returns-in_err-ask-in-Seq-clause-ok
-take_one-returns-in_err-ask-in-Seq-clause-ok g t c = if_ok-failed _ _ c.from_residual.ensures.0
+pub take_one-returns-in_default-take_from_turn : goal.take_one-returns-in_default-take_from_turn
+take_one-returns-in_default-take_from_turn g t c = grind (arith, common_steps, children)
 
-pub take_one-returns-in_err-ask-in-Times-clause-err : goal.take_one-returns-in_err-ask-in-Times-clause-err
-take_one-returns-in_err-ask-in-Times-clause-err g t c = grind (arith, common_steps, children)
+pub take_one-returns-in-Ok-take_from_any : goal.take_one-returns-in-Ok-take_from_any
+take_one-returns-in-Ok-take_from_any g t c = left_of_any c.args.tree.now c.in-Any.children _ c.args.at c.in-Ok-take_from_any.ask _ _ c.in-Any.is c.in-Any.children-is c.in-Ok-take_from_any.ensures c.leave-in-Any.ensures
 
-pub take_one-returns-in_err-ask-in-Times-clause-ok : goal.take_one-returns-in_err-ask-in-Times-clause-ok
-take_one-returns-in_err-ask-in-Times-clause-ok g t c = if_ok-failed _ _ c.from_residual-in_err-ask-in-Times.ensures.0
+pub take_one-returns-in-Ok-take_from_turn : goal.take_one-returns-in-Ok-take_from_turn
+take_one-returns-in-Ok-take_from_turn g t c = grind (arith, common_steps, children)
 
-pub take_one-returns-in_ok-ask-in-Any-clause-err : goal.take_one-returns-in_ok-ask-in-Any-clause-err
-take_one-returns-in_ok-ask-in-Any-clause-err g t c = tt
-
-pub take_one-returns-in_ok-ask-in-Any-clause-ok : goal.take_one-returns-in_ok-ask-in-Any-clause-ok
-take_one-returns-in_ok-ask-in-Any-clause-ok g t c = left_of_any c.args.tree.now c.in-Any.children _ c.args.at c.in_ok-ask-in-Any.ask _ _ c.in-Any.is c.in-Any.children-is c.in_ok-ask-in-Any.ensures.ok c.leave-in-Any.ensures
-
-pub take_one-returns-in_ok-ask-in-Times-clause-err : goal.take_one-returns-in_ok-ask-in-Times-clause-err
-take_one-returns-in_ok-ask-in-Times-clause-err g t c = tt
-
-pub take_one-returns-in_ok-ask-in-Times-clause-ok : goal.take_one-returns-in_ok-ask-in-Times-clause-ok
-take_one-returns-in_ok-ask-in-Times-clause-ok g t c = grind (arith, common_steps, children)
+pub take_one-returns-in-Ok : goal.take_one-returns-in-Ok
+take_one-returns-in-Ok g t c = grind (arith, common_steps, children)
 
 pub take_one-take_from_turn-requires : goal.take_one-take_from_turn-requires
 take_one-take_from_turn-requires g t c κs within =
@@ -213,18 +193,3 @@ take_one-take_from_turn-requires g t c κs within =
     let low = ap depth whole in
     let inside = within_turns c.in-Times.turns child c.args.at (subst (λ u. c.args.at < length (offers u)) whole c.requires) in
     (omega (arith, low, c.decreases), (within, inside))
-
-pub take_one-returns-in_ok-ask-in-Seq-clause-err : goal.take_one-returns-in_ok-ask-in-Seq-clause-err
-take_one-returns-in_ok-ask-in-Seq-clause-err g t c = tt
-
-pub take_one-returns-in_ok-ask-in-Seq-clause-ok : goal.take_one-returns-in_ok-ask-in-Seq-clause-ok
-take_one-returns-in_ok-ask-in-Seq-clause-ok g t c = grind (arith, common_steps, children)
-
-pub take_from_turn-returns-clause-parts : goal.take_from_turn-returns-clause-parts
-take_from_turn-returns-clause-parts g t c = grind (arith, common_steps)
-
-pub take_from_turn-returns-in_err-ask-clause-parts : goal.take_from_turn-returns-in_err-ask-clause-parts
-take_from_turn-returns-in_err-ask-clause-parts g t c = if_ok-failed _ _ c.from_residual-in_err-ask.ensures.0
-
-pub take_from_turn-index_mut-requires : goal.take_from_turn-index_mut-requires
-take_from_turn-index_mut-requires g t c = grind (arith, common_steps)

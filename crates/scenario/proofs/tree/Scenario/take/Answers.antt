@@ -16,7 +16,7 @@ take_one-requires g c = (sought-ok (offers (plain c.args.self.now)) c.args.at c.
 
 pub returns-clause-ok : goal.returns-clause-ok
 returns-clause-ok g c =
-    leaves_takes (plain c.args.self.now) c.args.at (Some c.in_ok-take_one.field-0) (plain c.take_one.new.tree) c.in_ok-take_one.ensures.ok
+    leaves_takes (plain c.args.self.now) c.args.at (Some c.in_ok-take_one.field-0) (plain c.take_one.new.tree) c.in_ok-take_one.ensures
 
 pub returns-in-Err-clause-err : goal.returns-in-Err-clause-err
 returns-in-Err-clause-err g c = grind (arith, common_steps)
