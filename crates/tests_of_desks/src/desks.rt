@@ -205,55 +205,6 @@ fn two_threads_that_work(rt: HostRuntime) {
     two_threads::<Brand, _>(&rt, rt.alloc(), &job)
 }
 
-/// The last four seats of a row work in four threads, two and two, and are put back.
-fn work_by_four<D: Planned + Send + Sync, R: Threads + Abort + Sync>(
-    rt: &R,
-    desk: &Desk<'_, D>,
-    seats: &mut Vec<DeskSeat<D>>,
-) -> Option<u32>
-    requires { All (λ seat. seat.desk ≡ desk.now.id) seats.old.items }
-    ensures { All (λ seat. seat.desk ≡ desk.now.id) seats.new.items }
-{
-    let (two, three) = take_two(rt, desk, seats);
-    let (zero, one) = take_two(rt, desk, seats);
-    let ((zero, one, front), (two, three, back)) = thread::join(
-        rt,
-        move || -> (DeskSeat<D>, DeskSeat<D>, Option<u32>)
-            requires { (zero.desk ≡ desk.now.id) × (one.desk ≡ desk.now.id) }
-            ensures { (result.0.desk ≡ desk.entry.now.id) × (result.1.desk ≡ desk.entry.now.id) }
-        { two_work(rt, desk, zero, one) },
-        move || -> (DeskSeat<D>, DeskSeat<D>, Option<u32>)
-            requires { (two.desk ≡ desk.now.id) × (three.desk ≡ desk.now.id) }
-            ensures { (result.0.desk ≡ desk.entry.now.id) × (result.1.desk ≡ desk.entry.now.id) }
-        { two_work(rt, desk, two, three) },
-    );
-    put_back(rt, desk, seats, zero, one);
-    put_back(rt, desk, seats, two, three);
-    match (front, back) {
-        (Some(front), Some(back)) => front.checked_add(back),
-        _ => None,
-    }
-}
-
-/// Four threads work off a batch, two and two.
-fn four_threads<D: Planned + Send + Sync, R: Threads + Abort + Sync>(
-    rt: &R,
-    alloc: Global,
-    job: &Job,
-)
-    requires { D.plan ≡ plan_of job.now }
-{
-    let (desk, mut seats) = opened::<D, R>(rt, alloc, job, 400, 4);
-    same(rt, &work_by_four(rt, &desk, &mut seats), &Some(400));
-    closes_as_batch(rt, alloc, desk, seats, job, 400)
-}
-
-#[test]
-fn four_threads_that_work(rt: HostRuntime) {
-    let job = racing_pair(&rt, rt.alloc());
-    four_threads::<Brand, _>(&rt, rt.alloc(), &job)
-}
-
 /// Makes the trial of the next number, posts it, and looks until it finds the result of the other of the first two.
 fn post_and_find<D: Planned>(
     alloc: Global,

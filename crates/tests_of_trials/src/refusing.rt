@@ -71,13 +71,13 @@ fn opened(rt: &impl Abort, alloc: Global) -> Result<World, Fail> {
 
 /// Makes the first choice again and again, until there is none, and answers how many there were.
 fn lead(alloc: Global, moment: &mut Moment<'_, Global, Global>) -> Result<u32, NoMemory> {
-    for made in 0..8 {
+    for made in 0..64 {
         if moment.count() == 0 {
             return Ok(made);
         }
         let _ = moment.make(alloc, 0)?;
     }
-    Ok(8)
+    Ok(64)
 }
 
 /// Leads a moment to its rest, from the start again where a refusal has spoilt it.
@@ -85,15 +85,16 @@ fn lead_at_last<'s>(
     rt: &impl Abort,
     alloc: Global,
     moment: &mut Moment<'s, Global, Global>,
-    load: &'s Scenario<Global>,
+    tree: &'s Scenario<Global>,
+    wanted: u32,
 ) {
     let mut made = lead(alloc, moment);
     if made.is_err() {
         same(rt, &moment.count(), &0);
-        moment.restart(alloc, load).expect(rt, "a second refusal");
+        moment.restart(alloc, tree).expect(rt, "a second refusal");
         made = lead(alloc, moment);
     }
-    same(rt, &made.expect(rt, "a second refusal"), &3);
+    same(rt, &made.expect(rt, "a second refusal"), &wanted);
     same(rt, &moment.is_at_rest(), &true);
 }
 
@@ -102,25 +103,43 @@ fn lead_twice<'s>(
     rt: &impl Abort,
     alloc: Global,
     moment: &mut Moment<'s, Global, Global>,
-    load: &'s Scenario<Global>,
+    tree: &'s Scenario<Global>,
+    wanted: u32,
 ) -> Result<(), NoMemory> {
-    lead_at_last(rt, alloc, moment, load);
-    moment.restart(alloc, load)?;
-    lead_at_last(rt, alloc, moment, load);
+    lead_at_last(rt, alloc, moment, tree, wanted);
+    moment.restart(alloc, tree)?;
+    lead_at_last(rt, alloc, moment, tree, wanted);
     Ok(())
 }
 
-fn lead_new(rt: &impl Abort, alloc: Global, load: &Scenario<Global>) -> Result<(), Fail> {
+fn lead_new(
+    rt: &impl Abort,
+    alloc: Global,
+    tree: &Scenario<Global>,
+    wanted: u32,
+) -> Result<(), Fail> {
     let mut world = opened(rt, alloc)?;
     world.restart();
-    let mut moment = Moment::open(alloc, load, world)?;
-    Ok(lead_twice(rt, alloc, &mut moment, load)?)
+    let mut moment = Moment::open(alloc, tree, world)?;
+    Ok(lead_twice(rt, alloc, &mut moment, tree, wanted)?)
 }
 
+/// Leads moments of a scenario for three caches, of which so many choices lead to the rest.
+fn leads(rt: &impl Abort, alloc: Global, text: &str, wanted: u32) -> Result<(), Fail> {
+    let tree = scenario(rt, alloc, text, 3)?;
+    lead_new(rt, alloc, &tree, wanted)
+}
+
+/// Two lanes, of which the first has turns and each has both cores: 10 choices, four of which are asks.
+const TWO_LANES: &str = r#"{"both":[
+    {"times":2,"of":{"any":[{"op":"load","core":0,"block":0},{"op":"store","core":1,"block":0,"value":9}]}},
+    {"seq":[{"op":"load","core":1,"block":0},{"op":"replace","core":0,"block":0}]}
+]}"#;
+
 #[test]
-fn a_moment(rt: HostRuntime) -> Result<(), Fail> {
-    let load = scenario(&rt, rt.alloc(), ONE_LOAD, 3)?;
-    lead_new(&rt, rt.alloc(), &load)
+fn moments(rt: HostRuntime) -> Result<(), Fail> {
+    leads(&rt, rt.alloc(), ONE_LOAD, 3)?;
+    leads(&rt, rt.alloc(), TWO_LANES, 10)
 }
 
 const RACED: [&str; 6] = [
