@@ -1,6 +1,6 @@
 -- Entries that are the same by their numbers are equal, and the other way round.
 use Rattle.std.specs.Prelude.{◌≡◌, ◌↔◌, ℕ, Some, Bool, true, false, ◌==◌, ◌&&◌, List, [], ◌∷◌, slice_get}
-use Rattle.std.proofs.Common.{refl, ap, subst, sym, ◌∙◌, arith}
+use Rattle.std.proofs.Common.{refl, ap, subst, ◌∙◌, arith}
 use Rattle.std.proofs.lemmas.Bool.Decides.{nat_tests}
 use Rattle.base.specs.declared.controller.entry.Entry.{Entry}
 use Rattle.base.specs.declared.controller.entry.Entry.TheVariants.{Blank, Stall, Act}
