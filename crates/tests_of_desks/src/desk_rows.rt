@@ -4,7 +4,7 @@ ghost use Rattle.std.specs.Prelude.{◌≡◌, All};
 ghost use Rattle.desk.specs.Plans.{plan_of};
 
 use crate::asserting::same;
-use crate::jobs::compare_with_batch;
+use crate::jobs::compare_with_trials;
 use base::NoMemory;
 use desk::{Desk, DeskSeat, Job, Planned, work};
 use std::alloc::Global;
@@ -38,8 +38,8 @@ pub fn closed<D: Planned, R: Abort>(
     desk.close(seats).ok().expect(rt, "closed")
 }
 
-/// Closes a desk, and compares it with the batch of its job.
-pub fn closes_as_batch<D: Planned, R: Abort>(
+/// Closes a desk, and compares it with the trials of its job.
+pub fn closes_as_trials<D: Planned, R: Abort>(
     rt: &R,
     alloc: Global,
     desk: Desk<'_, D>,
@@ -50,7 +50,7 @@ pub fn closes_as_batch<D: Planned, R: Abort>(
     requires { All (λ seat. seat.desk ≡ desk.id) seats.items }
 {
     let places = closed(rt, desk, seats);
-    compare_with_batch(rt, alloc, job, n, &places)
+    compare_with_trials(rt, alloc, job, n, &places)
 }
 
 /// Takes the last two seats of a row.

@@ -3,9 +3,9 @@ ghost use Rattle.desk.specs.Plans.{IsResultOf, plan_of};
 
 use crate::asserting::same;
 use crate::desk_rows::{
-    closed, closes_as_batch, looks, opened, put_back, put_one, take_two, two_work, worked,
+    closed, closes_as_trials, looks, opened, put_back, put_one, take_two, two_work, worked,
 };
-use crate::jobs::{are_places, compare_with_batch, racing_pair};
+use crate::jobs::{are_places, compare_with_trials, racing_pair};
 use desk::{CloseFault, Desk, DeskFault, DeskSeat, Job, Planned, PostFault};
 use std::alloc::Global;
 use std::marker::Brand;
@@ -159,7 +159,7 @@ fn one_after_the_other<D: Planned, R: Abort>(rt: &R, alloc: Global, job: &Job, n
 {
     let (desk, seats) = opened::<D, R>(rt, alloc, job, n, count);
     let seats = work_in_turn(rt, alloc, &desk, seats, n);
-    closes_as_batch(rt, alloc, desk, seats, job, n)
+    closes_as_trials(rt, alloc, desk, seats, job, n)
 }
 
 /// A seat that works alone, and 64 for three numbers.
@@ -196,7 +196,7 @@ fn two_threads<D: Planned + Send + Sync, R: Threads + Abort + Sync>(
 {
     let (desk, mut seats) = opened::<D, R>(rt, alloc, job, 200, 2);
     same(rt, &work_by_two(rt, &desk, &mut seats), &Some(200));
-    closes_as_batch(rt, alloc, desk, seats, job, 200)
+    closes_as_trials(rt, alloc, desk, seats, job, 200)
 }
 
 #[test]
@@ -332,7 +332,7 @@ fn two_find<D: Planned + Send + Sync, R: Threads + Abort + Sync>(rt: &R, alloc: 
     let found = find_by_two(rt, alloc, &desk, &mut seats, job);
     let places = closed(rt, desk, seats);
     are_places(rt, &found, &places);
-    compare_with_batch(rt, alloc, job, 2, &places)
+    compare_with_trials(rt, alloc, job, 2, &places)
 }
 
 #[test]

@@ -5,7 +5,7 @@ use desk::Job;
 use scenario::{Scenario, ScenarioFault};
 use std::alloc::Global;
 use std::process::Abort;
-use trials::{BatchFault, Setup, SetupFault, TrialResult, batch};
+use trials::{Setup, SetupFault, TrialResult, trial};
 
 pub const RACING_PAIR: &str =
     r#"{"both":[{"op":"load","core":0,"block":0},{"op":"store","core":1,"block":0,"value":9}]}"#;
@@ -44,23 +44,24 @@ pub fn racing_pair(rt: &impl Abort, alloc: Global) -> Job {
     job_of(rt, alloc, 2, RACING_PAIR, 42, 100)
 }
 
-/// The batch of a job.
-pub fn batch_of(alloc: Global, job: &Job, n: u32) -> Result<Vec<TrialResult>, BatchFault> {
-    batch(alloc, &job.scenario, &job.setup, n)
+/// What comes of a trial of a job.
+fn result_of(rt: &impl Abort, alloc: Global, job: &Job, number: u32) -> TrialResult {
+    trial(alloc, &job.scenario, &job.setup, number)
+        .expect(rt, "memory")
+        .result
 }
 
-/// Compares a closed desk with the batch of its job.
-pub fn compare_with_batch<R: Abort>(
+/// Compares a closed desk with the trials of its job, made one after another.
+pub fn compare_with_trials<R: Abort>(
     rt: &R,
     alloc: Global,
     job: &Job,
     n: u32,
     places: &[Option<TrialResult>],
 ) {
-    let results = batch_of(alloc, job, n).expect(rt, "a batch");
-    same(rt, &places.len(), &results.len());
-    for (place, result) in places.iter().zip(results.iter()) {
-        same(rt, place, &Some(*result));
+    same(rt, &places.len(), &(n as usize));
+    for (number, place) in (0..n).zip(places) {
+        same(rt, place, &Some(result_of(rt, alloc, job, number)));
     }
 }
 
