@@ -21,9 +21,9 @@ use Rattle.directory_table.specs.Table.{DirectoryEntry}
 use Rattle.control.specs.declared.home.Home.{Home}
 use Rattle.control.specs.declared.home.HomeInput.{HomeInput}
 use Rattle.control.specs.declared.home.HomeInput.TheVariants as home_input
-use Rattle.control.specs.declared.line.Line.{Line}
-use Rattle.control.specs.declared.line.LineInput.{LineInput}
-use Rattle.control.specs.declared.line.LineInput.TheVariants as line_input
+use Rattle.cache_line.specs.declared.line.Line.{Line}
+use Rattle.cache_line.specs.declared.line.LineInput.{LineInput}
+use Rattle.cache_line.specs.declared.line.LineInput.TheVariants as line_input
 use Rattle.machine.specs.declared.decision.Decision.{Decision}
 use Rattle.machine.specs.declared.decision.Decision.TheVariants.{Refused, AtLine, AtHome}
 use Rattle.machine.specs.declared.decision.Origin.{Origin}

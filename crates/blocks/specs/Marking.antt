@@ -10,9 +10,9 @@ use Rattle.network.specs.declared.message.Response.TheVariants.{Data, InvAck, Da
 use Rattle.network.specs.Marks.{Marks, unmarked_count, unmarked_heads_count}
 use Rattle.cache_table.specs.Table as cache_table
 use Rattle.directory_table.specs.Table as directory_table
-use Rattle.control.specs.declared.line.Line.{Line}
-use Rattle.control.specs.declared.line.LineInput.{LineInput}
-use Rattle.control.specs.declared.line.LineInput.TheVariants as line_input
+use Rattle.cache_line.specs.declared.line.Line.{Line}
+use Rattle.cache_line.specs.declared.line.LineInput.{LineInput}
+use Rattle.cache_line.specs.declared.line.LineInput.TheVariants as line_input
 use Rattle.control.specs.declared.home.Home.{Home}
 use Rattle.control.specs.declared.home.HomeInput.{HomeInput}
 use Rattle.control.specs.declared.home.HomeInput.TheVariants as home_input

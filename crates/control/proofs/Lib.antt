@@ -1,7 +1,5 @@
-pub mod LineSends
 pub mod HomeSends
 pub mod HomeCounts
 pub mod HomeLinks
 pub mod Shared
-pub mod Fronts
 pub mod Reaching

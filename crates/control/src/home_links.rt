@@ -6,8 +6,8 @@ ghost use Rattle.control.specs.inner.Counting.{unflagged, unflagged_owner, unfla
 
 use crate::home::{Home, HomeInput};
 use crate::home_counts::{forwards_to, is_owner, replies};
-use crate::needs::Needs;
 use base::{CacheId, NoMemory};
+use cache_line::Needs;
 use directory_table::{DirectoryAction, DirectoryActions};
 
 /// Lists the link of each message that an act of this input at a home sends, in place of what the lent list held, and

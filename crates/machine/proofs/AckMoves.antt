@@ -16,7 +16,7 @@ use Rattle.cache_table.specs.declared.event.CacheEvent.TheVariants as event
 use Rattle.cache_table.specs.Table.{cell}
 use Rattle.cache_table.specs.Baseline.{baseline_entry}
 use Rattle.cache_table.proofs.BaselineCells.{cell-baseline}
-use Rattle.control.specs.declared.line.Line.{Line}
+use Rattle.cache_line.specs.declared.line.Line.{Line}
 use Rattle.control.specs.Events.{is_count, more_acks}
 use Rattle.both_tables.specs.Tables.{Tables, baseline_of}
 use Rattle.machine.specs.Block.{BlockState}

@@ -29,9 +29,9 @@ use Rattle.directory_table.specs.declared.event.DirectoryEvent.TheVariants as ho
 use Rattle.directory_table.specs.declared.event.DirectoryEvent.{DirectoryEvent}
 use Rattle.directory_table.specs.declared.actions.DirectoryAction.TheVariants.{RemoveReq, PutAck}
 use Rattle.directory_table.specs.Table.{DirectoryEntry, DirectoryChange}
-use Rattle.control.specs.declared.line.Line.{Line}
-use Rattle.control.specs.declared.line.LineInput.{LineInput}
-use Rattle.control.specs.declared.line.LineInput.TheVariants as line_input
+use Rattle.cache_line.specs.declared.line.Line.{Line}
+use Rattle.cache_line.specs.declared.line.LineInput.{LineInput}
+use Rattle.cache_line.specs.declared.line.LineInput.TheVariants as line_input
 use Rattle.control.specs.declared.home.HomeInput.{HomeInput}
 use Rattle.control.specs.declared.home.HomeInput.TheVariants as home_input
 use Rattle.control.specs.Events.{ask_event, event_at_line, event_at_home, forward_event, response_event, owns}

@@ -20,8 +20,8 @@ use Rattle.base.specs.declared.controller.entry.Entry.TheVariants as entry
 use Rattle.cache_table.specs.declared.actions.CacheAction.{CacheAction}
 use Rattle.cache_table.specs.declared.actions.CacheAction.TheVariants as action
 use Rattle.cache_table.specs.Baseline.{msi_e_entry}
-use Rattle.control.specs.declared.line.Line.{Line}
-use Rattle.control.specs.declared.line.LineInput.TheVariants as line_input
+use Rattle.cache_line.specs.declared.line.Line.{Line}
+use Rattle.cache_line.specs.declared.line.LineInput.TheVariants as line_input
 use Rattle.control.specs.Events.{forward_event}
 use Rattle.machine.specs.Block.{BlockState}
 use Rattle.machine.specs.declared.decision.Origin.TheVariants as origin

@@ -25,9 +25,9 @@ use Rattle.cache_table.specs.Table.{CacheEntry, CacheChange, cell}
 use Rattle.cache_table.specs.Baseline.{baseline_entry}
 use Rattle.cache_table.proofs.BaselineCells.{cell-baseline}
 use Rattle.directory_table.specs.Table.{DirectoryEntry}
-use Rattle.control.specs.declared.line.Line.{Line}
-use Rattle.control.specs.declared.line.LineInput.{LineInput}
-use Rattle.control.specs.declared.line.LineInput.TheVariants as line_input
+use Rattle.cache_line.specs.declared.line.Line.{Line}
+use Rattle.cache_line.specs.declared.line.LineInput.{LineInput}
+use Rattle.cache_line.specs.declared.line.LineInput.TheVariants as line_input
 use Rattle.control.specs.declared.home.HomeInput.{HomeInput}
 use Rattle.control.specs.Events.{event_at_line}
 use Rattle.control.specs.LineEffect.{line_after, line_completes, moved_on}

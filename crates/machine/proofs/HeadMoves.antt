@@ -15,7 +15,7 @@ use Rattle.cache_table.specs.declared.state.CacheState.TheVariants.{IsD}
 use Rattle.cache_table.specs.declared.event.CacheEvent.TheVariants as line_event
 use Rattle.cache_table.specs.Baseline as cache_table
 use Rattle.directory_table.specs.declared.state.DirectoryState.TheVariants as home
-use Rattle.control.specs.declared.line.Line.{Line}
+use Rattle.cache_line.specs.declared.line.Line.{Line}
 use Rattle.control.specs.Events.{forward_event}
 use Rattle.machine.proofs.Truths.{Never}
 use Rattle.machine.specs.Block.{BlockState}

@@ -10,8 +10,8 @@ use Rattle.base.specs.declared.step.Step.TheVariants as step
 use Rattle.base.specs.declared.step.Outcome.TheVariants as outcome
 use Rattle.network.specs.declared.message.Forward.{Forward}
 use Rattle.network.specs.Traffic.{Traffic, link}
-use Rattle.control.specs.declared.line.Line.{Line}
-use Rattle.control.specs.declared.line.LineInput.TheVariants as line_input
+use Rattle.cache_line.specs.declared.line.Line.{Line}
+use Rattle.cache_line.specs.declared.line.LineInput.TheVariants as line_input
 use Rattle.machine.specs.Block.{BlockState}
 use Rattle.machine.specs.Transition.{carried_out, at_line, at_ask}
 use Rattle.machine.specs.Transition.{is_idle, transition}

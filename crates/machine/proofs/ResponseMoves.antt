@@ -9,7 +9,7 @@ use Rattle.network.specs.declared.message.Response.{Response}
 use Rattle.network.specs.declared.message.Response.TheVariants.{Data, InvAck, DataExcl}
 use Rattle.cache_table.specs.declared.state.CacheState.{CacheState}
 use Rattle.cache_table.specs.declared.event.CacheEvent.TheVariants as event
-use Rattle.control.specs.declared.line.Line.{Line}
+use Rattle.cache_line.specs.declared.line.Line.{Line}
 use Rattle.control.specs.Events.{is_count, more_acks}
 use Rattle.both_tables.specs.Tables.{Tables}
 use Rattle.machine.specs.Block.{BlockState}

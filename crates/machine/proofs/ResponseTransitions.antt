@@ -15,9 +15,9 @@ use Rattle.cache_table.specs.Baseline.{msi_e_entry}
 use Rattle.cache_table.specs.Table.{CacheEntry}
 use Rattle.base.specs.declared.controller.entry.Entry.TheVariants as entry
 use Rattle.cache_table.specs.declared.actions.CacheAction.{CacheAction}
-use Rattle.control.specs.declared.line.Line.{Line}
-use Rattle.control.specs.declared.line.LineInput.{LineInput}
-use Rattle.control.specs.declared.line.LineInput.TheVariants as line_input
+use Rattle.cache_line.specs.declared.line.Line.{Line}
+use Rattle.cache_line.specs.declared.line.LineInput.{LineInput}
+use Rattle.cache_line.specs.declared.line.LineInput.TheVariants as line_input
 use Rattle.control.specs.declared.home.Home.{Home}
 use Rattle.control.specs.LineEffect.{taken_in, one_ack_less, line_after, line_completes}
 use Rattle.control.specs.Events.{more_acks, is_count, event_at_line}

@@ -12,8 +12,8 @@ use Rattle.base.specs.declared.step.Step.{Step}
 use Rattle.base.specs.declared.step.Step.TheVariants as step
 use Rattle.base.specs.declared.step.Outcome.{Outcome}
 use Rattle.base.specs.declared.step.Outcome.TheVariants as outcome
-use Rattle.control.specs.declared.line.Line.{Line}
-use Rattle.control.specs.declared.line.LineCompletion.{LineCompletion}
+use Rattle.cache_line.specs.declared.line.Line.{Line}
+use Rattle.cache_line.specs.declared.line.LineCompletion.{LineCompletion}
 use Rattle.control.specs.LineEffect.{line_completes}
 use Rattle.both_tables.specs.Tables.{Tables}
 use Rattle.machine.specs.declared.decision.Decision.{Decision}

@@ -12,11 +12,11 @@ use Rattle.network.specs.declared.message.Forward.{Forward}
 use Rattle.network.specs.declared.message.Response.{Response}
 use Rattle.network.specs.declared.message.Response.TheVariants.{Data, InvAck, DataExcl}
 use Rattle.network.specs.Traffic.{link}
-use Rattle.control.specs.declared.line.Line.{Line}
-use Rattle.control.specs.declared.line.LineInput.{LineInput}
-use Rattle.control.specs.declared.line.LineInput.TheVariants as line_input
-use Rattle.control.specs.declared.line.LineCompletion.{LineCompletion}
-use Rattle.control.specs.declared.line.LineCompletion.TheVariants as done
+use Rattle.cache_line.specs.declared.line.Line.{Line}
+use Rattle.cache_line.specs.declared.line.LineInput.{LineInput}
+use Rattle.cache_line.specs.declared.line.LineInput.TheVariants as line_input
+use Rattle.cache_line.specs.declared.line.LineCompletion.{LineCompletion}
+use Rattle.cache_line.specs.declared.line.LineCompletion.TheVariants as done
 use Rattle.control.specs.LineEffect.{line_completes}
 use Rattle.cache_table.specs.Table as cache_table
 use Rattle.machine.specs.declared.decision.Origin.{Origin}

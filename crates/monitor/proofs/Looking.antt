@@ -6,7 +6,7 @@ use Rattle.std.proofs.lemmas.List.Sums.{sum_by-cons}
 use Rattle.std.specs.Option.{option_and_then, option_map_or, IsSomeAnd}
 use Rattle.base.specs.Steps.{block_of}
 use Rattle.base.specs.declared.ids.CacheId.{CacheId}
-use Rattle.control.specs.declared.line.Line.{Line}
+use Rattle.cache_line.specs.declared.line.Line.{Line}
 use Rattle.control.specs.LineEffect.{is_reader, is_writer}
 use Rattle.machine.specs.Block.{BlockState}
 use Rattle.machine.specs.Coherence.{Reads, Writes}

@@ -15,7 +15,7 @@ use Rattle.machine.specs.declared.decision.Decision.{Decision}
 use Rattle.machine.specs.declared.decision.Decision.TheVariants.{Refused, AtLine, AtHome}
 use Rattle.machine.specs.declared.decision.Origin.{Origin}
 use Rattle.machine.specs.declared.decision.Origin.TheVariants as origin
-use Rattle.control.specs.declared.line.LineCompletion.TheVariants as done
+use Rattle.cache_line.specs.declared.line.LineCompletion.TheVariants as done
 use Rattle.machine.specs.Block.{BlockState}
 use Rattle.both_tables.specs.Tables.{Tables}
 use Rattle.machine.specs.Transition.{carried_out, decision_of, outcome_of, plain_outcome, transition}

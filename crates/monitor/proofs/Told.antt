@@ -10,9 +10,9 @@ use Rattle.base.specs.declared.ids.Place.{Place}
 use Rattle.base.specs.declared.step.Step.{Step}
 use Rattle.base.specs.declared.step.Outcome.{Outcome}
 use Rattle.base.specs.declared.step.Outcome.TheVariants as outcome
-use Rattle.control.specs.declared.line.Line.{Line}
-use Rattle.control.specs.declared.line.LineCompletion.{LineCompletion}
-use Rattle.control.specs.declared.line.LineCompletion.TheVariants as done
+use Rattle.cache_line.specs.declared.line.Line.{Line}
+use Rattle.cache_line.specs.declared.line.LineCompletion.{LineCompletion}
+use Rattle.cache_line.specs.declared.line.LineCompletion.TheVariants as done
 use Rattle.control.specs.LineEffect.{is_reader, is_writer, line_completes}
 use Rattle.both_tables.specs.Tables.{Tables}
 use Rattle.machine.specs.declared.decision.Decision.{Decision}

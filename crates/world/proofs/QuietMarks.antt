@@ -4,7 +4,7 @@ use Rattle.std.proofs.Common.{refl, sym, ap, ◌∙◌, zero, suc}
 use Rattle.network.specs.Marks.{Marks, no_marks}
 use Rattle.network.specs.Traffic.{Traffic, quiet}
 use Rattle.cache_table.specs.Table as cache_table
-use Rattle.control.specs.declared.line.Line.{Line}
+use Rattle.cache_line.specs.declared.line.Line.{Line}
 use Rattle.control.specs.declared.home.HomeInput.TheVariants as home_input
 use Rattle.both_tables.specs.Tables.{Tables}
 use Rattle.machine.specs.Block.{BlockState, opened_block}

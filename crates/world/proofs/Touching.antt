@@ -13,8 +13,8 @@ use Rattle.network.specs.declared.message.Forward.{Forward}
 use Rattle.cache_table.specs.Table.{CacheEntry}
 use Rattle.cache_table.specs.Table as cache_table
 use Rattle.base.specs.declared.controller.entry.Entry.TheVariants as table_entry
-use Rattle.control.specs.declared.line.Line.{Line}
-use Rattle.control.specs.declared.line.LineInput.TheVariants as line_input
+use Rattle.cache_line.specs.declared.line.Line.{Line}
+use Rattle.cache_line.specs.declared.line.LineInput.TheVariants as line_input
 use Rattle.control.specs.LineEffect.{opened_line}
 use Rattle.control.specs.Events.{event_at_line}
 use Rattle.machine.specs.declared.decision.Decision.{Decision}

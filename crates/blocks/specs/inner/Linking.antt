@@ -6,7 +6,7 @@ use Rattle.machine.specs.declared.decision.Origin.{Origin}
 use Rattle.machine.specs.declared.decision.Origin.TheVariants as origin
 use Rattle.machine.specs.declared.decision.Decision.{Decision}
 use Rattle.machine.specs.declared.decision.Decision.TheVariants.{Refused, AtLine, AtHome}
-use Rattle.control.specs.declared.line.Line.{Line}
+use Rattle.cache_line.specs.declared.line.Line.{Line}
 use Rattle.both_tables.specs.Tables.{Tables}
 use Rattle.blocks.specs.Marking.{link_stalls, links_stall}
 

@@ -3,7 +3,7 @@ use Rattle.std.specs.Prelude.{List, Bool, Option, map}
 use Rattle.network.specs.declared.message.Request.{Request}
 use Rattle.network.specs.Traffic.{Traffic}
 use Rattle.directory_table.specs.Table as directory_table
-use Rattle.control.specs.declared.line.Line.{Line}
+use Rattle.cache_line.specs.declared.line.Line.{Line}
 use Rattle.control.specs.declared.home.Home.{Home}
 use Rattle.control.specs.declared.home.HomeInput.TheVariants as home_input
 use Rattle.machine.specs.Block.{BlockState}

@@ -3,7 +3,7 @@
 ghost use Rattle.std.specs.Prelude.{◌≡◌, true, length, slice_get};
 ghost use Rattle.network.specs.Marking.{link_marked};
 ghost use Rattle.network.specs.Traffic.{Traffic};
-ghost use Rattle.control.specs.declared.line.LineInput.TheVariants as line_input;
+ghost use Rattle.cache_line.specs.declared.line.LineInput.TheVariants as line_input;
 ghost use Rattle.blocks.specs.Marking.{home_stalls, line_stalls, response_stalls, links_stall, marks_of};
 ghost use Rattle.blocks.specs.inner.Asked.{AreFirstRight};
 ghost use Rattle.blocks.specs.inner.Lined.{lines_of};
@@ -172,7 +172,7 @@ impl Marker<Forward> for OnLink<'_> {
     ghost use Rattle.std.specs.Prelude.{slice_get};
     ghost use Rattle.blocks.specs.Marking.{line_stalls};
     ghost use Rattle.blocks.specs.inner.Lined.{lines_of};
-    ghost use Rattle.control.specs.declared.line.LineInput.TheVariants as line_input;
+    ghost use Rattle.cache_line.specs.declared.line.LineInput.TheVariants as line_input;
 
     ghost told = { λ on forward. line_stalls on.tables.now.cache (slice_get (lines_of on.lines.now.items) on.cache.0) (line_input.Forward forward) };
 

@@ -1,9 +1,9 @@
 ghost use Rattle.std.specs.Prelude.{◌≡◌, ◌≤◌, ℕ, length};
 ghost use Rattle.base.specs.declared.ids.CacheId.{CacheId};
 ghost use Rattle.network.specs.Room.{requests_in, forwards_in, responses_in};
-ghost use Rattle.control.specs.declared.line.Line.{Line};
-ghost use Rattle.control.specs.LineEffect.{requestor_of, line_sends};
-ghost use Rattle.control.specs.inner.Counting.{requests_by, responses_by};
+ghost use Rattle.cache_line.specs.declared.line.Line.{Line};
+ghost use Rattle.cache_line.specs.LineEffect.{requestor_of, line_sends};
+ghost use Rattle.cache_line.specs.inner.Counting.{requests_by, responses_by};
 
 use crate::line::LineInput;
 use base::CacheId;

@@ -1,6 +1,6 @@
 use Rattle.std.proofs.Common.{◌≡◌, ◌≤◌, ◌+◌, drop}
-use Rattle.control.specs.inner.Counting.{requests_by, responses_by}
-use Rattle.control.proofs.needs.count.Given as goal
+use Rattle.cache_line.specs.inner.Counting.{requests_by, responses_by}
+use Rattle.cache_line.proofs.needs.count.Given as goal
 
 abbrev pub invariant-loop-action : goal.invariant-loop-action
 invariant-loop-action l = record {

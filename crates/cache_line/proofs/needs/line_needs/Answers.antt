@@ -1,9 +1,9 @@
 use Rattle.std.proofs.Common.{◌∙◌, ap, sym, Option}
 use Rattle.base.specs.declared.ids.CacheId.{CacheId}
-use Rattle.control.specs.LineEffect.{taken_in, requestor_of}
-use Rattle.control.specs.inner.Counting.{requests_by, responses_by}
-use Rattle.control.proofs.LineSends.{requests-by, responses-by, forwards-by}
-use Rattle.control.proofs.needs.line_needs.Goals as goal
+use Rattle.cache_line.specs.LineEffect.{taken_in, requestor_of}
+use Rattle.cache_line.specs.inner.Counting.{requests_by, responses_by}
+use Rattle.cache_line.proofs.LineSends.{requests-by, responses-by, forwards-by}
+use Rattle.cache_line.proofs.needs.line_needs.Goals as goal
 
 pub returns-clause-requests : goal.returns-clause-requests
 returns-clause-requests c cache line =

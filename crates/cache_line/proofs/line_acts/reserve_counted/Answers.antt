@@ -1,7 +1,7 @@
 use Rattle.std.proofs.Common.{arith}
-use Rattle.control.specs.LineEffect.{taken_in, requestor_of}
-use Rattle.control.proofs.LineSends.{forwards-by}
-use Rattle.control.proofs.line_acts.reserve_counted.Goals as goal
+use Rattle.cache_line.specs.LineEffect.{taken_in, requestor_of}
+use Rattle.cache_line.proofs.LineSends.{forwards-by}
+use Rattle.cache_line.proofs.line_acts.reserve_counted.Goals as goal
 
 pub returns-clause-ok : goal.returns-clause-ok
 returns-clause-ok c cache line = record {

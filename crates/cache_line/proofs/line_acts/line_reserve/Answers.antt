@@ -1,7 +1,7 @@
 use Rattle.std.proofs.Common.{arith}
-use Rattle.control.specs.LineEffect.{taken_in, requestor_of}
-use Rattle.control.proofs.LineSends.{forwards-by, requests-by, requests-few, responses-by, responses-few}
-use Rattle.control.proofs.line_acts.line_reserve.Goals as goal
+use Rattle.cache_line.specs.LineEffect.{taken_in, requestor_of}
+use Rattle.cache_line.proofs.LineSends.{forwards-by, requests-by, requests-few, responses-by, responses-few}
+use Rattle.cache_line.proofs.line_acts.line_reserve.Goals as goal
 
 pub returns-then-ends_have_room-clause-ok : goal.returns-then-ends_have_room-clause-ok
 returns-then-ends_have_room-clause-ok c cache line =

@@ -1,8 +1,8 @@
 use Rattle.std.proofs.Common.{◌≡◌, drop, length, take}
 use Rattle.network.specs.Traffic.{all_sent}
 use Rattle.network.specs.Room.{HasRoomFor}
-use Rattle.control.specs.LineEffect.{line_messages}
-use Rattle.control.proofs.line_acts.send_all.Given as goal
+use Rattle.cache_line.specs.LineEffect.{line_messages}
+use Rattle.cache_line.proofs.line_acts.send_all.Given as goal
 
 abbrev pub invariant-loop-action : goal.invariant-loop-action
 invariant-loop-action l = record {

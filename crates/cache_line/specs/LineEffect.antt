@@ -14,12 +14,12 @@ use Rattle.cache_table.specs.declared.actions.CacheAction.{CacheAction}
 use Rattle.cache_table.specs.declared.actions.CacheAction.TheVariants as action
 use Rattle.cache_table.specs.declared.state.CacheState.{CacheState}
 use Rattle.cache_table.specs.declared.state.CacheState.TheVariants as state
-use Rattle.control.specs.declared.line.Line.{Line}
-use Rattle.control.specs.declared.line.LineInput.{LineInput}
-use Rattle.control.specs.declared.line.LineInput.TheVariants as line_input
-use Rattle.control.specs.declared.line.LineCompletion.{LineCompletion}
-use Rattle.control.specs.declared.line.LineCompletion.TheVariants as done
-use Rattle.control.specs.Events.{more_acks}
+use Rattle.cache_line.specs.declared.line.Line.{Line}
+use Rattle.cache_line.specs.declared.line.LineInput.{LineInput}
+use Rattle.cache_line.specs.declared.line.LineInput.TheVariants as line_input
+use Rattle.cache_line.specs.declared.line.LineCompletion.{LineCompletion}
+use Rattle.cache_line.specs.declared.line.LineCompletion.TheVariants as done
+use Rattle.cache_line.specs.Events.{more_acks}
 
 -- a line that nothing has happened to
 abbrev pub opened_line : Line

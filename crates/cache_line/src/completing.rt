@@ -1,5 +1,5 @@
 ghost use Rattle.std.specs.Prelude.{◌≡◌, true, Some, None};
-ghost use Rattle.control.specs.LineEffect.{is_reader, is_writer, is_modified, completed, settled, after_settling, taken_in, moved_on, line_completes};
+ghost use Rattle.cache_line.specs.LineEffect.{is_reader, is_writer, is_modified, completed, settled, after_settling, taken_in, moved_on, line_completes};
 
 use crate::line::{Line, LineCompletion, LineInput};
 use base::{Ask, Place};

@@ -3,7 +3,7 @@ ghost use Rattle.network.specs.declared.message.Message.TheVariants as message;
 ghost use Rattle.network.specs.declared.message.Response.TheVariants as response;
 ghost use Rattle.network.specs.Traffic.{all_sent};
 ghost use Rattle.network.specs.Room.{HasRoomFor, UsesRoomFor};
-ghost use Rattle.control.specs.LineEffect.{line_message, line_messages, line_sends, line_after, line_completes};
+ghost use Rattle.cache_line.specs.LineEffect.{line_message, line_messages, line_sends, line_after, line_completes};
 
 use crate::completing::{finish, move_on, settle};
 use crate::line::{Line, LineCompletion, LineInput};

@@ -4,8 +4,8 @@ use Rattle.network.specs.Room.{requests_in, responses_in, forwards_in}
 use Rattle.network.proofs.Sending.{requests_in-append, responses_in-append, forwards_in-append}
 use Rattle.cache_table.specs.declared.actions.CacheAction.{CacheAction}
 use Rattle.cache_table.specs.declared.actions.CacheAction.TheVariants as action
-use Rattle.control.specs.LineEffect.{line_message, line_messages}
-use Rattle.control.specs.inner.Counting.{requests_of, responses_of, requests_by, responses_by}
+use Rattle.cache_line.specs.LineEffect.{line_message, line_messages}
+use Rattle.cache_line.specs.inner.Counting.{requests_of, responses_of, requests_by, responses_by}
 
 -- the messages of the actions from a place on begin with those of the action there
 pub messages-front : (cache : CacheId) (value : ℕ) (to : Option CacheId) (actions : List CacheAction) (i : ℕ) (d : CacheAction) → i < length actions

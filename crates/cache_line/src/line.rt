@@ -1,5 +1,5 @@
 ghost use Rattle.std.specs.Prelude.{◌≡◌};
-ghost use Rattle.control.specs.LineEffect.{opened_line};
+ghost use Rattle.cache_line.specs.LineEffect.{opened_line};
 
 use base::{Ask, NoMemory};
 use cache_table::CacheState;
@@ -48,7 +48,7 @@ impl Line {
 }
 
 impl TryClone for Line {
-    ghost use Rattle.control.specs.declared.line.Line.{Line};
+    ghost use Rattle.cache_line.specs.declared.line.Line.{Line};
 
     ghost Seen = { Line };
 

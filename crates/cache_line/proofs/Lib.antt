@@ -1,0 +1,2 @@
+pub mod LineSends
+pub mod Fronts

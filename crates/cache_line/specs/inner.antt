@@ -1,0 +1,2 @@
+-- what only the contracts of private functions cite
+pub mod Counting
