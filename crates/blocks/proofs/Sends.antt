@@ -14,7 +14,7 @@ use Rattle.network.proofs.Sending.{forwards_in-append, links-sent}
 use Rattle.cache_table.specs.declared.actions.CacheAction.{CacheAction}
 use Rattle.cache_table.specs.declared.actions.CacheAction.TheVariants as line_action
 use Rattle.directory_table.specs.declared.actions.DirectoryAction.{DirectoryAction}
-use Rattle.control.specs.declared.home.Home.{Home}
+use Rattle.block_home.specs.declared.home.Home.{Home}
 use Rattle.control.specs.LineEffect.{line_message, line_messages, taken_in, requestor_of}
 use Rattle.control.specs.HomeEffect.{home_messages, sender_of, brought_by, IsBelow, NamesBelow}
 use Rattle.control.proofs.HomeCounts.{eqb-self, forwards-to, no-forwards, nothing-sent}

@@ -13,9 +13,9 @@ use Rattle.directory_table.specs.Table as directory_table
 use Rattle.cache_line.specs.declared.line.Line.{Line}
 use Rattle.cache_line.specs.declared.line.LineInput.{LineInput}
 use Rattle.cache_line.specs.declared.line.LineInput.TheVariants as line_input
-use Rattle.control.specs.declared.home.Home.{Home}
-use Rattle.control.specs.declared.home.HomeInput.{HomeInput}
-use Rattle.control.specs.declared.home.HomeInput.TheVariants as home_input
+use Rattle.block_home.specs.declared.home.Home.{Home}
+use Rattle.block_home.specs.declared.home.HomeInput.{HomeInput}
+use Rattle.block_home.specs.declared.home.HomeInput.TheVariants as home_input
 use Rattle.control.specs.Events.{event_at_line, event_at_home}
 use Rattle.base.specs.declared.step.Ask.{Ask}
 use Rattle.both_tables.specs.Tables.{Tables}

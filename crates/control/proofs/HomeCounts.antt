@@ -13,7 +13,7 @@ use Rattle.network.specs.Room.{Room, HasRoomFor, one_if, requests_in, responses_
 use Rattle.network.proofs.Sending.{requests_in-append, responses_in-append, forwards_in-append}
 use Rattle.directory_table.specs.declared.actions.DirectoryAction.{DirectoryAction}
 use Rattle.directory_table.specs.declared.actions.DirectoryAction.TheVariants as action
-use Rattle.control.specs.declared.home.Home.{Home}
+use Rattle.block_home.specs.declared.home.Home.{Home}
 use Rattle.control.specs.Events.{owns}
 use Rattle.control.specs.Sharing.{shares}
 use Rattle.control.specs.HomeEffect.{home_message, home_messages, home_changed, with_owner, owner_message, link_message, invalidation, IsBelow}

@@ -8,8 +8,8 @@ use Rattle.base.specs.declared.ids.CacheId.{CacheId}
 use Rattle.directory_table.specs.declared.actions.DirectoryAction.{DirectoryAction}
 use Rattle.directory_table.specs.declared.actions.DirectoryAction.TheVariants as action
 use Rattle.directory_table.specs.declared.state.DirectoryState.{DirectoryState}
-use Rattle.control.specs.declared.home.Home.{Home}
-use Rattle.control.specs.declared.home.HomeInput.{HomeInput}
+use Rattle.block_home.specs.declared.home.Home.{Home}
+use Rattle.block_home.specs.declared.home.HomeInput.{HomeInput}
 use Rattle.control.specs.HomeEffect.{home_message, home_messages, home_changed, home_moved, with_owner, with_sharer, invalidation, invalidations}
 use Rattle.control.specs.HomeEffect.{home_after, sender_of, brought_by, IsAmong, IsBelow, NamesBelow}
 

@@ -1,5 +1,4 @@
 pub mod HomeSends
 pub mod HomeCounts
 pub mod HomeLinks
-pub mod Shared
 pub mod Reaching

@@ -4,8 +4,8 @@ use Rattle.network.specs.declared.message.RequestKind.{RequestKind}
 use Rattle.network.specs.declared.message.RequestKind.TheVariants as request
 use Rattle.directory_table.specs.declared.event.DirectoryEvent.{DirectoryEvent}
 use Rattle.directory_table.specs.declared.event.DirectoryEvent.TheVariants as home_event
-use Rattle.control.specs.declared.home.HomeInput.{HomeInput}
-use Rattle.control.specs.declared.home.HomeInput.TheVariants as home_input
+use Rattle.block_home.specs.declared.home.HomeInput.{HomeInput}
+use Rattle.block_home.specs.declared.home.HomeInput.TheVariants as home_input
 use Rattle.control.specs.Sharing.{is_sole}
 pub use Rattle.cache_line.specs.Events.{more_acks, is_count, ask_event, forward_event, response_event, event_at_line}
 

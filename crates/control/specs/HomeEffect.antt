@@ -1,4 +1,4 @@
-use Rattle.std.specs.Prelude.{◌≡◌, ◌<◌, ℕ, ◌+◌, List, [], ◌∷◌, ◌++◌, Option, Some, None, Bool, true, false, not, ◌&&◌, if◌then◌else◌, ◌==◌}
+use Rattle.std.specs.Prelude.{ℕ, ◌+◌, List, [], ◌∷◌, ◌++◌, Option, Some, None, Bool, true, false, not, ◌&&◌, if◌then◌else◌, ◌==◌}
 use Rattle.std.specs.Prelude.{length, replicate, slice_set}
 use Rattle.base.specs.declared.ids.CacheId.{CacheId}
 use Rattle.base.specs.declared.ids.Place.TheVariants.{Dir, Cache}
@@ -12,15 +12,11 @@ use Rattle.network.specs.declared.message.Message.TheVariants as message
 use Rattle.directory_table.specs.declared.actions.DirectoryAction.{DirectoryAction}
 use Rattle.directory_table.specs.declared.actions.DirectoryAction.TheVariants as action
 use Rattle.directory_table.specs.declared.state.DirectoryState.{DirectoryState}
-use Rattle.directory_table.specs.declared.state.DirectoryState.TheVariants as state
-use Rattle.control.specs.declared.home.Home.{Home}
-use Rattle.control.specs.declared.home.HomeInput.{HomeInput}
-use Rattle.control.specs.declared.home.HomeInput.TheVariants as home_input
-use Rattle.control.specs.Sharing.{shares, others_from}
-
--- a home that nothing has happened to
-abbrev pub opened_home : ℕ → ℕ → Home
-opened_home caches memory = record { state = state.I; owner = None; sharers = replicate caches false; memory = memory }
+use Rattle.block_home.specs.declared.home.Home.{Home}
+use Rattle.block_home.specs.declared.home.HomeInput.{HomeInput}
+use Rattle.block_home.specs.declared.home.HomeInput.TheVariants as home_input
+use Rattle.block_home.specs.Sharing.{others_from}
+pub use Rattle.block_home.specs.Homes.{opened_home, IsBelow, NamesBelow, IsAmong}
 
 -- the requestor, which only a request has: its sender
 abbrev pub sender_of : HomeInput → Option CacheId
@@ -114,18 +110,3 @@ home_after input next actions home = record (home_moved (sender_of input) (broug
 -- what is sent where an input acts at a home
 abbrev pub home_sends : HomeInput → List DirectoryAction → Home → List Message
 home_sends input actions home = home_messages (sender_of input) (brought_by input) actions home
-
--- the cache is one of so many, if there is one
-abbrev pub IsBelow : Option CacheId → ℕ → Type 0
-IsBelow None caches = Unit {0}
-IsBelow (Some cache) caches = cache.0 < caches
-
--- the owner and each sharer are among so many caches
-pub record NamesBelow (caches : ℕ) (home : Home) : Type 0 where
-  pub owner : IsBelow home.owner caches
-  pub sharers : (k : ℕ) → shares home.sharers k ≡ true → k < caches
-
--- a home among so many caches: a flag for each, and the owner is one of them
-pub record IsAmong (caches : ℕ) (home : Home) : Type 0 where
-  pub sharers : length home.sharers ≡ caches
-  pub owner : IsBelow home.owner caches

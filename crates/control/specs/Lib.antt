@@ -1,8 +1,8 @@
-pub mod Sharing
 pub mod Events
 pub mod HomeEffect
 pub mod inner
 pub use Rattle.cache_line.specs.LineEffect
+pub use Rattle.block_home.specs.Sharing
 pub use Rattle.base.specs.Extent
 pub use Rattle.base.specs.Steps
 pub use Rattle.network.specs.Traffic

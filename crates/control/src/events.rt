@@ -1,7 +1,7 @@
 ghost use Rattle.std.specs.Prelude.{◌≡◌};
 ghost use Rattle.control.specs.Events.{event_at_home};
 
-use crate::home::{Home, HomeInput};
+use block_home::{Home, HomeInput};
 use directory_table::DirectoryEvent;
 use network::RequestKind;
 

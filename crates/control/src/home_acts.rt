@@ -5,10 +5,9 @@ ghost use Rattle.control.specs.HomeEffect.{sender_of, brought_by, data_message, 
 ghost use Rattle.control.specs.HomeEffect.{home_message, home_changed, home_messages, home_moved, home_after, home_sends, IsBelow, NamesBelow};
 ghost use Rattle.control.specs.Sharing.{shares};
 
-use crate::home::{Home, HomeInput};
 use crate::home_room::home_reserve;
-use crate::sharers::Sharers;
 use base::{CacheId, NoMemory, Place};
+use block_home::{Home, HomeInput, Sharers};
 use directory_table::{DirectoryAction, DirectoryActions, DirectoryState};
 use network::{Forward, ForwardKind, Message, RequestKind, Response, Wires};
 

@@ -4,9 +4,9 @@ ghost use Rattle.network.specs.Room.{AllBelow, forward_count, forwards_in, reque
 ghost use Rattle.control.specs.HomeEffect.{sender_of, home_sends, IsBelow, NamesBelow};
 ghost use Rattle.control.specs.inner.Counting.{unflagged, unflagged_owner, unflagged_sender, links_to_any, links_of};
 
-use crate::home::{Home, HomeInput};
 use crate::home_counts::{forwards_to, is_owner, replies};
 use base::{CacheId, NoMemory};
+use block_home::{Home, HomeInput};
 use cache_line::Needs;
 use directory_table::{DirectoryAction, DirectoryActions};
 

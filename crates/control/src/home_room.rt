@@ -4,9 +4,9 @@ ghost use Rattle.control.specs.HomeEffect.{sender_of, home_sends, IsBelow, Names
 ghost use Rattle.control.specs.inner.Counting.{HasRoomOnLink, HasRoomToReply, HasRoomToOwner, HasRoomToSharers, invalidates, reaches_owner, reaches_sender};
 ghost use Rattle.control.specs.Sharing.{shares};
 
-use crate::home::{Home, HomeInput};
 use crate::home_counts::{forwards_to, reach_of};
 use base::{CacheId, NoMemory};
+use block_home::{Home, HomeInput};
 use directory_table::{DirectoryAction, DirectoryActions};
 use network::Wires;
 

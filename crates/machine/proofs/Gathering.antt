@@ -28,7 +28,7 @@ use Rattle.directory_table.specs.Table.{DirectoryEntry}
 use Rattle.cache_line.specs.declared.line.Line.{Line}
 use Rattle.cache_line.specs.declared.line.LineInput.{LineInput}
 use Rattle.cache_line.specs.declared.line.LineInput.TheVariants as line_input
-use Rattle.control.specs.declared.home.HomeInput.{HomeInput}
+use Rattle.block_home.specs.declared.home.HomeInput.{HomeInput}
 use Rattle.control.specs.Events.{event_at_line}
 use Rattle.control.specs.LineEffect.{line_after, line_completes, moved_on}
 use Rattle.both_tables.specs.Tables.{Tables, baseline_of}

@@ -42,8 +42,8 @@ use Rattle.cache_line.specs.declared.line.LineInput.{LineInput}
 use Rattle.cache_line.specs.declared.line.LineInput.TheVariants as line_input
 use Rattle.cache_line.specs.declared.line.LineCompletion.{LineCompletion}
 use Rattle.cache_line.specs.declared.line.LineCompletion.TheVariants as done
-use Rattle.control.specs.declared.home.HomeInput.{HomeInput}
-use Rattle.control.specs.declared.home.HomeInput.TheVariants as home_input
+use Rattle.block_home.specs.declared.home.HomeInput.{HomeInput}
+use Rattle.block_home.specs.declared.home.HomeInput.TheVariants as home_input
 use Rattle.control.specs.Sharing.{shares, is_sole, others_from}
 use Rattle.control.specs.Events.{event_at_line, forward_event, response_event, is_count, more_acks, event_at_home, owns}
 use Rattle.control.specs.LineEffect.{line_completes}

@@ -38,8 +38,8 @@ use Rattle.directory_table.proofs.BaselineCells as directory_cells
 use Rattle.cache_line.specs.declared.line.Line.{Line}
 use Rattle.cache_line.specs.declared.line.LineInput.{LineInput}
 use Rattle.cache_line.specs.declared.line.LineInput.TheVariants as line_input
-use Rattle.control.specs.declared.home.HomeInput.{HomeInput}
-use Rattle.control.specs.declared.home.HomeInput.TheVariants as home_input
+use Rattle.block_home.specs.declared.home.HomeInput.{HomeInput}
+use Rattle.block_home.specs.declared.home.HomeInput.TheVariants as home_input
 use Rattle.control.specs.Sharing.{is_sole}
 use Rattle.control.specs.Events.{ask_event, forward_event, response_event, event_at_line, event_at_home, owns}
 use Rattle.both_tables.specs.Tables.{Tables, baseline_of}

@@ -34,7 +34,7 @@ use Rattle.directory_table.proofs.BaselineCells as directory_cells
 use Rattle.cache_line.specs.declared.line.Line.{Line}
 use Rattle.cache_line.specs.declared.line.LineInput.{LineInput}
 use Rattle.cache_line.specs.declared.line.LineInput.TheVariants as line_input
-use Rattle.control.specs.declared.home.HomeInput.TheVariants as home_input
+use Rattle.block_home.specs.declared.home.HomeInput.TheVariants as home_input
 use Rattle.control.specs.Sharing.{shares, is_sole, others_from}
 use Rattle.control.specs.LineEffect.{line_messages, line_message, taken_in, requestor_of}
 use Rattle.control.specs.Events.{event_at_line, event_at_home, owns}

@@ -18,7 +18,7 @@ use Rattle.cache_table.specs.declared.actions.CacheAction.{CacheAction}
 use Rattle.cache_line.specs.declared.line.Line.{Line}
 use Rattle.cache_line.specs.declared.line.LineInput.{LineInput}
 use Rattle.cache_line.specs.declared.line.LineInput.TheVariants as line_input
-use Rattle.control.specs.declared.home.Home.{Home}
+use Rattle.block_home.specs.declared.home.Home.{Home}
 use Rattle.control.specs.LineEffect.{taken_in, one_ack_less, line_after, line_completes}
 use Rattle.control.specs.Events.{more_acks, is_count, event_at_line}
 use Rattle.machine.specs.Block.{BlockState}

@@ -29,8 +29,8 @@ use Rattle.cache_line.specs.declared.line.LineInput.{LineInput}
 use Rattle.cache_line.specs.declared.line.LineInput.TheVariants as line_input
 use Rattle.cache_line.specs.declared.line.LineCompletion.{LineCompletion}
 use Rattle.cache_line.specs.declared.line.LineCompletion.TheVariants as done
-use Rattle.control.specs.declared.home.HomeInput.{HomeInput}
-use Rattle.control.specs.declared.home.HomeInput.TheVariants as home_input
+use Rattle.block_home.specs.declared.home.HomeInput.{HomeInput}
+use Rattle.block_home.specs.declared.home.HomeInput.TheVariants as home_input
 use Rattle.control.specs.Events.{event_at_line, event_at_home}
 use Rattle.control.specs.LineEffect.{line_after, line_completes}
 use Rattle.machine.specs.declared.decision.Decision.{Decision}

@@ -151,7 +151,7 @@ struct AtHome<'a> {
 
 impl Marker<Request> for AtHome<'_> {
     ghost use Rattle.blocks.specs.Marking.{home_stalls};
-    ghost use Rattle.control.specs.declared.home.HomeInput.TheVariants as home_input;
+    ghost use Rattle.block_home.specs.declared.home.HomeInput.TheVariants as home_input;
 
     ghost told = { λ at request. home_stalls at.tables.now.directory at.home.now (home_input.Request request) };
 

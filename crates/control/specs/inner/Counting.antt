@@ -4,7 +4,7 @@ use Rattle.base.specs.declared.ids.CacheId.{CacheId}
 use Rattle.network.specs.Room.{Room, one_if}
 use Rattle.directory_table.specs.declared.actions.DirectoryAction.{DirectoryAction}
 use Rattle.directory_table.specs.declared.actions.DirectoryAction.TheVariants as action
-use Rattle.control.specs.declared.home.Home.{Home}
+use Rattle.block_home.specs.declared.home.Home.{Home}
 use Rattle.control.specs.Events.{owns}
 use Rattle.control.specs.Sharing.{shares}
 

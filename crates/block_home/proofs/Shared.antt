@@ -2,7 +2,7 @@
 use Rattle.std.proofs.Common.{◌≡◌, ◌+◌, ◌<◌, ℕ, List, [], ◌∷◌, Bool, true, false, not, ap, get_or, zero, suc, refl, arith, ◌==◌, if◌then◌else◌}
 use Rattle.std.proofs.lemmas.Bool.{ne_eqb, eq-eqb}
 use Rattle.std.proofs.lemmas.List.Sums.{sum_by-cons}
-use Rattle.control.specs.Sharing.{others_from}
+use Rattle.block_home.specs.Sharing.{others_from}
 use Rattle.network.specs.Room.{one_if}
 use Rattle.rows.specs.Flags.{set_count}
 

@@ -1,9 +1,9 @@
 use Rattle.std.proofs.Common.{◌≡◌, ap, arith, sym, ◌∙◌}
-use Rattle.control.proofs.Shared.{others-count}
-use Rattle.control.specs.Sharing.{shares}
+use Rattle.block_home.proofs.Shared.{others-count}
+use Rattle.block_home.specs.Sharing.{shares}
 use Rattle.network.specs.Room.{one_if}
 use Rattle.rows.specs.Flags.{set_count}
-use Rattle.control.proofs.sharers.Sharers.others.Goals as goal
+use Rattle.block_home.proofs.sharers.Sharers.others.Goals as goal
 
 pub overflow_sub-result : goal.overflow_sub-result
 overflow_sub-result c =

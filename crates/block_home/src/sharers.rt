@@ -1,5 +1,5 @@
 ghost use Rattle.std.specs.Prelude.{◌≡◌, ◌<◌, IfNone, IfOk, IfSome, length, replicate, slice_set, true, false};
-ghost use Rattle.control.specs.Sharing.{shares, others_from, is_sole};
+ghost use Rattle.block_home.specs.Sharing.{shares, others_from, is_sole};
 ghost use Rattle.rows.specs.Flags.{IsFirstFrom, NoneFrom};
 
 use base::{CacheId, NoMemory};

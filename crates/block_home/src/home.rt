@@ -1,5 +1,5 @@
 ghost use Rattle.std.specs.Prelude.{◌≡◌, IfOk, length};
-ghost use Rattle.control.specs.HomeEffect.{opened_home, IsAmong};
+ghost use Rattle.block_home.specs.Homes.{opened_home, IsAmong};
 
 use crate::sharers::Sharers;
 use base::{CacheId, NoMemory};
