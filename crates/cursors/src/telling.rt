@@ -10,7 +10,7 @@ use scenario::Scenario;
 use std::alloc::Allocator;
 
 /// What is offered next, as far as a look tells it.
-#[derive(Clone, Copy, Debug)]
+#[derive(Clone, Copy)]
 pub enum Next {
     /// Nothing is offered.
     Nothing,
