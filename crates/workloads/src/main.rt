@@ -3,25 +3,14 @@
 //!
 //! `workloads JOB SEED SIZE` does one job, and `workloads all SEED SIZE` does each of them. It prints a digest of all that
 //! `msi` prints there. `workloads sessions` goes through the sessions of its standard input, and prints what each command line
-//! came to (`sessions.rt` tells how they are written).
+//! came to (`transcript.rt` of the crate `sessions` tells how they are written).
 #![tactic(auto)]
 
-mod digest;
-mod escapes;
-mod fault;
-mod inputs;
-mod jobs;
-mod kinds;
-mod output;
-mod rerun;
+mod files;
 mod serving;
-mod session;
-mod sessions;
-mod streams;
 
-use crate::fault::Fault;
-use crate::jobs::tell_jobs;
-use crate::sessions::transcribe;
+use serving::Msi;
+use sessions::{Fault, tell_jobs, transcribe};
 use std::alloc::Global;
 use std::process::ExitCode;
 use std::sync::Wait;
@@ -57,12 +46,13 @@ fn work<R: Threads + Wait + Sync>(
     told: &mut Sheet,
 ) -> Result<(), Fault> {
     match (sessions, words) {
-        (Some(Ok(text)), _) => transcribe(rt, alloc, text.as_str(), told),
+        (Some(Ok(text)), _) => transcribe(rt, alloc, &Msi, text.as_str(), told),
         (Some(Err(_)), _) | (None, Err(_)) => Err(Fault::Device),
         (None, Ok(words)) => match words.as_slice() {
             [_, name, seed, size] => tell_jobs(
                 rt,
                 alloc,
+                &Msi,
                 name.as_str(),
                 seed.as_str(),
                 size.as_str(),

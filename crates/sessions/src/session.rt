@@ -2,7 +2,7 @@ use crate::escapes::put_line;
 use crate::fault::Fault;
 use crate::kinds::kind_of;
 use crate::output::{Output, Telling};
-use crate::serving::{serve_line, words_of};
+use crate::serving::{Server, serve_line, words_of};
 use crate::streams::Input;
 use std::alloc::Global;
 use std::io;
@@ -140,16 +140,18 @@ impl Session {
     }
 
     /// Serves its command lines, and tells what each came to.
-    pub fn serve<R: Threads + Wait + Sync>(
+    pub fn serve<R: Threads + Wait + Sync, M: Server>(
         &mut self,
         rt: &R,
         alloc: Global,
+        msi: &M,
         told: &mut Sheet,
     ) -> Result<(), Fault> {
         for line in self.commands.text()?.lines() {
             let status = status_of(
                 rt,
                 alloc,
+                msi,
                 line,
                 &self.given,
                 &mut self.output,
@@ -168,9 +170,10 @@ impl Session {
 }
 
 /// The exit status of a command line.
-fn status_of<R: Threads + Wait + Sync>(
+fn status_of<R: Threads + Wait + Sync, M: Server>(
     rt: &R,
     alloc: Global,
+    msi: &M,
     line: &str,
     given: &Given,
     output: &mut Output,
@@ -179,7 +182,7 @@ fn status_of<R: Threads + Wait + Sync>(
     let table = given.table()?;
     let input = given.input()?;
     let words = words_behind(alloc, line);
-    Ok(serve_line(rt, alloc, &words, table, input, output, errors))
+    Ok(serve_line(rt, alloc, msi, &words, table, input, output, errors))
 }
 
 /// The words of a command line behind its mark, or why they can't be had.

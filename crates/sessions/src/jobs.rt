@@ -3,7 +3,7 @@ use crate::fault::Fault;
 use crate::inputs::{all_asks, late_loads, racing_pair, shared_asks, some_asks};
 use crate::output::Output;
 use crate::rerun::rerun;
-use crate::serving::{serve_line, words_of};
+use crate::serving::{Server, serve_line, words_of};
 use crate::streams::Input;
 use std::alloc::Global;
 use std::sync::Wait;
@@ -104,9 +104,10 @@ impl Job {
 }
 
 /// Does a job, or all of them, and tells the name and the digest of each.
-pub fn tell_jobs<R: Threads + Wait + Sync>(
+pub fn tell_jobs<R: Threads + Wait + Sync, M: Server>(
     rt: &R,
     alloc: Global,
+    msi: &M,
     name: &str,
     seed: &str,
     size: &str,
@@ -117,23 +118,24 @@ pub fn tell_jobs<R: Threads + Wait + Sync>(
     };
     if name != "all" {
         let job = Job::of_name(name).ok_or(Fault::Words)?;
-        return tell_job(rt, alloc, job, seed, size, told);
+        return tell_job(rt, alloc, msi, job, seed, size, told);
     }
     for job in Job::ALL {
-        tell_job(rt, alloc, job, seed, size, told)?;
+        tell_job(rt, alloc, msi, job, seed, size, told)?;
     }
     Ok(())
 }
 
-fn tell_job<R: Threads + Wait + Sync>(
+fn tell_job<R: Threads + Wait + Sync, M: Server>(
     rt: &R,
     alloc: Global,
+    msi: &M,
     job: Job,
     seed: u32,
     size: u32,
     told: &mut Sheet,
 ) -> Result<(), Fault> {
-    let digest = digest_of(rt, alloc, job, seed, size)?;
+    let digest = digest_of(rt, alloc, msi, job, seed, size)?;
     told.push(job.name());
     told.push(" ");
     told.put(&digest);
@@ -142,9 +144,10 @@ fn tell_job<R: Threads + Wait + Sync>(
 }
 
 /// Does a job, and answers the digest of all that `msi` prints there.
-fn digest_of<R: Threads + Wait + Sync>(
+fn digest_of<R: Threads + Wait + Sync, M: Server>(
     rt: &R,
     alloc: Global,
+    msi: &M,
     job: Job,
     seed: u32,
     size: u32,
@@ -154,10 +157,11 @@ fn digest_of<R: Threads + Wait + Sync>(
     let scenario = sheet.text()?;
     let mut digest = Digest::new();
     match job {
-        Job::Rerun => rerun(rt, alloc, seed, scenario, &mut digest)?,
+        Job::Rerun => rerun(rt, alloc, msi, seed, scenario, &mut digest)?,
         other => batch(
             rt,
             alloc,
+            msi,
             other.options(),
             other.trials(size),
             seed,
@@ -169,9 +173,10 @@ fn digest_of<R: Threads + Wait + Sync>(
 }
 
 /// Has `msi batch` make so many trials of a scenario.
-fn batch<R: Threads + Wait + Sync>(
+fn batch<R: Threads + Wait + Sync, M: Server>(
     rt: &R,
     alloc: Global,
+    msi: &M,
     options: &str,
     trials: u32,
     seed: u32,
@@ -179,7 +184,7 @@ fn batch<R: Threads + Wait + Sync>(
     digest: &mut Digest,
 ) -> Result<(), Fault> {
     let line = format!(in alloc; "msi batch {options} --seed {seed} --trials {trials}")?;
-    let printed = run(rt, alloc, line.as_str(), scenario);
+    let printed = run(rt, alloc, msi, line.as_str(), scenario);
     printed.add_to(digest);
     match printed.status {
         0 | 1 => Ok(()),
@@ -202,7 +207,13 @@ impl Printed {
 }
 
 /// What a command line comes to over this input, where the file `table.json` has the faulty table.
-pub fn run<R: Threads + Wait + Sync>(rt: &R, alloc: Global, line: &str, input: &str) -> Printed {
+pub fn run<R: Threads + Wait + Sync, M: Server>(
+    rt: &R,
+    alloc: Global,
+    msi: &M,
+    line: &str,
+    input: &str,
+) -> Printed {
     let mut output = Output::new(alloc);
     let mut errors = Output::new(alloc);
     let words = words_of(alloc, line);
@@ -210,7 +221,16 @@ pub fn run<R: Threads + Wait + Sync>(rt: &R, alloc: Global, line: &str, input: &
         bytes: input.as_bytes(),
         fault: None,
     };
-    let status = serve_line(rt, alloc, &words, FAULTY, input, &mut output, &mut errors);
+    let status = serve_line(
+        rt,
+        alloc,
+        msi,
+        &words,
+        FAULTY,
+        input,
+        &mut output,
+        &mut errors,
+    );
     Printed {
         status,
         output,

@@ -2,14 +2,16 @@ use crate::digest::Digest;
 use crate::fault::Fault;
 use crate::jobs::{Printed, run};
 use crate::output::Output;
+use crate::serving::Server;
 use std::alloc::Global;
 use std::sync::Wait;
 use std::thread::Threads;
 
 /// Has `msi` record a trial, replay the recording, and play its steps.
-pub fn rerun<R: Threads + Wait + Sync>(
+pub fn rerun<R: Threads + Wait + Sync, M: Server>(
     rt: &R,
     alloc: Global,
+    msi: &M,
     seed: u32,
     scenario: &str,
     digest: &mut Digest,
@@ -17,12 +19,12 @@ pub fn rerun<R: Threads + Wait + Sync>(
     let line = format!(in alloc;
         "msi trial --caches 4 --blocks 4 --limit 1000000 --seed {seed} --number 0"
     )?;
-    let recording = ended_well(run(rt, alloc, line.as_str(), scenario), digest)?;
+    let recording = ended_well(run(rt, alloc, msi, line.as_str(), scenario), digest)?;
     let text = recording.text().ok_or(Fault::NotAText)?;
-    let _ = ended_well(run(rt, alloc, "msi replay", text), digest)?;
+    let _ = ended_well(run(rt, alloc, msi, "msi replay", text), digest)?;
     let steps = steps_of(alloc, text)?;
     let line = "msi play --caches 4 --blocks 4";
-    let _ = ended_well(run(rt, alloc, line, steps.as_str()), digest)?;
+    let _ = ended_well(run(rt, alloc, msi, line, steps.as_str()), digest)?;
     Ok(())
 }
 

@@ -1,7 +1,6 @@
 use commands::{Files, LoadFault};
 use std::alloc::Global;
 use std::io;
-use std::io::Read;
 
 /// The system's number of the error that there is no such file.
 const NO_SUCH_FILE: i32 = 2;
@@ -25,26 +24,5 @@ impl Files for OneFile<'_> {
             Ok(text) => Ok(text.into_bytes()),
             Err(_) => Err(LoadFault::NoMemory),
         }
-    }
-}
-
-/// An input of these bytes. Behind them it ends, or fails where there is a fault.
-#[derive(Drop)]
-pub struct Input<'a> {
-    pub bytes: &'a [u8],
-    pub fault: Option<io::ErrorKind>,
-}
-
-impl Read for Input<'_> {
-    fn read(&mut self, buffer: &mut [u8]) -> io::Result<usize> {
-        if self.bytes.is_empty()
-            && let Some(kind) = self.fault
-        {
-            return Err(io::Error::from(kind));
-        }
-        let (now, later) = self.bytes.split_at(buffer.len().min(self.bytes.len()));
-        buffer[..now.len()].copy_from_slice(now);
-        self.bytes = later;
-        Ok(now.len())
     }
 }

@@ -26,6 +26,7 @@
 
 use crate::fault::Fault;
 use crate::jobs::tell_jobs;
+use crate::serving::Server;
 use crate::session::Session;
 use std::alloc::Global;
 use std::sync::Wait;
@@ -33,39 +34,42 @@ use std::thread::Threads;
 use story::Sheet;
 
 /// Serves the sessions of a text, one behind the other, and tells what they come to, up to what ends it early.
-pub fn transcribe<R: Threads + Wait + Sync>(
+pub fn transcribe<R: Threads + Wait + Sync, M: Server>(
     rt: &R,
     alloc: Global,
+    msi: &M,
     text: &str,
     told: &mut Sheet,
 ) -> Result<(), Fault> {
     let mut session = Session::new(alloc);
-    serve_all(rt, alloc, text, &mut session, told)
+    serve_all(rt, alloc, msi, text, &mut session, told)
 }
 
-fn serve_all<R: Threads + Wait + Sync>(
+fn serve_all<R: Threads + Wait + Sync, M: Server>(
     rt: &R,
     alloc: Global,
+    msi: &M,
     text: &str,
     session: &mut Session,
     told: &mut Sheet,
 ) -> Result<(), Fault> {
     for (place, line) in text.lines().enumerate() {
         if line.is_empty() || line.starts_with(['#', '%']) {
-            session.serve(rt, alloc, told)?;
+            session.serve(rt, alloc, msi, told)?;
             session.clear();
-            tell_apart(rt, alloc, line, told)?;
+            tell_apart(rt, alloc, msi, line, told)?;
         } else if session.read(line).is_none() {
             return Err(Fault::Line(place.saturating_add(1)));
         }
     }
-    session.serve(rt, alloc, told)
+    session.serve(rt, alloc, msi, told)
 }
 
 /// Tells a line that stands between sessions, and what its job comes to, if it has one.
-fn tell_apart<R: Threads + Wait + Sync>(
+fn tell_apart<R: Threads + Wait + Sync, M: Server>(
     rt: &R,
     alloc: Global,
+    msi: &M,
     line: &str,
     told: &mut Sheet,
 ) -> Result<(), Fault> {
@@ -76,5 +80,5 @@ fn tell_apart<R: Threads + Wait + Sync>(
     };
     let (name, words) = words.split_once(' ').ok_or(Fault::Words)?;
     let (seed, size) = words.split_once(' ').ok_or(Fault::Words)?;
-    tell_jobs(rt, alloc, name, seed, size, told)
+    tell_jobs(rt, alloc, msi, name, seed, size, told)
 }

@@ -1,0 +1,22 @@
+//! Sessions of `msi`, and the jobs that its users wait for, as whatever serves command lines goes through them in memory.
+#![tactic(auto)]
+
+mod digest;
+mod escapes;
+mod fault;
+mod inputs;
+mod jobs;
+mod kinds;
+mod output;
+mod rerun;
+mod serving;
+mod session;
+mod streams;
+mod transcript;
+
+pub use fault::Fault;
+pub use jobs::tell_jobs;
+pub use output::Output;
+pub use serving::Server;
+pub use streams::Input;
+pub use transcript::transcribe;
