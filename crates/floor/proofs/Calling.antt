@@ -2,7 +2,7 @@
 use Rattle.std.proofs.Common.{◌≡◌, ◌≤◌, ℕ, Bool, List, [], Option, Result, Ok, Err, IfOk, false, true, length, ap, subst, sym, ◌∙◌}
 use Rattle.std.specs.Result.{IsErrOf}
 use Rattle.atomic_table.specs.Table.{Me}
-use Rattle.monitor.specs.declared.violation.Violation.{Violation}
+use Rattle.violations.specs.declared.violation.Violation.{Violation}
 use Rattle.base.specs.declared.step.Step.{Step}
 use Rattle.machine.specs.Machine.{next}
 use Rattle.record_lines.specs.declared.entry.Entry.{Entry}

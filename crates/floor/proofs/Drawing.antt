@@ -8,7 +8,7 @@ use Rattle.machine.specs.Machine.{State}
 use Rattle.both_tables.specs.Tables.{Tables}
 use Rattle.world.specs.Enabled.{enabled_steps}
 use Rattle.world.specs.View.{View}
-use Rattle.monitor.specs.declared.violation.Violation.{Violation}
+use Rattle.violations.specs.declared.violation.Violation.{Violation}
 use Rattle.record_lines.specs.declared.entry.Entry.{Entry}
 use Rattle.record.specs.View.{RecordingView}
 use Rattle.floor.specs.Belonging.{ready_for}

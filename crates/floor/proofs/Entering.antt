@@ -10,11 +10,11 @@ use Rattle.machine.specs.Machine.{State, Next, next, opened, state_after, outcom
 use Rattle.machine.proofs.Making.{next-told}
 use Rattle.machine.specs.Completions.{completions_of}
 use Rattle.world.specs.View.{View, stepped}
-use Rattle.monitor.specs.declared.violation.Violation.{Violation}
-use Rattle.monitor.specs.Scenes.{Answers}
-use Rattle.monitor.specs.Violations.{AnswersFirst}
-use Rattle.monitor.specs.Watching.{HasSeen, LeadTo, AnswersHistory, SeesNext, AreDue, made_after, scene_after}
-use Rattle.monitor.proofs.FirstViolations.{first_seen, first-push}
+use Rattle.violations.specs.declared.violation.Violation.{Violation}
+use Rattle.violations.specs.Scenes.{Answers}
+use Rattle.violations.specs.Violations.{AnswersFirst}
+use Rattle.violations.specs.Watching.{HasSeen, LeadTo, AnswersHistory, SeesNext, AreDue, made_after, scene_after}
+use Rattle.violations.proofs.FirstViolations.{first_seen, first-push}
 use Rattle.record_lines.specs.declared.entry.Entry.{Entry}
 use Rattle.record.specs.View.{RecordingView, opened_of, steps_of, with_owned}
 use Rattle.trials.specs.Terms.{Terms}

@@ -2,8 +2,8 @@
 use Rattle.std.specs.Prelude.{◌≡◌, ◌%◌, ℕ, List, [], ◌∷◌, ◌++◌, Option, Some, Bool, length, slice_get}
 use Rattle.base.specs.declared.step.Step.{Step}
 use Rattle.machine.specs.Machine.{State, next, opened, state_after}
-use Rattle.monitor.specs.declared.violation.Violation.{Violation}
-use Rattle.monitor.specs.Violations.{AnswersFirst}
+use Rattle.violations.specs.declared.violation.Violation.{Violation}
+use Rattle.violations.specs.Violations.{AnswersFirst}
 use Rattle.record_lines.specs.declared.entry.Entry.{Entry}
 use Rattle.record.specs.View.{RecordingView, steps_of}
 use Rattle.trials.specs.Terms.{Terms}

@@ -6,7 +6,7 @@ ghost use Rattle.floor.specs.FloorId.{floor_id};
 ghost use Rattle.floor.specs.Turning.{new_seat};
 ghost use Rattle.floor.specs.inner.Keeping.{IsStart};
 ghost use Rattle.floor.specs.inner.Tokens.{keeper};
-ghost use Rattle.monitor.specs.Watching.{HasSeen};
+ghost use Rattle.violations.specs.Watching.{HasSeen};
 ghost use Rattle.record.specs.View.{opened_of};
 ghost use Rattle.world.specs.View.{View};
 

@@ -1,12 +1,7 @@
-pub mod Scenes
-pub mod Watching
-pub mod Violations
-pub mod inner
+pub use Rattle.violations.specs.Scenes
+pub use Rattle.violations.specs.Watching
+pub use Rattle.violations.specs.Violations
 pub use Rattle.machine.specs.Completions
-pub use Rattle.base.specs.Steps
-pub use Rattle.control.specs.LineEffect
-pub use Rattle.both_tables.specs.Tables
 pub use Rattle.machine.specs.Machine
-pub use Rattle.machine.specs.Coherence
+pub use Rattle.base.specs.Steps
 pub use Rattle.world.specs.View
-pub use Rattle.world.specs.Looks

@@ -7,9 +7,9 @@ use Rattle.std.proofs.Math.Seq.{take-append_seam}
 use Rattle.base.specs.declared.step.Outcome.{Outcome}
 use Rattle.machine.specs.Machine.{State, next, opened, outcomes_of, state_after}
 use Rattle.world.specs.View.{View, stepped}
-use Rattle.monitor.specs.declared.violation.Violation.{Violation}
-use Rattle.monitor.specs.Watching.{AnswersHistory, SeesNext}
-use Rattle.monitor.proofs.FirstViolations.{first_seen}
+use Rattle.violations.specs.declared.violation.Violation.{Violation}
+use Rattle.violations.specs.Watching.{AnswersHistory, SeesNext}
+use Rattle.violations.proofs.FirstViolations.{first_seen}
 use Rattle.replays.specs.declared.making.Run.{Run}
 use Rattle.replays.specs.declared.making.Stage.{Stage}
 use Rattle.replays.specs.declared.making.Stage.TheVariants.{Closed, Same, Refused}

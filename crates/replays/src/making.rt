@@ -144,7 +144,7 @@ pub(crate) struct MadeEntries {
 
 impl MadeEntries {
     ghost use Rattle.std.specs.Prelude.{◌≡◌, Some, None, IfOk, IfErr, length};
-    ghost use Rattle.monitor.specs.Violations.{AnswersFirst};
+    ghost use Rattle.violations.specs.Violations.{AnswersFirst};
     ghost use Rattle.replays.specs.Replaying.{FaultOf};
     ghost use Rattle.record.specs.View.{RecordingView, IsLegal, steps_of};
     ghost use Rattle.replays.specs.inner.Making.{has_made};

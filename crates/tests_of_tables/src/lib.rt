@@ -12,4 +12,4 @@ mod making;
 #[cfg(test)]
 mod overrides;
 #[cfg(test)]
-mod violations;
+mod watches;

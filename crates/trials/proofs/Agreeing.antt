@@ -6,12 +6,12 @@ use Rattle.base.specs.Extent.{Extent}
 use Rattle.base.specs.declared.step.Step.{Step}
 use Rattle.both_tables.specs.Tables.{Tables}
 use Rattle.machine.specs.Machine.{next}
-use Rattle.monitor.specs.declared.violation.Violation.{Violation}
-use Rattle.monitor.specs.Scenes.{Scene, IsViolation}
-use Rattle.monitor.specs.Watching.{scene_after}
+use Rattle.violations.specs.declared.violation.Violation.{Violation}
+use Rattle.violations.specs.Scenes.{Scene, IsViolation}
+use Rattle.violations.specs.Watching.{scene_after}
 use Rattle.record.specs.View.{RecordingView}
 use Rattle.record_lines.specs.declared.entry.Entry.{Entry}
-use Rattle.monitor.specs.Violations.{IsFirstViolation}
+use Rattle.violations.specs.Violations.{IsFirstViolation}
 use Rattle.schedule.specs.Choices.{chosen_step, rest_after}
 use Rattle.schedule.specs.declared.choosing.Choice.{Choice}
 use Rattle.trials.specs.Terms.{Terms}

@@ -12,9 +12,9 @@ use Rattle.machine.proofs.Making.{next-told, outcome-told}
 use Rattle.machine.specs.declared.made.Made.{Made}
 use Rattle.machine.specs.Made.{made_of}
 use Rattle.machine.specs.Machine.{State, next, opened, state_after}
-use Rattle.monitor.specs.declared.violation.Violation.{Violation}
-use Rattle.monitor.specs.Scenes.{HasNone, IsViolation, Answers}
-use Rattle.monitor.specs.Watching.{LeadTo, made_after, scene_after}
+use Rattle.violations.specs.declared.violation.Violation.{Violation}
+use Rattle.violations.specs.Scenes.{HasNone, IsViolation, Answers}
+use Rattle.violations.specs.Watching.{LeadTo, made_after, scene_after}
 use Rattle.scenario.specs.Tree.{Tree}
 use Rattle.scenario.specs.Alike.{Alike}
 use Rattle.schedule.specs.Choices.{chosen_step, IsOffered, rest_after}
@@ -28,7 +28,7 @@ use Rattle.moment.specs.Seen as seen
 use Rattle.moment.specs.Seen.{IsAt, Seen, choices_in}
 use Rattle.record_lines.specs.declared.entry.Entry.{Entry}
 use Rattle.record.specs.View.{RecordingView, steps_of}
-use Rattle.monitor.specs.Violations.{HasNoViolation, IsFirstViolation}
+use Rattle.violations.specs.Violations.{HasNoViolation, IsFirstViolation}
 use Rattle.trials.specs.Terms.{Terms}
 use Rattle.trials.specs.Moments.{IsNext, IsPath}
 use Rattle.trials.specs.Trial.{IsUnowned}

@@ -17,7 +17,7 @@ use Rattle.moment.specs.Moments.{IsAtRest, Moment, choices_at}
 use Rattle.moment.specs.Seen.{IsAt, Rests, Seen, choices_in}
 use Rattle.record_lines.specs.declared.entry.Entry.{Entry}
 use Rattle.record.specs.View.{RecordingView, steps_of}
-use Rattle.monitor.specs.Violations.{HasNoViolation}
+use Rattle.violations.specs.Violations.{HasNoViolation}
 use Rattle.trials.specs.Terms.{Terms}
 use Rattle.trials.specs.Moments.{IsPath, first_moment}
 use Rattle.trials.specs.declared.verdict.Verdict.{Verdict}

@@ -1,6 +1,6 @@
 -- The steps of a run of a trial, and its ends.
 use Rattle.std.proofs.Common.{◌≡◌, ◌<◌, ◌≤◌, ◌+◌, ℕ, Option, Some, None, length, ap, sym, subst, ◌∙◌, arith}
-use Rattle.monitor.specs.declared.violation.Violation.{Violation}
+use Rattle.violations.specs.declared.violation.Violation.{Violation}
 use Rattle.scenario.specs.Tree.{Tree}
 use Rattle.record.specs.View.{RecordingView}
 use Rattle.trials.specs.declared.course.Course as course

@@ -1,7 +1,7 @@
 //! What is known of a trial on its way.
 
 ghost use Rattle.std.specs.Prelude.{◌≡◌, ◌<◌, ◌≤◌, ℕ, Option, Some, None, length};
-ghost use Rattle.monitor.specs.declared.violation.Violation.{Violation};
+ghost use Rattle.violations.specs.declared.violation.Violation.{Violation};
 ghost use Rattle.scenario.specs.Tree.{Tree};
 ghost use Rattle.trials.specs.inner.Going.{Chooses, Course, GoesOn, IsGoing, IsVerdictAtRest, Makes, Starts};
 ghost use Rattle.trials.specs.Terms.{Terms};
@@ -22,7 +22,7 @@ pub(crate) fn trials_go_on()
         IsGoing terms tree number c → length c.recording.entries ≡ terms.limit → Chooses c (Some k) chosen →
         IsTrial terms tree number chosen.recording Cut }
 {
-    monitor::one_step_more_may_have_the_first();
+    violations::one_step_more_may_have_the_first();
     scenario::alike_trees_stay_alike();
     schedule::alike_trees_give_the_same_choices();
     schedule::draws_follow_the_words();

@@ -29,7 +29,7 @@ pub fn trials_break_where_they_arent_safe()
         IsTrial terms tree number recording verdict →
         HasBroken verdict ↔ (¬ Safe terms.shape terms.tables terms.opening (steps_of recording)) }
 {
-    monitor::violations_are_what_isnt_safe();
+    violations::violations_are_what_isnt_safe();
 }
 
 /// Under restrained tables, of which the protocol's own are some, no trial breaks, and the completions of each are sequentially
@@ -67,5 +67,5 @@ pub fn one_trial_a_number()
     ensures { (terms : Terms) (tree : Tree) (number : ℕ) (one other : RecordingView) (verdict another : Verdict) →
         IsTrial terms tree number one verdict → IsTrial terms tree number other another → (one ≡ other) × (verdict ≡ another) }
 {
-    monitor::one_violation_at_most();
+    violations::one_violation_at_most();
 }

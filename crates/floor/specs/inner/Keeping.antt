@@ -6,8 +6,8 @@ use Rattle.base.specs.declared.step.Step.{Step}
 use Rattle.machine.specs.declared.made.Made.{Made}
 use Rattle.machine.specs.Made.{IsTold}
 use Rattle.machine.specs.Machine.{opened}
-use Rattle.monitor.specs.declared.violation.Violation.{Violation}
-use Rattle.monitor.specs.Watching.{HasSeen}
+use Rattle.violations.specs.declared.violation.Violation.{Violation}
+use Rattle.violations.specs.Watching.{HasSeen}
 use Rattle.record_lines.specs.declared.entry.Entry.{Entry}
 use Rattle.record.specs.View.{RecordingView, IsLegal, steps_of, with_owned}
 use Rattle.world.specs.View.{View}

@@ -5,8 +5,8 @@ use Rattle.rand_pcg.specs.Pcg.{multiplier_64}
 use Rattle.base.specs.declared.step.Step.{Step}
 use Rattle.machine.specs.declared.made.Made.{Made}
 use Rattle.machine.specs.Machine.{after, opened}
-use Rattle.monitor.specs.declared.violation.Violation.{Violation}
-use Rattle.monitor.specs.Watching.{AnswersLast}
+use Rattle.violations.specs.declared.violation.Violation.{Violation}
+use Rattle.violations.specs.Watching.{AnswersLast}
 use Rattle.world.specs.View.{View}
 use Rattle.scenario.specs.Tree.{Tree}
 use Rattle.schedule.specs.Words.{dice, dice_after, word_of}

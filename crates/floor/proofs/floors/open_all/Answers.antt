@@ -1,6 +1,6 @@
 use Rattle.std.proofs.Common.{◌≡◌, ap, sym, subst, rules, [], ℕ, List, None, arith}
 use Rattle.std.proofs.lemmas.Grind.{common_steps}
-use Rattle.monitor.specs.Watching.{HasSeen}
+use Rattle.violations.specs.Watching.{HasSeen}
 use Rattle.record.specs.View.{opened_of}
 use Rattle.trials.specs.Terms.{Terms}
 use Rattle.world.specs.View.{View}
