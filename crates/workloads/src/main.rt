@@ -42,10 +42,10 @@ fn work<R: Threads + Wait + Sync>(
     rt: &R,
     alloc: Global,
     words: &io::Result<Vec<String>>,
-    sessions: &Option<io::Result<String>>,
+    input: &Option<io::Result<String>>,
     told: &mut Sheet,
 ) -> Result<(), Fault> {
-    match (sessions, words) {
+    match (input, words) {
         (Some(Ok(text)), _) => transcribe(rt, alloc, &Msi, text.as_str(), told),
         (Some(Err(_)), _) | (None, Err(_)) => Err(Fault::Device),
         (None, Ok(words)) => match words.as_slice() {
@@ -74,9 +74,9 @@ fn print(rt: &HostRuntime, told: &Sheet) -> Result<(), Fault> {
 
 fn main(rt: HostRuntime) -> ExitCode {
     let words = words(&rt);
-    let sessions = given(&rt, &words);
+    let input = given(&rt, &words);
     let mut told = Sheet::new(rt.alloc());
-    let done = work(&rt, rt.alloc(), &words, &sessions, &mut told);
+    let done = work(&rt, rt.alloc(), &words, &input, &mut told);
     match print(&rt, &told).and(done) {
         Ok(()) => ExitCode::SUCCESS,
         Err(fault) => {
