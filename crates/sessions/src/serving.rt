@@ -1,3 +1,5 @@
+ghost use denote.Param.Send.{IsSync};
+
 use crate::output::Output;
 use crate::streams::Input;
 use std::alloc::Global;
@@ -7,8 +9,8 @@ use std::thread::Threads;
 
 /// What serves a command line of `msi`.
 pub trait Server {
-    /// The exit status of these words, program's name first, or of not having them, where the file `table.json` has this text. It may
-    /// wait where threads race at a floor.
+    /// The exit status of these words, the program's name first, or of not having them, where the file `table.json` has this text. It
+    /// may wait where threads race at a floor. (A bound `Sync` says nothing to an impl of the trait, so it is required.)
     fn serve<R: Threads + Wait + Sync>(
         &self,
         rt: &R,
@@ -18,7 +20,8 @@ pub trait Server {
         input: Input<'_>,
         output: &mut Output,
         errors: &mut Output,
-    ) -> u8;
+    ) -> u8
+        requires { IsSync R.row };
 }
 
 /// The exit status of a command line. The output and the errors hold what it printed then, and nothing of what they held before.
