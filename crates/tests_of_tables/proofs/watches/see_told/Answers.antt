@@ -1,6 +1,6 @@
 use Rattle.world.specs.OneStep.{Steps}
 use Rattle.tests_of_tables.proofs.Unwrapping.{holds-of}
-use Rattle.tests_of_tables.proofs.violations.see_told.Goals as goal
+use Rattle.tests_of_tables.proofs.watches.see_told.Goals as goal
 
 pub see_made-found-requires : goal.see_made-found-requires
 see_made-found-requires g c =
