@@ -9,8 +9,6 @@ use base::NoMemory;
 use desk::{Desk, DeskSeat, Job, Planned, work};
 use std::alloc::Global;
 use std::process::Abort;
-use std::thread;
-use std::thread::Threads;
 use trials::TrialResult;
 
 /// A desk that is opened, and its seats.
@@ -122,32 +120,4 @@ pub fn worked<D: Planned>(
 {
     let made = work(desk, &mut seat);
     (seat, made)
-}
-
-/// Two seats that work in two threads, and how much they did.
-pub fn two_work<D: Planned + Send + Sync, R: Threads + Sync>(
-    rt: &R,
-    desk: &Desk<'_, D>,
-    zero: DeskSeat<D>,
-    one: DeskSeat<D>,
-) -> (DeskSeat<D>, DeskSeat<D>, Option<u32>)
-    requires { (zero.desk ≡ desk.now.id) × (one.desk ≡ desk.now.id) }
-    ensures { (result.0.desk ≡ desk.entry.now.id) × (result.1.desk ≡ desk.entry.now.id) }
-{
-    let ((zero, first), (one, second)) = thread::join(
-        rt,
-        move || -> (DeskSeat<D>, Result<u32, NoMemory>)
-            requires { zero.desk ≡ desk.now.id }
-            ensures { result.0.desk ≡ desk.entry.now.id }
-        { worked(desk, zero) },
-        move || -> (DeskSeat<D>, Result<u32, NoMemory>)
-            requires { one.desk ≡ desk.now.id }
-            ensures { result.0.desk ≡ desk.entry.now.id }
-        { worked(desk, one) },
-    );
-    let made = match (first, second) {
-        (Ok(first), Ok(second)) => first.checked_add(second),
-        _ => None,
-    };
-    (zero, one, made)
 }

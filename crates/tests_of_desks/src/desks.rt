@@ -3,7 +3,7 @@ ghost use Rattle.desk.specs.Plans.{IsResultOf, plan_of};
 
 use crate::asserting::same;
 use crate::desk_rows::{
-    closed, closes_as_trials, looks, opened, put_back, put_one, take_two, two_work, worked,
+    closed, closes_as_trials, looks, opened, put_back, put_one, take_two, worked,
 };
 use crate::jobs::{are_places, compare_with_trials, racing_pair};
 use desk::{CloseFault, Desk, DeskFault, DeskSeat, Job, Planned, PostFault};
@@ -169,40 +169,6 @@ fn seats_that_work_in_turn(rt: HostRuntime) {
     for (n, count) in [(50, 1), (3, 64)] {
         one_after_the_other::<Brand, _>(&rt, rt.alloc(), &job, n, count)
     }
-}
-
-/// The last two seats of a row work in two threads, and are put back.
-fn work_by_two<D: Planned + Send + Sync, R: Threads + Abort + Sync>(
-    rt: &R,
-    desk: &Desk<'_, D>,
-    seats: &mut Vec<DeskSeat<D>>,
-) -> Option<u32>
-    requires { All (λ seat. seat.desk ≡ desk.now.id) seats.old.items }
-    ensures { All (λ seat. seat.desk ≡ desk.now.id) seats.new.items }
-{
-    let (zero, one) = take_two(rt, desk, seats);
-    let (zero, one, made) = two_work(rt, desk, zero, one);
-    put_back(rt, desk, seats, zero, one);
-    made
-}
-
-/// Two threads work off a batch.
-fn two_threads<D: Planned + Send + Sync, R: Threads + Abort + Sync>(
-    rt: &R,
-    alloc: Global,
-    job: &Job,
-)
-    requires { D.plan ≡ plan_of job.now }
-{
-    let (desk, mut seats) = opened::<D, R>(rt, alloc, job, 200, 2);
-    same(rt, &work_by_two(rt, &desk, &mut seats), &Some(200));
-    closes_as_trials(rt, alloc, desk, seats, job, 200)
-}
-
-#[test]
-fn two_threads_that_work(rt: HostRuntime) {
-    let job = racing_pair(&rt, rt.alloc());
-    two_threads::<Brand, _>(&rt, rt.alloc(), &job)
 }
 
 /// Makes the trial of the next number, posts it, and looks until it finds the result of the other of the first two.
