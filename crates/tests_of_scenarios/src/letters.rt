@@ -2,7 +2,7 @@
 
 use crate::asserting::same;
 use crate::scenario_reading::read_within;
-use base::{Ask, CoreAsk, NoMemory};
+use base::{Ask, BlockId, CacheId, CoreAsk, NoMemory};
 use scenario::{Rest, Scenario};
 use std::alloc::Global;
 use std::process::Abort;
@@ -11,17 +11,18 @@ use std::process::Abort;
 pub type Moment<'m> = (&'m str, bool, usize, Option<char>);
 
 /// An ask as a letter.
-fn letter(ask: CoreAsk) -> char {
-    match ask.ask {
-        Ask::Load => 'L',
-        Ask::Store(_) => 'S',
-        Ask::Replace => 'R',
+fn letter(ask: CoreAsk) -> Option<char> {
+    match (ask.core, ask.block, ask.ask) {
+        (CacheId(0), BlockId(0), Ask::Load) => Some('L'),
+        (CacheId(0), BlockId(0), Ask::Store(5)) => Some('S'),
+        (CacheId(1), BlockId(0), Ask::Replace) => Some('R'),
+        _ => None,
     }
 }
 
 pub fn letter_of(ask: Option<CoreAsk>) -> Option<char> {
     match ask {
-        Some(ask) => Some(letter(ask)),
+        Some(ask) => letter(ask),
         None => None,
     }
 }
@@ -43,7 +44,7 @@ fn letters_of<R: Rest>(
     let mut letters = String::new(heap);
     for (at, ask) in asks.iter().enumerate() {
         same(rt, &rest.offer_at(at), &Some(*ask));
-        letters.push(letter(*ask))?;
+        letters.push(letter(*ask).unwrap_or('?'))?;
     }
     Ok(letters)
 }
