@@ -1,7 +1,3 @@
-pub mod Lists
-pub mod Ties
-pub mod Entering
-pub mod Drawing
 pub mod Owned
 pub mod Calling
 pub mod Crewing

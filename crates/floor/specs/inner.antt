@@ -1,4 +1,2 @@
-pub mod Tokens
-pub mod Keeping
 pub mod Ways
 pub mod Wishes

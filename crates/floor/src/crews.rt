@@ -5,10 +5,8 @@ ghost use Rattle.floor.specs.Crews.{ComeBack, GoesOn};
 ghost use Rattle.floor.specs.inner.Wishes.{Meets};
 
 use crate::floors::Floor;
-use crate::grounds::Naming;
-use crate::halls::TurnFault;
-use crate::seats::{Receipt, Seat};
 use base::{NoMemory, Step};
+use hall::{Naming, Receipt, Seat, TurnFault};
 use std::alloc::Global;
 use std::marker::Model;
 use std::snapshot::Snapshot;
@@ -130,7 +128,7 @@ enum Way<F: Naming> {
 }
 
 impl<F: Naming> Model for Running<F> {
-    ghost use Rattle.floor.specs.Turning.{SeatView};
+    ghost use Rattle.hall.specs.Turning.{SeatView};
     ghost use Rattle.floor.specs.inner.Ways.{IsWayOf};
 
     ghost Value = { SeatView };

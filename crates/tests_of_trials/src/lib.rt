@@ -1,10 +1,8 @@
-//! Tests of trials: what can be chosen, what comes of trials and batches, those that are spread too, and of moments.
+//! Tests of trials: what comes of trials and batches, those that are spread too, and of moments.
 #![tactic(auto)]
 
 #[cfg(test)]
 mod asserting;
-#[cfg(test)]
-mod choosing;
 #[cfg(test)]
 mod entries;
 #[cfg(test)]

@@ -1,14 +1,13 @@
-//! What tests begin with: steps, tables, worlds, setups and scenarios. A call with a long contract stands in one function here,
+//! What tests begin with: steps, tables, setups and scenarios. A call with a long contract stands in one function here,
 //! as it is proved anew wherever it stands.
 
-use base::{Shape, Step};
+use base::{NoMemory, Shape, Step};
 use both_tables::Tables;
 use cache_table::{CacheAction, CacheActions, CacheEntry, CacheEvent, CacheState};
 use scenario::{Scenario, ScenarioFault};
 use std::alloc::Global;
 use std::process::Abort;
-use trials::{Setup, SetupFault};
-use world::{OpenFault, World};
+use trials::{BatchFault, Setup, SetupFault, Trial, TrialResult, batch, trial};
 
 /// An entry that goes to a state and does these actions.
 pub fn acting(rt: &impl Abort, next: CacheState, actions: &[CacheAction]) -> CacheEntry {
@@ -38,30 +37,8 @@ pub fn values(rt: &impl Abort, alloc: Global, count: u32, first: u64, step: u64)
     values
 }
 
-pub fn open_world(
-    alloc: Global,
-    shape: Shape,
-    tables: Tables,
-    opening: Vec<u64>,
-) -> Result<World, OpenFault> {
-    World::open(alloc, shape, tables, opening)
-}
-
-/// A world of two caches and one block that opens at 0.
-pub fn opened(rt: &impl Abort, alloc: Global) -> World {
-    let opening = values(rt, alloc, 1, 0, 0);
-    open_world(alloc, shape_of(rt, 2, 1), Tables::baseline(), opening).expect(rt, "a world")
-}
-
 pub fn step_of(rt: &impl Abort, line: &str) -> Step {
     Step::read(line.as_bytes()).expect(rt, "a step")
-}
-
-pub fn make_all(rt: &impl Abort, world: &mut World, steps: &[&str]) {
-    for line in steps {
-        let step = step_of(rt, line);
-        world.step(step).expect(rt, "memory");
-    }
 }
 
 pub fn open_setup(
@@ -94,6 +71,26 @@ pub fn read_scenario(
     shape: Shape,
 ) -> Result<Scenario<Global>, ScenarioFault> {
     Scenario::read(alloc, alloc, text.as_bytes(), shape)
+}
+
+/// What comes of one trial.
+pub fn trial_of(
+    alloc: Global,
+    tree: &Scenario<Global>,
+    setup: &Setup,
+    number: u32,
+) -> Result<Trial, NoMemory> {
+    trial(alloc, tree, setup, number)
+}
+
+/// What comes of so many trials.
+pub fn batch_of(
+    alloc: Global,
+    tree: &Scenario<Global>,
+    setup: &Setup,
+    n: u32,
+) -> Result<Vec<TrialResult>, BatchFault> {
+    batch(alloc, tree, setup, n)
 }
 
 /// A scenario for so many caches and one block.

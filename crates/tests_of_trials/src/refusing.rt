@@ -3,7 +3,7 @@
 
 use crate::asserting::same;
 use crate::entries::{entry_of, push};
-use crate::making::{open_setup, open_world, read_scenario, shape_of};
+use crate::making::{batch_of, open_setup, read_scenario, shape_of, trial_of};
 use crate::trying::{ONE_LOAD, RACING_PAIR, are_results};
 use base::NoMemory;
 use both_tables::Tables;
@@ -13,7 +13,7 @@ use scenario::Scenario;
 use std::alloc::{AllocError, Global};
 use std::process::Abort;
 use std::test::Fail;
-use trials::{BatchFault, Setup, Trial, TrialResult, Verdict, batch, trial};
+use trials::{BatchFault, Setup, Trial, TrialResult, Verdict, open_recording, open_world};
 use world::World;
 
 /// A PutS that comes late, among three caches.
@@ -65,8 +65,8 @@ fn scenario(
 }
 
 fn opened(rt: &impl Abort, alloc: Global) -> Result<World, Fail> {
-    let opening = zero(alloc)?;
-    Ok(open_world(alloc, shape_of(rt, 3, 1), Tables::baseline(), opening)?)
+    let setup = setup(rt, alloc, 3, 0)?;
+    Ok(open_world(alloc, &setup)?)
 }
 
 /// Makes the first choice again and again, until there is none, and answers how many there were.
@@ -171,9 +171,9 @@ fn is_cut(rt: &impl Abort, made: &Trial) {
 }
 
 fn trial_at_last(rt: &impl Abort, alloc: Global, pair: &Scenario<Global>, setup: &Setup) {
-    let made = match trial(alloc, pair, setup, 54) {
+    let made = match trial_of(alloc, pair, setup, 54) {
         Ok(made) => made,
-        Err(_) => trial(alloc, pair, setup, 54).expect(rt, "a second refusal"),
+        Err(_) => trial_of(alloc, pair, setup, 54).expect(rt, "a second refusal"),
     };
     is_cut(rt, &made);
 }
@@ -187,11 +187,11 @@ fn a_trial(rt: HostRuntime) -> Result<(), Fail> {
 }
 
 fn batch_at_last(rt: &impl Abort, alloc: Global, load: &Scenario<Global>, setup: &Setup) {
-    let results = match batch(alloc, load, setup, 3) {
+    let results = match batch_of(alloc, load, setup, 3) {
         Ok(results) => results,
         Err(fault) => {
             same(rt, &fault, &BatchFault::NoMemory);
-            batch(alloc, load, setup, 3).expect(rt, "a second refusal")
+            batch_of(alloc, load, setup, 3).expect(rt, "a second refusal")
         }
     };
     are_results(rt, results.as_slice(), 3, Verdict::Quiet, 3);
@@ -224,7 +224,7 @@ fn push_each(rt: &impl Abort, recording: &mut Recording) {
 
 fn opened_recording(rt: &impl Abort, alloc: Global) -> Result<Recording, Fail> {
     let setup = setup(rt, alloc, 3, 0)?;
-    Ok(setup.open_recording(alloc)?)
+    Ok(open_recording(alloc, &setup)?)
 }
 
 #[test]

@@ -1,11 +1,13 @@
 use crate::asserting::same;
-use crate::making::{acting, open_setup, read_scenario, shape_of, values, with_entry};
+use crate::making::{
+    acting, batch_of, open_setup, read_scenario, shape_of, trial_of, values, with_entry,
+};
 use base::Shape;
 use cache_table::{CacheAction, CacheEvent, CacheState};
 use scenario::Scenario;
 use std::alloc::Global;
 use std::process::Abort;
-use trials::{Setup, TrialResult, Verdict, batch, trial};
+use trials::{Setup, TrialResult, Verdict};
 
 /// The setup of the largest shape, over tables under which a cache that waits for its data answers an Inv at once.
 fn largest(rt: &impl Abort, alloc: Global, shape: Shape) -> Setup {
@@ -24,7 +26,7 @@ fn are_alone(
     results: &[TrialResult],
 ) {
     for result in results.get(52..).expect(rt, "more results") {
-        let alone = trial(alloc, tree, setup, result.number).expect(rt, "memory");
+        let alone = trial_of(alloc, tree, setup, result.number).expect(rt, "memory");
         same(rt, result, &alone.result);
     }
 }
@@ -45,7 +47,7 @@ const RACE: &str = r#"{"both":[{"op":"load","core":4095,"block":65535},
 
 fn race(rt: &impl Abort, alloc: Global, setup: &Setup) {
     let tree = read_scenario(alloc, RACE, setup.shape()).expect(rt, "a scenario");
-    let results = batch(alloc, &tree, setup, 56).expect(rt, "a batch");
+    let results = batch_of(alloc, &tree, setup, 56).expect(rt, "a batch");
     are_alone(rt, alloc, &tree, setup, results.as_slice());
     same(
         rt,

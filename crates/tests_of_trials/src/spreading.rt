@@ -1,12 +1,12 @@
 use crate::asserting::same;
-use crate::making::{scenario, setup};
+use crate::making::{batch_of, scenario, setup};
 use crate::trying::{ONE_LOAD, RACING_PAIR, are_results};
 use both_tables::Tables;
 use scenario::Scenario;
 use std::alloc::Global;
 use std::process::Abort;
 use std::thread::Threads;
-use trials::{BatchFault, Setup, TrialResult, Verdict, batch, spread};
+use trials::{BatchFault, Setup, TrialResult, Verdict, spread};
 
 /// The trials of a scenario, spread.
 fn spread_of<R: Threads + Sync>(
@@ -38,7 +38,7 @@ fn is_batch<R: Threads + Abort + Sync>(
     n: u32,
 ) {
     let results = spread_of(rt, alloc, tree, setup, n).expect(rt, "a batch");
-    let wanted = batch(alloc, tree, setup, n).expect(rt, "a batch");
+    let wanted = batch_of(alloc, tree, setup, n).expect(rt, "a batch");
     same(rt, &results.as_slice(), &wanted.as_slice());
 }
 

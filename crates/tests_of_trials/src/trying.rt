@@ -1,5 +1,7 @@
 use crate::asserting::{same, same_at};
-use crate::making::{open_setup, scenario, setup, shape_of, values, with_entry};
+use crate::making::{
+    batch_of, open_setup, scenario, setup, shape_of, trial_of, values, with_entry,
+};
 use base::{BlockId, CacheId, Place, Shape};
 use both_tables::Tables;
 use cache_table::{CacheEntry, CacheEvent, CacheState};
@@ -10,7 +12,7 @@ use record::Recording;
 use scenario::Scenario;
 use std::alloc::Global;
 use std::process::Abort;
-use trials::{BatchFault, Setup, SetupFault, TrialResult, Verdict, batch, trial};
+use trials::{BatchFault, Setup, SetupFault, TrialResult, Verdict};
 
 pub const RACING_PAIR: &str =
     r#"{"both":[{"op":"load","core":0,"block":0},{"op":"store","core":1,"block":0,"value":9}]}"#;
@@ -25,7 +27,7 @@ fn comes(
     setup: &Setup,
     wanted: &TrialResult,
 ) {
-    let made = trial(alloc, tree, setup, wanted.number).expect(rt, "memory");
+    let made = trial_of(alloc, tree, setup, wanted.number).expect(rt, "memory");
     same(rt, &made.result, wanted);
     same(
         rt,
@@ -114,7 +116,7 @@ fn writes(rt: &impl Abort, alloc: Global, recording: &Recording, text: &str) {
 
 /// Compares the text of the recording of a trial of one load.
 fn is_written(rt: &impl Abort, alloc: Global, load: &Scenario<Global>, setup: &Setup) {
-    let made = trial(alloc, load, setup, 8).expect(rt, "memory");
+    let made = trial_of(alloc, load, setup, 8).expect(rt, "memory");
     writes(rt, alloc, &made.recording, ONE_LOAD_TEXT);
 }
 
@@ -160,7 +162,7 @@ fn batch_comes(
 ) {
     let tree = scenario(rt, alloc, text, 1);
     let setup = setup(rt, alloc, 1, 1, Tables::baseline(), 1, limit);
-    let results = batch(alloc, &tree, &setup, count).expect(rt, "a batch");
+    let results = batch_of(alloc, &tree, &setup, count).expect(rt, "a batch");
     are_results(rt, results.as_slice(), count, verdict, steps);
 }
 
@@ -191,7 +193,7 @@ fn refuses(rt: &impl Abort, alloc: Global, widest: &Setup) {
     same(rt, &is_own, &true);
     same(rt, &widest.opening(), &[0, 0].as_slice());
     let load = scenario(rt, alloc, ONE_LOAD, 1);
-    let refused = batch(alloc, &load, widest, 1_000_001).err();
+    let refused = batch_of(alloc, &load, widest, 1_000_001).err();
     same(rt, &refused, &Some(BatchFault::TooMany));
 }
 

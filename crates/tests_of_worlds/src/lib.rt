@@ -1,8 +1,10 @@
-//! Tests of worlds: worked runs, what is seen and touched of a world, and how one begins again.
+//! Tests of worlds: worked runs, what is seen and touched of a world, how one begins again, and what can be chosen.
 #![tactic(auto)]
 
 #[cfg(test)]
 mod asserting;
+#[cfg(test)]
+mod choosing;
 #[cfg(test)]
 mod comparing;
 #[cfg(test)]

@@ -2,7 +2,7 @@
 
 use crate::going::trials_go_on;
 use crate::notes::Notes;
-use crate::setup::Setup;
+use crate::setup::{Setup, open_world};
 use crate::verdict::Verdict;
 use base::NoMemory;
 use bumpalo::Bump;
@@ -49,7 +49,7 @@ impl<'s, 'b, A: Allocator, N: Notes> Course<'s, 'b, A, N> {
         requires { N.tells notes (blank setup.now) }
         ensures { IfOk result (λ course. Begins N.tells setup.now (plain scenario.entry.now) number course) }
     {
-        let world = setup.open_world(alloc)?;
+        let world = open_world(alloc, setup)?;
         let moment = Moment::open(alloc, scenario, world)?;
         Ok(Course {
             moment,

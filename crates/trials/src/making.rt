@@ -12,7 +12,7 @@ use crate::laws::{
     cores_are_answered_in_turn, trials_break_where_they_arent_safe, trials_under_restrained_tables,
     trials_under_tables_that_keep_going,
 };
-use crate::setup::Setup;
+use crate::setup::{Setup, open_recording};
 use crate::verdict::{Trial, TrialResult, Verdict};
 use base::NoMemory;
 use bumpalo::Bump;
@@ -74,7 +74,7 @@ fn record_trial<A: Allocator>(
 ) -> Result<(Recording, Verdict), NoMemory>
     ensures { IfOk result (λ made. IsTrial setup.now (plain scenario.now) number made.0 made.1) }
 {
-    let recording = setup.open_recording(alloc)?;
+    let recording = open_recording(alloc, setup)?;
     let mut course = Course::open(alloc, scenario, setup, number, recording)?;
     let verdict = course.run(arena, setup.limit())?;
     Ok((course.into_notes(), verdict))

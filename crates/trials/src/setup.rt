@@ -1,3 +1,7 @@
+ghost use Rattle.std.specs.Prelude.{◌≡◌, IfOk};
+ghost use Rattle.machine.specs.Machine.{opened};
+ghost use Rattle.record.specs.View.{opened_recording};
+
 use base::{NoMemory, Shape};
 use both_tables::Tables;
 use record::Recording;
@@ -43,8 +47,6 @@ impl Model for Setup {
 
 impl Setup {
     ghost use Rattle.std.specs.Prelude.{◌≡◌, ◌≢◌, ◌≤◌, ◌<◌, ◌↔◌, IfOk, IsErrOf, length};
-    ghost use Rattle.machine.specs.Machine.{opened};
-    ghost use Rattle.record.specs.View.{opened_recording};
     ghost use Rattle.trials.specs.Terms.{AreLawful};
 
     /// It is refused `OpeningLength` exactly where there is another number of values than blocks, and else `OverLimit`
@@ -111,29 +113,31 @@ impl Setup {
     {
         self.limit
     }
+}
 
-    /// A world under this setup that has made no step.
-    pub fn open_world(&self, alloc: Global) -> Result<World, NoMemory>
-        ensures shape { IfOk result (λ world. world.shape ≡ self.now.shape) }
-        ensures tables { IfOk result (λ world. world.tables ≡ self.now.tables) }
-        ensures opening { IfOk result (λ world. world.opening ≡ self.now.opening) }
-        ensures state { IfOk result (λ world. world.state ≡ opened self.now.shape self.now.opening) }
-    {
-        let opening = Vec::from_slice(alloc, self.opening())?;
-        match World::open(alloc, self.shape(), self.tables(), opening) {
-            Ok(world) => Ok(world),
-            Err(_) => Err(NoMemory),
-        }
+/// A world under `setup` that has made no step.
+///
+/// It isn't a method, since a type's users load what its methods speak of ("What is loaded", docs/GATE.md).
+pub fn open_world(alloc: Global, setup: &Setup) -> Result<World, NoMemory>
+    ensures shape { IfOk result (λ world. world.shape ≡ setup.now.shape) }
+    ensures tables { IfOk result (λ world. world.tables ≡ setup.now.tables) }
+    ensures opening { IfOk result (λ world. world.opening ≡ setup.now.opening) }
+    ensures state { IfOk result (λ world. world.state ≡ opened setup.now.shape setup.now.opening) }
+{
+    let opening = Vec::from_slice(alloc, setup.opening())?;
+    match World::open(alloc, setup.shape(), setup.tables(), opening) {
+        Ok(world) => Ok(world),
+        Err(_) => Err(NoMemory),
     }
+}
 
-    /// A recording under this setup, without entries.
-    pub fn open_recording(&self, alloc: Global) -> Result<Recording, NoMemory>
-        ensures { IfOk result (λ recording. recording ≡ opened_recording self.now.shape self.now.tables self.now.opening) }
-    {
-        let opening = Vec::from_slice(alloc, self.opening())?;
-        match Recording::open(alloc, self.shape(), self.tables(), opening) {
-            Ok(recording) => Ok(recording),
-            Err(_) => Err(NoMemory),
-        }
+/// A recording under `setup`, without entries.
+pub fn open_recording(alloc: Global, setup: &Setup) -> Result<Recording, NoMemory>
+    ensures { IfOk result (λ recording. recording ≡ opened_recording setup.now.shape setup.now.tables setup.now.opening) }
+{
+    let opening = Vec::from_slice(alloc, setup.opening())?;
+    match Recording::open(alloc, setup.shape(), setup.tables(), opening) {
+        Ok(recording) => Ok(recording),
+        Err(_) => Err(NoMemory),
     }
 }

@@ -2,7 +2,7 @@
 use Rattle.std.specs.Prelude.{◌≡◌}
 use Rattle.floor.specs.declared.crews.Way.{Way}
 use Rattle.floor.specs.declared.crews.Way.TheVariants.{Started, Ended}
-use Rattle.floor.specs.Turning.{SeatView}
+use Rattle.hall.specs.Turning.{SeatView}
 use Rattle.floor.specs.Crews.{GoesOn}
 
 -- a thread has promised to go on from a seat, or the seat has gone on already

@@ -1,6 +1,6 @@
 use Rattle.std.proofs.Common.{subst, arith}
 use Rattle.std.proofs.lemmas.Grind.{common_steps}
-use Rattle.floor.specs.Closing.{AllThere}
+use Rattle.hall.specs.Closing.{AllThere}
 use Rattle.floor.proofs.Owned.{all_stand, all_received}
 use Rattle.floor.proofs.floors.Floor.close.Goals as goal
 
@@ -10,33 +10,33 @@ returns-clause-missing g c =
     (subst (λ row. AllThere c.args.self.seats row) c.deref.ensures.value c.if-not-all_there.ensures)
 
 pub returns-clause-stand : goal.returns-clause-stand
-returns-clause-stand g c = all_stand c.end.result.recording.entries c.end.result.owners.items c.args.seats.items c.end.ensures.histories
+returns-clause-stand g c = all_stand c.close.result.recording.entries c.close.result.owners.items c.args.seats.items c.close.ensures.histories
 
 pub returns-clause-received : goal.returns-clause-received
 returns-clause-received g c =
-    all_received g.F.Naming.floor c.end.result.recording.entries c.end.result.owners.items c.args.seats.items
-    c.end.ensures.owners (returns-clause-missing g c) c.end.ensures.histories
+    all_received g.F.Naming.floor c.close.result.recording.entries c.close.result.owners.items c.args.seats.items
+    c.close.ensures.owners (returns-clause-missing g c) c.close.ensures.histories
 
 pub returns-clause-setup : goal.returns-clause-setup
-returns-clause-setup g c = c.end.ensures.setup
+returns-clause-setup g c = c.close.ensures.setup
 
 pub returns-clause-legal : goal.returns-clause-legal
-returns-clause-legal g c = c.end.ensures.legal
+returns-clause-legal g c = c.close.ensures.legal
 
 pub returns-clause-owners : goal.returns-clause-owners
-returns-clause-owners g c = c.end.ensures.owners
+returns-clause-owners g c = c.close.ensures.owners
 
 pub returns-clause-histories : goal.returns-clause-histories
-returns-clause-histories g c = c.end.ensures.histories
+returns-clause-histories g c = c.close.ensures.histories
 
 pub returns-clause-violation : goal.returns-clause-violation
-returns-clause-violation g c = c.end.ensures.violation
+returns-clause-violation g c = c.close.ensures.violation
 
 pub returns-clause-clean : goal.returns-clause-clean
-returns-clause-clean g c = c.end.ensures.clean
+returns-clause-clean g c = c.close.ensures.clean
 
 pub returns-clause-seats : goal.returns-clause-seats
-returns-clause-seats g c = c.end.ensures.seats
+returns-clause-seats g c = c.close.ensures.seats
 
 pub returns-clause-back : goal.returns-clause-back
 returns-clause-back g c = tt
