@@ -208,18 +208,23 @@ fn compare_closed<F: Naming, R: Abort>(rt: &R, alloc: Global, closed: &Closed<F>
     same(rt, &closed.violation, &replayed.violation);
 }
 
-/// Has the seats play their scripts.
-pub fn played<'a, F: Naming + Send + Sync, R: Threads + Wait + Sync>(
+/// Has the seats play as their choosers wish.
+pub fn played<
+    F: Naming + Send + Sync,
+    R: Threads + Wait + Sync,
+    G: Gate + Sync,
+    C: Chooser<F> + Drop + Send,
+>(
     rt: &R,
     alloc: Global,
     floor: &Floor<F>,
-    gate: &Meeting,
-    members: Vec<(Seat<F>, Script<'a>)>,
-) -> Result<Vec<(Seat<F>, Option<TurnFault>)>, (CrewFault, Vec<(Seat<F>, Script<'a>)>)> {
+    gate: &G,
+    members: Vec<(Seat<F>, C)>,
+) -> Result<Vec<(Seat<F>, Option<TurnFault>)>, (CrewFault, Vec<(Seat<F>, C)>)> {
     crew(rt, alloc, floor, gate, members)
 }
 
-/// The same once so many have come.
+/// Has the seats play their scripts once so many have come.
 fn come_and_play<F: Naming + Send + Sync, R: Threads + Wait + Abort + Sync>(
     rt: &R,
     alloc: Global,

@@ -4,11 +4,12 @@ ghost use Rattle.std.specs.Prelude.{◌≡◌};
 ghost use Rattle.floor.specs.FloorId.{floor_id};
 
 use crate::asserting::same;
+use crate::crews::played;
 use crate::entries::entry_of;
 use crate::floor_ends::opened;
 use crate::setups::setup;
 use base::{Ask, BlockId, CacheId, Step};
-use floor::{Chooser, Floor, Gate, Ground, Naming, Receipt, Seat, Setup, TurnFault, Wish, crew};
+use floor::{Chooser, Floor, Gate, Ground, Naming, Receipt, Seat, Setup, TurnFault, Wish};
 use std::alloc::Global;
 use std::marker::Brand;
 use std::process::Abort;
@@ -161,7 +162,7 @@ impl<'a, F: Naming> Chooser<F> for Plan<'a> {
 }
 
 /// Has one seat play, and gives it back with how it ended.
-fn played<F: Naming + Send + Sync, R: Threads + Wait + Abort + Sync, G: Gate + Sync>(
+fn played_alone<F: Naming + Send + Sync, R: Threads + Wait + Abort + Sync, G: Gate + Sync>(
     rt: &R,
     alloc: Global,
     floor: &Floor<F>,
@@ -171,7 +172,7 @@ fn played<F: Naming + Send + Sync, R: Threads + Wait + Abort + Sync, G: Gate + S
 ) -> (Seat<F>, Option<TurnFault>) {
     let mut members = Vec::new(alloc);
     members.push((seat, plan)).expect(rt, "memory");
-    let back = crew(rt, alloc, floor, gate, members).ok();
+    let back = played(rt, alloc, floor, gate, members).ok();
     back.expect(rt, "a crew").pop().expect(rt, "a seat")
 }
 
@@ -197,7 +198,7 @@ fn plays_row<F: Naming + Send + Sync, R: Threads + Wait + Abort + Sync>(
         wishes: row.wishes,
         notes,
     };
-    let (seat, fault) = played(rt, alloc, floor, notes, seat, plan);
+    let (seat, fault) = played_alone(rt, alloc, floor, notes, seat, plan);
     same(rt, &fault, &row.fault);
     same(rt, &seat.made(), &row.lines.len());
     compare(rt, &seat, row.lines);
@@ -305,7 +306,7 @@ fn plays_beside<F: Naming + Send + Sync, R: Threads + Wait + Abort + Sync>(
         wishes: &[OTHER_LOAD, RESPONSE],
         notes: &notes,
     };
-    let (seat, fault) = played(rt, alloc, floor, gate, seat, plan);
+    let (seat, fault) = played_alone(rt, alloc, floor, gate, seat, plan);
     same(rt, &fault, &None);
     are_numbered(rt, &seat, &[1, 4]);
 }

@@ -45,10 +45,11 @@ pub fn closes_as_trials<D: Planned, R: Abort>(
     job: &Job,
     n: u32,
 )
-    requires { All (λ seat. seat.desk ≡ desk.id) seats.items }
+    requires seats { All (λ seat. seat.desk ≡ desk.id) seats.items }
+    requires plan { D.plan ≡ plan_of job.now }
 {
     let places = closed(rt, desk, seats);
-    compare_with_trials(rt, alloc, job, n, &places)
+    compare_with_trials::<D, R>(rt, alloc, job, n, &places)
 }
 
 /// Takes the last two seats of a row.

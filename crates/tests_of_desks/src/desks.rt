@@ -5,14 +5,14 @@ use crate::asserting::same;
 use crate::desk_rows::{
     closed, closes_as_trials, looks, opened, put_back, put_one, take_two, worked,
 };
-use crate::jobs::{are_places, compare_with_trials, racing_pair};
+use crate::jobs::{are_places, compare_with_trials, racing_pair, result_of};
 use desk::{CloseFault, Desk, DeskFault, DeskSeat, Job, Planned, PostFault};
 use std::alloc::Global;
 use std::marker::Brand;
 use std::process::Abort;
 use std::thread;
 use std::thread::Threads;
-use trials::{TrialResult, trial};
+use trials::TrialResult;
 
 const LOOKS: u32 = 1_000_000_000;
 
@@ -78,9 +78,7 @@ fn claim_and_post<D: Planned, R: Abort>(
 fn two_seats<D: Planned, R: Abort>(rt: &R, alloc: Global, job: &Job)
     requires { D.plan ≡ plan_of job.now }
 {
-    let two = trial(alloc, &job.scenario, &job.setup, 2)
-        .expect(rt, "memory")
-        .result;
+    let two = result_of::<D>(alloc, job, 2).expect(rt, "memory");
     let (desk, mut seats) = opened::<D, R>(rt, alloc, job, 3, 2);
     claim_and_post(rt, &desk, &mut seats, two);
     let places = closed(rt, desk, seats);
@@ -218,8 +216,8 @@ fn is_posted<D: Planned>(
     requires plan { D.plan ≡ plan_of job.now }
     ensures { seat.new.desk ≡ desk.now.id }
 {
-    match trial(alloc, &job.scenario, &job.setup, number) {
-        Ok(made) => desk.post(seat, number, made.result).is_ok(),
+    match result_of::<D>(alloc, job, number) {
+        Ok(made) => desk.post(seat, number, made).is_ok(),
         Err(_) => false,
     }
 }
@@ -298,7 +296,7 @@ fn two_find<D: Planned + Send + Sync, R: Threads + Abort + Sync>(rt: &R, alloc: 
     let found = find_by_two(rt, alloc, &desk, &mut seats, job);
     let places = closed(rt, desk, seats);
     are_places(rt, &found, &places);
-    compare_with_trials(rt, alloc, job, 2, &places)
+    compare_with_trials::<D, R>(rt, alloc, job, 2, &places)
 }
 
 #[test]

@@ -1,17 +1,36 @@
+ghost use Rattle.std.specs.Prelude.{◌≡◌, IfOk};
+ghost use Rattle.desk.specs.Plans.{IsResultOf, plan_of};
+
 use crate::asserting::same;
-use base::Shape;
+use base::{Ask, BlockId, CacheId, CoreAsk, NoMemory, Shape};
 use both_tables::Tables;
-use desk::Job;
-use scenario::{Scenario, ScenarioFault};
+use desk::{Job, Planned};
+use scenario::Scenario;
 use std::alloc::Global;
 use std::process::Abort;
 use trials::{Setup, SetupFault, TrialResult, trial};
 
-pub const RACING_PAIR: &str =
-    r#"{"both":[{"op":"load","core":0,"block":0},{"op":"store","core":1,"block":0,"value":9}]}"#;
+/// A load of core 0 and a store of core 1, which race for one block.
+const RACE: [CoreAsk; 2] = [
+    CoreAsk {
+        core: CacheId(0),
+        block: BlockId(0),
+        ask: Ask::Load,
+    },
+    CoreAsk {
+        core: CacheId(1),
+        block: BlockId(0),
+        ask: Ask::Store(9),
+    },
+];
 
-pub fn read(alloc: Global, text: &str, shape: Shape) -> Result<Scenario<Global>, ScenarioFault> {
-    Scenario::read(alloc, alloc, text.as_bytes(), shape)
+/// The asks of the race, in any order.
+pub fn race(alloc: Global) -> Result<Scenario<Global>, NoMemory> {
+    let mut asks = Vec::with_capacity(alloc, RACE.len())?;
+    for ask in &RACE {
+        asks.push(Scenario::One(*ask))?;
+    }
+    Ok(Scenario::Both(asks))
 }
 
 pub fn open_setup(
@@ -23,45 +42,40 @@ pub fn open_setup(
     Setup::new(shape, Tables::baseline(), opening, seed, limit)
 }
 
-/// A job for so many caches and one block that opens at 0.
-pub fn job_of(
-    rt: &impl Abort,
-    alloc: Global,
-    caches: u32,
-    text: &str,
-    seed: u64,
-    limit: u32,
-) -> Job {
-    let shape = Shape::new(caches, 1).expect(rt, "a shape");
-    let scenario = read(alloc, text, shape).expect(rt, "a scenario");
+/// Two cores that race for one block, which opens at 0.
+pub fn racing_pair(rt: &impl Abort, alloc: Global) -> Job {
+    let shape = Shape::new(2, 1).expect(rt, "a shape");
+    let scenario = race(alloc).expect(rt, "memory");
     let opening = vec![in alloc; 0; 1].expect(rt, "memory");
-    let setup = open_setup(shape, opening, seed, limit).expect(rt, "a setup");
+    let setup = open_setup(shape, opening, 42, 100).expect(rt, "a setup");
     Job { scenario, setup }
 }
 
-/// Two cores that race for one block.
-pub fn racing_pair(rt: &impl Abort, alloc: Global) -> Job {
-    job_of(rt, alloc, 2, RACING_PAIR, 42, 100)
-}
-
 /// What comes of a trial of a job.
-fn result_of(rt: &impl Abort, alloc: Global, job: &Job, number: u32) -> TrialResult {
-    trial(alloc, &job.scenario, &job.setup, number)
-        .expect(rt, "memory")
-        .result
+pub fn result_of<D: Planned>(alloc: Global, job: &Job, number: u32) -> Result<TrialResult, NoMemory>
+    requires { D.plan ≡ plan_of job.now }
+    ensures { IfOk result (λ made. IsResultOf D.plan number made) }
+{
+    match trial(alloc, &job.scenario, &job.setup, number) {
+        Ok(made) => Ok(made.result),
+        Err(fault) => Err(fault),
+    }
 }
 
 /// Compares a closed desk with the trials of its job, made one after another.
-pub fn compare_with_trials<R: Abort>(
+pub fn compare_with_trials<D: Planned, R: Abort>(
     rt: &R,
     alloc: Global,
     job: &Job,
     n: u32,
     places: &[Option<TrialResult>],
-) {
+)
+    requires { D.plan ≡ plan_of job.now }
+{
     same(rt, &places.len(), &(n as usize));
     for (number, place) in (0..n).zip(places) {
-        same(rt, place, &Some(result_of(rt, alloc, job, number)));
+        let wanted = result_of::<D>(alloc, job, number).expect(rt, "memory");
+        same(rt, place, &Some(wanted));
     }
 }
 

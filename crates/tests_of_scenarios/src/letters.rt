@@ -10,14 +10,42 @@ use std::process::Abort;
 /// What is offered, whether the scenario may end, which offer is then taken, and which ask that is.
 pub type Moment<'m> = (&'m str, bool, usize, Option<char>);
 
+/// The letters of the asks that have one.
+const LETTERS: [(CoreAsk, char); 3] = [
+    (
+        CoreAsk {
+            core: CacheId(0),
+            block: BlockId(0),
+            ask: Ask::Load,
+        },
+        'L',
+    ),
+    (
+        CoreAsk {
+            core: CacheId(0),
+            block: BlockId(0),
+            ask: Ask::Store(5),
+        },
+        'S',
+    ),
+    (
+        CoreAsk {
+            core: CacheId(1),
+            block: BlockId(0),
+            ask: Ask::Replace,
+        },
+        'R',
+    ),
+];
+
 /// An ask as a letter.
 fn letter(ask: CoreAsk) -> Option<char> {
-    match (ask.core, ask.block, ask.ask) {
-        (CacheId(0), BlockId(0), Ask::Load) => Some('L'),
-        (CacheId(0), BlockId(0), Ask::Store(5)) => Some('S'),
-        (CacheId(1), BlockId(0), Ask::Replace) => Some('R'),
-        _ => None,
+    for (known, letter) in &LETTERS {
+        if *known == ask {
+            return Some(*letter);
+        }
     }
+    None
 }
 
 pub fn letter_of(ask: Option<CoreAsk>) -> Option<char> {

@@ -112,15 +112,15 @@ fn a_long_scenario_stays_shallow(rt: HostRuntime) {
 }
 
 /// Takes the only offer, and answers whether there was memory for that. Where there isn't, nothing changes.
-fn take_offer<'b>(
+fn take_offer<R: Rest>(
     rt: &impl Abort,
     heap: Global,
-    tree: &mut Scenario<&'b Bump>,
-    bump: &'b Bump,
+    rest: &mut R,
+    alloc: R::Alloc,
     wanted: &str,
 ) -> bool {
-    offers(rt, heap, tree, wanted);
-    match tree.take(bump, 0) {
+    offers(rt, heap, rest, wanted);
+    match rest.take(alloc, 0) {
         Ok(taken) => {
             same(rt, &letter_of(taken), &wanted.chars().next());
             true

@@ -3,20 +3,20 @@ ghost use Rattle.desk.specs.Plans.{IsResultOf, plan_of};
 
 use crate::asserting::same;
 use crate::desk_rows::looks;
-use crate::jobs::{RACING_PAIR, open_setup, read};
+use crate::jobs::{open_setup, race, result_of};
 use base::Shape;
 use desk::{CloseFault, Desk, DeskFault, DeskSeat, Job, Planned, PostFault};
 use std::alloc::Global;
 use std::marker::Brand;
 use std::process::Abort;
 use std::test::Fail;
-use trials::{TrialResult, trial};
+use trials::TrialResult;
 
 /// Two cores that race for one block.
 fn racing_pair(alloc: Global) -> Result<Job, Fail> {
     let shape = Shape::new(2, 1)?;
     let opening = vec![in alloc; 0; 1]?;
-    let scenario = read(alloc, RACING_PAIR, shape)?;
+    let scenario = race(alloc)?;
     let setup = open_setup(shape, opening, 42, 100)?;
     Ok(Job { scenario, setup })
 }
@@ -81,7 +81,7 @@ fn one_post<D: Planned, R: Abort>(rt: &R, alloc: Global, job: &Job, made: TrialR
 fn posts<D: Planned, R: Abort>(rt: &R, alloc: Global, job: &Job) -> Result<(), Fail>
     requires { D.plan ≡ plan_of job.now }
 {
-    let made = trial(alloc, &job.scenario, &job.setup, 0)?.result;
+    let made = result_of::<D>(alloc, job, 0)?;
     let mut is_made = one_post::<D, _>(rt, alloc, job, made);
     if !is_made {
         is_made = one_post::<D, _>(rt, alloc, job, made);
