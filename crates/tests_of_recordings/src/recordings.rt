@@ -2,7 +2,7 @@ use crate::asserting::{same, same_at};
 use crate::entries::{entry_of, push};
 use crate::making::{shape_of, with_entry, zero};
 use base::controller::Protocol;
-use base::{BlockId, CacheId, Outcome, Place, Source, Step};
+use base::{BlockId, CacheId, Outcome, Place, Shape, Source, Step};
 use both_tables::Tables;
 use cache_table::{CacheEntry, CacheEvent, CacheState};
 use devices::{Buffer, Faltering};
@@ -13,6 +13,15 @@ use std::alloc::Global;
 use std::process::Abort;
 use world::OpenFault;
 
+pub fn open(
+    alloc: Global,
+    shape: Shape,
+    tables: Tables,
+    opening: Vec<u64>,
+) -> Result<Recording, OpenFault> {
+    Recording::open(alloc, shape, tables, opening)
+}
+
 /// A recording of one block that opens at 0. Each line is a step and an outcome, with ` = ` between them.
 fn recorded(
     rt: &impl Abort,
@@ -22,7 +31,7 @@ fn recorded(
     lines: &[&str],
 ) -> Recording {
     let opening = zero(rt, alloc);
-    let opened = Recording::open(alloc, shape_of(rt, caches, 1), tables, opening);
+    let opened = open(alloc, shape_of(rt, caches, 1), tables, opening);
     let mut recording = opened.expect(rt, "a recording");
     push_all(rt, &mut recording, lines);
     recording
@@ -138,7 +147,7 @@ fn a_recording_of_one_load(rt: HostRuntime) {
 fn a_recording_of_no_values(rt: HostRuntime) {
     let shape = shape_of(&rt, 1, 1);
     let none = Vec::new(rt.alloc());
-    let refused = Recording::open(rt.alloc(), shape, Tables::baseline(), none).err();
+    let refused = open(rt.alloc(), shape, Tables::baseline(), none).err();
     same(&rt, &refused, &Some(OpenFault::OpeningLength));
 }
 

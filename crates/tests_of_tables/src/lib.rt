@@ -1,4 +1,5 @@
-//! Tests of tables: what a text makes of them, what is certified of them, and what a watch sees wrong under changed ones.
+//! Tests of tables: what a text makes of them, what is certified of them, and what a watch sees wrong under changed ones; and of
+//! moments.
 #![tactic(auto)]
 
 #[cfg(test)]
@@ -11,5 +12,7 @@ mod exclusive;
 mod making;
 #[cfg(test)]
 mod overrides;
+#[cfg(test)]
+mod refusing;
 #[cfg(test)]
 mod watches;

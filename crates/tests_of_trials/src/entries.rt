@@ -1,6 +1,6 @@
 use crate::making::step_of;
 use base::Outcome;
-use record::{Entry, PushFault, Recording};
+use record::Entry;
 use std::process::Abort;
 
 fn outcome_of(rt: &impl Abort, text: &str) -> Outcome {
@@ -14,12 +14,4 @@ pub fn entry_of(rt: &impl Abort, line: &str) -> Entry {
         step: step_of(rt, step),
         outcome: outcome_of(rt, outcome),
     }
-}
-
-/// Adds an entry to a recording that has no seats.
-pub fn push(rt: &impl Abort, recording: &mut Recording, entry: Entry) -> Result<(), PushFault> {
-    if recording.seats() != 0 {
-        panic!(rt; "a recording with seats");
-    }
-    recording.push(entry)
 }

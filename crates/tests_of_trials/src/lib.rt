@@ -1,4 +1,4 @@
-//! Tests of trials: what comes of trials and batches, those that are spread too, and of moments.
+//! Tests of trials: what comes of trials and batches, those that are spread too.
 #![tactic(auto)]
 
 #[cfg(test)]

@@ -7,12 +7,12 @@ use both_tables::Tables;
 use cache_table::{CacheEntry, CacheEvent, CacheState};
 use devices::Buffer;
 use directory_table::{DirectoryEntry, DirectoryEvent, DirectoryState};
-use monitor::Violation;
 use record::Recording;
 use scenario::Scenario;
 use std::alloc::Global;
 use std::process::Abort;
 use trials::{BatchFault, Setup, SetupFault, TrialResult, Verdict};
+use violations::Violation;
 
 pub const RACING_PAIR: &str =
     r#"{"both":[{"op":"load","core":0,"block":0},{"op":"store","core":1,"block":0,"value":9}]}"#;
