@@ -1,6 +1,5 @@
 use crate::asserting::same;
 use crate::letters::{Moment, letter_of, offered, read};
-use crate::scenario_reading::nested;
 use base::{Ask, BlockId, CacheId, CoreAsk};
 use bumpalo::Bump;
 use cursors::{Cursor, Next};
@@ -288,7 +287,9 @@ const LOAD: &str = r#"{"op":"load","core":0,"block":0}"#;
 /// (It is a load at the deepest level.)
 #[test]
 fn a_deep_scenario_has_its_one_offer(rt: HostRuntime) {
-    let text = nested(&rt, rt.alloc(), r#"{"seq":["#, LOAD, "]}", 47);
+    let front = r#"{"seq":["#.repeat(rt.alloc(), 47).expect(&rt, "memory");
+    let rest = "]}".repeat(rt.alloc(), 47).expect(&rt, "memory");
+    let text = format!(in rt.alloc(); "{front}{LOAD}{rest}").expect(&rt, "memory");
     take_text(&rt, rt.alloc(), text.as_str(), &Taking::OnlyLoad);
 }
 

@@ -1,9 +1,8 @@
 //! Scenarios of a load, a store and a replacement, and what is offered and taken of them as letters.
 
 use crate::asserting::same;
-use crate::scenario_reading::read_within;
-use base::{Ask, BlockId, CacheId, CoreAsk, NoMemory};
-use scenario::{Rest, Scenario};
+use base::{Ask, BlockId, CacheId, CoreAsk, NoMemory, Shape};
+use scenario::{Rest, Scenario, ScenarioFault};
 use std::alloc::Global;
 use std::process::Abort;
 
@@ -56,8 +55,17 @@ pub fn letter_of(ask: Option<CoreAsk>) -> Option<char> {
 }
 
 /// The numbers are of two caches and one block.
+pub fn try_read(
+    rt: &impl Abort,
+    alloc: Global,
+    text: &str,
+) -> Result<Scenario<Global>, ScenarioFault> {
+    let shape = Shape::new(2, 1).expect(rt, "a shape");
+    Scenario::read(alloc, alloc, text.as_bytes(), shape)
+}
+
 pub fn read(rt: &impl Abort, alloc: Global, text: &str) -> Scenario<Global> {
-    read_within(rt, alloc, text.as_bytes(), 1).expect(rt, "a scenario")
+    try_read(rt, alloc, text).expect(rt, "a scenario")
 }
 
 /// The letters of a list of offers: each stands at its place, and there are no more than are counted.

@@ -1,4 +1,4 @@
-//! Tests of scenarios: how each is read, written and taken, as a tree, as a copy and by a cursor.
+//! Tests of scenarios: how each is taken, as a tree, as a copy and by a cursor.
 #![tactic(auto)]
 
 #[cfg(test)]
@@ -9,7 +9,5 @@ mod borrowing;
 mod letters;
 #[cfg(test)]
 mod refusing;
-#[cfg(test)]
-mod scenario_reading;
 #[cfg(test)]
 mod scenario_taking;

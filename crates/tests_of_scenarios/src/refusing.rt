@@ -2,8 +2,7 @@
 //! nothing is refused they are plain calls.
 
 use crate::asserting::same;
-use crate::letters::{letter_of, offered};
-use crate::scenario_reading::read_within;
+use crate::letters::{letter_of, offered, try_read};
 use base::NoMemory;
 use cursors::Cursor;
 use devices::Buffer;
@@ -33,11 +32,11 @@ const TREES: [(&str, &str); 4] = [
 ];
 
 fn read_at_last(rt: &impl Abort, alloc: Global, text: &str) -> Scenario<Global> {
-    match read_within(rt, alloc, text.as_bytes(), 1) {
+    match try_read(rt, alloc, text) {
         Ok(tree) => tree,
         Err(fault) => {
             same(rt, &fault, &ScenarioFault::NoMemory);
-            read_within(rt, alloc, text.as_bytes(), 1).expect(rt, "a second refusal")
+            try_read(rt, alloc, text).expect(rt, "a second refusal")
         }
     }
 }

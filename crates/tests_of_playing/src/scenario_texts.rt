@@ -1,3 +1,5 @@
+//! The texts of scenarios: why one is refused, and what a scenario is written as.
+
 use crate::asserting::same_at;
 use base::Shape;
 use devices::{Buffer, Faltering};
@@ -5,20 +7,18 @@ use scenario::{SaveFault, Scenario, ScenarioFault};
 use std::alloc::Global;
 use std::process::Abort;
 
-/// The numbers are of two caches and so many blocks.
-pub fn read_within(
+/// The numbers are of two caches and three blocks.
+fn try_read(
     rt: &impl Abort,
     alloc: Global,
     text: &[u8],
-    blocks: u32,
 ) -> Result<Scenario<Global>, ScenarioFault> {
-    let shape = Shape::new(2, blocks).expect(rt, "a shape");
+    let shape = Shape::new(2, 3).expect(rt, "a shape");
     Scenario::read(alloc, alloc, text, shape)
 }
 
-/// The numbers are of two caches and three blocks.
 fn read(rt: &impl Abort, alloc: Global, text: &str) -> Scenario<Global> {
-    read_within(rt, alloc, text.as_bytes(), 3).expect(rt, "a scenario")
+    try_read(rt, alloc, text.as_bytes()).expect(rt, "a scenario")
 }
 
 /// Compares why a text is refused, if it is.
@@ -29,28 +29,22 @@ fn has_fault(
     text: &[u8],
     fault: Option<ScenarioFault>,
 ) {
-    let found = read_within(rt, alloc, text, 3).err();
+    let found = try_read(rt, alloc, text).err();
     same_at(rt, &found, &fault, &name);
 }
 
 /// What comes before so many times, then the inner text, and then what comes behind so many times.
-pub fn nested(
+fn nested(
     rt: &impl Abort,
     alloc: Global,
     before: &str,
     inner: &str,
     behind: &str,
-    times: u32,
+    times: usize,
 ) -> String {
-    let mut text = String::new(alloc);
-    for _ in 0..times {
-        text.push_str(before).expect(rt, "memory");
-    }
-    text.push_str(inner).expect(rt, "memory");
-    for _ in 0..times {
-        text.push_str(behind).expect(rt, "memory");
-    }
-    text
+    let front = before.repeat(alloc, times).expect(rt, "memory");
+    let rest = behind.repeat(alloc, times).expect(rt, "memory");
+    format!(in alloc; "{front}{inner}{rest}").expect(rt, "memory")
 }
 
 const LOAD: &str = r#"{"block":0,"core":0,"op":"load"}"#;
@@ -233,7 +227,7 @@ const DEEP: Option<ScenarioFault> = Some(ScenarioFault::TooDeep);
 const LONG: Option<ScenarioFault> = Some(ScenarioFault::TooLong);
 
 /// What comes before, the inner text, what comes behind, how often, and why that is refused, if it is.
-const NESTED: [(&str, &str, &str, u32, Option<ScenarioFault>); 14] = [
+const NESTED: [(&str, &str, &str, usize, Option<ScenarioFault>); 14] = [
     (SEQ, EMPTY, "]}", 47, None),
     (SEQ, LOAD, "]}", 47, None),
     (SEQ, EMPTY, "]}", 48, DEEP),
