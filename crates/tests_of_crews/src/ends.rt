@@ -5,10 +5,9 @@ ghost use Rattle.floor.specs.FloorId.{floor_id};
 
 use crate::asserting::same;
 use crate::crews::played;
-use crate::entries::entry_of;
 use crate::floor_ends::opened;
 use crate::setups::setup;
-use base::{Ask, BlockId, CacheId, Step};
+use base::{Ask, BlockId, CacheId, Outcome, Step};
 use floor::{Chooser, Floor, Gate, Ground, Naming, Receipt, Seat, Setup, TurnFault, Wish};
 use std::alloc::Global;
 use std::marker::Brand;
@@ -17,27 +16,37 @@ use std::sync::atomic::{AtomicU32, AtomicU64, Ordering};
 use std::sync::{Mutex, Wait};
 use std::thread::Threads;
 
-const LOAD: Wish = Wish::Step(Step::Ask {
+const LOAD: Step = Step::Ask {
     cache: CacheId(0),
     block: BlockId(0),
     ask: Ask::Load,
-});
+};
 
-const OTHER_LOAD: Wish = Wish::Step(Step::Ask {
+const OTHER_LOAD: Step = Step::Ask {
     cache: CacheId(1),
     block: BlockId(0),
     ask: Ask::Load,
-});
+};
 
-const RESPONSE: Wish = Wish::Step(Step::Response {
+const RESPONSE: Step = Step::Response {
     block: BlockId(0),
     index: 0,
-});
+};
 
-const REQUEST: Wish = Wish::Step(Step::Request {
+const REQUEST: Step = Step::Request {
     block: BlockId(0),
     index: 0,
-});
+};
+
+const OTHER_REQUEST: Step = Step::Request {
+    block: BlockId(0),
+    index: 1,
+};
+
+const LOADED: Outcome = Outcome::Load {
+    cache: CacheId(0),
+    value: 0,
+};
 
 /// What the last seat of a floor wishes, and what comes of it.
 struct Row<'a> {
@@ -45,7 +54,7 @@ struct Row<'a> {
     capacity: u32,
     wishes: &'a [Wish],
     /// The entries of its receipts.
-    lines: &'a [&'a str],
+    entries: &'a [(Step, Outcome)],
     fault: Option<TurnFault>,
     /// For each time that its chooser is asked, the number of the receipt that it is told of, counted from 1, or 0.
     told: &'a [u64],
@@ -58,12 +67,18 @@ const ROWS: [Row<'static>; 4] = [
     Row {
         seats: 1,
         capacity: 9,
-        wishes: &[LOAD, Wish::Any(0), Wish::Any(0), Wish::Any(7), LOAD],
-        lines: &[
-            "ask 0 0 load = sent",
-            "request 0 0 = moved",
-            "response 0 0 = load 0 0",
-            "ask 0 0 load = load 0 0",
+        wishes: &[
+            Wish::Step(LOAD),
+            Wish::Any(0),
+            Wish::Any(0),
+            Wish::Any(7),
+            Wish::Step(LOAD),
+        ],
+        entries: &[
+            (LOAD, Outcome::Sent),
+            (REQUEST, Outcome::Moved),
+            (RESPONSE, LOADED),
+            (LOAD, LOADED),
         ],
         fault: None,
         told: &[0, 1, 2, 3, 0, 4],
@@ -72,11 +87,11 @@ const ROWS: [Row<'static>; 4] = [
     Row {
         seats: 1,
         capacity: 9,
-        wishes: &[LOAD, OTHER_LOAD, Wish::Any(1)],
-        lines: &[
-            "ask 0 0 load = sent",
-            "ask 1 0 load = sent",
-            "request 0 1 = moved",
+        wishes: &[Wish::Step(LOAD), Wish::Step(OTHER_LOAD), Wish::Any(1)],
+        entries: &[
+            (LOAD, Outcome::Sent),
+            (OTHER_LOAD, Outcome::Sent),
+            (OTHER_REQUEST, Outcome::Moved),
         ],
         fault: None,
         told: &[0, 1, 2, 3],
@@ -85,8 +100,12 @@ const ROWS: [Row<'static>; 4] = [
     Row {
         seats: 2,
         capacity: 9,
-        wishes: &[OTHER_LOAD, REQUEST, OTHER_LOAD],
-        lines: &["ask 1 0 load = sent"],
+        wishes: &[
+            Wish::Step(OTHER_LOAD),
+            Wish::Step(REQUEST),
+            Wish::Step(OTHER_LOAD),
+        ],
+        entries: &[(OTHER_LOAD, Outcome::Sent)],
         fault: Some(TurnFault::NotYours),
         told: &[0, 1],
         calls: 2,
@@ -94,8 +113,13 @@ const ROWS: [Row<'static>; 4] = [
     Row {
         seats: 1,
         capacity: 2,
-        wishes: &[LOAD, REQUEST, RESPONSE, RESPONSE],
-        lines: &["ask 0 0 load = sent", "request 0 0 = moved"],
+        wishes: &[
+            Wish::Step(LOAD),
+            Wish::Step(REQUEST),
+            Wish::Step(RESPONSE),
+            Wish::Step(RESPONSE),
+        ],
+        entries: &[(LOAD, Outcome::Sent), (REQUEST, Outcome::Moved)],
         fault: Some(TurnFault::Full),
         told: &[0, 1, 2],
         calls: 3,
@@ -176,12 +200,13 @@ fn played_alone<F: Naming + Send + Sync, R: Threads + Wait + Abort + Sync, G: Ga
     back.expect(rt, "a crew").pop().expect(rt, "a seat")
 }
 
-fn compare<F: Naming, R: Abort>(rt: &R, seat: &Seat<F>, lines: &[&str]) {
+fn compare<F: Naming, R: Abort>(rt: &R, seat: &Seat<F>, entries: &[(Step, Outcome)]) {
     let receipts = seat.receipts();
-    same(rt, &receipts.len(), &lines.len());
-    for (number, line) in lines.iter().enumerate() {
-        let receipt = receipts.get(number).expect(rt, "a receipt");
-        same(rt, &Some(receipt.entry()), &entry_of(line));
+    same(rt, &receipts.len(), &entries.len());
+    for (number, (step, outcome)) in entries.iter().enumerate() {
+        let entry = receipts.get(number).expect(rt, "a receipt").entry();
+        same(rt, &entry.step, step);
+        same(rt, &entry.outcome, outcome);
     }
 }
 
@@ -200,8 +225,8 @@ fn plays_row<F: Naming + Send + Sync, R: Threads + Wait + Abort + Sync>(
     };
     let (seat, fault) = played_alone(rt, alloc, floor, notes, seat, plan);
     same(rt, &fault, &row.fault);
-    same(rt, &seat.made(), &row.lines.len());
-    compare(rt, &seat, row.lines);
+    same(rt, &seat.made(), &row.entries.len());
+    compare(rt, &seat, row.entries);
 }
 
 /// Compares what was noted.
@@ -263,13 +288,9 @@ struct Neighbour<'a, F: Naming, R> {
 impl<'a, F: Naming, R: Wait + Abort> Neighbour<'a, F, R> {
     fn makes_one(&self) {
         let mut seat = self.seat.lock(self.rt);
-        let step = Step::Response {
-            block: BlockId(0),
-            index: 0,
-        };
         let _ = self
             .floor
-            .turn(self.rt, &mut seat, step)
+            .turn(self.rt, &mut seat, RESPONSE)
             .expect(self.rt, "a turn");
     }
 }
@@ -303,7 +324,7 @@ fn plays_beside<F: Naming + Send + Sync, R: Threads + Wait + Abort + Sync>(
 ) {
     let notes = Notes::new();
     let plan = Plan {
-        wishes: &[OTHER_LOAD, RESPONSE],
+        wishes: &[Wish::Step(OTHER_LOAD), Wish::Step(RESPONSE)],
         notes: &notes,
     };
     let (seat, fault) = played_alone(rt, alloc, floor, gate, seat, plan);

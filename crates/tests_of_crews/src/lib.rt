@@ -8,8 +8,6 @@ mod crews;
 #[cfg(test)]
 mod ends;
 #[cfg(test)]
-mod entries;
-#[cfg(test)]
 mod floor_ends;
 #[cfg(test)]
 mod refusing;
