@@ -310,6 +310,15 @@ kept-marks old new m kept =
           };
     }
 
+-- nothing but counts has changed
+pub kept-counts : (old new : Laned) → ChangesCounts old new → IsKept old → IsKept new
+kept-counts old new m kept =
+    let level = kept.level in
+    subst IsKept (sym m.same) (record {
+      level = record { listed = level.listed; lengths = level.lengths; ready = m.long ∙ level.ready; few = level.few; rows = level.rows };
+      listed = λ lane low. let h = kept.listed lane low in record { offered = h.offered; count = h.count; short = h.short; reached = h.reached };
+    })
+
 pub marks-only : (held : HeldAsks) (core : CacheId) (block : BlockId) (which : List ℕ) (done : Option ℕ) (old new : Laned) → new.trees ≡ old.trees →
     new.stocks ≡ old.stocks → new.lengths ≡ old.lengths → new.ready ≡ old.ready → new.reached ≡ old.reached → length new.listed ≡ length old.listed →
     length old.listed ≡ length old.trees →

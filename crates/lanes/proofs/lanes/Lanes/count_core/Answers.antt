@@ -24,3 +24,12 @@ returns-clause-each g c lane low =
 
 pub returns-clause-counts : goal.returns-clause-counts
 returns-clause-counts g c = grind (arith, common_steps)
+
+pub row_of-row-requires : goal.row_of-row-requires
+row_of-row-requires g c = grind (arith, common_steps)
+
+pub index-requires : goal.index-requires
+index-requires g c = grind (arith, common_steps)
+
+pub count_each-requires : goal.count_each-requires
+count_each-requires g c = grind (arith, common_steps)

@@ -90,3 +90,18 @@ returns-in_err-anew-clause-stocks g c = c.list.ensures.stocks ∙ c.loop-lane.in
 
 pub returns-clause-stocks : goal.returns-clause-stocks
 returns-clause-stocks g c = c.loop-lane.invariant.5
+
+pub list-requires-clause-level : goal.list-requires-clause-level
+list-requires-clause-level g c = grind (arith, common_steps)
+
+pub list-requires-clause-there : goal.list-requires-clause-there
+list-requires-clause-there g c = grind (arith, common_steps)
+
+pub mark_lane-requires-clause-there : goal.mark_lane-requires-clause-there
+mark_lane-requires-clause-there g c = grind (arith, common_steps)
+
+pub count_lane-requires-clause-level : goal.count_lane-requires-clause-level
+count_lane-requires-clause-level g c = grind (arith, common_steps)
+
+pub count_lane-requires-clause-there : goal.count_lane-requires-clause-there
+count_lane-requires-clause-there g c = grind (arith, common_steps)

@@ -1,4 +1,5 @@
 use Rattle.std.proofs.Common.{◌≡◌, ◌∙◌, ◌<◌, ap, sym, subst, arith, length, slice_get}
+use Rattle.std.proofs.lemmas.Grind.{common_steps}
 use Rattle.std.proofs.lemmas.List.{length-map}
 use Rattle.std.specs.List.{sum}
 use Rattle.std.specs.Option.{option_map}
@@ -68,3 +69,36 @@ returns-clause-choice g c =
     ap (option_map Deliver) c.in_ok-step.ensures
     ∙ choice-delivered c.args.world.now.tables c.args.world.now.state c.args.cores.now (laned c.args.self.now) c.args.k c.total-offers.result
     c.requires.kept c.requires.ready (sym c.broken.ensures ∙ c.if-broken.false) c.total-offers.ensures.total c.if-k-offers.false
+
+pub broken-requires : goal.broken-requires
+broken-requires g c = grind (arith, common_steps)
+
+pub returns-then-broken-clause-choice : goal.returns-then-broken-clause-choice
+returns-then-broken-clause-choice g c = grind (arith, common_steps)
+
+pub returns-then-broken-clause-there : goal.returns-then-broken-clause-there
+returns-then-broken-clause-there g c = grind (arith, common_steps)
+
+pub total-offers-requires : goal.total-offers-requires
+total-offers-requires g c = grind (arith, common_steps)
+
+pub find-found-requires : goal.find-found-requires
+find-found-requires g c = grind (arith, common_steps)
+
+pub index-requires : goal.index-requires
+index-requires g c = grind (arith, common_steps)
+
+pub find-requires : goal.find-requires
+find-requires g c = grind (arith, common_steps)
+
+pub returns-in_err-place-clause-there : goal.returns-in_err-place-clause-there
+returns-in_err-place-clause-there g c = grind (arith, common_steps)
+
+pub enabled_at-requires : goal.enabled_at-requires
+enabled_at-requires g c = grind (arith, common_steps)
+
+pub returns-in_err-step-clause-there : goal.returns-in_err-step-clause-there
+returns-in_err-step-clause-there g c = grind (arith, common_steps)
+
+pub returns-clause-there : goal.returns-clause-there
+returns-clause-there g c = grind (arith, common_steps)

@@ -88,3 +88,9 @@ returns-in_err-self-clause-fits g c h = elim h [
   ]
   | inr anew ↦ absurd (grind (arith, common_steps, anew.0))
 ]
+
+pub list_all-requires : goal.list_all-requires
+list_all-requires g c = grind (arith, common_steps)
+
+pub list_all-requires-2 : goal.list_all-requires-2
+list_all-requires-2 g c = grind (arith, common_steps)

@@ -1,4 +1,5 @@
-use Rattle.std.proofs.Common.{◌<◌, ◌+◌, ap, get_or, length, refl, set, subst, sym, take}
+use Rattle.std.proofs.Common.{◌<◌, ◌+◌, ap, get_or, length, refl, set, subst, sym, take, arith}
+use Rattle.std.proofs.lemmas.Grind.{common_steps}
 use Rattle.std.specs.List.{sum}
 use Rattle.std.specs.Vec.{with_item}
 use Rattle.rows.specs.Counts.{Finds}
@@ -114,3 +115,24 @@ returns-clause-fits g c tree h =
     let passed : Lane g.row.A.Denot g.row.B.Denot = record { rest = c.pass_on.new.self; asks = c.index_mut.result.now.asks } in
     fits-same (set c.args.self.now.lanes.items c.args.lane passed) c.list.new.self.lanes.items (lane_trees tree) c.list.ensures.stocks
     (fits-set c.args.self.now.lanes.items (lane_trees tree) c.args.lane c.index_mut.result.now passed c.index_mut.ensures.value c.pass_on.ensures.fits h)
+
+pub index_mut-requires : goal.index_mut-requires
+index_mut-requires g c = grind (arith, common_steps)
+
+pub returns-in_err-repeats-clause-takes : goal.returns-in_err-repeats-clause-takes
+returns-in_err-repeats-clause-takes g c = grind (arith, common_steps)
+
+pub returns-in_err-repeats-clause-marks : goal.returns-in_err-repeats-clause-marks
+returns-in_err-repeats-clause-marks g c = grind (arith, common_steps)
+
+pub list-requires-clause-level : goal.list-requires-clause-level
+list-requires-clause-level g c = grind (arith, common_steps)
+
+pub list-requires-clause-there : goal.list-requires-clause-there
+list-requires-clause-there g c = grind (arith, common_steps)
+
+pub returns-in_err-anew-clause-takes : goal.returns-in_err-anew-clause-takes
+returns-in_err-anew-clause-takes g c = grind (arith, common_steps)
+
+pub returns-in_err-anew-clause-marks : goal.returns-in_err-anew-clause-marks
+returns-in_err-anew-clause-marks g c = grind (arith, common_steps)

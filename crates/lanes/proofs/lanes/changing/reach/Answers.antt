@@ -1,7 +1,10 @@
-use Rattle.std.proofs.Common.{◌<◌, ◌∙◌, arith, length, length-set}
+use Rattle.std.proofs.Common.{◌<◌, ◌∙◌, IfSome, Option, arith, length, length-set, subst}
 use Rattle.std.proofs.lemmas.Grind.{common_steps}
 use Rattle.std.proofs.lemmas.Option.{slice_get_within}
-use Rattle.lanes.proofs.Reached.{grown-vec, now-in-vec, one-more}
+use Rattle.std.specs.List.{Contains}
+use Rattle.base.specs.declared.ids.CacheId.{CacheId}
+use Rattle.lanes.specs.Lanes.{lanes_of}
+use Rattle.lanes.proofs.Reached.{grown-vec, now-in-vec, one-more, rows_in}
 use Rattle.lanes.proofs.lanes.changing.reach.Goals as goal
 
 pub returns-in_err-add-clause-more : goal.returns-in_err-add-clause-more
@@ -63,3 +66,25 @@ returns-clause-count c = grind (arith, common_steps)
 
 pub returns-clause-more : goal.returns-clause-more
 returns-clause-more c = grind (arith, common_steps)
+
+pub is_of-requires : goal.is_of-requires
+is_of-requires c = grind (arith, common_steps)
+
+pub row_of-row-requires : goal.row_of-row-requires
+row_of-row-requires c = grind (arith, common_steps)
+
+pub index_mut-requires : goal.index_mut-requires
+index_mut-requires c = grind (arith, common_steps)
+
+pub add-requires : goal.add-requires
+add-requires c = grind (arith, common_steps)
+
+pub loop-ask-preserved-then-is_of : goal.loop-ask-preserved-then-is_of
+loop-ask-preserved-then-is_of c =
+    let here = subst (λ (o : Option CacheId). IfSome o (λ core. Contains (lanes_of (rows_in c.loop-ask.reached.items) core.0) c.args.lane))
+    (c.is_of.ensures c.if-is_of.true) c.loop-ask.invariant.3 in (
+      c.loop-ask.invariant.0,
+      c.loop-ask.invariant.1,
+      one-more c.args.offers.now c.loop-ask.ask-index c.args.lane _ _ c.loop-ask.invariant.2 c.loop-ask-test.true here,
+      c.loop-ask.invariant.3,
+    )
