@@ -1,5 +1,4 @@
-//! Tests of tables: what a text makes of them, what is certified of them, and what a watch sees wrong under changed ones; and of
-//! moments.
+//! Tests of tables: what a text makes of them, what is certified of them, and what a watch sees wrong under changed ones.
 #![tactic(auto)]
 
 #[cfg(test)]
@@ -12,7 +11,5 @@ mod exclusive;
 mod making;
 #[cfg(test)]
 mod overrides;
-#[cfg(test)]
-mod refusing;
 #[cfg(test)]
 mod watches;

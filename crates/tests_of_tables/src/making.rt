@@ -5,7 +5,7 @@ use both_tables::Tables;
 use cache_table::{CacheAction, CacheActions, CacheEntry, CacheEvent, CacheState};
 use std::alloc::Global;
 use std::process::Abort;
-use world::{OpenFault, World};
+use world::World;
 
 /// An entry that goes to a state and does these actions.
 pub fn acting(rt: &impl Abort, next: CacheState, actions: &[CacheAction]) -> CacheEntry {
@@ -20,20 +20,11 @@ pub fn with_entry(state: CacheState, event: CacheEvent, entry: CacheEntry) -> Ta
     tables
 }
 
-pub fn open_world(
-    alloc: Global,
-    shape: Shape,
-    tables: Tables,
-    opening: Vec<u64>,
-) -> Result<World, OpenFault> {
-    World::open(alloc, shape, tables, opening)
-}
-
 /// A world of two caches and one block that opens at 0.
 pub fn opened(rt: &impl Abort, alloc: Global, tables: Tables) -> World {
     let shape = Shape::new(2, 1).expect(rt, "a shape");
     let opening = vec![in alloc; 0; 1].expect(rt, "memory");
-    open_world(alloc, shape, tables, opening).expect(rt, "a world")
+    World::open(alloc, shape, tables, opening).expect(rt, "a world")
 }
 
 pub fn step_of(rt: &impl Abort, line: &str) -> Step {

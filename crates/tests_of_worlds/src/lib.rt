@@ -1,10 +1,8 @@
-//! Tests of worlds: worked runs, what is seen and touched of a world, how one begins again, and what can be chosen.
+//! Tests of worlds: worked runs, what is seen and touched of a world, and how one begins again.
 #![tactic(auto)]
 
 #[cfg(test)]
 mod asserting;
-#[cfg(test)]
-mod choosing;
 #[cfg(test)]
 mod comparing;
 #[cfg(test)]

@@ -2,9 +2,8 @@
 //! has to stand then, and the second call has to succeed. Where nothing is refused they are plain runs.
 
 use crate::asserting::same;
-use crate::making::open_world;
-use base::{NoMemory, Shape};
-use both_tables::Tables;
+use crate::making::{open_world, shape_of};
+use base::NoMemory;
 use moment::Moment;
 use scenario::Scenario;
 use std::alloc::Global;
@@ -12,14 +11,10 @@ use std::process::Abort;
 use std::test::Fail;
 use world::World;
 
-fn three_caches(rt: &impl Abort) -> Shape {
-    Shape::new(3, 1).expect(rt, "a shape")
-}
-
 /// A world of three caches and one block that opens at 0.
 fn opened(rt: &impl Abort, alloc: Global) -> Result<World, Fail> {
     let opening = vec![in alloc; 0; 1]?;
-    Ok(open_world(alloc, three_caches(rt), Tables::baseline(), opening)?)
+    Ok(open_world(alloc, shape_of(rt, 3), opening)?)
 }
 
 /// Makes the first choice again and again, until there is none, and answers how many there were.
@@ -79,7 +74,7 @@ fn lead_new(
 
 /// Leads moments of a scenario for three caches, of which so many choices lead to the rest.
 fn leads(rt: &impl Abort, alloc: Global, text: &str, wanted: u32) -> Result<(), Fail> {
-    let tree = Scenario::read(alloc, alloc, text.as_bytes(), three_caches(rt))?;
+    let tree = Scenario::read(alloc, alloc, text.as_bytes(), shape_of(rt, 3))?;
     lead_new(rt, alloc, &tree, wanted)
 }
 

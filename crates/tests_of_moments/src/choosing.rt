@@ -1,7 +1,6 @@
 use crate::asserting::same;
 use crate::making::{make_all, opened};
 use base::{Ask, BlockId, CacheId, CoreAsk, Step};
-use both_tables::Tables;
 use cores::Cores;
 use scenario::Scenario;
 use schedule::{Choice, Dice, choices};
@@ -92,7 +91,7 @@ fn comes_next(
     busy: &[u32],
     wanted: &[Choice],
 ) {
-    let mut world = opened(rt, alloc, 2, 1, Tables::baseline(), 0);
+    let mut world = opened(rt, alloc, 2);
     make_all(rt, &mut world, steps);
     let found = listed(rt, alloc, &world, busy, scenario);
     same(rt, &found.as_slice(), &wanted);
