@@ -1,12 +1,10 @@
-//! Tests of crews: how their seats play, what their choosers and gates are told, and how they end.
+//! Tests of crews: how their seats race, and what they have made then.
 #![tactic(auto)]
 
 #[cfg(test)]
 mod asserting;
 #[cfg(test)]
 mod crews;
-#[cfg(test)]
-mod ends;
 #[cfg(test)]
 mod floor_ends;
 #[cfg(test)]

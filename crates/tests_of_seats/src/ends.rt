@@ -4,11 +4,10 @@ ghost use Rattle.std.specs.Prelude.{◌≡◌};
 ghost use Rattle.floor.specs.FloorId.{floor_id};
 
 use crate::asserting::same;
-use crate::crews::played;
 use crate::floor_ends::opened;
 use crate::setups::setup;
 use base::{Ask, BlockId, CacheId, Outcome, Step};
-use floor::{Chooser, Floor, Gate, Ground, Naming, Receipt, Seat, Setup, TurnFault, Wish};
+use floor::{Chooser, Floor, Gate, Ground, Naming, Receipt, Seat, Setup, TurnFault, Wish, crew};
 use std::alloc::Global;
 use std::marker::Brand;
 use std::process::Abort;
@@ -196,7 +195,7 @@ fn played_alone<F: Naming + Send + Sync, R: Threads + Wait + Abort + Sync, G: Ga
 ) -> (Seat<F>, Option<TurnFault>) {
     let mut members = Vec::new(alloc);
     members.push((seat, plan)).expect(rt, "memory");
-    let back = played(rt, alloc, floor, gate, members).ok();
+    let back = crew(rt, alloc, floor, gate, members).ok();
     back.expect(rt, "a crew").pop().expect(rt, "a seat")
 }
 
