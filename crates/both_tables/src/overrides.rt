@@ -112,7 +112,10 @@ fn overridden(alloc: Global, protocol: Protocol, value: &Value) -> Result<Tables
     let of_cache = changes(alloc, protocol, sides.cache)?;
     let of_directory = changes(alloc, protocol, sides.directory)?;
     Ok(Tables {
-        cache: CacheTable::baseline_of(protocol).with_changes(of_cache.as_slice()),
-        directory: DirectoryTable::baseline_of(protocol).with_changes(of_directory.as_slice()),
+        cache: cache_table::with_changes(CacheTable::baseline_of(protocol), of_cache.as_slice()),
+        directory: directory_table::with_changes(
+            DirectoryTable::baseline_of(protocol),
+            of_directory.as_slice(),
+        ),
     })
 }

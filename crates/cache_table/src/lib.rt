@@ -14,4 +14,4 @@ mod table;
 pub use actions::CacheAction;
 pub use event::CacheEvent;
 pub use state::CacheState;
-pub use table::{CacheActions, CacheChange, CacheEntry, CacheTable, knows_cell};
+pub use table::{CacheActions, CacheChange, CacheEntry, CacheTable, knows_cell, with_changes};

@@ -14,4 +14,6 @@ mod table;
 pub use actions::DirectoryAction;
 pub use event::DirectoryEvent;
 pub use state::DirectoryState;
-pub use table::{DirectoryActions, DirectoryChange, DirectoryEntry, DirectoryTable, knows_entry};
+pub use table::{
+    DirectoryActions, DirectoryChange, DirectoryEntry, DirectoryTable, knows_entry, with_changes,
+};

@@ -143,16 +143,16 @@ impl DirectoryTable {
             cells,
         }
     }
+}
 
-    /// This table after these changes, made in order.
-    pub fn with_changes(self, changes: &[DirectoryChange]) -> DirectoryTable
-        ensures table { result ≡ laid_over changes.now self }
-        ensures protocol { result.protocol ≡ self.protocol }
-    {
-        let mut table = self;
-        for change in changes {
-            table = table.with(change.state, change.event, change.entry);
-        }
-        table
+/// A table after these changes, made in order.
+pub fn with_changes(table: DirectoryTable, changes: &[DirectoryChange]) -> DirectoryTable
+    ensures table { result ≡ laid_over changes.now table }
+    ensures protocol { result.protocol ≡ table.protocol }
+{
+    let mut changed = table;
+    for change in changes {
+        changed = changed.with(change.state, change.event, change.entry);
     }
+    changed
 }

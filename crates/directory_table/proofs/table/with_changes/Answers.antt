@@ -2,7 +2,7 @@ use Rattle.std.proofs.Common.{◌≡◌, ◌∙◌, ap, arith}
 use Rattle.std.proofs.lemmas.Grind.{common_steps}
 use Rattle.directory_table.specs.Table.{Table, laid_over}
 use Rattle.directory_table.proofs.LaidOver.{laid-protocol}
-use Rattle.directory_table.proofs.table.DirectoryTable.with_changes.Goals as goal
+use Rattle.directory_table.proofs.table.with_changes.Goals as goal
 
 pub loop-change-init : goal.loop-change-init
 loop-change-init c = grind (arith, common_steps)
@@ -15,5 +15,5 @@ returns-clause-table c = grind (arith, common_steps)
 
 pub returns-clause-protocol : goal.returns-clause-protocol
 returns-clause-protocol c =
-    let e : c.loop-change.table ≡ laid_over c.args.changes.now c.args.self = grind (arith, common_steps) in
-    ap (λ (t : Table). t.protocol) e ∙ laid-protocol c.args.changes.now c.args.self
+    let e : c.loop-change.changed ≡ laid_over c.args.changes.now c.args.table = grind (arith, common_steps) in
+    ap (λ (t : Table). t.protocol) e ∙ laid-protocol c.args.changes.now c.args.table
