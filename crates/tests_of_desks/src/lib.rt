@@ -1,4 +1,4 @@
-//! Tests of what threads share without a floor: desks.
+//! Tests of desks: numbers that seats claim, results that they post and look for, and what a desk is closed with.
 #![tactic(auto)]
 
 #[cfg(test)]

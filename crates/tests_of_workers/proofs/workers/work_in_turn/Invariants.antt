@@ -1,5 +1,5 @@
 use Rattle.std.proofs.Common.{◌≡◌, All, vec_len}
-use Rattle.tests_of_desks.proofs.desks.work_in_turn.Given as goal
+use Rattle.tests_of_workers.proofs.workers.work_in_turn.Given as goal
 
 abbrev pub invariant-loop-seat : goal.invariant-loop-seat
 invariant-loop-seat g l = record {
