@@ -41,7 +41,7 @@ pub struct Floor<F: Naming> {
 }
 
 impl<F: Naming> Floor<F> {
-    ghost use Rattle.std.specs.Prelude.{◌≡◌, ◌<◌, ◌≤◌, ◌++◌, ◌∷◌, ◌↔◌, ℕ, None, map, IfErr, IfNone, IfOk, IfSome, IsErrOf, MatchResult, OnErr};
+    ghost use Rattle.std.specs.Prelude.{◌≡◌, ◌<◌, ◌≤◌, ◌↔◌, None, map, IfErr, IfNone, IfOk, IfSome, IsErrOf, MatchResult, OnErr};
     ghost use Rattle.std.specs.List.{range_with_len};
     ghost use Rattle.machine.specs.Restraint.{AreRestrained};
     ghost use Rattle.record.specs.View.{IsLegal};

@@ -19,6 +19,6 @@ pub use laws::{
 };
 pub use making::trial;
 pub use series::Series;
-pub use setup::{MOST_STEPS, Setup, SetupFault, open_recording, open_world};
+pub use setup::{MOST_STEPS, Setup, SetupFault, open_world};
 pub use spreading::spread;
 pub use verdict::{Trial, TrialResult, Verdict};

@@ -132,7 +132,7 @@ pub fn open_world(alloc: Global, setup: &Setup) -> Result<World, NoMemory>
 }
 
 /// A recording under `setup`, without entries.
-pub fn open_recording(alloc: Global, setup: &Setup) -> Result<Recording, NoMemory>
+pub(crate) fn open_recording(alloc: Global, setup: &Setup) -> Result<Recording, NoMemory>
     ensures { IfOk result (λ recording. recording ≡ opened_recording setup.now.shape setup.now.tables setup.now.opening) }
 {
     let opening = Vec::from_slice(alloc, setup.opening())?;
