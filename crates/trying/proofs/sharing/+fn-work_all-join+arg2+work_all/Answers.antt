@@ -1,0 +1,18 @@
+use Rattle.std.proofs.Common.{arith}
+use Rattle.std.proofs.lemmas.Grind.{common_steps}
+use Rattle.trying.proofs.sharing.+fn-work_all-join+arg2+work_all.Goals as goal
+
+pub join+arg2-returns : goal.join+arg2-returns
+join+arg2-returns g t c = grind (arith, common_steps)
+
+pub returns-in_default : goal.returns-in_default
+returns-in_default g t c = grind (arith, common_steps)
+
+pub returns-in_err-back : goal.returns-in_err-back
+returns-in_err-back g t c = grind (arith, common_steps)
+
+pub returns-in_err-own : goal.returns-in_err-own
+returns-in_err-own g t c = grind (arith, common_steps)
+
+pub returns-in_err-push : goal.returns-in_err-push
+returns-in_err-push g t c = grind (arith, common_steps)
