@@ -13,7 +13,7 @@ const PARTS: u64 = 100;
 const STEPS_A_WRITE: u64 = 100_000;
 
 /// How a batch is made.
-#[derive(Clone, Copy, Debug, PartialEq, Eq)]
+#[derive(Clone, Copy)]
 pub struct BatchPlan {
     /// How many trials it has.
     pub trials: u32,
@@ -28,7 +28,7 @@ pub struct BatchPlan {
 }
 
 /// A kind of trials that are looked for.
-#[derive(Clone, Copy, Debug, PartialEq, Eq)]
+#[derive(Clone, Copy)]
 pub enum Until {
     Broke,
     Stuck,
