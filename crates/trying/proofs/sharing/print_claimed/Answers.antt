@@ -14,9 +14,6 @@ returns-in_err-made g c = grind (arith, common_steps)
 pub post-requires-clause-seat : goal.post-requires-clause-seat
 post-requires-clause-seat g c = grind (arith, common_steps)
 
-pub post-requires-clause-made : goal.post-requires-clause-made
-post-requires-clause-made g c = grind (arith, common_steps)
-
 pub returns-then-is_err : goal.returns-then-is_err
 returns-then-is_err g c = grind (arith, common_steps)
 
