@@ -3,7 +3,8 @@ use thiserror::Error;
 
 /// A growth was refused: there was no memory for it.
 ///
-/// It comes from nothing else, and unless a call says otherwise nothing has changed where it comes.
+/// Beside that it comes where a wire or a lane would hold 2^32, and where a thread can't be had. Unless a call says otherwise nothing
+/// has changed where it comes.
 #[derive(Clone, Copy, Debug, PartialEq, Eq, Error)]
 #[error("no memory")]
 pub struct NoMemory;
