@@ -21,7 +21,7 @@ OPEN = "not proved"
 CACHES = 3
 # Files of cells of each protocol, in order, each with the steps after which messages are on their way and all are held.
 SCHEDULES = {"msi": "schedules.txt", "msi+e": "schedules-with-e.txt"}
-ADVICE = "That doesn't say unsafe: make trials, with msi batch."
+ADVICE = "That doesn't say unsafe: make trials, with msi batch, or go through all schedules, with examples/exhaust/run."
 
 
 def schedules_of(protocol):

@@ -2,6 +2,7 @@ ghost use Rattle.std.specs.Prelude.{◌≡◌, IsOk, IfOk, OnOk, OnErr, length, 
 ghost use Rattle.network.specs.declared.message.Message.TheVariants as message;
 ghost use Rattle.network.specs.declared.message.Response.TheVariants as response;
 ghost use Rattle.network.specs.Traffic.{all_sent};
+ghost use Rattle.network.specs.Marks.{all_marks_added};
 ghost use Rattle.network.specs.Room.{HasRoomFor, UsesRoomFor};
 ghost use Rattle.cache_line.specs.LineEffect.{line_message, line_messages, line_sends, line_after, line_completes};
 
@@ -34,6 +35,7 @@ fn data(from: CacheId, to: Place, value: u64) -> Message
 fn send(action: CacheAction, cache: CacheId, value: u64, to: Option<CacheId>, wires: &mut Wires)
     requires { HasRoomFor (line_message cache value to action) wires.old.room }
     ensures traffic { wires.new.traffic ≡ all_sent (line_message cache value to action) wires.old.traffic }
+    ensures marks { wires.new.marks ≡ all_marks_added (line_message cache value to action) wires.old.marks }
     ensures room { UsesRoomFor (line_message cache value to action) wires.old.room wires.new.room }
     ensures links { wires.new.marks.links ≡ wires.old.marks.links }
     ensures requests { take (length wires.old.marks.requests) wires.new.marks.requests ≡ wires.old.marks.requests }
@@ -68,6 +70,7 @@ fn send_all(
 )
     requires { HasRoomFor (line_messages cache value to actions.now) wires.old.room }
     ensures traffic { wires.new.traffic ≡ all_sent (line_messages cache value to actions.now) wires.old.traffic }
+    ensures marks { wires.new.marks ≡ all_marks_added (line_messages cache value to actions.now) wires.old.marks }
     ensures links { wires.new.marks.links ≡ wires.old.marks.links }
     ensures requests { take (length wires.old.marks.requests) wires.new.marks.requests ≡ wires.old.marks.requests }
 {
@@ -143,6 +146,7 @@ pub fn line_perform(
     ensures done { result ≡ line_completes input next line.old }
     ensures line { line.new ≡ line_after input next line.old }
     ensures traffic { wires.new.traffic ≡ all_sent (line_sends cache input actions line.old) wires.old.traffic }
+    ensures marks { wires.new.marks ≡ all_marks_added (line_sends cache input actions line.old) wires.old.marks }
     ensures links { wires.new.marks.links ≡ wires.old.marks.links }
     ensures requests { take (length wires.old.marks.requests) wires.new.marks.requests ≡ wires.old.marks.requests }
 {
@@ -173,9 +177,11 @@ pub fn line_act(
     ensures done { IfOk result (λ done. done ≡ line_completes input next line.old) }
     ensures line { OnOk result (line.new ≡ line_after input next line.old) }
     ensures traffic { OnOk result (wires.new.traffic ≡ all_sent (line_sends cache input actions line.old) wires.old.traffic) }
+    ensures marks { OnOk result (wires.new.marks ≡ all_marks_added (line_sends cache input actions line.old) wires.old.marks) }
     ensures succeeds { HasRoomFor (line_sends cache input actions line.old) wires.old.room → IsOk result }
     ensures line_kept { OnErr result (line.new ≡ line.old) }
     ensures traffic_kept { OnErr result (wires.new.traffic ≡ wires.old.traffic) }
+    ensures marks_kept { OnErr result (wires.new.marks ≡ wires.old.marks) }
 {
     line_reserve(input, actions, wires)?;
     Ok(line_perform(line, cache, input, next, actions, wires))

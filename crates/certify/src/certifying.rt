@@ -33,8 +33,10 @@ pub enum Certificate {
     MessagesMayGetStuck(CellPlace),
 }
 
-/// What is proved of these tables: each answer comes exactly where it is true and those that promise more aren't. Where it
-/// isn't `NotProved`, each run under them is safe, and no step of one comes to a cell where the protocol's own entry is blank.
+/// Which of the answers is proved of these tables: each comes exactly where its definition (`IsCertificate`) holds and that of none
+/// which promises more does. More may be true: tables that aren't restrained may be safe, and a stall may hold no message that is
+/// ever sent. Where the answer isn't `NotProved`, each run under them is safe, and no step of one comes to a cell where the protocol's
+/// own entry is blank.
 pub fn certify(tables: &Tables) -> Certificate
     ensures answer { IsCertificate tables.now result }
     ensures restrained { SaysSafe result ↔ AreRestrained tables.now }

@@ -1,8 +1,9 @@
 -- A world without a delivery, in which messages are on their way, shows that messages get stuck.
-use Rattle.std.proofs.Common.{◌≡◌, ◌∙◌, ℕ, suc, List, [], ◌∷◌, ◌++◌, length, Some, Bool, true, false, ◌&&◌, slice_get, IsTrue, refl, sym, ap}
+use Rattle.std.proofs.Common.{◌≡◌, ◌<◌, ◌∙◌, ℕ, suc, List, [], ◌∷◌, ◌++◌, length, Some, Bool, true, false, ◌&&◌, slice_get, IsTrue, refl, sym, ap}
 use Rattle.std.proofs.Common.{subst, append_assoc, arith}
-use Rattle.std.proofs.lemmas.List.{append-nil}
-use Rattle.base.specs.Extent.{IsWithinLimits}
+use Rattle.std.proofs.lemmas.List.{append-nil, length-append}
+use Rattle.base.specs.Extent.{Extent}
+use Rattle.base.specs.Spelling.{joined, step_words}
 use Rattle.base.specs.declared.ids.BlockId.{BlockId}
 use Rattle.base.specs.declared.step.Step.{Step}
 use Rattle.network.specs.Traffic.{is_quiet}
@@ -14,7 +15,7 @@ use Rattle.world.specs.Enabled.{enabled_steps}
 use Rattle.world.specs.Looks.{all_quiet}
 use Rattle.world.specs.View.{View, LeadsOn}
 use Rattle.schedule.proofs.Disabled.{nothing-delivers}
-use Rattle.checking.specs.Jams.{GetsStuck}
+use Rattle.checking.specs.Jams.{GetsStuck, steps_text}
 use Rattle.checking.specs.inner.Leading.{IsFresh, HasGoneOn}
 
 is-quiet : (t : Bool) → ¬ (¬ IsTrue t) → t ≡ true
@@ -40,34 +41,49 @@ jammed tables state whole some none flowing =
     nothing-delivers tables state block b moves.0 whole (empty (enabled_steps tables state) none) at moves.1)) in
     let no : false ≡ true = sym some ∙ quiet in absurd (cc)
 
-pub gone-none : (world : View) → HasGoneOn world world
-gone-none world = record {
+pub gone-none : (world : View) (text : List ℕ) → HasGoneOn world text text world
+gone-none world text = record {
   steps = [];
+  told = refl;
   leads = λ opening before h. subst (λ ss. IsHistory world.shape world.tables opening ss world.state) (sym (append-nil before)) h;
   under = refl;
   shape = refl;
 }
 
-pub gone-more : (old mid new : View) (s : Step) → HasGoneOn old mid → LeadsOn mid (s ∷ []) new → new.tables ≡ mid.tables → new.shape ≡ mid.shape →
-    HasGoneOn old new
-gone-more old mid new s gone leads under shape = record {
+text-more : (steps : List Step) (s : Step) (rest : List ℕ) →
+    steps_text (steps ++ s ∷ []) ++ rest ≡ steps_text steps ++ joined (step_words s) ++ 10 ∷ rest
+text-more [] s rest = append_assoc (joined (step_words s)) (10 ∷ []) rest
+text-more (x ∷ steps) s rest =
+    append_assoc (joined (step_words x)) (10 ∷ steps_text (steps ++ s ∷ [])) rest
+    ∙ ap (λ xs. joined (step_words x) ++ 10 ∷ xs) (text-more steps s rest)
+    ∙ sym (append_assoc (joined (step_words x)) (10 ∷ steps_text steps) (joined (step_words s) ++ 10 ∷ rest))
+
+pub gone-more : (old mid new : View) (text rest behind : List ℕ) (s : Step) → HasGoneOn old text rest mid →
+    rest ≡ joined (step_words s) ++ 10 ∷ behind → LeadsOn mid (s ∷ []) new → new.tables ≡ mid.tables → new.shape ≡ mid.shape →
+    HasGoneOn old text behind new
+gone-more old mid new text rest behind s gone at leads under shape = record {
   steps = gone.steps ++ s ∷ [];
+  told = gone.told ∙ ap (λ xs. steps_text gone.steps ++ xs) at ∙ sym (text-more gone.steps s behind);
   leads = λ opening before h. subst (λ ss. IsHistory new.shape new.tables opening ss new.state) (append_assoc before gone.steps (s ∷ []))
       (leads opening (before ++ gone.steps) (gone.leads opening before h));
   under = under ∙ gone.under;
   shape = shape ∙ gone.shape;
 }
 
-pub stuck-run : (tables : Tables) (old new : View) → IsFresh tables old → HasGoneOn old new → ¬ Flowing new.tables new.state → GetsStuck tables
-stuck-run tables old new fresh gone stuck =
-    let history : IsHistory new.shape new.tables fresh.opening gone.steps new.state = gone.leads fresh.opening [] fresh.history in
-    let there : ¬ Flowing new.tables (after new.tables (opened new.shape fresh.opening) gone.steps).state =
+pub stuck-run : (tables : Tables) (text : List ℕ) (old new : View) → IsFresh tables old → HasGoneOn old text [] new →
+    ¬ Flowing new.tables new.state → GetsStuck tables text
+stuck-run tables text old new fresh gone stuck =
+    let history : IsHistory new.shape new.tables (0 ∷ []) gone.steps new.state = gone.leads (0 ∷ []) [] fresh.history in
+    let there : ¬ Flowing new.tables (after new.tables (opened new.shape (0 ∷ [])) gone.steps).state =
     subst (λ s. ¬ Flowing new.tables s) (sym history.leads) stuck in
+    let under : ¬ Flowing tables (after tables (opened new.shape (0 ∷ [])) gone.steps).state =
+    subst (λ (t : Tables). ¬ Flowing t (after t (opened new.shape (0 ∷ [])) gone.steps).state) (gone.under ∙ fresh.under) there in
     record {
-      shape = new.shape;
-      opening = fresh.opening;
       steps = gone.steps;
-      within = subst IsWithinLimits (sym gone.shape) fresh.within;
-      opens = history.opens;
-      stuck = subst (λ (t : Tables). ¬ Flowing t (after t (opened new.shape fresh.opening) gone.steps).state) (gone.under ∙ fresh.under) there;
+      told = gone.told ∙ append-nil (steps_text gone.steps);
+      stuck = subst (λ (e : Extent). ¬ Flowing tables (after tables (opened e (0 ∷ [])) gone.steps).state) (gone.shape ∙ fresh.shape) under;
     }
+
+-- what stands behind a step is shorter
+pub behind-shorter : (ws rest behind : List ℕ) → rest ≡ ws ++ 10 ∷ behind → length behind < length rest
+behind-shorter ws rest behind e = omega (arith, ap length e, length-append ws (10 ∷ behind))

@@ -8,6 +8,10 @@ use console::{Fault, Finding, Format, Printer};
 use std::alloc::Global;
 use std::io::Write;
 
+/// What stands behind `unknown`.
+const ADVICE: &str =
+    "That doesn't say unsafe: make trials, with msi batch, or go through all schedules, with examples/exhaust/run.";
+
 /// Prints what is proved of tables, with the cells that it is about, and why each cell that isn't the protocol's own may be as
 /// it is; and a schedule that gets stuck, where one of those that are known does.
 pub fn print_certificate<O: Write + Drop>(
@@ -29,7 +33,8 @@ fn print_answer<O: Write + Drop>(
 ) -> Result<Finding, Fault> {
     match certify(tables) {
         Certificate::NotProved(cell) => {
-            print_unknown(tables, cell, format, printer);
+            let jam = jam_from(alloc, tables, None)?;
+            print_unknown(tables, cell, jam, format, printer);
             return Ok(Finding::Unknown);
         }
         Certificate::NeverStuck => {
@@ -42,7 +47,7 @@ fn print_answer<O: Write + Drop>(
         Certificate::AsksMayBeHeld(cell) => {
             print_stalled(tables, cell, "asks may be held", format, printer);
         }
-        Certificate::MessagesMayGetStuck(cell) => match jam_from(alloc, tables, cell)? {
+        Certificate::MessagesMayGetStuck(cell) => match jam_from(alloc, tables, Some(cell))? {
             None => print_stalled(tables, cell, "messages may get stuck", format, printer),
             Some(steps) => {
                 print_stalled(tables, cell, "messages get stuck", format, printer);
@@ -51,6 +56,31 @@ fn print_answer<O: Write + Drop>(
         },
     }
     Ok(Finding::Nothing)
+}
+
+/// Prints that nothing is proved of tables, the first cell that stands against it, and steps after which messages are stuck, where
+/// some are known.
+fn print_unknown<O: Write + Drop>(
+    tables: &Tables,
+    cell: CellPlace,
+    jam: Option<&str>,
+    format: Format,
+    printer: &mut Printer<O>,
+) {
+    match (format, jam) {
+        (Format::Plain, _) => printer.line("unknown"),
+        (Format::Json, None) => printer.line("{\"answer\":\"unknown\",\"stuck\":null}"),
+        (Format::Json, Some(_)) => {
+            printer.line("{\"answer\":\"unknown\",\"stuck\":\"messages get stuck\"}");
+        }
+    }
+    print_reason(tables, cell, format, printer);
+    if format == Format::Plain {
+        printer.line(ADVICE);
+    }
+    if let Some(steps) = jam {
+        print_jam(steps, format, printer);
+    }
 }
 
 /// Prints that tables are proved safe, and what is known of what may get stuck under them.
@@ -88,22 +118,6 @@ fn print_jam<O: Write + Drop>(steps: &str, format: Format, printer: &mut Printer
                 ));
             }
         }
-    }
-}
-
-fn print_unknown<O: Write + Drop>(
-    tables: &Tables,
-    cell: CellPlace,
-    format: Format,
-    printer: &mut Printer<O>,
-) {
-    match format {
-        Format::Plain => printer.line("unknown"),
-        Format::Json => printer.line("{\"answer\":\"unknown\",\"stuck\":null}"),
-    }
-    print_reason(tables, cell, format, printer);
-    if format == Format::Plain {
-        printer.line("That doesn't say unsafe: make trials, with msi batch.");
     }
 }
 

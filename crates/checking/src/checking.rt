@@ -107,10 +107,13 @@ fn print_all<O: Write + Drop>(
 /// What `msi certify` says of tables, in its words.
 fn verdict(alloc: Global, tables: &Tables) -> Result<&'static str, NoMemory> {
     Ok(match certify(tables) {
-        Certificate::NotProved(_) => "unknown",
+        Certificate::NotProved(_) => match jam_from(alloc, tables, None)? {
+            Some(_) => "unknown, messages get stuck",
+            None => "unknown",
+        },
         Certificate::NeverStuck => "safe, never stuck",
         Certificate::AsksMayBeHeld(_) => "safe, asks may be held",
-        Certificate::MessagesMayGetStuck(cell) => match jam_from(alloc, tables, cell)? {
+        Certificate::MessagesMayGetStuck(cell) => match jam_from(alloc, tables, Some(cell))? {
             Some(_) => "safe, messages get stuck",
             None => "safe, messages may get stuck",
         },

@@ -1,4 +1,4 @@
-ghost use Rattle.std.specs.Prelude.{IfOk, IfSome, IsTrue};
+ghost use Rattle.std.specs.Prelude.{[], IfOk, IfSome, IsTrue};
 ghost use Rattle.machine.specs.Unstuck.{Flowing};
 ghost use Rattle.checking.specs.Jams.{GetsStuck};
 ghost use Rattle.checking.specs.inner.Leading.{HasGoneOn, IsFresh};
@@ -9,18 +9,19 @@ use both_tables::{CellPlace, Tables};
 use std::alloc::Global;
 use world::{OpenFault, World};
 
-/// Steps after which messages are on their way and all are held, in a world of `CACHES` caches and one block under these
-/// tables: the first of the schedules, from that of this cell on, that shows it when it is played. `None` where none does.
+/// Steps, a line each, after which messages are on their way and all are held, in a world of `CACHES` caches and one block under
+/// these tables: the first of the schedules, from that of this cell on, or of all where none is named, that shows it when it is
+/// played. `None` where none does.
 pub(crate) fn jam_from(
     alloc: Global,
     tables: &Tables,
-    cell: CellPlace,
+    from: Option<CellPlace>,
 ) -> Result<Option<&'static str>, NoMemory>
-    ensures { IfOk result (λ found. IfSome found (λ steps. GetsStuck tables.now)) }
+    ensures { IfOk result (λ found. IfSome found (λ steps. GetsStuck tables.now steps.now)) }
 {
-    let mut is_due = false;
-    for (from, steps) in schedules_of(tables.protocol()) {
-        is_due = is_due || *from == cell;
+    let mut is_due = from.is_none();
+    for (cell, steps) in schedules_of(tables.protocol()) {
+        is_due = is_due || from == Some(*cell);
         if is_due && jams(alloc, tables, steps)? {
             return Ok(Some(steps));
         }
@@ -29,7 +30,7 @@ pub(crate) fn jam_from(
 }
 
 fn jams(alloc: Global, tables: &Tables, steps: &str) -> Result<bool, NoMemory>
-    ensures { IfOk result (λ found. IsTrue found → GetsStuck tables.now) }
+    ensures { IfOk result (λ found. IsTrue found → GetsStuck tables.now steps.now) }
 {
     let mut world = open(alloc, tables)?;
     is_jammed_after(&mut world, steps)
@@ -51,7 +52,7 @@ fn open(alloc: Global, tables: &Tables) -> Result<World, NoMemory>
 
 /// Makes the steps of these lines, up to the first that is refused, and answers whether none was and messages are stuck then.
 fn is_jammed_after(world: &mut World, steps: &str) -> Result<bool, NoMemory>
-    ensures gone { IfOk result (λ found. IsTrue found → HasGoneOn world.old world.new) }
+    ensures gone { IfOk result (λ found. IsTrue found → HasGoneOn world.old steps.now [] world.new) }
     ensures stuck { IfOk result (λ found. IsTrue found → ¬ Flowing world.new.tables world.new.state) }
 {
     if makes_all(world, steps)? {
@@ -63,18 +64,17 @@ fn is_jammed_after(world: &mut World, steps: &str) -> Result<bool, NoMemory>
 
 /// Makes the steps of these lines, up to the first that is refused, and answers whether none was.
 fn makes_all(world: &mut World, steps: &str) -> Result<bool, NoMemory>
-    ensures { IfOk result (λ all. IsTrue all → HasGoneOn world.old world.new) }
+    ensures { IfOk result (λ all. IsTrue all → HasGoneOn world.old steps.now [] world.new) }
 {
-    for line in steps.lines() {
-        let Some(step) = Step::read(line.as_bytes()) else {
-            return Ok(false);
-        };
+    let mut rest = steps.as_bytes();
+    while let Some((step, behind)) = Step::read_ahead::<b'\n'>(rest) {
         let outcome = world.step(step)?;
         if matches!(outcome, Outcome::Held | Outcome::Absent | Outcome::Blank) {
             return Ok(false);
         }
+        rest = behind;
     }
-    Ok(true)
+    Ok(rest.is_empty())
 }
 
 /// Whether messages are on their way and none of them can be delivered.

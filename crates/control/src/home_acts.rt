@@ -1,5 +1,6 @@
 ghost use Rattle.std.specs.Prelude.{◌≡◌, ◌<◌, ℕ, IsOk, OnOk, OnErr, Some, true, length};
 ghost use Rattle.network.specs.Traffic.{all_sent};
+ghost use Rattle.network.specs.Marks.{all_marks_added};
 ghost use Rattle.network.specs.Room.{HasRoomFor, UsesRoomFor};
 ghost use Rattle.control.specs.HomeEffect.{sender_of, brought_by, data_message, exclusive_message, link_message, invalidation, invalidations, owner_message};
 ghost use Rattle.control.specs.HomeEffect.{home_message, home_changed, home_messages, home_moved, home_after, home_sends, IsBelow, NamesBelow};
@@ -60,6 +61,7 @@ fn invalidate(sharers: &Sharers, requestor: CacheId, wires: &mut Wires)
     requires links { (k : ℕ) → shares sharers.now k ≡ true → k < length wires.old.traffic.links }
     requires room { HasRoomFor (invalidations requestor 0 sharers.now) wires.old.room }
     ensures traffic { wires.new.traffic ≡ all_sent (invalidations requestor 0 sharers.now) wires.old.traffic }
+    ensures marks { wires.new.marks ≡ all_marks_added (invalidations requestor 0 sharers.now) wires.old.marks }
     ensures room { UsesRoomFor (invalidations requestor 0 sharers.now) wires.old.room wires.new.room }
 {
     // No cache has the largest number, so the number after a sharer's fits.
@@ -79,6 +81,7 @@ fn invalidate_one(cache: CacheId, sharer: bool, requestor: CacheId, wires: &mut 
     requires link { sharer ≡ true → cache.0 < length wires.old.traffic.links }
     requires room { HasRoomFor (invalidation requestor cache sharer) wires.old.room }
     ensures traffic { wires.new.traffic ≡ all_sent (invalidation requestor cache sharer) wires.old.traffic }
+    ensures marks { wires.new.marks ≡ all_marks_added (invalidation requestor cache sharer) wires.old.marks }
     ensures room { UsesRoomFor (invalidation requestor cache sharer) wires.old.room wires.new.room }
 {
     if sharer && cache != requestor {
@@ -91,6 +94,7 @@ fn to_owner(owner: Option<CacheId>, kind: ForwardKind, requestor: CacheId, wires
     requires owner { IsBelow owner (length wires.old.traffic.links) }
     requires room { HasRoomFor (owner_message owner kind requestor) wires.old.room }
     ensures traffic { wires.new.traffic ≡ all_sent (owner_message owner kind requestor) wires.old.traffic }
+    ensures marks { wires.new.marks ≡ all_marks_added (owner_message owner kind requestor) wires.old.marks }
     ensures room { UsesRoomFor (owner_message owner kind requestor) wires.old.room wires.new.room }
 {
     if let Some(owner) = owner {
@@ -104,6 +108,7 @@ fn send(home: &Home, action: DirectoryAction, to: CacheId, wires: &mut Wires)
     requires sender { to.0 < length wires.old.traffic.links }
     requires room { HasRoomFor (home_message (Some to) action home.now) wires.old.room }
     ensures traffic { wires.new.traffic ≡ all_sent (home_message (Some to) action home.now) wires.old.traffic }
+    ensures marks { wires.new.marks ≡ all_marks_added (home_message (Some to) action home.now) wires.old.marks }
     ensures room { UsesRoomFor (home_message (Some to) action home.now) wires.old.room wires.new.room }
 {
     match action {
@@ -175,6 +180,7 @@ fn perform_all(
     ensures flags { length home.new.sharers ≡ length home.old.sharers }
     ensures named { (caches : ℕ) → NamesBelow caches home.old → IsBelow from caches → NamesBelow caches home.new }
     ensures traffic { wires.new.traffic ≡ all_sent (home_messages from value actions.now home.old) wires.old.traffic }
+    ensures marks { wires.new.marks ≡ all_marks_added (home_messages from value actions.now home.old) wires.old.marks }
 {
     for action in actions {
         perform(home, *action, from, value, wires);
@@ -196,6 +202,7 @@ fn perform(
     requires room { HasRoomFor (home_message from action home.old) wires.old.room }
     ensures home { home.new ≡ home_changed from value action home.old }
     ensures traffic { wires.new.traffic ≡ all_sent (home_message from action home.old) wires.old.traffic }
+    ensures marks { wires.new.marks ≡ all_marks_added (home_message from action home.old) wires.old.marks }
     ensures room { UsesRoomFor (home_message from action home.old) wires.old.room wires.new.room }
 {
     if let Some(to) = from {
@@ -221,6 +228,7 @@ pub fn home_perform(
     requires room { HasRoomFor (home_sends input actions home.old) wires.old.room }
     ensures home { home.new ≡ home_after input next actions home.old }
     ensures traffic { wires.new.traffic ≡ all_sent (home_sends input actions home.old) wires.old.traffic }
+    ensures marks { wires.new.marks ≡ all_marks_added (home_sends input actions home.old) wires.old.marks }
     ensures flags { NamesBelow (length home.new.sharers) home.new }
     ensures links { NamesBelow (length wires.new.traffic.links) home.new }
     ensures flag_count { length home.new.sharers ≡ length home.old.sharers }
@@ -253,9 +261,11 @@ pub fn home_act(
     requires sender_link { IsBelow (sender_of input) (length wires.old.traffic.links) }
     ensures home { OnOk result (home.new ≡ home_after input next actions home.old) }
     ensures traffic { OnOk result (wires.new.traffic ≡ all_sent (home_sends input actions home.old) wires.old.traffic) }
+    ensures marks { OnOk result (wires.new.marks ≡ all_marks_added (home_sends input actions home.old) wires.old.marks) }
     ensures succeeds { HasRoomFor (home_sends input actions home.old) wires.old.room → IsOk result }
     ensures home_kept { OnErr result (home.new ≡ home.old) }
     ensures traffic_kept { OnErr result (wires.new.traffic ≡ wires.old.traffic) }
+    ensures marks_kept { OnErr result (wires.new.marks ≡ wires.old.marks) }
     ensures flags { NamesBelow (length home.new.sharers) home.new }
     ensures links { NamesBelow (length wires.new.traffic.links) home.new }
     ensures flag_count { length home.new.sharers ≡ length home.old.sharers }

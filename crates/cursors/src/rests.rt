@@ -8,7 +8,11 @@ use scenario::seeking::{count_offers, find_offer, list_offers};
 use std::alloc::Allocator;
 
 impl<'t, A: Allocator, B: Allocator + Clone> Rest for Cursor<'t, A, B> {
-    ghost use Rattle.cursors.specs.Cursors.{remaining};
+    ghost use Rattle.std.specs.Prelude.{◌≡◌, ◌≤◌, IfOk, OnErr};
+    ghost use Rattle.cursors.specs.Cursors.{remaining, standing};
+    ghost use Rattle.cursors.specs.Stock.{FitsIn, most_used};
+    ghost use Rattle.scenario.specs.Alike.{Takes};
+    ghost use Rattle.scenario.specs.Tree.{Tree};
 
     type Alloc = B;
 
@@ -30,7 +34,13 @@ impl<'t, A: Allocator, B: Allocator + Clone> Rest for Cursor<'t, A, B> {
         find_offer(&self.root, at)
     }
 
-    fn take(&mut self, alloc: B, at: usize) -> Result<Option<CoreAsk>, NoMemory> {
+    /// Takes an offer as said there. The cursor fits in every tree in which it fitted, and comes to have no more parts in use at once.
+    fn take(&mut self, alloc: B, at: usize) -> Result<Option<CoreAsk>, NoMemory>
+        ensures ok { IfOk result (λ taken. Takes (remaining self.old) at taken (remaining self.new)) }
+        ensures err { OnErr result (remaining self.new ≡ remaining self.old) }
+        ensures fits { (tree : Tree) → FitsIn self.old tree → FitsIn self.new tree }
+        ensures used { most_used (standing self.new) ≤ most_used (standing self.old) }
+    {
         let Some(ask) = self.offer_at(at) else {
             return Ok(None);
         };

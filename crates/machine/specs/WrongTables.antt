@@ -119,6 +119,16 @@ kept_e = record (baseline_of MsiE) {
 abbrev pub KeptEIsUnsafe : Type 0
 KeptEIsUnsafe = IsUnsafe kept_e (load 0 ∷ request 0 ∷ response 0 ∷ load 1 ∷ request 0 ∷ forward 0 ∷ response 0 ∷ [])
 
+-- under MSI+E a reader has no rule for another reader's request that comes before its exclusive Data
+abbrev pub blank_reader : Tables
+blank_reader = record (baseline_of MsiE) {
+  cache = cache_table.with_cell (baseline_of MsiE).cache cache_state.IsD cache_event.FwdGetS table_entry.Blank;
+}
+
+-- yet it is the owner from when the home sent that Data
+abbrev pub BlankReaderIsUnsafe : Type 0
+BlankReaderIsUnsafe = IsUnsafe blank_reader (load 0 ∷ request 0 ∷ load 1 ∷ request 0 ∷ forward 0 ∷ [])
+
 -- the Data of a store waits until its acks have come
 abbrev pub patient_data : Tables
 patient_data = with_cache_cell cache_state.ImAd cache_event.DataDirMore table_entry.Stall

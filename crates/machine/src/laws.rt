@@ -12,7 +12,7 @@ ghost use Rattle.machine.specs.Going.{AreNeverStuck, KeepsGoing};
 ghost use Rattle.machine.specs.Unstuck.{Unstuck, Flowing};
 ghost use Rattle.machine.specs.CoherenceRows.{StoreThenLoad, StaleLoadIsRefused, EarlyLoadIsRefused, OneWriterOrManyReaders};
 ghost use Rattle.machine.specs.WrongTables.{HastyReaderIsUnsafe, HastyLoadIsUnsafe, BlankCacheIsUnsafe, HastyWriterIsUnsafe, SecondWriterIsUnsafe};
-ghost use Rattle.machine.specs.WrongTables.{DroppedValueIsUnsafe, BlankDirectoryIsUnsafe, DeafSharerIsStuck, DeafSharerIsRestrained, KeptEIsUnsafe};
+ghost use Rattle.machine.specs.WrongTables.{DroppedValueIsUnsafe, BlankDirectoryIsUnsafe, DeafSharerIsStuck, DeafSharerIsRestrained, KeptEIsUnsafe, BlankReaderIsUnsafe};
 ghost use Rattle.machine.specs.WrongTables.{DeafReaderIsRestrained, DeafReaderIsStuck, ReadOnlyOwnerKeepsGoing, ReadOnlyOwnerIsStuck};
 ghost use Rattle.machine.specs.WrongTables.{PatientDataKeepsGoing, PatientAcksKeepGoing, CrossedWaitsAreRestrained, CrossedWaitsAreStuck};
 ghost use Rattle.machine.specs.Block.{BlockState, IsBlockAmong};
@@ -67,6 +67,7 @@ pub fn wrong_tables_are_refused()
     ensures blank_directory { BlankDirectoryIsUnsafe }
     ensures deaf_sharer { DeafSharerIsStuck }
     ensures kept_e { KeptEIsUnsafe }
+    ensures blank_reader { BlankReaderIsUnsafe }
 {}
 
 /// Under the own tables of each protocol every run of every world is safe: each block always has one

@@ -373,11 +373,19 @@ pub const INVARIANTS: &str = r#"      for n: acks_number do
   return false;
 end;
 
+function holds_ask(c: cache): boolean;
+begin
+  return cache_holds(state[c], eLoad) | cache_holds(state[c], eStore) | (state[c] != cI & cache_holds(state[c], eReplacement));
+end;
+
 -- as msi names violations; what is found first by these rows counts
 invariant "blank" !blank;
 invariant "second writer" forall c: cache do forall d: cache do (c != d & writes(state[c])) -> !writes(state[d]) end end;
 invariant "writer beside reader" forall c: cache do forall d: cache do (c != d & writes(state[c])) -> !reads(state[d]) end end;
 invariant "stale load" !stale;
 invariant "no room" !overflow;
+-- nothing gets stuck: what is on its way can be served, and without it no ask waits, and none is held
 invariant "stuck" blank | is_quiet() | can_move();
+invariant "unanswered" blank | !is_quiet() | forall c: cache do pending[c] = none end;
+invariant "held" blank | !is_quiet() | forall c: cache do !holds_ask(c) end;
 "#;

@@ -2,6 +2,7 @@ use Rattle.std.proofs.Common.{◌≡◌, ℕ, ◌+◌, List, [], ◌∷◌, ◌+
 use Rattle.std.proofs.lemmas.List.{length-set}
 use Rattle.network.specs.declared.message.Message.{Message}
 use Rattle.network.specs.declared.message.Message.TheVariants as message
+use Rattle.network.specs.Marks.{Marks, mark_added, all_marks_added}
 use Rattle.network.specs.Traffic.{Traffic, sent, all_sent}
 use Rattle.network.specs.Room.{Room, HasRoomFor, UsesRoomFor, requests_in, forwards_in, responses_in}
 
@@ -9,6 +10,10 @@ use Rattle.network.specs.Room.{Room, HasRoomFor, UsesRoomFor, requests_in, forwa
 pub all_sent-append : (ms ns : List Message) (w : Traffic) → all_sent (ms ++ ns) w ≡ all_sent ns (all_sent ms w)
 all_sent-append [] ns w = refl
 all_sent-append (m ∷ ms) ns w = all_sent-append ms ns (sent m w)
+
+pub all_marks_added-append : (ms ns : List Message) (w : Marks) → all_marks_added (ms ++ ns) w ≡ all_marks_added ns (all_marks_added ms w)
+all_marks_added-append [] ns w = refl
+all_marks_added-append (m ∷ ms) ns w = all_marks_added-append ms ns (mark_added m w)
 
 pub requests_in-append : (ms ns : List Message) → requests_in (ms ++ ns) ≡ requests_in ms + requests_in ns
 requests_in-append [] ns = omega arith

@@ -39,6 +39,11 @@ mark_added (message.Request r) m = request_mark_added m
 mark_added (message.Forward to f) m = forward_mark_added to.0 m
 mark_added (message.Response r) m = response_mark_added m
 
+-- after these messages were sent, in order
+abbrev pub all_marks_added : List Message → Marks → Marks
+all_marks_added [] m = m
+all_marks_added (x ∷ xs) m = all_marks_added xs (mark_added x m)
+
 -- after a request was taken out, from any place
 abbrev pub request_mark_taken : ℕ → Marks → Marks
 request_mark_taken i m = record m { requests = remove m.requests i }

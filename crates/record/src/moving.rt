@@ -41,6 +41,8 @@ pub fn move_text<S: Source, K: Sink>(
       left_then = S.left source.new;
       taken = K.taken sink.old;
       taken_then = K.taken sink.new;
+      source_has_failed = S.has_failed source.new;
+      had_failed = K.has_failed sink.old;
       has_failed = K.has_failed sink.new;
     })) }
     ensures err { IfErr result (IsMoveFault (record {
@@ -48,6 +50,8 @@ pub fn move_text<S: Source, K: Sink>(
       left_then = S.left source.new;
       taken = K.taken sink.old;
       taken_then = K.taken sink.new;
+      source_has_failed = S.has_failed source.new;
+      had_failed = K.has_failed sink.old;
       has_failed = K.has_failed sink.new;
     })) }
     ensures moved { (v : Version) (r : RecordingView) → IsRecordable r → HasTextIn v r → S.left source.old ≡ Some (text v r) →

@@ -120,7 +120,7 @@ Printed is a picture in SVG: time goes down, a lane is a controller, a box a ste
 from the step that sent it to the one that served it (thin: request, dashed: forward, thick: response).
 
 Status: 0, but 1 where a violation or a difference is found; 2 wrong words or recording, or more than
-1000 steps; 3 device or memory.
+2000 steps; 3 device or memory.
 
 Example:
   $ ./msi chart --steps 3 < examples/recordings/load-from-owner.rec | grep '<title>'
@@ -178,7 +178,8 @@ pub const CERTIFY: &str =
 
 Printed is `safe` where it is proved that no run breaks coherence, and what is known of waiting: `never
 stuck`, or the cell for which asks may be held or messages get stuck; or `unknown`, and the cell that
-stands against a proof. That doesn't say unsafe. Each changed cell follows, with why it may be so.
+stands against a proof. That doesn't say unsafe: examples/exhaust/run tries all schedules of a few caches.
+Each changed cell follows, with why it may be so; and where it is known, steps that get stuck.
 
 Status: 0 safe, 1 unknown, 2 wrong words or tables, 3 device or memory.
 

@@ -1,8 +1,9 @@
 -- What steps leave of the room of blocks.
-use Rattle.std.proofs.Common.{◌≡◌, ◌≢◌, ◌<◌, ℕ, zero, suc, List, [], ◌∷◌, Option, None, Some, Bool, false, true, refl, ap, sym, ◌∙◌, arith, inl, inr}
+use Rattle.std.proofs.Common.{◌≡◌, ◌≢◌, ◌<◌, ◌+◌, ℕ, zero, suc, List, [], ◌∷◌, ◌++◌, Option, None, Some, Bool, false, true, refl, ap, sym, ◌∙◌, arith, inl, inr}
 use Rattle.std.proofs.lemmas.Bool.{cases_eq}
 use Rattle.std.proofs.Common.{length, replicate, slice_get, get_or, take}
-use Rattle.std.proofs.Math.Seq.{map-set_same}
+use Rattle.std.proofs.Math.Seq.{get_or-append_seam, map-set_same, take-append_seam}
+use Rattle.std.proofs.lemmas.List.{length-append, take_more}
 use Rattle.base.specs.Extent.{Extent}
 use Rattle.base.specs.Steps.{block_of}
 use Rattle.base.specs.declared.step.Step.{Step}
@@ -105,3 +106,28 @@ keeps-more old mid new steps i step d low at state tables so_far keeps = record 
   where
     elsewhere : (block cache : ℕ) → block ≢ block_of step → keeps_line new block cache ≡ keeps_line mid block cache
     elsewhere block cache other = ap (λ (o : Option Space). has_line o cache) (keeps.others block other)
+
+-- of the first of some steps none acts at a block where none of all does, nor at a line
+none-front : (tables : Tables) (s : State) (block : ℕ) (xs ys : List Step) → NoneActsAt tables s block (xs ++ ys) → NoneActsAt tables s block xs
+none-front tables s block [] ys none = _
+none-front tables s block (x ∷ xs) ys none = (none.0, none-front tables (next tables s x).state block xs ys none.1)
+
+none-there-front : (tables : Tables) (s : State) (block cache : ℕ) (xs ys : List Step) → NoneActsThere tables s block cache (xs ++ ys) →
+    NoneActsThere tables s block cache xs
+none-there-front tables s block cache [] ys none = _
+none-there-front tables s block cache (x ∷ xs) ys none = (none.0, none-there-front tables (next tables s x).state block cache xs ys none.1)
+
+-- what a run kept as it was up to a step, it keeps so behind it
+pub keeps-front : (old mid new : View) (steps : List Step) (i : ℕ) (step d : Step) → i < length steps → step ≡ get_or steps i d →
+    mid.state ≡ state_after old.tables old.state (take i steps) → mid.tables ≡ old.tables →
+    KeepsOthers old (take i steps) mid → KeepsAsIs mid step new → KeepsOthers old (take (i + 1) steps) new
+keeps-front old mid new steps i step d low at state tables so_far keeps =
+    let front : List Step = take i steps in
+    let all : take (i + 1) steps ≡ front ++ step ∷ [] = take_more steps i d low ∙ ap (λ x. front ++ x ∷ []) (sym at) in
+    rw all (keeps-more old mid new (front ++ step ∷ []) (length front) step step (omega (arith, length-append front (step ∷ [])))
+    (sym (get_or-append_seam front step [] step))
+    (rw (take-append_seam front (step ∷ [])) state) tables
+    (record {
+      blocks = λ block none. so_far.blocks block (none-front old.tables old.state block front (step ∷ []) none);
+      lines = λ block cache none. so_far.lines block cache (none-there-front old.tables old.state block cache front (step ∷ []) none);
+    }) keeps)

@@ -1,10 +1,12 @@
-use Rattle.std.specs.Prelude.{◌≡◌, ◌≤◌, ℕ, List, [], ◌∷◌, ◌++◌, length}
+use Rattle.std.specs.Prelude.{◌≡◌, ◌≤◌, ¬◌, ℕ, List, [], ◌∷◌, ◌++◌, Some, length, slice_get, take}
 use Rattle.base.specs.Steps.{block_of}
 use Rattle.base.specs.declared.step.Step.{Step}
 use Rattle.base.specs.declared.step.Outcome.{Outcome}
 use Rattle.both_tables.specs.Tables.{Tables}
 use Rattle.machine.specs.Machine.{State, next, state_after, outcomes_of, sent_by}
+use Rattle.world.specs.Keeping.{KeepsOthers}
 use Rattle.world.specs.Messages.{messages_at, raised}
+use Rattle.world.specs.OneStep.{IsAsBefore, NeedsNoMemory}
 use Rattle.world.specs.View.{View}
 
 -- the count of tested messages after these steps, if each tests no more than what it sends
@@ -28,3 +30,13 @@ pub record IsRun (old : View) (steps : List Step) (before : List Outcome) (new :
   pub opening : new.opening ≡ old.opening
   pub tests_what_they_send : tested_at_least old.tables old.state steps old.tested ≤ new.tested
   pub tests_their_blocks : new.tested ≤ tested_at_most old.tables old.state steps old.tested
+
+-- a run found no memory for the step behind the first `done`: the world that these led to wanted some for it, and is as it was then,
+-- but for the memory of the step's block
+pub record FoundNoMemory (old : View) (steps : List Step) (done : ℕ) (new : View) : Type 0 where
+  pub world : View
+  pub step : Step
+  pub there : slice_get steps done ≡ Some step
+  pub keeps : KeepsOthers old (take done steps) world
+  pub wants : ¬ NeedsNoMemory world step
+  pub as_before : IsAsBefore world step new

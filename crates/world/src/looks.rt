@@ -118,7 +118,7 @@ impl World {
         }
     }
 
-    /// How many caches are in S, SM^AD, SM^A or M. Of a block that isn't in the shape it is 0.
+    /// How many caches are in S, SM^AD, SM^A, M or E. Of a block that isn't in the shape it is 0.
     pub fn readers(&self, block: BlockId) -> u32
         ensures { result ≡ readers_of self.now.state block.0 }
     {
@@ -128,7 +128,7 @@ impl World {
         }
     }
 
-    /// The least cache in M, if there is one and the block is in the shape.
+    /// The least cache in M or E, if there is one and the block is in the shape.
     pub fn writer(&self, block: BlockId) -> Option<CacheId>
         ensures { result ≡ writer_of self.now.state block.0 }
     {
@@ -138,7 +138,7 @@ impl World {
         }
     }
 
-    /// The least cache in M, where more than one cache is in S, SM^AD, SM^A or M and the block is in the shape. It takes one
+    /// The least cache in M or E, where more than one cache is in S, SM^AD, SM^A, M or E and the block is in the shape. It takes one
     /// look where [`writer`](World::writer) and [`readers`](World::readers) take two.
     pub fn crowded_writer(&self, block: BlockId) -> Option<CacheId>
         ensures some { IfSome result (λ cache. Some cache ≡ writer_of self.now.state block.0) }

@@ -10,19 +10,22 @@ pub struct RunStop {
 }
 
 impl World {
-    ghost use Rattle.std.specs.Prelude.{◌≡◌, ◌<◌, IfErr, OnOk, length, take};
+    ghost use Rattle.std.specs.Prelude.{◌≡◌, ◌<◌, ◌≤◌, ◌⊎◌, IfErr, OnOk, length, take, vec_capacity};
     ghost use Rattle.world.specs.Coherent.{HasBeenSafe, IsUnstuck};
     ghost use Rattle.world.specs.Keeping.{KeepsOthers};
     ghost use Rattle.world.specs.View.{LeadsOn};
-    ghost use Rattle.world.specs.Runs.{IsRun};
+    ghost use Rattle.world.specs.Runs.{IsRun, FoundNoMemory};
 
     /// Makes these steps, and appends an outcome for each.
     ///
-    /// Where memory is refused exactly the first `done` steps stand, and their outcomes are appended.
+    /// Where memory is refused exactly the first `done` steps stand, and their outcomes are appended. That is so only where `outcomes`
+    /// is full, or where the step behind them wants memory: so a run never stops at a step that [`step`](World::step) is never refused.
     pub fn run(&mut self, steps: &[Step], outcomes: &mut Vec<Outcome>) -> Result<(), RunStop>
         ensures ok { OnOk result (IsRun self.old steps.now outcomes.old.items self.new outcomes.new.items) }
         ensures err { IfErr result (λ stop. IsRun self.old (take stop.done steps.now) outcomes.old.items self.new outcomes.new.items) }
         ensures done { IfErr result (λ stop. stop.done < length steps.now) }
+        ensures wanted { IfErr result (λ stop.
+            (vec_capacity outcomes.new ≤ length outcomes.new.items) ⊎ FoundNoMemory self.old steps.now stop.done self.new) }
         ensures keeps { KeepsOthers self.old steps.now self.new }
         ensures history { OnOk result (LeadsOn self.old steps.now self.new) }
         ensures history_so_far { IfErr result (λ stop. LeadsOn self.old (take stop.done steps.now) self.new) }
@@ -38,6 +41,8 @@ impl World {
         ensures ok { OnOk result (IsRun self.old steps.now outcomes.old.items self.new outcomes.new.items) }
         ensures err { IfErr result (λ stop. IsRun self.old (take stop.done steps.now) outcomes.old.items self.new outcomes.new.items) }
         ensures done { IfErr result (λ stop. stop.done < length steps.now) }
+        ensures wanted { IfErr result (λ stop.
+            (vec_capacity outcomes.new ≤ length outcomes.new.items) ⊎ FoundNoMemory self.old steps.now stop.done self.new) }
         ensures keeps { KeepsOthers self.old steps.now self.new }
         ensures shape { self.new.shape ≡ self.old.shape }
     {

@@ -1,21 +1,21 @@
 -- Worlds that were opened, and went on.
-use Rattle.std.specs.Prelude.{◌≡◌, ℕ, List, []}
-use Rattle.base.specs.Extent.{IsWithinLimits}
+use Rattle.std.specs.Prelude.{◌≡◌, ℕ, List, [], ◌∷◌, ◌++◌}
 use Rattle.base.specs.declared.step.Step.{Step}
 use Rattle.both_tables.specs.Tables.{Tables}
 use Rattle.machine.specs.Machine.{IsHistory}
 use Rattle.world.specs.View.{View, LeadsOn}
+use Rattle.checking.specs.Jams.{steps_text, three_caches}
 
--- a world that has just been opened under these tables
+-- a world of three caches that share a block has just been opened under these tables
 pub record IsFresh (tables : Tables) (world : View) : Type 0 where
-  pub opening : List ℕ
-  pub within : IsWithinLimits world.shape
+  pub shape : world.shape ≡ three_caches
   pub under : world.tables ≡ tables
-  pub history : IsHistory world.shape world.tables opening [] world.state
+  pub history : IsHistory world.shape world.tables (0 ∷ []) [] world.state
 
--- a world has made some steps
-pub record HasGoneOn (old new : View) : Type 0 where
+-- a world has made the steps that a text tells of before its rest
+pub record HasGoneOn (old : View) (text rest : List ℕ) (new : View) : Type 0 where
   pub steps : List Step
+  pub told : text ≡ steps_text steps ++ rest
   pub leads : LeadsOn old steps new
   pub under : new.tables ≡ old.tables
   pub shape : new.shape ≡ old.shape

@@ -43,3 +43,12 @@ returns-clause-flag_count c = grind (arith, common_steps)
 
 pub returns-clause-link_count : goal.returns-clause-link_count
 returns-clause-link_count c = grind (arith, common_steps)
+
+pub returns-in_err-home_reserve-clause-marks : goal.returns-in_err-home_reserve-clause-marks
+returns-in_err-home_reserve-clause-marks c = grind (arith, common_steps)
+
+pub returns-clause-marks : goal.returns-clause-marks
+returns-clause-marks c = grind (arith, common_steps)
+
+pub returns-clause-marks_kept : goal.returns-clause-marks_kept
+returns-clause-marks_kept c = grind (arith, common_steps)

@@ -1,8 +1,9 @@
 use Rattle.std.proofs.Common.{◌≡◌, ◌<◌, ◌+◌, ◌++◌, ◌∙◌, ap, sym, subst, arith, length, drop, slice_index_or, List}
 use Rattle.network.specs.declared.message.Message.{Message}
+use Rattle.network.specs.Marks.{all_marks_added}
 use Rattle.network.specs.Traffic.{Traffic, all_sent}
 use Rattle.network.specs.Room.{HasRoomFor}
-use Rattle.network.proofs.Sending.{all_sent-append, room-front, room-left, links-all_sent}
+use Rattle.network.proofs.Sending.{all_marks_added-append, all_sent-append, room-front, room-left, links-all_sent}
 use Rattle.directory_table.specs.declared.actions.DirectoryAction.{DirectoryAction}
 use Rattle.directory_table.specs.declared.actions.DirectoryAction.TheVariants.{DataReq}
 use Rattle.block_home.specs.declared.home.Home.{Home}
@@ -46,6 +47,14 @@ loop-action-preserved c =
           (home_messages c.args.from c.args.value rest (home_changed c.args.from c.args.value a c.loop-action.home)) c.loop-action.wires.traffic)
           ∙ ap (λ (ms : List Message). all_sent ms c.loop-action.wires.traffic) (sym front)
           ∙ c.loop-action.invariant.traffic;
+      marks =
+          ap (λ (h : Home). all_marks_added (home_messages c.args.from c.args.value rest h) c.perform.new.wires.marks) c.perform.ensures.home
+          ∙ ap (all_marks_added (home_messages c.args.from c.args.value rest (home_changed c.args.from c.args.value a c.loop-action.home)))
+          c.perform.ensures.marks
+          ∙ sym (all_marks_added-append (home_message c.args.from a c.loop-action.home)
+          (home_messages c.args.from c.args.value rest (home_changed c.args.from c.args.value a c.loop-action.home)) c.loop-action.wires.marks)
+          ∙ ap (λ (ms : List Message). all_marks_added ms c.loop-action.wires.marks) (sym front)
+          ∙ c.loop-action.invariant.marks;
       room =
           subst (λ (h : Home). HasRoomFor (home_messages c.args.from c.args.value rest h) c.perform.new.wires.room) (sym c.perform.ensures.home)
           (room-left (home_message c.args.from a c.loop-action.home) _ c.loop-action.wires.room c.perform.new.wires.room

@@ -1,4 +1,5 @@
 use Rattle.std.proofs.Common.{◌≡◌, ℕ, drop, length}
+use Rattle.network.specs.Marks.{all_marks_added}
 use Rattle.network.specs.Traffic.{all_sent}
 use Rattle.network.specs.Room.{HasRoomFor}
 use Rattle.control.specs.HomeEffect.{home_messages, home_moved, IsBelow, NamesBelow}
@@ -12,5 +13,7 @@ invariant-loop-action l = record {
   home : home_moved l.from l.value (drop l.action-index l.actions) l.home ≡ home_moved l.from l.value l.actions l.fn.home;
   traffic : all_sent (home_messages l.from l.value (drop l.action-index l.actions) l.home) l.wires.traffic
       ≡ all_sent (home_messages l.from l.value l.actions l.fn.home) l.fn.wires.traffic;
+  marks : all_marks_added (home_messages l.from l.value (drop l.action-index l.actions) l.home) l.wires.marks
+      ≡ all_marks_added (home_messages l.from l.value l.actions l.fn.home) l.fn.wires.marks;
   room : HasRoomFor (home_messages l.from l.value (drop l.action-index l.actions) l.home) l.wires.room;
 }
