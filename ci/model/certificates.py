@@ -86,11 +86,11 @@ def is_jammed(world):
     return not world.blocks[0].is_quiet() and not any(deliveries(world))
 
 
-def jam_from(tables, place):
-    """The first schedule, from that of a place on, that gets stuck under these tables, if one does."""
+def jam_from(tables, place=None):
+    """The first schedule, from that of a place on or of all, that gets stuck under these tables, if one does."""
     schedules = schedules_of(tables.protocol)
-    places = [place for place, _ in schedules]
-    for _, steps in schedules[places.index(place) :]:
+    places = [it for it, _ in schedules]
+    for _, steps in schedules[places.index(place) if place else 0 :]:
         if jams(tables, steps.split(", ")):
             return steps.split(", ")
     return None
@@ -114,7 +114,10 @@ def certificate(tables):
     found = list(reasons(tables))
     unproved = [f"{OPEN}: {line}" for reason, line in found if reason == OPEN]
     if unproved:
-        return 1, ["unknown", unproved[0], ADVICE]
+        return 1, ["unknown", unproved[0], ADVICE, *shown(jam_from(tables))]
     said, steps = going(tables)
-    shown = [f"stuck with {CACHES} caches after:", *steps] if steps else []
-    return 0, ["safe", said, *(f"{reason}: {line}" for reason, line in found), *shown]
+    return 0, ["safe", said, *(f"{reason}: {line}" for reason, line in found), *shown(steps)]
+
+
+def shown(steps):
+    return [f"stuck with {CACHES} caches after:", *steps] if steps else []

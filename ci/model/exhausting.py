@@ -10,6 +10,9 @@ from model.trials import deliveries
 from model.walks import copied
 
 
+ASKS = ("load", "store", "replace")
+
+
 @dataclass
 class Walked:
     """What a walk came to. Two states are of one kind where they differ by the names of the caches alone."""
@@ -17,7 +20,8 @@ class Walked:
     states: int = 0
     kinds: int = 0
     violation: Optional[str] = None
-    is_stuck: bool = False
+    stuck: tuple = ()
+    """In which ways some state is stuck."""
     is_whole: bool = True
 
 
@@ -54,6 +58,17 @@ def steps_of(world, values):
     yield from deliveries(world)
 
 
+def stuck_ways(world):
+    """In which ways a state is stuck, by the names of the model's invariants."""
+    block = world.blocks[0]
+    if not block.is_quiet():
+        return {"stuck"} if is_jammed(world) else set()
+    caches = range(world.caches)
+    ways = {"unanswered": any(block.lines[it].pending for it in caches)}
+    ways["held"] = any(world.decide(Ask(it, 0, ask, 1)).outcome == "held" for it in caches for ask in ASKS)
+    return {name for name, is_so in ways.items() if is_so}
+
+
 def made(world, step):
     """The world behind a step, and the step's violation. `None` for the world where the step changes nothing."""
     decision, due = world.decide(step), [world.blocks[0].latest]
@@ -80,7 +95,7 @@ def walk(tables, caches, most):
 
     meet(Watched(caches, 1, tables).world)
     for world in ahead:
-        walked.is_stuck |= not world.blocks[0].is_quiet() and is_jammed(world)
+        walked.stuck = tuple(sorted({*walked.stuck, *stuck_ways(world)}))
         for step in steps_of(world, values):
             other, walked.violation = made(world, step)
             if walked.violation:
