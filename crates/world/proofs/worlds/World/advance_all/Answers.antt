@@ -1,5 +1,6 @@
-use Rattle.std.proofs.Common.{◌++◌, ◌∷◌, [], ◌∙◌, ap, arith, refl}
+use Rattle.std.proofs.Common.{◌++◌, ◌∷◌, [], ◌∙◌, ap, arith, inr, refl}
 use Rattle.std.proofs.lemmas.Grind.{common_steps}
+use Rattle.std.proofs.lemmas.Option.{slice_get-get_or}
 use Rattle.world.proofs.Running.{run-more}
 use Rattle.world.proofs.Spaces.{keeps-front, keeps-more}
 use Rattle.world.proofs.worlds.World.advance_all.Goals as goal
@@ -10,15 +11,15 @@ loop-i-preserved c = (
       c.push_reserved.new.self.items c.in-Ok.made (omega arith) refl c.loop-i.invariant.0 c.in-Ok.ensures.ok
       (c.push_reserved.ensures.items ∙ ap (λ xs. xs ++ c.in-Ok.made.outcome ∷ []) c.reserve.ensures.items),
   keeps-more c.args.self.now c.loop-i.self c.make.new.self c.args.steps.now c.loop-i.i _ _ (omega arith) refl
-      c.loop-i.invariant.0.state c.loop-i.invariant.0.tables c.loop-i.invariant.1.0 c.in-Ok.ensures.ok.keeps,
+      c.loop-i.invariant.0.state c.loop-i.invariant.0.tables c.loop-i.invariant.1 c.in-Ok.ensures.ok.keeps,
   keeps-front c.args.self.now c.loop-i.self c.make.new.self c.args.steps.now c.loop-i.i _ _ (omega arith) refl
-      c.loop-i.invariant.0.state c.loop-i.invariant.0.tables c.loop-i.invariant.1.1 c.in-Ok.ensures.ok.keeps,
+      c.loop-i.invariant.0.state c.loop-i.invariant.0.tables c.loop-i.invariant.2 c.in-Ok.ensures.ok.keeps,
 )
 
 pub returns-in_default-make-clause-keeps : goal.returns-in_default-make-clause-keeps
 returns-in_default-make-clause-keeps c =
     keeps-more c.args.self.now c.loop-i.self c.make.new.self c.args.steps.now c.loop-i.i _ _ (omega arith) refl
-    c.loop-i.invariant.0.state c.loop-i.invariant.0.tables c.loop-i.invariant.1.0 c.in_default-make.ensures.err.keeps
+    c.loop-i.invariant.0.state c.loop-i.invariant.0.tables c.loop-i.invariant.1 c.in_default-make.ensures.err.keeps
 
 pub loop-i-init : goal.loop-i-init
 loop-i-init c = grind (arith, common_steps)
@@ -67,3 +68,13 @@ returns-clause-done c = grind (arith, common_steps)
 
 pub returns-clause-shape : goal.returns-clause-shape
 returns-clause-shape c = grind (arith, common_steps)
+
+pub returns-in_default-make-clause-wanted : goal.returns-in_default-make-clause-wanted
+returns-in_default-make-clause-wanted c = inr (record {
+  world = c.loop-i.self;
+  step = _;
+  there = slice_get-get_or c.args.steps.now c.loop-i.i _ (omega arith);
+  keeps = c.loop-i.invariant.2;
+  wants = λ needs. let no = c.in_default-make.ensures.succeeds needs in absurd (cc);
+  as_before = c.in_default-make.ensures.err;
+})
