@@ -51,7 +51,7 @@ gone-none world text = record {
 }
 
 text-more : (steps : List Step) (s : Step) (rest : List ℕ) →
-    steps_text (steps ++ s ∷ []) ++ rest ≡ steps_text steps ++ joined (step_words s) ++ 10 ∷ rest
+    steps_text (steps ++ s ∷ []) ++ rest ≡ steps_text steps ++ (joined (step_words s) ++ 10 ∷ rest)
 text-more [] s rest = append_assoc (joined (step_words s)) (10 ∷ []) rest
 text-more (x ∷ steps) s rest =
     append_assoc (joined (step_words x)) (10 ∷ steps_text (steps ++ s ∷ [])) rest
