@@ -79,7 +79,8 @@ found-rest count bs numbers k place rest b e found there =
     ap (λ ns. get_or ns place 0) e ∙ get_or-map count bs place b 0 within ∙ ap count (get_or_from_slice_get bs place b b there) in
     omega (arith, found.within)
 
-block-there : (bs : List BlockState) (i : ℕ) → i < length bs → (b : BlockState) × (slice_get bs i ≡ Some b)
+-- a block that is below the end is there
+pub block-there : (bs : List BlockState) (i : ℕ) → i < length bs → (b : BlockState) × (slice_get bs i ≡ Some b)
 block-there [] i h = absurd (omega arith)
 block-there (b ∷ bs) zero h = (b, refl)
 block-there (b ∷ bs) (suc i) h = block-there bs i (omega arith)

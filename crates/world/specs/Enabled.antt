@@ -1,4 +1,4 @@
-use Rattle.std.specs.Prelude.{ℕ, ◌+◌, List, [], ◌∷◌, ◌++◌, if◌then◌else◌}
+use Rattle.std.specs.Prelude.{ℕ, ◌+◌, List, [], ◌∷◌, ◌++◌, Option, None, Some, if◌then◌else◌, slice_get}
 use Rattle.base.specs.declared.ids.BlockId.{BlockId}
 use Rattle.base.specs.declared.step.Step.{Step}
 use Rattle.base.specs.declared.step.Step.TheVariants as step
@@ -9,6 +9,8 @@ use Rattle.both_tables.specs.Tables.{Tables}
 use Rattle.machine.specs.Block.{BlockState}
 use Rattle.machine.specs.Machine.{State}
 use Rattle.blocks.specs.Looks.{held_in}
+use Rattle.world.specs.declared.counts.Kind.{Kind}
+use Rattle.world.specs.declared.counts.Kind.TheVariants as kind
 
 -- a step, unless it would be held
 abbrev pub unless_held : Tables → Step → BlockState → List Step
@@ -43,6 +45,21 @@ heads_in tables block b = heads_from tables block b 0 b.traffic.links
 
 abbrev pub responses_enabled : Tables → BlockId → BlockState → List Step
 responses_enabled tables block b = responses_from tables block b 0 b.traffic.responses
+
+-- those of a kind
+abbrev pub kind_enabled : Tables → Kind → BlockId → BlockState → List Step
+kind_enabled tables kind.Request block b = requests_enabled tables block b
+kind_enabled tables kind.Head block b = heads_in tables block b
+kind_enabled tables kind.Response block b = responses_enabled tables block b
+
+-- the same, if the block is there
+abbrev pub kind_found : Tables → Kind → BlockId → Option BlockState → List Step
+kind_found tables kind block None = []
+kind_found tables kind block (Some b) = kind_enabled tables kind block b
+
+-- those of a kind of one of all blocks, broken or not
+abbrev pub enabled_at_block : Tables → Kind → State → BlockId → List Step
+enabled_at_block tables kind s block = kind_found tables kind block (slice_get s.blocks block.0)
 
 -- what there is of each block, of those from a number on
 abbrev pub of_each : (BlockId → BlockState → List Step) → ℕ → List BlockState → List Step

@@ -1,12 +1,12 @@
-ghost use Rattle.std.specs.Prelude.{◌≡◌, ◌<◌, ◌≤◌, ◌^◌, IfNone, IfOk, IfSome, length, replicate, slice_set};
-ghost use Rattle.world.specs.inner.Counts.{all_in, FallsAt};
+ghost use Rattle.std.specs.Prelude.{◌≡◌, ◌<◌, ◌≤◌, ◌^◌, IfNone, IfOk, IfSome, length, replicate, slice_index_or, slice_set};
+ghost use Rattle.world.specs.inner.Counts.{all_in, row_of_kind, FallsAt};
 
 use base::NoMemory;
 use rows::{Found, Sums};
 use std::alloc::Global;
 use std::marker::Model;
 
-/// For each block how many of its requests, heads of links and responses wouldn't be held.
+/// For each block how many deliveries of each kind it has, of those that are counted: a world counts those that wouldn't be held.
 #[derive(Drop)]
 pub struct Counts {
     requests: Sums,
@@ -14,11 +14,14 @@ pub struct Counts {
     responses: Sums,
 }
 
-/// The kinds of delivery, each of which has a row.
+/// The kinds of delivery.
 #[derive(Clone, Copy)]
 pub enum Kind {
+    /// A request, served by its block's home.
     Request,
+    /// The first message of a link, served by the link's cache.
     Head,
+    /// A response, served by whom it is for.
     Response,
 }
 
@@ -97,6 +100,22 @@ impl Counts {
         change(&mut self.requests, at, requests);
         change(&mut self.heads, at, heads);
         change(&mut self.responses, at, responses);
+    }
+
+    /// How many of a kind a block has. Where the block isn't there it is 0.
+    pub fn of_block(&self, kind: Kind, number: u32) -> u32
+        ensures { result ≡ slice_index_or (row_of_kind self.now kind) number 0 }
+    {
+        let row = match kind {
+            Kind::Request => &self.requests,
+            Kind::Head => &self.heads,
+            Kind::Response => &self.responses,
+        };
+        let at = number as usize;
+        if at >= row.len() {
+            return 0;
+        }
+        row.get(at)
     }
 
     /// How many there are of all kinds in all blocks.

@@ -11,7 +11,7 @@ use std::alloc::Global;
 
 impl World {
     ghost use Rattle.std.specs.Prelude.{◌≡◌, ◌<◌, ◌^◌, IfOk, length, slice_get};
-    ghost use Rattle.world.specs.Enabled.{enabled_steps};
+    ghost use Rattle.world.specs.Enabled.{enabled_at_block, enabled_steps};
 
     /// The deliveries that are there and wouldn't be held: the requests by block and place, then
     /// the heads of links by block and cache, then the responses by block and place. A broken
@@ -49,6 +49,31 @@ impl World {
             return None;
         }
         let spot = self.counts.find(k)?;
+        delivery_at(&self.blocks, spot)
+    }
+
+    /// How many deliveries of a kind a block has that wouldn't be held if the world weren't broken: fewer than 2^32. A block that
+    /// isn't in the shape has none.
+    pub fn enabled_count_of(&self, kind: Kind, block: BlockId) -> u32
+        ensures { result ≡ length (enabled_at_block self.now.tables kind self.now.state block) }
+    {
+        // A look at a field brings in what holds of every world.
+        let _ = &self.blocks;
+        self.counts.of_block(kind, block.0)
+    }
+
+    /// The k-th of them, counted from 0, if there are so many: in the order in which [`enabled`](World::enabled) lists them in a world
+    /// that isn't broken.
+    pub fn enabled_of(&self, kind: Kind, block: BlockId, k: u32) -> Option<Step>
+        ensures { result ≡ slice_get (enabled_at_block self.now.tables kind self.now.state block) k }
+    {
+        // A look at a field brings in what holds of every world.
+        let _ = &self.counts;
+        let spot = Spot {
+            kind,
+            block: block.0,
+            rest: k,
+        };
         delivery_at(&self.blocks, spot)
     }
 }

@@ -9,5 +9,6 @@ mod resetting;
 mod runs;
 mod worlds;
 
+pub use counts::{Counts, Kind, Spot};
 pub use runs::RunStop;
 pub use worlds::{OpenFault, World};
