@@ -5,29 +5,38 @@ from dataclasses import dataclass
 from enum import Enum
 
 # (of a struct's ghost field only that no proof was found is said)
-OPEN = re.compile(r"^note: (src/\S+?):(\d+):\d+: (?:it is not proved that (.*?)|`search` found no proof) \(`([^`]*)`\)", re.M)
+OPEN = re.compile(r"^note: (src/\S+?):(\d+):\d+: (?:it is not proved that .*?|`search` found no proof) \(`([^`]*)`\)", re.M)
 # (what is said goes on in lines that begin with blanks)
 ANSWER = re.compile(r"^(?:\./)?(proofs/\S+?):(\d+):\d+: error: (?:`([^`]*)`: )?(.*(?:\n  .*)*)$", re.M)
 CALLS = re.compile(r"^fn (\S+): no proof: it calls ", re.M)
 # What is said of an answer where a tactic was left with a goal that doesn't hold, or that it couldn't close.
 TACTIC = re.compile(r"^`(omega|grind|search|simp|decide)\b")
-# What is said of an answer that names a goal or a fact that isn't there in the changed body, without the names themselves.
-NAMES = re.compile(r"is not in scope|has no field|has no (?=[ ,;:.(]|$)|was not admitted|is no name")
-# What is said of an answer that names a place in the body which the changed body reaches in another way.
-PLACE = re.compile(r"expected type `\(?(?:\S*\.)?(?:After|Joined)-.*but this has type `\(?(?:\S*\.)?(?:After|Joined)-", re.S)
+# What `rt must-fail` says of an edit: of one that is refused, and where that shows something of the contract, by which goal.
+ALONE = re.compile(r"^rt: must-fail (\w+)/(\w+)\.edit: (.*)$", re.M)
+REFUSED = "refused, as it must be: "
+WHERE = re.compile(r"^(?:note: )?(?:\./)?((?:src|proofs)/\S+?):(\d+)")
 # What is said of answers that lean on one of which something else is said.
 LEANS = re.compile(r"^\d+ declarations? that depends? on .* which was rejected")
 
 
 class Kind(Enum):
-    """What a goal that isn't proved says of a changed body."""
+    """What a goal that isn't proved says of a changed body, and what the refusal is said to be by."""
 
-    OPEN = "open"
-    """The goal is open: no tactic closes it."""
-    OTHER = "other"
-    """The goal is another than the one that its answer proves. The body may be at fault, or only look otherwise."""
-    UNREAD = "unread"
-    """An answer names what the changed body doesn't have, so nothing is known of its goal."""
+    OPEN = "an open goal"
+    """No tactic closes the goal, which has no answer."""
+    TACTIC = "a tactic of its answer"
+    """The tactic that the goal's answer calls doesn't close it."""
+    ANSWER = "an answer that no longer fits"
+    """The goal isn't the one that its answer proves. The body may be at fault, or only look otherwise: `rt must-fail` decides."""
+
+
+class Subject(Enum):
+    """What a goal is about."""
+
+    CLAUSE = "what the function ensures"
+    INVARIANT = "an invariant"
+    REQUIREMENT = "a requirement"
+    OTHER = "a goal on the way"
 
 
 @dataclass(frozen=True)
@@ -38,7 +47,16 @@ class Refusal:
     file: str
     line: int
     goal: str
-    what: str
+
+    @property
+    def subject(self):
+        """What the goal is about, by its name."""
+        if re.search(r"(^|-)returns", self.goal):
+            return Subject.CLAUSE
+        if "invariant_of" in self.goal or self.goal.endswith(("-preserved", "-start", "-starts")):
+            return Subject.INVARIANT
+        is_requirement = "requires" in self.goal or re.search(r"(^|-)(bounds|overflow)", self.goal)
+        return Subject.REQUIREMENT if is_requirement else Subject.OTHER
 
     def is_of(self, place):
         """Whether it is a goal of this function."""
@@ -51,39 +69,28 @@ class Refusal:
         return self.file.startswith(f"{start}/") and (folder == name or is_of_cycle)
 
     def __str__(self):
-        return f"{self.what} (`{self.goal}`, {self.file}:{self.line})"
+        goal = f"`{self.goal}`, " if self.goal else ""
+        return f"{self.subject.value} ({goal}{self.file}:{self.line})"
 
 
 def refusals_in(said):
     """All that the check's output says of goals that aren't proved."""
-    found = [Refusal(Kind.OPEN, file, int(line), goal, what or subject_of(goal)) for file, line, what, goal in OPEN.findall(said)]
+    found = [Refusal(Kind.OPEN, file, int(line), goal) for file, line, goal in OPEN.findall(said)]
     for file, line, goal, why in ANSWER.findall(said):
-        if LEANS.match(why):
-            continue
-        plain = re.sub(r"`[^`]*`", "", why)
-        kind = Kind.UNREAD if NAMES.search(plain) or PLACE.search(why) or not goal else Kind.OPEN if TACTIC.match(why) else Kind.OTHER
-        said_first = " ".join(why.split()).split(". ")[0]
-        found.append(Refusal(kind, file, int(line), goal, f"{subject_of(goal)}, {said_first[:90]}"))
+        if not LEANS.match(why):
+            found.append(Refusal(Kind.TACTIC if goal and TACTIC.match(why) else Kind.ANSWER, file, int(line), goal))
     return found
 
 
-def subject_of(goal):
-    """What a goal is about, by its name."""
-    if re.search(r"(^|-)returns", goal):
-        return "what the function ensures"
-    if "invariant_of" in goal or goal.endswith(("-preserved", "-start", "-starts")):
-        return "an invariant"
-    return "a requirement" if "requires" in goal or re.search(r"(^|-)(bounds|overflow)", goal) else "a goal on the way"
-
-
 def goal_that_refuses(refusals):
-    """Of what is said of a changed function, the goal that refuses it.
+    """Of what is said of a changed function, the goal that refuses it: one that no tactic closes, and a clause before another goal.
 
-    None where an answer can't be read and the only other goals are those that their answers don't fit: then the body has
-    another form than the proof was written for, and a right body of that form would be refused too."""
-    by_kind = {kind: [it for it in refusals if it.kind is kind] for kind in Kind}
-    found = by_kind[Kind.OPEN] or ([] if by_kind[Kind.UNREAD] else by_kind[Kind.OTHER])
-    return found[0] if found else None
+    None where there are only answers that no longer fit: a right body of that form may be refused so too."""
+    for kind in (Kind.OPEN, Kind.TACTIC):
+        found = [it for it in refusals if it.kind is kind]
+        if found:
+            return min(found, key=lambda it: [*Subject].index(it.subject))
+    return None
 
 
 def calls_of_refused(said):
@@ -91,6 +98,22 @@ def calls_of_refused(said):
     return {it.split("::")[-1] for it in CALLS.findall(said)}
 
 
-def is_verdict(said):
+def is_verdict(status, said):
     """Whether the check came to the verdict that the crate isn't proved."""
-    return re.search(r"\blogic=not-proved$", said, re.M) is not None
+    # (a word of advice may come behind it)
+    return status == 1 and re.search(r"^logic=not-proved$", said, re.M) is not None
+
+
+def told_alone(said):
+    """What `rt must-fail` said of each edit of a crate, by its name."""
+    return {name: what for _, name, what in ALONE.findall(said)}
+
+
+def refusal_alone(what):
+    """The goal that `rt must-fail` tells of a refused edit. None where it tells none."""
+    what = what.removeprefix(REFUSED)
+    found, where = refusals_in(what), WHERE.match(what)
+    if found or not where:
+        return found[0] if found else None
+    kind = Kind.OPEN if where[1].startswith("src/") else Kind.ANSWER
+    return Refusal(kind, where[1], int(where[2]), "")

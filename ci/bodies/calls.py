@@ -1,20 +1,9 @@
-"""What scripts that prove crates side by side have in common: how many go on at a time, where, and which crates there are."""
+"""Calls of the kit's command rt, side by side: how many go on at a time, and how they end with the script."""
 
 import os
-import shutil
 import signal
 import subprocess
 import threading
-from pathlib import Path
-
-TOP = Path(__file__).resolve().parent.parent
-
-
-def crates():
-    """The crates of the repository, each with those of them that it names, in the order of crates.txt."""
-    lines = [it.partition("#")[0].partition(":") for it in (TOP / "crates.txt").read_text(encoding="utf-8").splitlines()]
-    named = {head.split()[0]: tail.split() for head, colon, tail in lines if colon}
-    return {name: [it for it in below if it in named] for name, below in named.items()}
 
 
 def lanes(bytes_each):
@@ -25,34 +14,6 @@ def lanes(bytes_each):
     with open("/proc/meminfo", encoding="ascii") as it:
         free = next(int(line.split()[1]) << 10 for line in it if line.startswith("MemAvailable:"))
     return max(1, min(len(os.sched_getaffinity(0)), free // bytes_each))
-
-
-def copy_into(top):
-    """Copies what rt reads of the repository, as two runs of rt in one checkout wait for each other at a crate below both."""
-    shutil.copytree(TOP / "crates", top / "crates", ignore=shutil.ignore_patterns("out"))
-    for file in ("crates.txt", "HANDLES"):
-        shutil.copy(TOP / file, top)
-    return top
-
-
-def below(name, named):
-    """A crate and all that it stands on, where each of these crates names some."""
-    found, left = {}, [name]
-    while left:
-        it = left.pop()
-        if it not in found:
-            found[it] = True
-            left += named[it]
-    return [*found]
-
-
-def bring(names, source, target):
-    """Has a copy of the repository begin with what rt kept in another of these crates, in out/, where it keeps it for the next run."""
-    for name in names:
-        kept, place = source / "crates" / name / "out", target / "crates" / name / "out"
-        if kept.is_dir():
-            shutil.rmtree(place, ignore_errors=True)
-            shutil.copytree(kept, place, symlinks=True)
 
 
 class Ended(Exception):
@@ -91,7 +52,7 @@ class Calls:
 
 
 def end_by_signals():
-    """Has a signal that ends the script raise, so that what it started is ended too, and its files removed."""
+    """Has a signal that ends the script raise, so that what it started is ended too, and what it changed put back."""
 
     def leave(number, frame):
         raise KeyboardInterrupt
