@@ -3,12 +3,11 @@
 import os
 import pwd
 import shutil
-import signal
 import socket
 import subprocess
 import time
 
-from engines.family import END_WITH_PARENT, control
+from engines.ending import stand_apart
 
 SECONDS = 60
 ALSO = os.pathsep.join(["/usr/local/sbin", "/usr/sbin", "/sbin"])
@@ -55,12 +54,6 @@ def stop(daemon):
     except subprocess.TimeoutExpired:
         daemon.kill()
         daemon.wait()
-
-
-def stand_apart():
-    """Has a daemon apart from the terminal, whose interrupt would end it before its turn, and ended where the script is killed."""
-    os.setsid()
-    control(END_WITH_PARENT, signal.SIGTERM)
 
 
 def start(stack, folder, words, is_ready):

@@ -7,6 +7,7 @@ from contextlib import suppress
 
 from engines.daemons import Unready, user, where
 from engines.document import SEEDS, TOP
+from engines.ending import stand_apart
 
 SECONDS = 600
 
@@ -43,7 +44,7 @@ class Engine:
         streams = {"stdin": subprocess.DEVNULL, "stdout": subprocess.PIPE, "stderr": subprocess.PIPE, "text": True}
         environment = {**self.environment, **environment}
         # (in a group of its own, as a shell that has a terminal starts it)
-        self.begun = subprocess.Popen(["sh", "-c", command], cwd=TOP, env=environment, preexec_fn=os.setsid, **streams)
+        self.begun = subprocess.Popen(["sh", "-c", command], cwd=TOP, env=environment, preexec_fn=stand_apart, **streams)
 
     def end(self, folder):
         """What the command ends with, and what it told, once all has ended that holds its streams."""
@@ -51,7 +52,7 @@ class Engine:
         return self.begun.returncode, told
 
     def cut(self, number):
-        """Sends the signal to the command and all that is in its group, as a terminal does."""
+        """Sends the signal to the command and all that is in the group that was made for it, as a terminal does."""
         if self.begun and self.begun.returncode is None:
             os.killpg(self.begun.pid, number)
             self.begun.communicate(timeout=SECONDS)
