@@ -42,6 +42,8 @@ class Calls:
             raise
         finally:
             self.running.discard(ran)
+        if self.are_ended:
+            raise Ended
         return ran.returncode, said
 
     def end(self):
