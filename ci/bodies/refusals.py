@@ -36,7 +36,7 @@ class Subject(Enum):
     CLAUSE = "what the function ensures"
     INVARIANT = "an invariant"
     REQUIREMENT = "a requirement"
-    OTHER = "a goal on the way"
+    OTHER = "another goal"
 
 
 @dataclass(frozen=True)
@@ -53,9 +53,9 @@ class Refusal:
         """What the goal is about, by its name."""
         if re.search(r"(^|-)returns", self.goal):
             return Subject.CLAUSE
-        if "invariant_of" in self.goal or self.goal.endswith(("-preserved", "-start", "-starts")):
+        if re.search(r"invariant_of|-(preserved|init|starts?)(-|$)", self.goal):
             return Subject.INVARIANT
-        is_requirement = "requires" in self.goal or re.search(r"(^|-)(bounds|overflow)", self.goal)
+        is_requirement = re.search(r"requires|bounds|overflow|unreachable", self.goal)
         return Subject.REQUIREMENT if is_requirement else Subject.OTHER
 
     def is_of(self, place):

@@ -11,7 +11,7 @@ FUNCTION = re.compile(r"^( *)(pub(?:\([^)]*\))? )?(?:const )?(?:unsafe )?fn (\w+
 BLOCK = re.compile(r"^(?:pub(?:\([^)]*\))? )?(?:unsafe )?(impl|trait)\b(.*)")
 HANDED_ON = re.compile(r"^pub use ([^;]*);", re.M)
 PUBLIC_MODULE = re.compile(r"^pub mod (\w+);", re.M)
-# Items of which a crate above reads nothing.
+# Lines of which a crate above reads nothing, and where those of an import begin.
 UNREAD = re.compile(r"^\s*(?://|#)")
 USES = re.compile(r"^\s*(?:ghost )?use ")
 
