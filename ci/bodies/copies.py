@@ -51,7 +51,7 @@ class Copy:
                 place.parent.mkdir(parents=True, exist_ok=True)
                 place.write_bytes(content)
         for name in {*there} - {*wanted}:
-            (self.top / name).unlink()
+            self.remove(self.top / name)
         crates = {it.name for it in (TOP / "crates").iterdir()}
         for folder in (self.top / "crates").iterdir():
             # (of a crate that is gone nothing is kept)
@@ -59,6 +59,14 @@ class Copy:
                 shutil.rmtree(folder)
             else:
                 shutil.rmtree(folder / "must-fail", ignore_errors=True)
+
+    def remove(self, file):
+        """Removes a file, and the folders that have nothing in them then."""
+        file.unlink()
+        folder = file.parent
+        while folder != self.top and not any(folder.iterdir()):
+            folder.rmdir()
+            folder = folder.parent
 
     @contextmanager
     def changed(self, crate, texts):
