@@ -188,9 +188,14 @@ impl<O: Write + Drop, E: Write + Drop> Report<O, E> {
         }
         self.waiting = self.waiting.saturating_add(u64::from(made.steps));
         if self.waiting >= STEPS_A_WRITE {
-            self.waiting = 0;
-            self.printer.flush();
+            self.flush();
         }
+    }
+
+    /// Puts out the lines that are printed. Where that fails, the fault is noted as one of printing.
+    pub fn flush(&mut self) {
+        self.waiting = 0;
+        self.printer.flush();
     }
 
     fn count(&mut self, made: TrialResult) {
@@ -233,8 +238,7 @@ impl<O: Write + Drop, E: Write + Drop> Report<O, E> {
     /// Tells how far the batch is, behind the lines that are printed. Where nobody takes that it isn't told any more, and the
     /// batch goes on.
     fn tell(&mut self) {
-        self.printer.flush();
-        self.waiting = 0;
+        self.flush();
         if self.write_progress().is_err() {
             self.plan.progress = false;
         }

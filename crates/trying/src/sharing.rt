@@ -162,6 +162,8 @@ fn work_and_print<D: Planned, O: Write + Drop, E: Write + Drop>(
             }
         }
     }
+    // Nothing is left to begin: what is printed goes out before the others' last trials are waited for.
+    report.flush();
     (seat, report, printed)
 }
 
