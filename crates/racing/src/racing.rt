@@ -7,7 +7,7 @@ use base::{CoreAsk, NoMemory};
 use console::{Fault, Finding, Found, Printer, print_whole};
 use floor::{Floor, Ground, Naming, Seat, Setup, TurnFault, crew};
 use record::Recording;
-use replays::replay;
+use replays::first_violation;
 use std::alloc::Global;
 use std::io::{Read, Write};
 use std::marker::Brand;
@@ -135,10 +135,10 @@ fn report<O: Write + Drop, E: Write>(
     output: O,
     errors: &mut E,
 ) -> Result<Finding, Fault> {
-    let Ok(replayed) = replay(alloc, recording) else {
+    let Ok(violation) = first_violation(alloc, recording) else {
         return Err(Fault::NoMemory);
     };
-    let found = Found(replayed.violation);
+    let found = Found(violation);
     if plan.recording {
         print_whole(alloc, recording, output)?;
         // What is told beside the recording doesn't undo it where nobody takes it.
