@@ -1,2 +1,3 @@
 pub mod Tokens
 pub mod Keeping
+pub mod Sharing

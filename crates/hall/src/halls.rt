@@ -3,19 +3,19 @@
 ghost use Rattle.std.specs.Prelude.{◌≡◌, ◌<◌, IfOk, OnErr, OnOk, vec_len, vec_capacity};
 ghost use Rattle.hall.specs.inner.Keeping.{Advances, IsSame};
 
-use crate::belonging::{is_of, ready_for};
+use crate::belonging::is_of;
 use crate::closing::{Closed, compare_all};
 use crate::grounds::Naming;
 use crate::seats::{Receipt, Seat};
+use crate::shares::{draw, recount};
 use crate::tokens::{Log, Token, add_entry, compare_seat};
 use base::{NoMemory, Step};
 use machine::Made;
 use monitor::{Violation, Watch, no_violation_under_restrained_tables};
 use record::{Entry, Recording};
-use std::alloc::Global;
 use std::marker::{Model, PhantomData};
 use thiserror::Error;
-use world::World;
+use world::{Counts, World};
 
 /// Why a turn wasn't made. The faults are tested in this order.
 #[derive(Clone, Copy, Debug, PartialEq, Eq, Error)]
@@ -33,12 +33,13 @@ pub enum TurnFault {
 
 /// The value behind the lock of a floor: its world and watch, its recording, the seat of each entry, and the first violation.
 pub struct Hall<F: Naming> {
-    pub(crate) alloc: Global,
     pub(crate) world: World,
     pub(crate) watch: Watch,
     pub(crate) recording: Recording,
     pub(crate) owners: Vec<u32>,
     pub(crate) violation: Option<(u64, Violation)>,
+    // For each seat how many of each block's deliveries are ready for it.
+    pub(crate) shares: Vec<Counts>,
     pub(crate) seats: u32,
     pub(crate) capacity: u32,
     pub(crate) log: Log,
@@ -50,12 +51,12 @@ impl<F: Naming> Drop for Hall<F> {
     fn drop(self) {
         // Whoever drops one has a call to prove, and not the drops of all its parts.
         let Hall {
-            alloc: _,
             world: _,
             watch: _,
             recording: _,
             owners: _,
             violation: _,
+            shares: _,
             seats: _,
             capacity: _,
             log: _,
@@ -74,7 +75,7 @@ impl<F: Naming> Model for Hall<F> {
     ghost view = { λ h. record { entries = h.recording.entries; owners = h.owners.items; violation = h.violation } };
 
     ghost invariant = { λ h. IsKeptUp F.floor h.world h.watch h.recording h.owners.items h.violation
-        × IsHall F.floor h.recording.entries h.owners.items h.capacity h.seats h.log.shared.table_id h.token.table_id h.token.me };
+        × IsHall F.floor h.world h.recording.entries h.owners.items h.shares.items h.capacity h.seats h.log.shared.table_id h.token.table_id h.token.me };
 }
 
 impl<F: Naming> Hall<F> {
@@ -136,15 +137,11 @@ impl<F: Naming> Hall<F> {
             self.compare(seat);
             return Err(TurnFault::Full);
         }
-        let Ok(ready) = ready_for(self.alloc, &self.world, self.seats, seat.number) else {
-            self.compare(seat);
-            return Err(TurnFault::NoMemory);
-        };
-        if ready.is_empty() {
+        let shares = self.shares.as_slice();
+        let Some(step) = draw(shares, &self.world, self.seats, seat.number, word) else {
             self.compare(seat);
             return Ok(None);
-        }
-        let step = ready[word as usize % ready.len()];
+        };
         match self.enter(seat, step) {
             Ok(receipt) => Ok(Some(receipt)),
             Err(fault) => Err(fault),
@@ -164,12 +161,12 @@ impl<F: Naming> Hall<F> {
         no_violation_under_restrained_tables();
         compare_all(&mut self, &mut seats);
         let Hall {
-            alloc: _,
             world: _,
             watch: _,
             recording,
             owners,
             violation,
+            shares: _,
             seats: _,
             capacity: _,
             log: _,
@@ -204,6 +201,7 @@ impl<F: Naming> Hall<F> {
             self.compare(seat);
             return Err(TurnFault::NoMemory);
         };
+        recount(&mut self.shares, &self.world, self.seats, step.block());
         let seen = self.watch.see_made(&self.world, step, &made);
         let entry = Entry {
             step,

@@ -7,6 +7,7 @@ mod grounds;
 mod halls;
 mod opening;
 mod seats;
+mod shares;
 mod tokens;
 
 pub use closing::{CloseFault, Closed, all_there};

@@ -13,6 +13,7 @@ ghost use Rattle.world.specs.View.{View};
 use crate::grounds::{Ground, Naming};
 use crate::halls::Hall;
 use crate::seats::Seat;
+use crate::shares::open_shares;
 use crate::tokens::{Log, Token, deal_seat};
 use base::NoMemory;
 use monitor::Watch;
@@ -37,15 +38,16 @@ pub fn open_hall<F: Naming>(
     ensures { IfOk result (λ opened. opened.1.items ≡ map new_seat (range_with_len 0 seats)) }
 {
     let (world, watch, recording) = open_parts(alloc, setup, seats)?;
+    let shares = open_shares(alloc, setup, seats)?;
     let Ground { log, mut token } = ground;
     let row = deal_row(alloc, &log, &mut token, seats)?;
     let hall = Hall {
-        alloc,
         world,
         watch,
         recording,
         owners: Vec::new(alloc),
         violation: None,
+        shares,
         seats,
         capacity,
         log,

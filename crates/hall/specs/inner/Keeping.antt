@@ -11,11 +11,13 @@ use Rattle.violations.specs.Watching.{HasSeen}
 use Rattle.record_lines.specs.declared.entry.Entry.{Entry}
 use Rattle.record.specs.View.{RecordingView, IsLegal, steps_of, with_owned}
 use Rattle.world.specs.View.{View}
+use Rattle.world.specs.inner.Counts.{Rows}
 use Rattle.trials.specs.Terms.{Terms}
 use Rattle.hall.specs.declared.tokens.TokenView.{TokenView}
 use Rattle.hall.specs.FloorId.{FloorId}
 use Rattle.hall.specs.Turning.{recorded, recorded_at, state_of, IsFirstOf}
 use Rattle.hall.specs.Closing.{HaveOwners}
+use Rattle.hall.specs.inner.Sharing.{AreShared}
 use Rattle.hall.specs.inner.Tokens.{keeper, sitting}
 
 -- a world, a watch, owners and a violation are those of a recording of these entries, which is legal
@@ -30,12 +32,14 @@ pub record IsKeptUp (floor : FloorId) (world : View) (watch : List ℕ) (recordi
   pub first : IsFirstOf floor.setup recording.entries violation
   pub owned : HaveOwners floor recording.entries owners
 
--- a hall has the seats and the capacity of its floor, and the token that keeps the recording
-pub record IsHall (floor : FloorId) (entries : List Entry) (owners : List ℕ) (capacity seats : ℕ)
+-- a hall has the seats and the capacity of its floor, the counts of what is ready for each seat, and the token that keeps the recording
+pub record IsHall (floor : FloorId) (world : View) (entries : List Entry) (owners : List ℕ) (shares : List Rows) (capacity seats : ℕ)
     (table token : TableId) (me : Me Entry TokenView) : Type 0 where
   pub capacity_is : capacity ≡ floor.capacity
   pub seats_is : seats ≡ floor.seats
   pub some : 0 < floor.seats
+  pub few : floor.seats ≤ 64
+  pub shared : AreShared floor.seats world shares
   pub within : length entries ≤ floor.capacity
   pub table_is : table ≡ floor.ground
   pub one : floor.ground.words ≡ 1

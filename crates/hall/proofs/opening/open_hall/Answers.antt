@@ -1,4 +1,4 @@
-use Rattle.std.proofs.Common.{◌≡◌, ap, sym, subst, [], ℕ, List, None, arith}
+use Rattle.std.proofs.Common.{◌≡◌, ◌∙◌, ap, sym, subst, [], ℕ, List, None, arith}
 use Rattle.std.proofs.lemmas.Grind.{common_steps}
 use Rattle.violations.specs.Watching.{HasSeen}
 use Rattle.record.specs.View.{opened_of}
@@ -7,6 +7,7 @@ use Rattle.world.specs.View.{View}
 use Rattle.hall.specs.FloorId.{FloorId}
 use Rattle.hall.specs.inner.Keeping.{IsKeptUp, IsStart}
 use Rattle.hall.proofs.Entering.{kept_first}
+use Rattle.hall.proofs.Recounting.{shared_first}
 use Rattle.hall.proofs.opening.open_hall.Goals as goal
 
 pub invariant_of-hall : goal.invariant_of-hall
@@ -25,6 +26,9 @@ invariant_of-hall g c =
         capacity_is = grind (arith, common_steps);
         seats_is = grind (arith, common_steps);
         some = grind (arith, common_steps);
+        few = grind (arith, common_steps);
+        shared = shared_first g.F.Naming.floor.seats c.args.setup.now c.in_ok-world.world c.in_ok-shares.shares.items parts.world
+            (c.in_ok-shares.ensures.count ∙ seats) c.in_ok-shares.ensures.none;
         within = grind (arith, common_steps);
         table_is = grind (arith, common_steps);
         one = grind (arith, common_steps);

@@ -1,9 +1,10 @@
-use Rattle.std.proofs.Common.{◌<◌, ap, length, subst, sym, arith}
+use Rattle.std.proofs.Common.{◌<◌, ◌∙◌, ap, length, subst, sym, arith}
 use Rattle.record.specs.View.{RecordingView}
 use Rattle.std.proofs.lemmas.Grind.{common_steps}
 use Rattle.hall.specs.inner.Keeping.{IsKeptUp}
 use Rattle.hall.proofs.Entering.{kept_more, fits_more}
 use Rattle.hall.proofs.Calling.{found, told}
+use Rattle.hall.proofs.Recounting.{level_behind, shared_behind}
 use Rattle.hall.proofs.halls.Hall.enter.Goals as goal
 use Rattle.hall.proofs.halls.Hall.enter.Given.{Over}
 use Rattle.hall.proofs.halls.Hall.enter.Goals.{After-push_reserved}
@@ -34,6 +35,9 @@ invariant_of-self-2 g c =
         capacity_is = h.capacity_is;
         seats_is = h.seats_is;
         some = h.some;
+        few = h.few;
+        shared = shared_behind g.F.Naming.floor.seats c.self.inside.seats c.self.inside.world c.advance.new.world _ _ _ c.args.step c.in-Ok.made _
+            c.self.inside.shares.items _ h.seats_is c.block.ensures c.in-Ok.ensures.ok h.shared c.recount.ensures.there c.recount.ensures.absent;
         within = fits_more c.self.inside.recording c.advance.new.recording c.args.self.now.entries _ c.seat.inside.number g.F.Naming.floor.capacity
             c.in-Ok.ensures.ok.recorded (ap (λ s. s.entries) c.self.view_is) c.requires.room;
         table_is = h.table_is;
@@ -107,3 +111,17 @@ returns-clause-moment g c =
 pub advance-requires : goal.advance-requires
 advance-requires g c =
     subst (λ n. c.seat.inside.number < n) (sym (ap (λ (r : RecordingView). r.seats) c.self.invariant.0.recorded_is)) c.seat.invariant.within
+
+pub recount-requires-clause-some : goal.recount-requires-clause-some
+recount-requires-clause-some g c = grind (arith, common_steps)
+
+pub recount-requires-clause-few : goal.recount-requires-clause-few
+recount-requires-clause-few g c = grind (arith, common_steps)
+
+pub recount-requires-clause-count : goal.recount-requires-clause-count
+recount-requires-clause-count g c = c.self.invariant.1.shared.count ∙ sym c.self.invariant.1.seats_is
+
+pub recount-requires-clause-level : goal.recount-requires-clause-level
+recount-requires-clause-level g c =
+    level_behind g.F.Naming.floor.seats c.self.inside.world c.advance.new.world _ _ _ c.args.step c.in-Ok.made c.self.inside.shares.items
+    c.in-Ok.ensures.ok c.self.invariant.1.shared
