@@ -2,16 +2,14 @@
 //! has to stand then, and the second call has to succeed. Where nothing is refused they are plain runs.
 
 use crate::asserting::same;
-use crate::entries::entry_of;
 use crate::making::{batch_of, open_setup, read_scenario, shape_of, trial_of};
-use crate::trying::{ONE_LOAD, RACING_PAIR, are_results};
+use crate::trying::{ONE_LOAD, RACING_PAIR, are_results, is_cut};
 use both_tables::Tables;
-use record::Entry;
 use scenario::Scenario;
 use std::alloc::{AllocError, Global};
 use std::process::Abort;
 use std::test::Fail;
-use trials::{BatchFault, Setup, Trial, TrialResult, Verdict};
+use trials::{BatchFault, Setup, Verdict};
 
 /// The values of one block that opens at 0.
 fn zero(alloc: Global) -> Result<Vec<u64>, AllocError> {
@@ -31,34 +29,6 @@ fn scenario(
     caches: u32,
 ) -> Result<Scenario<Global>, Fail> {
     Ok(read_scenario(alloc, text, shape_of(rt, caches, 1))?)
-}
-
-const RACED: [&str; 6] = [
-    "ask 1 0 store 9 = sent",
-    "request 0 0 = moved",
-    "ask 0 0 load = sent",
-    "response 0 0 = store 1 9",
-    "request 0 0 = moved",
-    "forward 0 1 = moved",
-];
-
-/// Compares the entries of a recording.
-fn are_entries(rt: &impl Abort, found: &[Entry], lines: &[&str]) {
-    same(rt, &found.len(), &lines.len());
-    for (entry, line) in found.iter().zip(lines) {
-        same(rt, entry, &entry_of(rt, line));
-    }
-}
-
-/// Compares trial 54 of two cores that race for one block, which is cut at six steps.
-fn is_cut(rt: &impl Abort, made: &Trial) {
-    are_entries(rt, made.recording.entries(), &RACED);
-    let cut = TrialResult {
-        number: 54,
-        verdict: Verdict::Cut,
-        steps: 6,
-    };
-    same(rt, &made.result, &cut);
 }
 
 fn trial_at_last(rt: &impl Abort, alloc: Global, pair: &Scenario<Global>, setup: &Setup) {

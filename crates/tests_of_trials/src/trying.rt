@@ -1,4 +1,5 @@
 use crate::asserting::{same, same_at};
+use crate::entries::entry_of;
 use crate::making::{
     batch_of, open_setup, scenario, setup, shape_of, trial_of, values, with_entry,
 };
@@ -7,11 +8,11 @@ use both_tables::Tables;
 use cache_table::{CacheEntry, CacheEvent, CacheState};
 use devices::Buffer;
 use directory_table::{DirectoryEntry, DirectoryEvent, DirectoryState};
-use record::Recording;
+use record::{Entry, Recording};
 use scenario::Scenario;
 use std::alloc::Global;
 use std::process::Abort;
-use trials::{BatchFault, Setup, SetupFault, TrialResult, Verdict};
+use trials::{BatchFault, Setup, SetupFault, Trial, TrialResult, Verdict};
 use violations::Violation;
 
 pub const RACING_PAIR: &str =
@@ -47,6 +48,46 @@ fn a_race_comes(rt: &impl Abort, alloc: Global, limit: u32, verdict: Verdict, st
         steps,
     };
     comes(rt, alloc, &pair, &setup, &wanted);
+}
+
+const RACED: [&str; 6] = [
+    "ask 1 0 store 9 = sent",
+    "request 0 0 = moved",
+    "ask 0 0 load = sent",
+    "response 0 0 = store 1 9",
+    "request 0 0 = moved",
+    "forward 0 1 = moved",
+];
+
+/// Compares the entries of a recording.
+fn are_entries(rt: &impl Abort, found: &[Entry], lines: &[&str]) {
+    same(rt, &found.len(), &lines.len());
+    for (entry, line) in found.iter().zip(lines) {
+        same(rt, entry, &entry_of(rt, line));
+    }
+}
+
+/// Compares trial 54 of two cores that race for one block, which is cut at six steps.
+pub fn is_cut(rt: &impl Abort, made: &Trial) {
+    are_entries(rt, made.recording.entries(), &RACED);
+    let cut = TrialResult {
+        number: 54,
+        verdict: Verdict::Cut,
+        steps: 6,
+    };
+    same(rt, &made.result, &cut);
+}
+
+/// Makes that trial.
+fn cut_at_six(rt: &impl Abort, alloc: Global) -> Trial {
+    let pair = scenario(rt, alloc, RACING_PAIR, 2);
+    let setup = setup(rt, alloc, 2, 1, Tables::baseline(), 42, 6);
+    trial_of(alloc, &pair, &setup, 54).expect(rt, "memory")
+}
+
+#[test]
+fn a_racing_pair(rt: HostRuntime) {
+    is_cut(&rt, &cut_at_six(&rt, rt.alloc()));
 }
 
 /// Compares what comes of one load over these tables in so many steps at most.
