@@ -2,8 +2,9 @@ use crate::asserting::same;
 use crate::making::{make_all, opened};
 use base::{Ask, BlockId, CacheId, CoreAsk, Step};
 use cores::Cores;
+use lanes::Lanes;
 use scenario::Scenario;
-use schedule::{Choice, Dice, choices};
+use schedule::{Choice, Dice, choices, step_of};
 use std::alloc::Global;
 use std::process::Abort;
 use world::World;
@@ -127,4 +128,31 @@ fn what_comes_next(rt: HostRuntime) {
         let tree = one_of(&rt, rt.alloc(), asks);
         comes_next(&rt, rt.alloc(), &tree, steps, busy, wanted);
     }
+}
+
+/// Picks the only choice there is, which is the load's ask, makes its step and follows it: then nothing is offered any more.
+fn takes_only(
+    rt: &impl Abort,
+    alloc: Global,
+    world: &mut World,
+    cores: &Cores,
+    scenario: &Scenario<Global>,
+) {
+    let opened = Lanes::open(alloc, scenario, 2, world, cores);
+    let mut lanes: Lanes<'_, Global, Global> = opened.expect(rt, "memory");
+    same(rt, &lanes.count(world, cores), &1);
+    let pick = lanes.pick(world, cores, 0).expect(rt, "a choice");
+    same(rt, &pick.step(), &step_of(LOAD));
+    let made = world.make(pick.step()).expect(rt, "memory");
+    lanes
+        .follow(alloc, &pick, &made, false, world, cores)
+        .expect(rt, "memory");
+    same(rt, &lanes.is_done(), &true);
+}
+
+#[test]
+fn what_is_picked_is_taken(rt: HostRuntime) {
+    let mut world = opened(&rt, rt.alloc(), 2);
+    let cores = Cores::open(rt.alloc(), 2).expect(&rt, "memory");
+    takes_only(&rt, rt.alloc(), &mut world, &cores, &Scenario::One(LOAD));
 }
