@@ -8,7 +8,7 @@ use desk::{Job, Planned};
 use scenario::Scenario;
 use std::alloc::Global;
 use std::process::Abort;
-use trials::{Setup, SetupFault, TrialResult, trial};
+use trials::{Setup, SetupFault, TrialResult, batch, trial};
 
 /// A load of core 0 and a store of core 1, which race for one block.
 const RACE: [CoreAsk; 2] = [
@@ -76,6 +76,21 @@ pub fn compare_with_trials<D: Planned, R: Abort>(
     for (number, place) in (0..n).zip(places) {
         let wanted = result_of::<D>(alloc, job, number).expect(rt, "memory");
         same(rt, place, &Some(wanted));
+    }
+}
+
+/// Compares a closed desk with the batch of its job.
+pub fn compare_with_batch(
+    rt: &impl Abort,
+    alloc: Global,
+    job: &Job,
+    n: u32,
+    places: &[Option<TrialResult>],
+) {
+    let wanted = batch(alloc, &job.scenario, &job.setup, n).expect(rt, "a batch");
+    same(rt, &places.len(), &wanted.len());
+    for (place, made) in places.iter().zip(wanted.as_slice()) {
+        same(rt, place, &Some(*made));
     }
 }
 

@@ -3,7 +3,8 @@ ghost use Rattle.desk.specs.Plans.{plan_of};
 
 use crate::asserting::same;
 use crate::desk_rows::{closed, closes_as_trials, opened, put_back, put_one, take_two, worked};
-use crate::jobs::{are_places, compare_with_trials, racing_pair, result_of};
+use crate::jobs::{are_places, compare_with_batch, compare_with_trials, racing_pair, result_of};
+use base::NoMemory;
 use desk::{Desk, DeskSeat, Job, Planned};
 use std::alloc::Global;
 use std::marker::Brand;
@@ -50,6 +51,107 @@ fn seats_that_work_in_turn(rt: HostRuntime) {
     let job = racing_pair(&rt, rt.alloc());
     for (n, count) in [(50, 1), (3, 64)] {
         one_after_the_other::<Brand, _>(&rt, rt.alloc(), &job, n, count)
+    }
+}
+
+/// How many trials two made together, if both did what they could.
+fn together(first: Option<u32>, second: Option<u32>) -> Option<u32> {
+    first?.checked_add(second?)
+}
+
+/// Two seats work in two threads. Answers them, and how many trials they made together.
+fn two_work<D: Planned + Send + Sync, R: Threads + Sync>(
+    rt: &R,
+    desk: &Desk<'_, D>,
+    zero: DeskSeat<D>,
+    one: DeskSeat<D>,
+) -> (DeskSeat<D>, DeskSeat<D>, Option<u32>)
+    requires { (zero.desk ≡ desk.now.id) × (one.desk ≡ desk.now.id) }
+    ensures { (result.0.desk ≡ desk.entry.now.id) × (result.1.desk ≡ desk.entry.now.id) }
+{
+    let ((zero, first), (one, second)) = thread::join(
+        rt,
+        move || -> (DeskSeat<D>, Result<u32, NoMemory>)
+            requires { zero.desk ≡ desk.now.id }
+            ensures { result.0.desk ≡ desk.entry.now.id }
+        { worked(desk, zero) },
+        move || -> (DeskSeat<D>, Result<u32, NoMemory>)
+            requires { one.desk ≡ desk.now.id }
+            ensures { result.0.desk ≡ desk.entry.now.id }
+        { worked(desk, one) },
+    );
+    (zero, one, together(first.ok(), second.ok()))
+}
+
+/// The last two seats of a row work at once, and are put back.
+fn work_by_two<D: Planned + Send + Sync, R: Threads + Abort + Sync>(
+    rt: &R,
+    desk: &Desk<'_, D>,
+    seats: &mut Vec<DeskSeat<D>>,
+) -> Option<u32>
+    requires { All (λ seat. seat.desk ≡ desk.now.id) seats.old.items }
+    ensures { All (λ seat. seat.desk ≡ desk.now.id) seats.new.items }
+{
+    let (zero, one) = take_two(rt, desk, seats);
+    let (zero, one, made) = two_work(rt, desk, zero, one);
+    put_back(rt, desk, seats, zero, one);
+    made
+}
+
+/// The last four seats of a row work at once, two and two, and are put back.
+fn work_by_four<D: Planned + Send + Sync, R: Threads + Abort + Sync>(
+    rt: &R,
+    desk: &Desk<'_, D>,
+    seats: &mut Vec<DeskSeat<D>>,
+) -> Option<u32>
+    requires { All (λ seat. seat.desk ≡ desk.now.id) seats.old.items }
+    ensures { All (λ seat. seat.desk ≡ desk.now.id) seats.new.items }
+{
+    let (two, three) = take_two(rt, desk, seats);
+    let (zero, one) = take_two(rt, desk, seats);
+    let ((zero, one, front), (two, three, back)) = thread::join(
+        rt,
+        move || -> (DeskSeat<D>, DeskSeat<D>, Option<u32>)
+            requires { (zero.desk ≡ desk.now.id) × (one.desk ≡ desk.now.id) }
+            ensures { (result.0.desk ≡ desk.entry.now.id) × (result.1.desk ≡ desk.entry.now.id) }
+        { two_work(rt, desk, zero, one) },
+        move || -> (DeskSeat<D>, DeskSeat<D>, Option<u32>)
+            requires { (two.desk ≡ desk.now.id) × (three.desk ≡ desk.now.id) }
+            ensures { (result.0.desk ≡ desk.entry.now.id) × (result.1.desk ≡ desk.entry.now.id) }
+        { two_work(rt, desk, two, three) },
+    );
+    put_back(rt, desk, seats, zero, one);
+    put_back(rt, desk, seats, two, three);
+    together(front, back)
+}
+
+/// Two or four threads work off a batch of so many trials.
+fn threads_work<D: Planned + Send + Sync, R: Threads + Abort + Sync>(
+    rt: &R,
+    alloc: Global,
+    job: &Job,
+    n: u32,
+    count: u32,
+)
+    requires { D.plan ≡ plan_of job.now }
+{
+    let (desk, mut seats) = opened::<D, R>(rt, alloc, job, n, count);
+    let made = if count == 2 {
+        work_by_two(rt, &desk, &mut seats)
+    } else {
+        work_by_four(rt, &desk, &mut seats)
+    };
+    same(rt, &made, &Some(n));
+    let places = closed(rt, desk, seats);
+    compare_with_batch(rt, alloc, job, n, &places)
+}
+
+/// Threads that work off a batch make each trial once, and the desk has what a batch has.
+#[test]
+fn threads_that_work(rt: HostRuntime) {
+    let job = racing_pair(&rt, rt.alloc());
+    for (n, count) in [(200, 2), (400, 4)] {
+        threads_work::<Brand, _>(&rt, rt.alloc(), &job, n, count)
     }
 }
 
