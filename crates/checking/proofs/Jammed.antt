@@ -3,7 +3,7 @@ use Rattle.std.proofs.Common.{◌≡◌, ◌<◌, ◌∙◌, ℕ, suc, List, [],
 use Rattle.std.proofs.Common.{subst, append_assoc, arith}
 use Rattle.std.proofs.lemmas.List.{append-nil, length-append}
 use Rattle.base.specs.Extent.{Extent}
-use Rattle.base.specs.Spelling.{joined, step_words}
+use Rattle.base.specs.Spelling.{IsStepLine}
 use Rattle.base.specs.declared.ids.BlockId.{BlockId}
 use Rattle.base.specs.declared.step.Step.{Step}
 use Rattle.network.specs.Traffic.{is_quiet}
@@ -15,7 +15,7 @@ use Rattle.world.specs.Enabled.{enabled_steps}
 use Rattle.world.specs.Looks.{all_quiet}
 use Rattle.world.specs.View.{View, LeadsOn}
 use Rattle.schedule.proofs.Disabled.{nothing-delivers}
-use Rattle.checking.specs.Jams.{GetsStuck, steps_text}
+use Rattle.checking.specs.Jams.{GetsStuck, Tells}
 use Rattle.checking.specs.inner.Leading.{IsFresh, HasGoneOn}
 
 is-quiet : (t : Bool) → ¬ (¬ IsTrue t) → t ≡ true
@@ -50,20 +50,18 @@ gone-none world text = record {
   shape = refl;
 }
 
-text-more : (steps : List Step) (s : Step) (rest : List ℕ) →
-    steps_text (steps ++ s ∷ []) ++ rest ≡ steps_text steps ++ (joined (step_words s) ++ 10 ∷ rest)
-text-more [] s rest = append_assoc (joined (step_words s)) (10 ∷ []) rest
-text-more (x ∷ steps) s rest =
-    append_assoc (joined (step_words x)) (10 ∷ steps_text (steps ++ s ∷ [])) rest
-    ∙ ap (λ xs. joined (step_words x) ++ 10 ∷ xs) (text-more steps s rest)
-    ∙ sym (append_assoc (joined (step_words x)) (10 ∷ steps_text steps) (joined (step_words s) ++ 10 ∷ rest))
+tells-more : (text rest line behind : List ℕ) (steps : List Step) (s : Step) → Tells text rest steps → rest ≡ line ++ 10 ∷ behind →
+    IsStepLine line s → Tells text behind (steps ++ s ∷ [])
+tells-more text rest line behind [] s told at is = (line, behind, told ∙ at, is, refl)
+tells-more text rest line behind (x ∷ steps) s told at is =
+    (told.0, told.1, told.2, told.3, tells-more told.1 rest line behind steps s told.4 at is)
 
-pub gone-more : (old mid new : View) (text rest behind : List ℕ) (s : Step) → HasGoneOn old text rest mid →
-    rest ≡ joined (step_words s) ++ 10 ∷ behind → LeadsOn mid (s ∷ []) new → new.tables ≡ mid.tables → new.shape ≡ mid.shape →
+pub gone-more : (old mid new : View) (text rest line behind : List ℕ) (s : Step) → HasGoneOn old text rest mid →
+    rest ≡ line ++ 10 ∷ behind → IsStepLine line s → LeadsOn mid (s ∷ []) new → new.tables ≡ mid.tables → new.shape ≡ mid.shape →
     HasGoneOn old text behind new
-gone-more old mid new text rest behind s gone at leads under shape = record {
+gone-more old mid new text rest line behind s gone at is leads under shape = record {
   steps = gone.steps ++ s ∷ [];
-  told = gone.told ∙ ap (λ xs. steps_text gone.steps ++ xs) at ∙ sym (text-more gone.steps s behind);
+  told = tells-more text rest line behind gone.steps s gone.told at is;
   leads = λ opening before h. subst (λ ss. IsHistory new.shape new.tables opening ss new.state) (append_assoc before gone.steps (s ∷ []))
       (leads opening (before ++ gone.steps) (gone.leads opening before h));
   under = under ∙ gone.under;
@@ -80,10 +78,10 @@ stuck-run tables text old new fresh gone stuck =
     subst (λ (t : Tables). ¬ Flowing t (after t (opened new.shape (0 ∷ [])) gone.steps).state) (gone.under ∙ fresh.under) there in
     record {
       steps = gone.steps;
-      told = gone.told ∙ append-nil (steps_text gone.steps);
+      told = gone.told;
       stuck = subst (λ (e : Extent). ¬ Flowing tables (after tables (opened e (0 ∷ [])) gone.steps).state) (gone.shape ∙ fresh.shape) under;
     }
 
--- what stands behind a step is shorter
+-- what stands behind a line is shorter
 pub behind-shorter : (ws rest behind : List ℕ) → rest ≡ ws ++ 10 ∷ behind → length behind < length rest
 behind-shorter ws rest behind e = omega (arith, ap length e, length-append ws (10 ∷ behind))

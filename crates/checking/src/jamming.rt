@@ -1,4 +1,4 @@
-ghost use Rattle.std.specs.Prelude.{[], IfOk, IfSome, IsTrue};
+ghost use Rattle.std.specs.Prelude.{◌≡◌, ◌++◌, ◌∷◌, [], IfOk, IfSome, IsTrue};
 ghost use Rattle.machine.specs.Unstuck.{Flowing};
 ghost use Rattle.checking.specs.Jams.{GetsStuck};
 ghost use Rattle.checking.specs.inner.Leading.{HasGoneOn, IsFresh};
@@ -67,7 +67,10 @@ fn makes_all(world: &mut World, steps: &str) -> Result<bool, NoMemory>
     ensures { IfOk result (λ all. IsTrue all → HasGoneOn world.old steps.now [] world.new) }
 {
     let mut rest = steps.as_bytes();
-    while let Some((step, behind)) = Step::read_ahead::<b'\n'>(rest) {
+    while let Some((line, behind)) = line_ahead(rest) {
+        let Some(step) = Step::read(line) else {
+            return Ok(false);
+        };
         let outcome = world.step(step)?;
         if matches!(outcome, Outcome::Held | Outcome::Absent | Outcome::Blank) {
             return Ok(false);
@@ -75,6 +78,18 @@ fn makes_all(world: &mut World, steps: &str) -> Result<bool, NoMemory>
         rest = behind;
     }
     Ok(rest.is_empty())
+}
+
+/// The line in front of a text, and what stands behind its end. `None` where no line ends.
+fn line_ahead(text: &[u8]) -> Option<(&[u8], &[u8])>
+    ensures { IfSome result (λ found. text.now ≡ found.0.now ++ 10 ∷ found.1.now) }
+{
+    for at in 0..text.len() {
+        if text[at] == b'\n' {
+            return Some((&text[..at], &text[at + 1..]));
+        }
+    }
+    None
 }
 
 /// Whether messages are on their way and none of them can be delivered.
