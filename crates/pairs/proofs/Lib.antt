@@ -1,0 +1,7 @@
+pub mod Parting
+pub mod Few
+pub mod LineActing
+pub mod Completing
+pub mod HomeActing
+pub mod Taking
+pub mod Followed

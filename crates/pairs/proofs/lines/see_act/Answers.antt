@@ -1,0 +1,28 @@
+use Rattle.std.proofs.Common.{◌∙◌, ap, sym, subst}
+use Rattle.pairs.specs.declared.pair.Pair.{Pair}
+use Rattle.pairs.specs.Marking.{IsMarked}
+use Rattle.pairs.specs.Sights.{looked_at}
+use Rattle.pairs.specs.inner.Following.{done}
+use Rattle.pairs.proofs.Completing.{by_line-looked_at, by_line-lost, by_line-spoilt, few_pair-some, marked-done, marked-state}
+use Rattle.pairs.proofs.lines.see_act.Goals as goal
+
+pub returns-then-returns_old-clause-seen : goal.returns-then-returns_old-clause-seen
+returns-then-returns_old-clause-seen c = sym (by_line-spoilt c.args.rule c.args.to c.args.concerned c.args.event c.args.next _ _
+    (sym c.if-not-answers.ensures) (sym c.if-returns_old.ensures))
+
+pub returns-in_default-clause-seen : goal.returns-in_default-clause-seen
+returns-in_default-clause-seen c = sym (by_line-lost c.args.rule c.args.to c.args.concerned c.args.event c.args.next _ _
+    (sym c.if-not-answers.ensures) (sym c.if-returns_old.ensures) c.in_default.ensures.pair)
+
+pub look_at-requires : goal.look_at-requires
+look_at-requires c =
+    subst (λ (p : Pair). IsMarked p) (sym c.complete.ensures)
+    (marked-done c.args.rule _ (marked-state c.in-Some.after c.args.next c.in-Some.ensures.marked))
+
+pub returns-clause-seen : goal.returns-clause-seen
+returns-clause-seen c =
+    let same = few_pair-some _ c.in-Some.after c.in-Some.ensures.pair in
+    let moved = λ (q : Pair). done c.args.rule (record q { first = record q.first { state = c.args.next } }) in
+    c.look_at.ensures.seen
+    ∙ ap (λ (q : Pair). looked_at c.args.concerned q) (c.complete.ensures ∙ ap moved same)
+    ∙ sym (by_line-looked_at c.args.rule c.args.to c.args.concerned c.args.event c.args.next _ _ (sym c.if-not-answers.ensures) (sym c.if-returns_old.ensures))

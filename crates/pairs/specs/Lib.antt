@@ -1,0 +1,4 @@
+pub mod Pairs
+pub mod Marking
+pub mod Sights
+pub mod inner

@@ -1,0 +1,146 @@
+ghost use Rattle.std.specs.Prelude.{◌≡◌, IfSome, true};
+ghost use Rattle.pairs.specs.Pairs.{is_few};
+ghost use Rattle.pairs.specs.Marking.{IsFollowed, IsMarked};
+ghost use Rattle.pairs.specs.Sights.{answers_rightly, at_line, by_line, inv_acks, line_acted, line_acts};
+ghost use Rattle.pairs.specs.inner.Following.{few_pair};
+
+use crate::pair::Pair;
+use crate::settling::{complete, look_at, returns_old};
+use crate::steps::{Party, Rule, Sight};
+use base::controller::Entry;
+use both_tables::Tables;
+use cache_table::{CacheAction, CacheEntry, CacheEvent, CacheState};
+
+/// Does an action of the first cache's line for this requestor. It is told whether the line's value is fresh.
+fn act(to: Party, fresh: bool, action: CacheAction, pair: &mut Pair)
+    requires { is_few pair.old ≡ true }
+    ensures { pair.new ≡ line_acted to fresh action pair.old }
+{
+    match action {
+        CacheAction::GetS => pair.first.gets += 1,
+        CacheAction::GetM => pair.first.getm += 1,
+        CacheAction::PutS => pair.first.puts += 1,
+        CacheAction::PutM => pair.first.add_putm(fresh),
+        CacheAction::DataDir => pair.shared.add_data(fresh),
+        CacheAction::DataReq => match to {
+            Party::First => pair.first.add_owner_data(fresh),
+            Party::Second => pair.second.add_owner_data(fresh),
+            Party::Nobody | Party::Third => {}
+        },
+        // What was an Inv that names its receiver is now on its way to it.
+        CacheAction::InvAck => {}
+    }
+}
+
+/// What the actions of the first cache's line make of a pair. `None` comes exactly where it isn't few in the end: as
+/// there is never less of a kind than before, it is given up as soon as there is too much.
+fn acted(to: Party, fresh: bool, actions: &[CacheAction], pair: &Pair) -> Option<Pair>
+    requires few { is_few pair.now ≡ true }
+    requires marked { IsMarked pair.now }
+    ensures pair { result ≡ few_pair (line_acts to fresh actions.now pair.now) }
+    ensures marked { IfSome result IsMarked }
+{
+    let mut acted = *pair;
+    for action in actions {
+        act(to, fresh, *action, &mut acted);
+        if !acted.is_few() {
+            return None;
+        }
+    }
+    Some(acted)
+}
+
+/// How many Inv-Acks the actions send, if there is a requestor.
+fn count_acks(actions: &[CacheAction]) -> usize
+    ensures { result ≡ inv_acks actions.now }
+{
+    let mut count = 0;
+    for action in actions {
+        if let CacheAction::InvAck = action {
+            count += 1;
+        }
+    }
+    count
+}
+
+/// Whether the actions answer an Inv by one Inv-Ack, and nothing else by one.
+fn answers(to: Party, event: CacheEvent, actions: &[CacheAction]) -> bool
+    ensures { result ≡ answers_rightly to event actions.now }
+{
+    match (to, event) {
+        (Party::Nobody, _) => true,
+        (_, CacheEvent::Inv) => count_acks(actions) == 1,
+        _ => count_acks(actions) == 0,
+    }
+}
+
+/// What a cell of the caches' table makes of a pair from which the input was taken.
+fn see_act(
+    rule: Rule,
+    to: Party,
+    concerned: Party,
+    event: CacheEvent,
+    next: CacheState,
+    actions: &[CacheAction],
+    pair: &Pair,
+) -> Sight
+    requires few { is_few pair.now ≡ true }
+    requires marked { IsMarked pair.now }
+    ensures seen { result ≡ by_line rule to concerned event (Entry.Act next actions.now) pair.now }
+    ensures followed { IsFollowed result }
+{
+    if !answers(to, event, actions) {
+        return Sight::Lost;
+    }
+    // What a load returns is seen first: no action changes the line's value.
+    if returns_old(rule, next, &pair.first) {
+        return Sight::Spoilt(concerned);
+    }
+    let Some(mut after) = acted(to, pair.first.fresh, actions, pair) else {
+        return Sight::Lost;
+    };
+    after.first.state = next;
+    complete(rule, &mut after);
+    look_at(concerned, &after)
+}
+
+/// What an entry of the caches' table makes of a pair from which the input was taken.
+fn see_entry(
+    rule: Rule,
+    to: Party,
+    concerned: Party,
+    event: CacheEvent,
+    entry: &CacheEntry,
+    pair: &Pair,
+) -> Sight
+    requires few { is_few pair.now ≡ true }
+    requires marked { IsMarked pair.now }
+    ensures seen { result ≡ by_line rule to concerned event entry.now pair.now }
+    ensures followed { IsFollowed result }
+{
+    match entry {
+        Entry::Stall => Sight::Unmoved,
+        Entry::Blank => Sight::Spoilt(concerned),
+        Entry::Act { next, actions } => {
+            see_act(rule, to, concerned, event, *next, actions.as_slice(), pair)
+        }
+    }
+}
+
+/// What is seen where an event comes to the first cache's line, from a forward that names this cache.
+pub(crate) fn see_line(
+    tables: &Tables,
+    rule: Rule,
+    to: Party,
+    concerned: Party,
+    event: CacheEvent,
+    pair: &Pair,
+) -> Sight
+    requires few { is_few pair.now ≡ true }
+    requires marked { IsMarked pair.now }
+    ensures seen { result ≡ at_line tables.now rule to concerned event pair.now }
+    ensures followed { IsFollowed result }
+{
+    let entry = tables.cache.entry(pair.first.state, event);
+    see_entry(rule, to, concerned, event, &entry, pair)
+}
