@@ -1,0 +1,168 @@
+-- An Inv-Ack comes to a line, as the pairs of its receiver see it.
+use Rattle.std.proofs.Common.{◌≡◌, ◌≢◌, ℕ, ◌≤◌, ◌+◌, refl, ap, sym, subst, ◌∙◌, inl, inr, Some, None, Bool, true, false, not, ◌&&◌, ◌||◌, ◌==◌}
+use Rattle.std.proofs.Common.{if◌then◌else◌, sum_by, arith, slice_get, pos, ◌+ℤ◌}
+use Rattle.std.proofs.lemmas.Bool.{cases_eq, ne_eqb}
+use Rattle.base.specs.declared.ids.CacheId.{CacheId}
+use Rattle.both_tables.specs.Tables.{Tables}
+use Rattle.machine.specs.Block.{BlockState, IsBlockAmong}
+use Rattle.cache_table.specs.declared.event.CacheEvent.TheVariants as event
+use Rattle.cache_table.specs.Table as cache_table
+use Rattle.cache_table.specs.Table.{CacheEntry}
+use Rattle.cache_line.specs.declared.line.Line.{Line}
+use Rattle.cache_line.specs.declared.line.LineInput.TheVariants as line_input
+use Rattle.control.specs.Events.{event_at_line}
+use Rattle.network.specs.declared.message.Response.{Response}
+use Rattle.network.specs.declared.message.Response.TheVariants.{InvAck}
+use Rattle.machine.proofs.Seen.{line_of}
+use Rattle.pairs.specs.declared.pair.Pair.{Pair}
+use Rattle.pairs.specs.declared.steps.Rule.{Rule}
+use Rattle.pairs.specs.declared.steps.Party.TheVariants.{Nobody}
+use Rattle.pairs.specs.declared.steps.Rule.TheVariants.{GetsInvAck}
+use Rattle.pairs.specs.declared.steps.Sight.TheVariants.{Unmoved}
+use Rattle.pairs.specs.Sights.{sight, by_line, at_line}
+use Rattle.closing.proofs.Alpha.{Tags, alpha, Faithful}
+use Rattle.cache_line.specs.declared.line.Line.{Line}
+use Rattle.network.specs.Traffic.{Traffic}
+use Rattle.cache_line.specs.LineEffect.{taken_in}
+use Rattle.machine.proofs.Counts.{total}
+use Rattle.machine.proofs.Seen.{names, is_inv, inv_ack, ack_number}
+use Rattle.closing.proofs.Alpha.{Face, face, pair_of, owed_to}
+use Rattle.closing.proofs.LineActing.{AckCounts}
+use Rattle.closing.proofs.LineGoes.{owed_on}
+use Rattle.closing.proofs.Alpha.{side_of}
+use Rattle.closing.proofs.LineActing.{same-if}
+use Rattle.closing.proofs.LineSettling.{message-settles}
+use Rattle.network.specs.Traffic.{response_taken}
+use Rattle.cache_line.specs.Events.{is_count}
+use Rattle.cache_line.specs.LineEffect.{one_ack_less}
+use Rattle.machine.proofs.Counts.{total}
+use Rattle.machine.proofs.Facts.{promised-zero}
+use Rattle.machine.proofs.Seen.{dir_data, late_of}
+use Rattle.pairs.specs.Pairs.{alike}
+use Rattle.pairs.specs.Sights.{response_seen, ack_fits}
+use Rattle.closing.proofs.LineActing.{AckCounts}
+use Rattle.closing.proofs.Taking.{face_with, counts-nothing, lost-count, same-count}
+use Rattle.closing.proofs.Taking.{ack-taken, ack-law, ack-low, not-last, all-awaited}
+use Rattle.closing.proofs.ResponseActs.{pair-taken, Known}
+use Rattle.closing.proofs.DirDataActs.{here}
+
+-- an Inv-Ack fits where one was owed, and where the line waits for it
+fits-so : (some low last none_dir fits_so : Bool) → some ≡ true → not (low && last) ≡ true → (none_dir ≡ true → fits_so ≡ true) →
+    (some && not (low && last) && (not none_dir || fits_so)) ≡ true
+fits-so some low last true fits_so e f g = ap (λ (t : Bool). t && not (low && last) && fits_so) e ∙ ap (λ (t : Bool). t && fits_so) f ∙ g refl
+fits-so some low last false fits_so e f g = ap (λ (t : Bool). t && not (low && last) && true) e ∙ ap (λ (t : Bool). t && true) f
+
+module _ (tables : Tables) (caches : ℕ) (tags : Tags) (b : BlockState) (cache : CacheId) (index : ℕ) (by to : CacheId)
+    (whole : IsBlockAmong caches b) (faithful : Faithful tags b) (e : Some (InvAck by to) ≡ slice_get b.traffic.responses index)
+    (same : cache ≡ to) (line : Line) (there : line_of b.lines cache.0 ≡ line) where
+  abbrev a : ℕ
+  a = cache.0
+
+  abbrev r : Response
+  r = InvAck by to
+
+  abbrev w : Traffic
+  w = response_taken index b.traffic
+
+  -- how many are owed when it was taken
+  abbrev left : ℕ
+  left = total (names a is_inv) b.traffic.links + sum_by (inv_ack a) w.responses
+
+  abbrev last : Bool
+  last = is_count line.acks 1
+
+  abbrev some_left : Bool
+  some_left = not (left == 0)
+
+  one-ack : inv_ack a r ≡ 1
+  one-ack = here cache to same 1
+
+  one-less : owed_to b a ≡ left + 1
+  one-less = omega (arith, lost-count tags b.home b.traffic index r e (inv_ack a) 1 one-ack)
+
+  -- the law, before and behind it
+  law-before : line.acks +ℤ pos (sum_by (ack_number a) b.traffic.responses) ≡ pos (left + 1)
+  law-before =
+      ap (λ (l : Line). l.acks +ℤ pos (sum_by (ack_number a) b.traffic.responses)) (sym there) ∙ faithful.law a ∙ ap (λ n. pos n) one-less
+
+  few-left : left ≤ 4294967296
+  few-left = omega (arith, one-less, faithful.owed a)
+
+  same-low : late_of (one_ack_less line.acks) == 0 ≡ (late_of line.acks == 0) || last
+  same-low = ack-low line.acks (sum_by (ack_number a) b.traffic.responses) left law-before few-left (faithful.announced a)
+
+  -- where no Data from the home is on its way, nothing is announced any more
+  waits-so : (sum_by (dir_data a) b.traffic.responses == 0) ≡ true → (not (late_of line.acks == 0) && alike last (not some_left)) ≡ true
+  waits-so none =
+      all-awaited line.acks left
+      (ap (λ n. line.acks +ℤ pos n) (sym (promised-zero a b.traffic.responses (same-if (sum_by (dir_data a) b.traffic.responses) 0 none))) ∙ law-before)
+
+  fits-here : ack_fits (side_of (face_with tags b a line) tags b.home b.traffic a) last some_left ≡ true
+  fits-here =
+      fits-so (not (owed_to b a == 0)) (late_of line.acks == 0) last (sum_by (dir_data a) b.traffic.responses == 0) _
+      (ap (λ (t : Bool). not t) (ne_eqb (owed_to b a) 0 (λ none. absurd (omega (arith, none, one-less))))) (not-last line.acks) waits-so
+
+  abbrev after : Face
+  after = record { line = taken_in (line_input.Response r) line; fresh = tags.line a; owed = some_left }
+
+  abbrev behind : ℕ → Pair
+  behind x = pair_of after (face tags b x) tags b.home w a x
+
+  abbrev rule : Rule
+  rule = GetsInvAck last some_left
+
+  began : (y : CacheEntry) → cache_table.cell tables.cache line.state (event_at_line line.acks (line_input.Response r)) ≡ y → (x : ℕ) → x ≢ a →
+      sight tables rule true (alpha tags b a x) ≡ by_line rule Nobody Nobody (event_at_line line.acks (line_input.Response r)) y (behind x)
+  began y cell x ne =
+      ap (λ (l : Line). sight tables rule true (pair_of (face_with tags b a l) (face tags b x) tags b.home b.traffic a x)) there
+      ∙ ap (λ (t : Bool). if t then (let p : Pair = pair_of (face_with tags b a line) (face tags b x) tags b.home b.traffic a x in
+      response_seen tables rule (if last then event.LastInvAck else event.InvAck) p (record p.first { owed = some_left; low = p.first.low || last })) else Unmoved)
+      fits-here
+      ∙ ap (λ (q : Pair). at_line tables rule Nobody Nobody (if last then event.LastInvAck else event.InvAck) q)
+      (pair-taken tables caches tags b cache index r whole faithful e same line _ after x ne
+      (ack-taken tags b.home b.traffic index r e a line (tags.line a) (not (owed_to b a == 0)) (one_ack_less line.acks) some_left
+      ((late_of line.acks == 0) || last) refl refl refl same-low))
+      ∙ ap (λ (z : CacheEntry). by_line rule Nobody Nobody (if last then event.LastInvAck else event.InvAck) z (behind x)) cell
+
+  -- how many are owed behind it
+  owed-here : (u : Traffic) (sent : ℕ) → AckCounts cache None sent w u → owed_on u a ≡ left
+  owed-here u sent counts = omega (arith, ap (λ ls. total (names a is_inv) ls) counts.links, counts.acks a)
+
+  owed-there : (u : Traffic) (sent : ℕ) → AckCounts cache None sent w u → (x : ℕ) → x ≢ a → owed_on u x ≡ owed_to b x
+  owed-there u sent counts x ne =
+      omega (
+        arith,
+        ap (λ ls. total (names x is_inv) ls) counts.links,
+        counts.acks x,
+        same-count tags b.home b.traffic index r e (inv_ack x) (counts-nothing cache r x same ne).ack,
+      )
+
+  numbers-same : (u : Traffic) (sent : ℕ) → AckCounts cache None sent w u → (c : ℕ) →
+      sum_by (ack_number c) u.responses ≡ sum_by (ack_number c) b.traffic.responses
+  numbers-same u sent counts c = counts.numbers c ∙ same-count tags b.home b.traffic index r e (ack_number c) refl
+
+  few-owed : (u : Traffic) (sent : ℕ) → AckCounts cache None sent w u → (c : ℕ) → owed_on u c ≤ 4294967296
+  few-owed u sent counts c =
+      elim (cases_eq c a) [
+        | inl here ↦ subst (λ n. owed_on u n ≤ 4294967296) (sym here) (omega (arith, owed-here u sent counts, few-left))
+        | inr ne ↦ omega (arith, owed-there u sent counts c ne, faithful.owed c)
+      ]
+
+  pub ack-known : Known tables caches tags b cache index r whole faithful e same line rule (tags.line a) some_left
+  ack-known = record {
+    start = began;
+    right = λ known. ap (λ (l : Line). l.value) (sym there) ∙ faithful.tags_are_true.line a known;
+    settles = λ next. message-settles (record (taken_in (line_input.Response r) line) { state = next }) (tags.line a) some_left;
+    law = λ u sent counts. record {
+      own = ap (λ n. not (n == 0)) (sym (owed-here u sent counts));
+      others = λ x ne. ap (λ n. not (n == 0)) (sym (owed-there u sent counts x ne));
+      law = ap (λ n. one_ack_less line.acks +ℤ pos n) (numbers-same u sent counts a)
+          ∙ ack-law line.acks (sum_by (ack_number a) b.traffic.responses) left law-before few-left (faithful.announced a)
+          ∙ ap (λ n. pos n) (sym (owed-here u sent counts));
+      other_laws = λ x ne.
+          ap (λ n. (line_of b.lines x).acks +ℤ pos n) (numbers-same u sent counts x) ∙ faithful.law x
+          ∙ ap (λ n. pos n) (sym (owed-there u sent counts x ne));
+      few = few-owed u sent counts;
+      announced = λ c. omega (arith, numbers-same u sent counts c, faithful.announced c);
+    };
+  }

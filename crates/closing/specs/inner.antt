@@ -1,0 +1,3 @@
+-- what only the contracts of private functions cite
+pub mod Told
+pub mod Numbered

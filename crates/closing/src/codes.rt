@@ -1,0 +1,144 @@
+//! A number made of all parts of a pair, so that a list is looked through by it. Nothing is promised of it.
+
+ghost use Rattle.std.specs.Prelude.{◌<◌};
+
+use cache_table::CacheState;
+use directory_table::DirectoryState;
+use network::ForwardKind;
+use pairs::{Link, Marks, Owned, Pair, Shared, Side, Waiting};
+
+/// A number with a few more bits behind its own.
+fn with(code: u128, bits: u32, more: u8) -> u128
+    requires { bits < 128 }
+{
+    (code << bits) | u128::from(more)
+}
+
+fn with_flag(code: u128, flag: bool) -> u128 {
+    with(code, 1, u8::from(flag))
+}
+
+/// The number of what all caches see and of one of them.
+pub(crate) fn view_code(shared: &Shared, side: &Side) -> u128 {
+    side_code(shared_code(0, shared), side)
+}
+
+/// The number of a pair.
+pub(crate) fn pair_code(pair: &Pair) -> u128 {
+    let mut code = shared_code(0, &pair.shared);
+    code = side_code(code, &pair.first);
+    code = side_code(code, &pair.second);
+    code = marks_code(code, &pair.first_names);
+    marks_code(code, &pair.second_names)
+}
+
+fn shared_code(code: u128, shared: &Shared) -> u128 {
+    let mut code = with(code, 3, home_number(shared.home));
+    code = with_flag(code, shared.fresh_memory);
+    code = with(code, 2, shared.home_data);
+    with_flag(code, shared.fresh_home_data)
+}
+
+fn side_code(code: u128, side: &Side) -> u128 {
+    let mut code = with(code, 4, state_number(side.state));
+    code = with(code, 2, waiting_number(side.waits));
+    code = with_flag(code, side.fresh);
+    for count in [side.gets, side.getm, side.puts, side.putm] {
+        code = with(code, 2, count);
+    }
+    code = with_flag(code, side.fresh_putm);
+    for count in [side.dir_data, side.owner_data, side.excl_data] {
+        code = with(code, 2, count);
+    }
+    for flag in [
+        side.fresh_data,
+        side.low,
+        side.owed,
+        side.shares,
+        side.others,
+    ] {
+        code = with_flag(code, flag);
+    }
+    code = with(code, 2, side.fwd_gets);
+    code = with(code, 2, side.fwd_getm);
+    code = with(code, 2, owned_number(side.owned));
+    link_code(code, &side.link)
+}
+
+fn link_code(code: u128, link: &Link) -> u128 {
+    let mut code = with(code, 2, link.len());
+    let mut rest = *link;
+    for _ in 0..3 {
+        if let Some(place) = rest.head() {
+            code = with_flag(with(code, 2, kind_number(place.kind)), place.own);
+        }
+        rest = rest.behind();
+    }
+    code
+}
+
+fn marks_code(code: u128, marks: &Marks) -> u128 {
+    let mut code = code;
+    let mut rest = *marks;
+    for _ in 0..3 {
+        let mark = match rest.head() {
+            None => 0,
+            Some(false) => 1,
+            Some(true) => 2,
+        };
+        code = with(code, 2, mark);
+        rest = rest.behind();
+    }
+    code
+}
+
+fn state_number(state: CacheState) -> u8 {
+    match state {
+        CacheState::I => 0,
+        CacheState::IsD => 1,
+        CacheState::ImAd => 2,
+        CacheState::ImA => 3,
+        CacheState::S => 4,
+        CacheState::SmAd => 5,
+        CacheState::SmA => 6,
+        CacheState::M => 7,
+        CacheState::MiA => 8,
+        CacheState::SiA => 9,
+        CacheState::IiA => 10,
+        CacheState::E => 11,
+    }
+}
+
+fn home_number(state: DirectoryState) -> u8 {
+    match state {
+        DirectoryState::I => 0,
+        DirectoryState::S => 1,
+        DirectoryState::M => 2,
+        DirectoryState::SD => 3,
+    }
+}
+
+fn waiting_number(waits: Option<Waiting>) -> u8 {
+    match waits {
+        None => 0,
+        Some(Waiting::Load) => 1,
+        Some(Waiting::Store) => 2,
+    }
+}
+
+fn owned_number(owned: Owned) -> u8 {
+    match owned {
+        Owned::ByNobody => 0,
+        Owned::ByItself => 1,
+        Owned::ByAnother => 2,
+    }
+}
+
+fn kind_number(kind: ForwardKind) -> u8 {
+    match kind {
+        ForwardKind::FwdGetS => 0,
+        ForwardKind::FwdGetM => 1,
+        ForwardKind::Inv => 2,
+        ForwardKind::PutAck => 3,
+    }
+}

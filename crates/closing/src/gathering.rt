@@ -1,0 +1,179 @@
+//! Gathers the least closed list of pairs. Nothing is promised of it: whether a list is closed is looked at apart.
+
+use crate::following::{Breach, Followed, steps_of};
+use crate::glueing::{are_apart, glued, is_one};
+use crate::listing::{Ends, Listing};
+use base::NoMemory;
+use both_tables::Tables;
+use cache_line::{may_read, may_write};
+use pairs::{Pair, Party, Rule, Sight, home_data_seen};
+use std::alloc::Global;
+
+/// The most pairs that are gathered, each counted in both orders.
+pub const MOST_PAIRS: usize = 40_000;
+
+/// Why pairs weren't gathered to the end.
+#[derive(Clone, Copy, Debug)]
+pub enum Refusal {
+    /// Memory was refused.
+    NoMemory,
+    /// There are more than [`MOST_PAIRS`].
+    TooMany,
+    /// In this pair a writer stands beside a reader.
+    TwoHolders(Pair),
+    /// What comes of this pair by a step of its first cache isn't followed.
+    Lost(Pair, Rule),
+    /// By a step of this pair's first cache a blank cell is met, or a load returns what may not be the last store's value.
+    Spoilt(Pair, Rule),
+    /// Data that comes to the home of this pair isn't followed, or meets a blank cell.
+    AtHome(Pair),
+}
+
+impl From<NoMemory> for Refusal {
+    fn from(_refused: NoMemory) -> Refusal {
+        Refusal::NoMemory
+    }
+}
+
+/// The pairs that can come about under these tables, each in both orders and those that begin alike together; or why they
+/// aren't followed to the end.
+pub fn gather(alloc: Global, tables: &Tables) -> Result<Vec<Pair>, Refusal> {
+    let mut listing = Listing::empty(alloc);
+    listing.add(alloc, &Pair::opened())?;
+    for place in 0..MOST_PAIRS {
+        let (Some(pair), Some(ends)) = (listing.pairs.get(place).copied(), listing.ends_of(place))
+        else {
+            return Ok(listing.grouped(alloc)?);
+        };
+        step(alloc, tables, &mut listing, &pair)?;
+        glue_beside(alloc, &mut listing, place, ends)?;
+        glue_over(alloc, &mut listing, place, ends)?;
+    }
+    Err(Refusal::TooMany)
+}
+
+/// Adds what can come of a pair by itself, and notes its steps.
+fn step(alloc: Global, tables: &Tables, listing: &mut Listing, pair: &Pair) -> Result<(), Refusal> {
+    if may_write(pair.first.state) && may_read(pair.second.state) {
+        return Err(Refusal::TwoHolders(*pair));
+    }
+    if !(pair.is_few() && pair.is_marked()) {
+        return Err(Refusal::AtHome(*pair));
+    }
+    for third_shares in [false, true] {
+        match home_data_seen(tables, third_shares, pair) {
+            Sight::Unmoved => {}
+            Sight::Seen(_, after) => listing.add(alloc, &after)?,
+            Sight::Lost | Sight::Spoilt(_) => return Err(Refusal::AtHome(*pair)),
+        }
+    }
+    let steps = match steps_of(alloc, tables, pair) {
+        Ok(steps) => steps,
+        Err(Breach::NoMemory) => return Err(Refusal::NoMemory),
+        Err(Breach::Lost(rule)) => return Err(Refusal::Lost(*pair, rule)),
+        Err(Breach::Spoilt(rule)) => return Err(Refusal::Spoilt(*pair, rule)),
+    };
+    for step in &steps {
+        if step.concerned != Party::Third {
+            listing.add(alloc, &step.after)?;
+        }
+    }
+    Ok(listing.note(steps)?)
+}
+
+/// Adds what two sights of one step make of the two caches that don't act.
+fn glue(
+    alloc: Global,
+    listing: &mut Listing,
+    one: &Followed,
+    other: &Followed,
+    between: &Pair,
+) -> Result<(), NoMemory> {
+    if !is_one(one, other) {
+        return Ok(());
+    }
+    match (one.concerned, other.concerned) {
+        (Party::Nobody, Party::Nobody) | (Party::Third, Party::Third) => {}
+        (Party::Second, Party::Third) => listing.add(alloc, &other.after)?,
+        (Party::Third, Party::Second) => listing.add(alloc, &one.after)?,
+        _ => return Ok(()),
+    }
+    let pair = glued(&one.after, &other.after, between);
+    if pair.fits() {
+        listing.add(alloc, &pair)?;
+    }
+    Ok(())
+}
+
+/// Glues all steps of two pairs that begin alike over a third one.
+fn glue_all(
+    alloc: Global,
+    listing: &mut Listing,
+    one: usize,
+    other: usize,
+    between: usize,
+) -> Result<(), NoMemory> {
+    let (Some(first), Some(second), Some(third)) = (
+        listing.pairs.get(one).copied(),
+        listing.pairs.get(other).copied(),
+        listing.pairs.get(between).copied(),
+    ) else {
+        return Ok(());
+    };
+    if !are_apart(&first.first_names, &second.first_names) {
+        return Ok(());
+    }
+    for number in 0..listing.step_count(one) {
+        for against in 0..listing.step_count(other) {
+            if let (Some(mine), Some(theirs)) = (
+                listing.step(one, number),
+                listing.step(other, against),
+            ) {
+                glue(alloc, listing, &mine, &theirs, &third)?;
+            }
+        }
+    }
+    Ok(())
+}
+
+/// Glues a pair with each that begins like it.
+fn glue_beside(
+    alloc: Global,
+    listing: &mut Listing,
+    one: usize,
+    ends: Ends,
+) -> Result<(), NoMemory> {
+    let others = listing.starting(ends.first).to_vec(alloc)?;
+    for other in &others {
+        let Some(other_ends) = listing.ends_of(*other) else {
+            continue;
+        };
+        for between in &listing.between(alloc, ends.second, other_ends.second)? {
+            glue_all(alloc, listing, one, *other, *between)?;
+            if let Some(swapped) = listing.swapped(*between) {
+                glue_all(alloc, listing, *other, one, swapped)?;
+            }
+        }
+    }
+    Ok(())
+}
+
+/// Glues over a pair of two that don't act.
+fn glue_over(
+    alloc: Global,
+    listing: &mut Listing,
+    between: usize,
+    ends: Ends,
+) -> Result<(), NoMemory> {
+    let acting = listing.starting(ends.first).to_vec(alloc)?;
+    for turned in &acting {
+        let (Some(acting_ends), Some(one)) = (listing.ends_of(*turned), listing.swapped(*turned))
+        else {
+            continue;
+        };
+        for other in &listing.between(alloc, acting_ends.second, ends.second)? {
+            glue_all(alloc, listing, one, *other, between)?;
+        }
+    }
+    Ok(())
+}
