@@ -101,7 +101,8 @@ ask-start tables tags b cache (ask.Store value) line next actions same busy cell
     ∙ ap (λ (y : CacheEntry). by_line AsksStore Nobody Nobody event.Store y (mine tags b cache x line)) cell
 ask-start tables tags b cache ask.Replace line next actions same busy cell x =
     ap (λ (l : Line). if is_absent l.state then Unmoved else at_line tables AsksReplacement Nobody Nobody event.Replacement (mine tags b cache x l)) same
-    ∙ ap (λ (t : Bool). if t then Unmoved else at_line tables AsksReplacement Nobody Nobody event.Replacement (mine tags b cache x line)) (not-absent line.state busy)
+    ∙ ap (λ (t : Bool). if t then Unmoved else at_line tables AsksReplacement Nobody Nobody event.Replacement (mine tags b cache x line))
+    (not-absent line.state busy)
     ∙ ap (λ (y : CacheEntry). by_line AsksReplacement Nobody Nobody event.Replacement y (mine tags b cache x line)) cell
 
 -- and settles as the ask does
@@ -113,7 +114,8 @@ ask-settles ask.Replace line next fresh owed = replacement-settles (record line 
 
 -- a cell that acts on an ask
 pub ask-acted : (tables : Tables) (caches : ℕ) (tags : Tags) (b : BlockState) (cache : CacheId) (a : Ask) (line : Line) (next : CacheState)
-    (actions : List CacheAction) → caches ≤ 4294967296 → IsBlockAmong caches b → Faithful tags b → Some line ≡ slice_get b.lines cache.0 → is_idle a line.state ≡ false →
+    (actions : List CacheAction) → caches ≤ 4294967296 → IsBlockAmong caches b → Faithful tags b → Some line ≡ slice_get b.lines cache.0 → is_idle a
+    line.state ≡ false →
     cache_table.cell tables.cache line.state (ask_event a) ≡ table_entry.Act next actions →
     SimulatedBy tables tags b (carried_out (AtLine cache line (line_input.Ask a) next actions origin.Core) b)
 ask-acted tables caches tags b cache a line next actions few whole faithful e busy acts =

@@ -74,9 +74,11 @@ module _ (tables : Tables) (pairs : List Pair) (numbers : Numbers) (steps : List
       let span_q = numbered.within j.0 first_q.0 first_q.1 in
       let span_r = numbered.within l.0 first_r.0 first_r.1 in
       let same_first : first_q.0 ≡ first_p.0 =
-      one-number numbers.views.items (first_view q) (first_view p) _ _ (λ i. record { shared = sym meet.shared i; side = sym meet.first i }) first_q.2 first_p.2 in
+      one-number numbers.views.items (first_view q) (first_view p) _ _ (λ i. record { shared = sym meet.shared i; side = sym meet.first i }) first_q.2
+      first_p.2 in
       let same_between : first_r.0 ≡ second_p.0 =
-      one-number numbers.views.items (first_view r) (second_view p) _ _ (λ i. record { shared = sym meet.shared_too i; side = sym meet.second i }) first_r.2 second_p.2 in
+      one-number numbers.views.items (first_view r) (second_view p) _ _ (λ i. record { shared = sym meet.shared_too i; side = sym meet.second i }) first_r.2
+      second_p.2 in
       let same_second : second_r.0 ≡ second_q.0 =
       one-number numbers.views.items (second_view r) (second_view q) _ _
       (λ i. record { shared = (sym meet.shared_too ∙ meet.shared) i; side = sym meet.third i }) second_r.2 second_q.2 in

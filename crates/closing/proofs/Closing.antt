@@ -38,7 +38,8 @@ pub record Followed (pairs : List Pair) (caches : ℕ) (b : BlockState) : Type 0
 
 -- KEPT
 -- no pair of a followed block breaks
-unbroken : (tables : Tables) (pairs : List Pair) (caches : ℕ) (b : BlockState) → Closed tables pairs → (f : Followed pairs caches b) → Breaks tables f.tags b → ⊥
+unbroken : (tables : Tables) (pairs : List Pair) (caches : ℕ) (b : BlockState) → Closed tables pairs → (f : Followed pairs caches b) → Breaks tables f.tags
+    b → ⊥
 unbroken tables pairs caches b closed f (c, d, ne, t, inl (rule, breach)) =
     no-breach pairs (sight tables rule t (alpha f.tags b c d)) (closed.steps (alpha f.tags b c d) rule t (f.inside c d ne)) breach
 unbroken tables pairs caches b closed f (c, d, ne, t, inr breach) =
@@ -85,7 +86,8 @@ closed-guards tables pairs caches closed few = record {
         inside = λ c d ne. subst (λ (p : Pair). Contains pairs p) (sym (opened-alpha caches value c d)) closed.opened;
       };
   kept =
-      λ s b f. followed-moved tables pairs caches b (transition tables s b).block closed f (whole-carried_out caches (decision_of tables s b) b f.whole (decision-fits caches tables s b f.whole))
+      λ s b f. followed-moved tables pairs caches b (transition tables s b).block closed f
+      (whole-carried_out caches (decision_of tables s b) b f.whole (decision-fits caches tables s b f.whole))
       (goes tables pairs caches closed few s b f).moves;
   single = λ b f. single-followed tables pairs caches b closed f;
   unmet = λ s b f. (goes tables pairs caches closed few s b f).unmet;

@@ -205,11 +205,13 @@ module _ (tables : Tables) (caches : ℕ) (tags : Tags) (b : BlockState) (cache 
       ∙ ap (λ (l : Line). at_line tables TakesHead (requestor (place a f) (f.requestor.0 == x)) (besides (requestor (place a f) (f.requestor.0 == x))) event_of
       (unnamed (requestor (place a f) (f.requestor.0 == x)) f.kind
       (headless (map (place a) rest) (map (λ m. m.requestor.0 == x) rest) (pair_of (mine l) (face tags b x) tags b.home b.traffic a x)))) same
-      ∙ ap (λ (q : Pair). at_line tables TakesHead (requestor (place a f) (f.requestor.0 == x)) (besides (requestor (place a f) (f.requestor.0 == x))) event_of q)
+      ∙ ap (λ (q : Pair). at_line tables TakesHead (requestor (place a f) (f.requestor.0 == x)) (besides (requestor (place a f) (f.requestor.0 == x)))
+      event_of q)
       (behind-head (mine line) (face tags b x) x ne)
       ∙ ap (λ (y : CacheEntry). by_line TakesHead (requestor (place a f) (f.requestor.0 == x)) (besides (requestor (place a f) (f.requestor.0 == x))) event_of y
       (pair_of (mine line) (face tags b x) tags b.home w a x)) cell
-      ∙ ap (λ (p : Party). by_line TakesHead p (besides p) event_of y (pair_of (mine line) (face tags b x) tags b.home w a x)) (same-party f.kind f.requestor a x)
+      ∙ ap (λ (p : Party). by_line TakesHead p (besides p) event_of y (pair_of (mine line) (face tags b x) tags b.home w a x))
+      (same-party f.kind f.requestor a x)
 
   -- an Inv is answered by one Inv-Ack, and nothing else is
   acks-sent : (actions : List CacheAction) → is_answered to event_of actions ≡ true → (c : ℕ) → only (is_owner to c) (inv_acks actions) ≡ names c is_inv f

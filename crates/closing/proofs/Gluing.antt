@@ -32,7 +32,15 @@ marks-apart (f ∷ fs) x y ne =
 
 -- three caches of a block make three pairs that meet
 pub alpha-meet : (tags : Tags) (b : BlockState) (a x y : ℕ) → x ≢ y → Meet (alpha tags b a x) (alpha tags b a y) (alpha tags b x y)
-alpha-meet tags b a x y ne = record { shared = refl; shared_too = refl; first = refl; second = refl; third = refl; apart = marks-apart (link b.traffic a) x y ne }
+alpha-meet tags b a x y ne = record {
+  shared = refl;
+  shared_too = refl;
+  first = refl;
+  second = refl;
+  third = refl;
+  apart = marks-apart (link b.traffic a) x y
+      ne;
+}
 
 -- a breach is in no closed set
 pub no-breach : (pairs : List Pair) (s : Sight) → StaysIn pairs s → IsBreach s → ⊥
@@ -85,7 +93,8 @@ unconcerned-in pairs one other p q e f h =
     subst (λ (x : Party). KeepsUnconcerned pairs Second x p q) f (subst (λ (x : Party). KeepsUnconcerned pairs x other p q) e h)
 
 -- the pairs of the actor stay in
-actors-in : (tables : Tables) (pairs : List Pair) (tags : Tags) (b new : BlockState) → Closed tables pairs → AllIn pairs tags b → (m : Moves tables tags b new) →
+actors-in : (tables : Tables) (pairs : List Pair) (tags : Tags) (b new : BlockState) → Closed tables pairs → AllIn pairs tags b →
+    (m : Moves tables tags b new) →
     (d : ℕ) → d ≢ m.actor → Contains pairs (alpha m.after new m.actor d)
 actors-in tables pairs tags b new closed all m d ne = at m.besides refl
   where
@@ -107,7 +116,8 @@ actors-in tables pairs tags b new closed all m d ne = at m.besides refl
               (λ far. second-third (sym (ap (λ o. role o d) e ∙ ap (λ n. role (Some n) d) same ∙ role-there d) ∙ far))
           | inr differ ↦
               let other : x ≢ m.actor = m.apart x e in
-              unconcerned-in pairs (role m.besides x) (role m.besides d) (alpha m.after new m.actor x) (alpha m.after new m.actor d) (ap (λ o. role o x) e ∙ role-there x) (ap (λ o. role o d) e ∙ role-elsewhere x d differ)
+              unconcerned-in pairs (role m.besides x) (role m.besides d) (alpha m.after new m.actor x) (alpha m.after new m.actor d)
+              (ap (λ o. role o x) e ∙ role-there x) (ap (λ o. role o d) e ∙ role-elsewhere x d differ)
               (closed.unconcerned (alpha tags b m.actor x) (alpha tags b m.actor d) (alpha tags b x d) m.rule (m.sees x other).0 (m.sees d ne).0
               (role m.besides x) (role m.besides d) (alpha m.after new m.actor x) (alpha m.after new m.actor d) (all m.actor x (λ s. other (sym s))) here
               (all x d differ) (alpha-meet tags b m.actor x d differ) (roles-alike m.besides x d differ) (m.sees x other).1 (m.sees d ne).1 refl refl)

@@ -79,7 +79,8 @@ module _ (fr : Frame) (tags : Tags) (b : BlockState) (home : Home) (w : Traffic)
   -- an Inv to some
   abbrev served : Bool → Debt → Scene
   served sharer debt = record (before debt) {
-    pair = (let p : Pair = if sharer then second_linked forward.Inv (before debt).pair else (before debt).pair in record p { first = record p.first { owed = true } });
+    pair = (let p : Pair = if sharer then second_linked forward.Inv (before debt).pair else (before debt).pair in record p
+        { first = record p.first { owed = true } });
     debt = more_invalidated owed debt;
   }
 
@@ -124,7 +125,8 @@ module _ (caches : ℕ) (fr : Frame) (debt : Debt) (tags : Tags) (b : BlockState
 
   acks-acted : (value : Option Bool) (brought : Option ℕ) → d ≢ a.0 → Acts fr debt tags b home w a value brought action.DataAcks d
   acks-acted value brought ne =
-      data-scene fr (debt_after a.0 (not (owed_to (at b home w) a.0 == 0)) home action.DataAcks debt) tags b home w a d home.memory (others_from 0 a.0 home.sharers) ne
+      data-scene fr (debt_after a.0 (not (owed_to (at b home w) a.0 == 0)) home action.DataAcks debt) tags b home w a d home.memory
+      (others_from 0 a.0 home.sharers) ne
       ∙ sym (announced-scene (home_acted true value action.DataReq scene) (others_in home a.0) (sym (first-others a.0 d home.sharers (λ e. ne (sym e)))))
 
   invs-acted : (value : Option Bool) (brought : Option ℕ) → d ≢ a.0 → length home.sharers ≤ length w.links →

@@ -84,7 +84,8 @@ module _ (b : BlockState) (home : Home) (w : Traffic) where
 
   data-to : (a : CacheId) (value acks : ℕ) → Adds b home w (response_sent (Data Dir (Cache a) value acks) w) a.0 acks 1 0
   data-to a value acks =
-      adds-response (Data Dir (Cache a) value acks) a.0 acks 1 (ap (λ (t : Bool). only t acks) (eq-eqb a.0 a.0 refl)) (ap (λ (t : Bool). only t 1) (eq-eqb a.0 a.0 refl)) refl
+      adds-response (Data Dir (Cache a) value acks) a.0 acks 1 (ap (λ (t : Bool). only t acks) (eq-eqb a.0 a.0 refl))
+      (ap (λ (t : Bool). only t 1) (eq-eqb a.0 a.0 refl)) refl
 
   data-past : (a : CacheId) (value acks c : ℕ) → c ≢ a.0 → Adds b home w (response_sent (Data Dir (Cache a) value acks) w) c 0 0 0
   data-past a value acks c ne =
@@ -114,7 +115,8 @@ module _ (b : BlockState) (home : Home) (w : Traffic) where
   adds-here caches a action.DataAcks h l = data-to a home.memory (others_from 0 a.0 home.sharers)
   adds-here caches a action.DataExcl h l = adds-response (DataExcl a home.memory) a.0 0 0 refl refl refl
   adds-here caches a action.InvSharers h l =
-      subst (λ (v : Traffic). Adds b home w v a.0 0 0 (others_from 0 a.0 home.sharers)) (sym (all-invited a home.sharers w)) (invs-to a (omega (arith, h.links, h.sharers)))
+      subst (λ (v : Traffic). Adds b home w v a.0 0 0 (others_from 0 a.0 home.sharers)) (sym (all-invited a home.sharers w))
+      (invs-to a (omega (arith, h.links, h.sharers)))
   adds-here caches a action.FwdGetS h l = adds-owner home.owner FwdGetS a a.0 refl (subst (λ (n : ℕ). IsBelow home.owner n) (sym h.links) h.owner)
   adds-here caches a action.FwdGetM h l = adds-owner home.owner FwdGetM a a.0 refl (subst (λ (n : ℕ). IsBelow home.owner n) (sym h.links) h.owner)
   adds-here caches a action.PutAck h l = adds-forward a.0 (record { kind = PutAck; requestor = a }) a.0 refl (omega (arith, l, h.links))

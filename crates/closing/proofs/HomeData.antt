@@ -114,68 +114,70 @@ module _ (b : BlockState) (w : Traffic) (fresh : Bool) (value : ℕ) where
       all-true actions (home_changed None (Some value) x home) (data_tags fresh x tags) m (data-true x home tags m h)
 
 -- THE DATA IS TAKEN
-module _ (tags : Tags) (b : BlockState) (index : ℕ) (by : Place) (value acks : ℕ) (e : Some (Data by Dir value acks) ≡ slice_get b.traffic.responses index) where
-  abbrev left : BlockState
-  left = at b b.home (response_taken index b.traffic)
+module _ (tags : Tags) (b : BlockState) (index : ℕ) (by : Place) (value acks : ℕ) (e : Some (Data by Dir value acks) ≡ slice_get b.traffic.responses index)
+  where
+    abbrev left : BlockState
+    left = at b b.home (response_taken index b.traffic)
 
-  -- it counted for no cache
-  sum-left : (f : Response → ℕ) → f (Data by Dir value acks) ≡ 0 → sum_by f (remove b.traffic.responses index) ≡ sum_by f b.traffic.responses
-  sum-left f none = omega (arith, sum_by-remove f b.traffic.responses index (Data by Dir value acks) e, none)
+    -- it counted for no cache
+    sum-left : (f : Response → ℕ) → f (Data by Dir value acks) ≡ 0 → sum_by f (remove b.traffic.responses index) ≡ sum_by f b.traffic.responses
+    sum-left f none = omega (arith, sum_by-remove f b.traffic.responses index (Data by Dir value acks) e, none)
 
-  no-dir : (c : ℕ) (by : Place) → dir_data c (Data by Dir value acks) ≡ 0
-  no-dir c Dir = refl
-  no-dir c (Cache k) = refl
+    no-dir : (c : ℕ) (by : Place) → dir_data c (Data by Dir value acks) ≡ 0
+    no-dir c Dir = refl
+    no-dir c (Cache k) = refl
 
-  no-owner : (c : ℕ) (by : Place) → owner_data c (Data by Dir value acks) ≡ 0
-  no-owner c Dir = refl
-  no-owner c (Cache k) = refl
+    no-owner : (c : ℕ) (by : Place) → owner_data c (Data by Dir value acks) ≡ 0
+    no-owner c Dir = refl
+    no-owner c (Cache k) = refl
 
-  no-number : (c : ℕ) (by : Place) → ack_number c (Data by Dir value acks) ≡ 0
-  no-number c Dir = refl
-  no-number c (Cache k) = refl
+    no-number : (c : ℕ) (by : Place) → ack_number c (Data by Dir value acks) ≡ 0
+    no-number c Dir = refl
+    no-number c (Cache k) = refl
 
-  pub acks-left : (c : ℕ) → sum_by (ack_number c) (remove b.traffic.responses index) ≡ sum_by (ack_number c) b.traffic.responses
-  acks-left c = sum-left (ack_number c) (no-number c by)
+    pub acks-left : (c : ℕ) → sum_by (ack_number c) (remove b.traffic.responses index) ≡ sum_by (ack_number c) b.traffic.responses
+    acks-left c = sum-left (ack_number c) (no-number c by)
 
-  pub owed-left : (c : ℕ) → owed_to left c ≡ owed_to b c
-  owed-left c = omega (arith, sum-left (inv_ack c) refl)
+    pub owed-left : (c : ℕ) → owed_to left c ≡ owed_to b c
+    owed-left c = omega (arith, sum-left (inv_ack c) refl)
 
-  pub side-left : (c : ℕ) → side tags left c ≡ side tags b c
-  side-left c =
-      let dir : sum_by (dir_data c) (remove b.traffic.responses index) ≡ sum_by (dir_data c) b.traffic.responses = sum-left (dir_data c) (no-dir c by) in
-      let owner : sum_by (owner_data c) (remove b.traffic.responses index) ≡ sum_by (owner_data c) b.traffic.responses = sum-left (owner_data c) (no-owner c by) in
-      let excl : sum_by (excl_data c) (remove b.traffic.responses index) ≡ sum_by (excl_data c) b.traffic.responses = sum-left (excl_data c) refl in
-      (λ i. side_of (record (face tags b c) { owed = not (owed-left c i == 0) }) tags b.home (response_taken index b.traffic) c)
-      ∙ same_responses (side tags b c) _ _ _ _ _ _ _ _ dir owner excl (λ i. tags.data_to c || (dir i + owner i + excl i == 0))
+    pub side-left : (c : ℕ) → side tags left c ≡ side tags b c
+    side-left c =
+        let dir : sum_by (dir_data c) (remove b.traffic.responses index) ≡ sum_by (dir_data c) b.traffic.responses = sum-left (dir_data c) (no-dir c by) in
+        let owner : sum_by (owner_data c) (remove b.traffic.responses index) ≡ sum_by (owner_data c) b.traffic.responses = sum-left (owner_data c)
+        (no-owner c by) in
+        let excl : sum_by (excl_data c) (remove b.traffic.responses index) ≡ sum_by (excl_data c) b.traffic.responses = sum-left (excl_data c) refl in
+        (λ i. side_of (record (face tags b c) { owed = not (owed-left c i == 0) }) tags b.home (response_taken index b.traffic) c)
+        ∙ same_responses (side tags b c) _ _ _ _ _ _ _ _ dir owner excl (λ i. tags.data_to c || (dir i + owner i + excl i == 0))
 
-  pub home-left : sum_by home_data (remove b.traffic.responses index) + 1 ≡ sum_by home_data b.traffic.responses
-  home-left = sum_by-remove home_data b.traffic.responses index (Data by Dir value acks) e
+    pub home-left : sum_by home_data (remove b.traffic.responses index) + 1 ≡ sum_by home_data b.traffic.responses
+    home-left = sum_by-remove home_data b.traffic.responses index (Data by Dir value acks) e
 
-  pub home-there : sum_by home_data b.traffic.responses ≢ 0
-  home-there z = absurd (omega (arith, z, home-left))
+    pub home-there : sum_by home_data b.traffic.responses ≢ 0
+    home-there z = absurd (omega (arith, z, home-left))
 
-  shared-left : trimmed_home (let g : Shared = shared tags b in record g { home_data = g.home_data - 1 }) ≡ shared tags left
-  shared-left =
-      let n : sum_by home_data b.traffic.responses - 1 ≡ sum_by home_data (remove b.traffic.responses index) = omega (arith, home-left) in
-      same_home_data (shared tags b) _ _ _ _ n
-      (fresh-left tags.home_data (sum_by home_data b.traffic.responses) _ (sum_by home_data b.traffic.responses - 1) n (inr home-there))
+    shared-left : trimmed_home (let g : Shared = shared tags b in record g { home_data = g.home_data - 1 }) ≡ shared tags left
+    shared-left =
+        let n : sum_by home_data b.traffic.responses - 1 ≡ sum_by home_data (remove b.traffic.responses index) = omega (arith, home-left) in
+        same_home_data (shared tags b) _ _ _ _ n
+        (fresh-left tags.home_data (sum_by home_data b.traffic.responses) _ (sum_by home_data b.traffic.responses - 1) n (inr home-there))
 
-  pub pair-left : (c d : ℕ) →
-      record (alpha tags b c d) { shared = trimmed_home (record (alpha tags b c d).shared { home_data = (alpha tags b c d).shared.home_data - 1 }) } ≡
-      alpha tags left c d
-  pair-left c d = λ i. record (alpha tags left c d) { shared = shared-left i; first = sym (side-left c) i; second = sym (side-left d) i }
+    pub pair-left : (c d : ℕ) →
+        record (alpha tags b c d) { shared = trimmed_home (record (alpha tags b c d).shared { home_data = (alpha tags b c d).shared.home_data - 1 }) } ≡
+        alpha tags left c d
+    pair-left c d = λ i. record (alpha tags left c d) { shared = shared-left i; first = sym (side-left c) i; second = sym (side-left d) i }
 
-  -- Data that is known to be fresh brings the last store's value
-  pub value-true : AreTrue tags b → (shared tags b).fresh_home_data ≡ true → value ≡ b.latest
-  value-true h fresh =
-      let known : tags.home_data ≡ true = sym (or-false tags.home_data) ∙ ap (λ (t : Bool). tags.home_data || t) (sym (ne_eqb _ 0 home-there)) ∙ fresh in
-      all-taken (BringsHome b.latest) b.traffic.responses index (Data by Dir value acks) e (h.home_data known)
+    -- Data that is known to be fresh brings the last store's value
+    pub value-true : AreTrue tags b → (shared tags b).fresh_home_data ≡ true → value ≡ b.latest
+    value-true h fresh =
+        let known : tags.home_data ≡ true = sym (or-false tags.home_data) ∙ ap (λ (t : Bool). tags.home_data || t) (sym (ne_eqb _ 0 home-there)) ∙ fresh in
+        all-taken (BringsHome b.latest) b.traffic.responses index (Data by Dir value acks) e (h.home_data known)
 
-  pub left-true : AreTrue tags b → AreTrue tags left
-  left-true h = record {
-    line = h.line;
-    data_to = λ c known. all-left (Brings c b.latest) b.traffic.responses index (h.data_to c known);
-    putm = h.putm;
-    home_data = λ known. all-left (BringsHome b.latest) b.traffic.responses index (h.home_data known);
-    memory = h.memory;
-  }
+    pub left-true : AreTrue tags b → AreTrue tags left
+    left-true h = record {
+      line = h.line;
+      data_to = λ c known. all-left (Brings c b.latest) b.traffic.responses index (h.data_to c known);
+      putm = h.putm;
+      home_data = λ known. all-left (BringsHome b.latest) b.traffic.responses index (h.home_data known);
+      memory = h.memory;
+    }

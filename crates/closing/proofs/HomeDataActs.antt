@@ -38,7 +38,8 @@ use Rattle.closing.proofs.Simulation.{HomeActs, HomeMoves}
 use Rattle.closing.proofs.HomeSending.{at}
 use Rattle.closing.proofs.HomeScene.{Frame, frame_of, scene_of, third_of, third-fits, owner-seen_of, scene-left}
 use Rattle.closing.proofs.HomeActing.{IsAt}
-use Rattle.closing.proofs.HomeData.{data_tags_after, all-data, all-true, acks-left, owed-left, side-left, home-left, home-there, pair-left, value-true, left-true}
+use Rattle.closing.proofs.HomeData.{data_tags_after, all-data, all-true, acks-left, owed-left, side-left, home-left, home-there, pair-left, value-true}
+use Rattle.closing.proofs.HomeData.{left-true}
 use Rattle.closing.proofs.RequestTaken.{some-seen}
 use Rattle.closing.proofs.RequestEnds.{looked-few}
 
@@ -136,7 +137,8 @@ module _ (tables : Tables) (caches : ℕ) (tags : Tags) (b : BlockState) (index 
   sees c d ne cell =
       some-seen (sum_by home_data b.traffic.responses) _ (home-there tags b index by value acks e)
       ∙ ap (λ (p : Pair). at_home tables (third_of c d b.home.sharers) false (Some fresh) home_event.Data p) (pair-left tags b index by value acks e c d)
-      ∙ ap (λ (t : Bool). if t then by_home false (Some fresh) (directory_table.cell tables.directory b.home.state home_event.Data) (begin_scene c d) else Unmoved)
+      ∙ ap (λ (t : Bool). if t then by_home false (Some fresh) (directory_table.cell tables.directory b.home.state home_event.Data) (begin_scene c d)
+      else Unmoved)
       (third-fits tags left c d ne)
       ∙ ap (λ (y : DirectoryEntry). by_home false (Some fresh) y (begin_scene c d)) cell ∙ settled-seen c d ne
       ∙ looked-few caches tags_after after Nobody c d whole-after ne (few-pair c d)

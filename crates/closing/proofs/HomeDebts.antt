@@ -36,10 +36,12 @@ module _ (home : Home) (a : CacheId) (before : Bool) (acks owed acks_first owed_
       elim (cases_eq o.0 a.0) [
         | inl same ↦
             let kept : others_from 0 a.0 (slice_set home.sharers o.0 true) ≡ others = others-set 0 o.0 a.0 home.sharers true (omega (arith, same)) in
-            subst (λ (t : Bool). Owes (if t then debt else settled_debt debt) acks owed acks_first owed_first (others_from 0 a.0 (slice_set home.sharers o.0 true)))
+            subst (λ (t : Bool). Owes (if t then debt else settled_debt debt) acks owed acks_first owed_first
+            (others_from 0 a.0 (slice_set home.sharers o.0 true)))
             (sym (eq-eqb o.0 a.0 same)) (owes-same acks owed acks_first owed_first others debt acks owed _ refl refl kept h)
         | inr differ ↦
-            subst (λ (t : Bool). Owes (if t then debt else settled_debt debt) acks owed acks_first owed_first (others_from 0 a.0 (slice_set home.sharers o.0 true)))
+            subst (λ (t : Bool). Owes (if t then debt else settled_debt debt) acks owed acks_first owed_first
+            (others_from 0 a.0 (slice_set home.sharers o.0 true)))
             (sym (ne_eqb o.0 a.0 differ)) (owes-settled acks owed acks_first owed_first others debt _ h)
       ]
 
@@ -54,14 +56,16 @@ module _ (home : Home) (a : CacheId) (before : Bool) (acks owed acks_first owed_
       owes-same acks (owed + others) acks_first owed_first others (debt_after a.0 before home action.InvSharers debt) m n others (omega (arith, e)) f refl
       (owes-invited acks owed acks_first owed_first others debt (others_in home a.0) before refl h)
   owes-after brought debt action.AddOwner m n e f h =
-      owes-same acks owed acks_first owed_first _ (owner_debt home.owner a.0 debt) m n _ (omega (arith, e)) (omega (arith, f)) refl (owes-owner debt home.owner h)
+      owes-same acks owed acks_first owed_first _ (owner_debt home.owner a.0 debt) m n _ (omega (arith, e)) (omega (arith, f)) refl
+      (owes-owner debt home.owner h)
   owes-after brought debt action.ClearSharers m n e f h =
       owes-same acks owed acks_first owed_first _ (settled_debt debt) m n _ (omega (arith, e)) (omega (arith, f)) refl
       (owes-settled acks owed acks_first owed_first others debt _ h)
   owes-after brought debt action.AddReq m n e f h =
       owes-same acks owed acks_first owed_first others debt m n _ (omega (arith, e)) (omega (arith, f)) (others-set 0 a.0 a.0 home.sharers true (omega arith)) h
   owes-after brought debt action.RemoveReq m n e f h =
-      owes-same acks owed acks_first owed_first others debt m n _ (omega (arith, e)) (omega (arith, f)) (others-set 0 a.0 a.0 home.sharers false (omega arith)) h
+      owes-same acks owed acks_first owed_first others debt m n _ (omega (arith, e)) (omega (arith, f))
+      (others-set 0 a.0 a.0 home.sharers false (omega arith)) h
   owes-after brought debt action.DataReq m n e f h = owes-same acks owed acks_first owed_first others debt m n _ (omega (arith, e)) (omega (arith, f)) refl h
   owes-after brought debt action.DataExcl m n e f h = owes-same acks owed acks_first owed_first others debt m n _ (omega (arith, e)) (omega (arith, f)) refl h
   owes-after brought debt action.FwdGetS m n e f h = owes-same acks owed acks_first owed_first others debt m n _ (omega (arith, e)) (omega (arith, f)) refl h

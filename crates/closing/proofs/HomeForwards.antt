@@ -143,7 +143,8 @@ module _ (fr : Frame) (debt : Debt) (tags : Tags) (b : BlockState) (home : Home)
       λ i. staged fr (shared tags (at b home w)) (one i) (two i) (mine i) (theirs i) (party_of home.owner a.0 d) (third_of a.0 d home.sharers) debt
 
 -- a forward to the owner
-owner-forwarded : (fr : Frame) (debt : Debt) (tags : Tags) (b : BlockState) (home : Home) (w : Traffic) (a : CacheId) (kind : ForwardKind) (o : CacheId) (d : ℕ) →
+owner-forwarded : (fr : Frame) (debt : Debt) (tags : Tags) (b : BlockState) (home : Home) (w : Traffic) (a : CacheId) (kind : ForwardKind) (o : CacheId)
+    (d : ℕ) →
     d ≢ a.0 → o.0 < length w.links → is_inv kind ≡ 0 →
     scene_of fr debt tags (at b home (forward_sent o.0 (record { kind = kind; requestor = a }) w)) a.0 d ≡
     forwarded_to (party_of (Some o) a.0 d) kind (scene_of fr debt tags (at b home w) a.0 d)
@@ -169,7 +170,8 @@ owner-forwarded fr debt tags b home w a kind o d ne there none =
     ]
 
 -- if there is one
-pub owner_forwarded : (fr : Frame) (debt : Debt) (tags : Tags) (b : BlockState) (home : Home) (w : Traffic) (a : CacheId) (kind : ForwardKind) (o : Option CacheId)
+pub owner_forwarded : (fr : Frame) (debt : Debt) (tags : Tags) (b : BlockState) (home : Home) (w : Traffic) (a : CacheId) (kind : ForwardKind)
+    (o : Option CacheId)
     (d : ℕ) → d ≢ a.0 → IsBelow o (length w.links) → is_inv kind ≡ 0 →
     scene_of fr debt tags (at b home (all_sent (owner_message o kind a) w)) a.0 d ≡
     forwarded_to (party_of o a.0 d) kind (scene_of fr debt tags (at b home w) a.0 d)

@@ -44,7 +44,8 @@ plain_frame = record { first_others = false; first_owned = ByNobody; second_othe
 module _ (caches : ℕ) (b : BlockState) (a : CacheId) (value : Option Bool) (brought : Option ℕ) (first : Traffic) where
   -- a cache that isn't there is concerned by nothing
   past-kept : (x : DirectoryAction) (st : Stage) (c : ℕ) → a.0 < caches → Matches value brought b.latest → IsAt caches st.home st.wires → caches ≤ c →
-      is_few_side (side (next_stage b a value brought x st).tags (at_stage b (next_stage b a value brought x st)) c) ≡ is_few_side (side st.tags (at_stage b st) c)
+      is_few_side (side (next_stage b a value brought x st).tags (at_stage b (next_stage b a value brought x st)) c) ≡ is_few_side
+      (side st.tags (at_stage b st) c)
   past-kept x st c l m h past =
       ap (λ (s : Scene). few_second s)
       (acted caches plain_frame st.debt st.tags b st.home st.wires a c value brought x (λ e. absurd (omega (arith, e, l, past))) h l m)
@@ -54,7 +55,8 @@ module _ (caches : ℕ) (b : BlockState) (a : CacheId) (value : Option Bool) (br
   serving-next : (x : DirectoryAction) (st : Stage) → caches ≤ 4294967296 → a.0 < caches → Matches value brought b.latest →
       IsServing caches b a first st → IsServing caches b a first (next_stage b a value brought x st)
   serving-next x st few l m h =
-      let adds : Adds b st.home st.wires (all_sent (home_message (Some a) x st.home) st.wires) a.0 (announced_by st.home a.0 x) (datas_by x) (invited_by st.home a.0 x) =
+      let adds : Adds b st.home st.wires (all_sent (home_message (Some a) x st.home) st.wires) a.0 (announced_by st.home a.0 x) (datas_by x)
+      (invited_by st.home a.0 x) =
       adds-here b st.home st.wires caches a x h.among l in
       let others : others_from 0 a.0 st.home.sharers ≤ 4294967296 = omega (arith, others-few a.0 0 st.home.sharers, h.among.sharers, few) in
       record {

@@ -96,7 +96,8 @@ left-nobody : (next : DirectoryState) (s : Scene) → s.owner ≡ Nobody → hom
 })
 left-nobody next s e = ap (λ (o : Party). home_left next (record s { owner = o })) e
 
-left-some : (next : DirectoryState) (s : Scene) (one other : Bool) → one && other ≡ false → s.owner ≡ (if one then First else (if other then Second else Third)) →
+left-some : (next : DirectoryState) (s : Scene) (one other : Bool) → one && other ≡ false → s.owner ≡
+    (if one then First else (if other then Second else Third)) →
     home_left next s ≡ (let p : Pair = s.pair in record p {
       shared = record p.shared { home = next };
       first = record p.first { others = p.second.shares || s.third_shares; owned = if one then ByItself else ByAnother };
@@ -120,7 +121,8 @@ left-owner next s (Some o) c d ne e = left-some next s (o.0 == c) (o.0 == d) (no
 pub scene-left : (fr : Frame) (debt : Debt) (tags : Tags) (b : BlockState) (next : DirectoryState) (c d : ℕ) → c ≢ d →
     home_left next (scene_of fr debt tags b c d) ≡ alpha tags (record b { home = record b.home { state = next } }) c d
 scene-left fr debt tags b next c d ne =
-    left-owner next (scene_of fr debt tags b c d) b.home.owner c d ne refl ∙ (λ i. record (alpha tags (record b { home = record b.home { state = next } }) c d) {
+    left-owner next (scene_of fr debt tags b c d) b.home.owner c d ne refl ∙ (λ i. record (alpha tags (record b { home = record b.home { state = next } }) c
+    d) {
       first = record (side tags (record b { home = record b.home { state = next } }) c) { others = sym (first-others c d b.home.sharers ne) i };
       second = record (side tags (record b { home = record b.home { state = next } }) d) { others = sym (second-others c d b.home.sharers ne) i };
     })

@@ -44,7 +44,8 @@ dir_data-here b home tags w to value acks fresh =
     let datas : ℕ → Bool = tag_at to.0 (data_tag tags w to.0 fresh) tags.data_to in
     let d : sum_by (dir_data to.0) (w.responses ++ x ∷ []) ≡ sum_by (dir_data to.0) w.responses + 1 =
     omega (arith, sum_by_push (dir_data to.0) w.responses x, ap (λ (t : Bool). only t 1) (eq-eqb to.0 to.0 refl)) in
-    let o : sum_by (owner_data to.0) (w.responses ++ x ∷ []) ≡ sum_by (owner_data to.0) w.responses = omega (arith, sum_by_push (owner_data to.0) w.responses x) in
+    let o : sum_by (owner_data to.0) (w.responses ++ x ∷ []) ≡ sum_by (owner_data to.0) w.responses = omega
+    (arith, sum_by_push (owner_data to.0) w.responses x) in
     let e : sum_by (excl_data to.0) (w.responses ++ x ∷ []) ≡ sum_by (excl_data to.0) w.responses = omega (arith, sum_by_push (excl_data to.0) w.responses x) in
     ap (λ (f : Face). side_of f (record tags { data_to = datas }) home (response_sent x w) to.0)
     (same-face tags datas b home home (response_sent x w) w to.0 (response-owes b home w x to.0 refl))
@@ -60,7 +61,8 @@ excl_data-here b home tags w to value fresh =
     let x : Response = DataExcl to value in
     let datas : ℕ → Bool = tag_at to.0 (data_tag tags w to.0 fresh) tags.data_to in
     let d : sum_by (dir_data to.0) (w.responses ++ x ∷ []) ≡ sum_by (dir_data to.0) w.responses = omega (arith, sum_by_push (dir_data to.0) w.responses x) in
-    let o : sum_by (owner_data to.0) (w.responses ++ x ∷ []) ≡ sum_by (owner_data to.0) w.responses = omega (arith, sum_by_push (owner_data to.0) w.responses x) in
+    let o : sum_by (owner_data to.0) (w.responses ++ x ∷ []) ≡ sum_by (owner_data to.0) w.responses = omega
+    (arith, sum_by_push (owner_data to.0) w.responses x) in
     let e : sum_by (excl_data to.0) (w.responses ++ x ∷ []) ≡ sum_by (excl_data to.0) w.responses + 1 =
     omega (arith, sum_by_push (excl_data to.0) w.responses x, ap (λ (t : Bool). only t 1) (eq-eqb to.0 to.0 refl)) in
     ap (λ (f : Face). side_of f (record tags { data_to = datas }) home (response_sent x w) to.0)
@@ -118,7 +120,8 @@ pub other-places : (w : Traffic) (k : ℕ) (m : Forward) (c : ℕ) → c ≢ k �
 other-places w k m c ne = ap (λ (l : List Forward). places c l) (link-sent_other w k c m ne)
 
 -- and so is what it names
-pub own-names : (w : Traffic) (k : ℕ) (m : Forward) (d : ℕ) → k < length w.links → names_in (forward_sent k m w) k d ≡ names_in w k d ++ (m.requestor.0 == d) ∷ []
+pub own-names : (w : Traffic) (k : ℕ) (m : Forward) (d : ℕ) → k < length w.links → names_in (forward_sent k m w) k d ≡ names_in w k d ++ (m.requestor.0 == d)
+    ∷ []
 own-names w k m d there =
     ap (λ (l : List Forward). map (λ (f : Forward). f.requestor.0 == d) l) (link-sent w k m there)
     ∙ map-push (λ (f : Forward). f.requestor.0 == d) (link w k) m

@@ -74,11 +74,13 @@ module _ (fr : Frame) (tags : Tags) (b : BlockState) (home : Home) (w : Traffic)
   owner-added debt (Some o) ne h =
       elim (cases_eq o.0 c) [
         | inl same ↦
-            (λ i. scene_of fr (if eq-eqb o.0 c same i then debt else settled_debt debt) tags (at b (record home { sharers = slice_set home.sharers (same i) true }) w) c d)
+            (λ i. scene_of fr (if eq-eqb o.0 c same i then debt else settled_debt debt) tags
+            (at b (record home { sharers = slice_set home.sharers (same i) true }) w) c d)
             ∙ first-set debt true ne (omega (arith, h, same)) ∙ ap (λ (p : Party). owner_added p (before debt)) (sym (party-first o c d same))
         | inr differ ↦ elim (cases_eq o.0 d) [
           | inl same ↦
-              (λ i. scene_of fr (if ne_eqb o.0 c differ i then debt else settled_debt debt) tags (at b (record home { sharers = slice_set home.sharers (same i) true }) w) c d)
+              (λ i. scene_of fr (if ne_eqb o.0 c differ i then debt else settled_debt debt) tags
+              (at b (record home { sharers = slice_set home.sharers (same i) true }) w) c d)
               ∙ second-set (settled_debt debt) ne (omega (arith, h, same))
               ∙ ap (λ (p : Party). owner_added p (before debt)) (sym (party-second o c d differ same))
           | inr other ↦

@@ -105,7 +105,8 @@ sent-true tags b home w a x h brings others homeward = record {
   data_to = λ c e. elim (cases_eq c a.0) [
     | inl same ↦ subst (λ (n : ℕ). All (Brings n b.latest) (w.responses ++ x ∷ [])) (sym same)
         (receiver-true tags b home w a x h brings
-        (sym (tag-here a.0 (data_tag tags w a.0 tags.memory) tags.data_to) ∙ ap (λ (n : ℕ). tag_at a.0 (data_tag tags w a.0 tags.memory) tags.data_to n) (sym same) ∙ e))
+        (sym (tag-here a.0 (data_tag tags w a.0 tags.memory) tags.data_to) ∙ ap (λ (n : ℕ). tag_at a.0 (data_tag tags w a.0 tags.memory) tags.data_to n)
+        (sym same) ∙ e))
     | inr differ ↦ All-push (Brings c b.latest) w.responses x
         (h.data_to c (sym (tag-elsewhere a.0 (data_tag tags w a.0 tags.memory) tags.data_to c differ) ∙ e)) (others c differ)
   ];
@@ -143,16 +144,19 @@ pub acted-true : (tags : Tags) (b : BlockState) (home : Home) (w : Traffic) (a :
     AreTrue (home_tags a value x w tags) (at b (home_changed (Some a) brought x home) (all_sent (home_message (Some a) x home) w))
 acted-true tags b home w a value brought action.DataReq m h =
     sent-true tags b home w a (Data Dir (Cache a) home.memory 0) h (λ e same. e) (λ c ne same. absurd (ne (sym same))) tt
-acted-true tags b home w a value brought action.DataAcks m h = sent-true tags b home w a (Data Dir (Cache a) home.memory _) h (λ e same. e) (λ c ne same. absurd (ne (sym same))) tt
+acted-true tags b home w a value brought action.DataAcks m h = sent-true tags b home w a (Data Dir (Cache a) home.memory _) h (λ e same. e)
+    (λ c ne same. absurd (ne (sym same))) tt
 acted-true tags b home w a value brought action.DataExcl m h =
     sent-true tags b home w a (DataExcl a home.memory) h (λ e same. e) (λ c ne same. absurd (ne (sym same))) tt
 acted-true tags b home w a value brought action.InvSharers m h =
     kept-true tags b home home w (all_sent (invalidations a 0 home.sharers) w) h (requests-kept a action.InvSharers home w)
     (ap (λ (v : Traffic). v.responses) (all-invited a home.sharers w) ∙ invs-responses a 0 home.sharers w) refl
 acted-true tags b home w a value brought action.FwdGetS m h =
-    kept-true tags b home home w (all_sent (owner_message home.owner FwdGetS a) w) h (owner-requests home.owner FwdGetS a w) (owner-responses home.owner FwdGetS a w) refl
+    kept-true tags b home home w (all_sent (owner_message home.owner FwdGetS a) w) h (owner-requests home.owner FwdGetS a w)
+    (owner-responses home.owner FwdGetS a w) refl
 acted-true tags b home w a value brought action.FwdGetM m h =
-    kept-true tags b home home w (all_sent (owner_message home.owner FwdGetM a) w) h (owner-requests home.owner FwdGetM a w) (owner-responses home.owner FwdGetM a w) refl
+    kept-true tags b home home w (all_sent (owner_message home.owner FwdGetM a) w) h (owner-requests home.owner FwdGetM a w)
+    (owner-responses home.owner FwdGetM a w) refl
 acted-true tags b home w a value brought action.PutAck m h = kept-true tags b home home w _ h refl refl refl
 acted-true tags b home w a value brought action.AddReq m h = kept-true tags b home _ w w h refl refl refl
 acted-true tags b home w a value brought action.AddOwner m h = kept-true tags b home (with_owner home.owner home) w w h refl refl (owner-memory home.owner home)

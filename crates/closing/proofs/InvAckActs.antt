@@ -116,7 +116,8 @@ module _ (tables : Tables) (caches : ℕ) (tags : Tags) (b : BlockState) (cache 
   began y cell x ne =
       ap (λ (l : Line). sight tables rule true (pair_of (face_with tags b a l) (face tags b x) tags b.home b.traffic a x)) there
       ∙ ap (λ (t : Bool). if t then (let p : Pair = pair_of (face_with tags b a line) (face tags b x) tags b.home b.traffic a x in
-      response_seen tables rule (if last then event.LastInvAck else event.InvAck) p (record p.first { owed = some_left; low = p.first.low || last })) else Unmoved)
+      response_seen tables rule (if last then event.LastInvAck else event.InvAck) p (record p.first { owed = some_left; low = p.first.low || last }))
+      else Unmoved)
       fits-here
       ∙ ap (λ (q : Pair). at_line tables rule Nobody Nobody (if last then event.LastInvAck else event.InvAck) q)
       (pair-taken tables caches tags b cache index r whole faithful e same line _ after x ne

@@ -28,7 +28,8 @@ use Rattle.closing.proofs.Alpha.{Tags, Face, pair_of, data_count, Brings, Brings
 use Rattle.closing.proofs.Sending.{tag_at, tag-here, tag-elsewhere, data_tag, line_tags, party_of, tags_after, acted-seen}
 
 -- what all actions do to the pair of their cache and another
-pub acts-seen : (f g : Face) (home : Home) (a : CacheId) (value : ℕ) (fresh : Bool) (to : Option CacheId) (actions : List CacheAction) (tags : Tags) (w : Traffic)
+pub acts-seen : (f g : Face) (home : Home) (a : CacheId) (value : ℕ) (fresh : Bool) (to : Option CacheId) (actions : List CacheAction) (tags : Tags)
+    (w : Traffic)
     (c : ℕ) → c ≢ a.0 → pair_of f g (tags_after a value fresh to actions w tags) home (all_sent (line_messages a value to actions) w) a.0 c ≡
     line_acts (party_of to a.0 c) fresh actions (pair_of f g tags home w a.0 c)
 acts-seen f g home a value fresh to [] tags w c ne = refl
@@ -232,7 +233,8 @@ acted-true a value fresh None action.InvAck tags latest w h right = h
 acted-true a value fresh (Some to) action.DataReq tags latest w h right = record {
   data_to = λ c e. elim (cases_eq c to.0) [
     | inl same ↦
-        let known = both-true _ fresh (sym (ap (λ (n : ℕ). tag_at to.0 (data_tag tags w to.0 fresh) tags.data_to n) same ∙ tag-here to.0 (data_tag tags w to.0 fresh) tags.data_to) ∙ e) in
+        let known = both-true _ fresh (sym (ap (λ (n : ℕ). tag_at to.0 (data_tag tags w to.0 fresh) tags.data_to n) same
+        ∙ tag-here to.0 (data_tag tags w to.0 fresh) tags.data_to) ∙ e) in
         subst (λ (n : ℕ). All (Brings n latest) (w.responses ++ Data (Cache a) (Cache to) value 0 ∷ [])) (sym same)
         (all-push (Brings to.0 latest) w.responses (Data (Cache a) (Cache to) value 0) (data-known tags latest w to.0 h known.0) (λ here. right known.1))
     | inr ne ↦
@@ -283,7 +285,8 @@ data-counted a to w x no_ack no_number = record {
   numbers = λ c. omega (arith, sum_by_push (ack_number c) w.responses x, no_number c);
 }
 
-acted-counted : (a : CacheId) (value : ℕ) (to : Option CacheId) (x : CacheAction) (w : Traffic) → AckCounts a to (inv_acks (x ∷ [])) w (all_sent (line_message a value to x) w)
+acted-counted : (a : CacheId) (value : ℕ) (to : Option CacheId) (x : CacheAction) (w : Traffic) → AckCounts a to (inv_acks (x ∷ [])) w
+    (all_sent (line_message a value to x) w)
 acted-counted a value to action.GetS w = nothing-counted a to w _ refl refl
 acted-counted a value to action.GetM w = nothing-counted a to w _ refl refl
 acted-counted a value to action.PutS w = nothing-counted a to w _ refl refl
@@ -318,7 +321,8 @@ acts-counted a value to (x ∷ actions) w =
     let u : Traffic = all_sent (line_message a value to x) w in
     let first : AckCounts a to (inv_acks (x ∷ [])) w u = acted-counted a value to x w in
     let rest : AckCounts a to (inv_acks actions) u (all_sent (line_messages a value to actions) u) = acts-counted a value to actions u in
-    subst (λ (v : Traffic). AckCounts a to (inv_acks (x ∷ actions)) w v) (sym (all_sent-append (line_message a value to x) (line_messages a value to actions) w))
+    subst (λ (v : Traffic). AckCounts a to (inv_acks (x ∷ actions)) w v) (sym (all_sent-append (line_message a value to x) (line_messages a value to actions)
+    w))
     (record {
       links = rest.links ∙ first.links;
       acks = λ c. omega (

@@ -74,7 +74,8 @@ pub record Acting (tables : Tables) (tags : Tags) (b : BlockState) (cache : Cach
       is_answered (requestor_of input) e actions ≡ true → AckLaw tags b cache.0 (taken_in input line) owed u
 
 -- faces are the same where their parts are
-same_face : (l l2 : Line) (f f2 o o2 : Bool) → l ≡ l2 → f ≡ f2 → o ≡ o2 → let F : Face = record { line = l; fresh = f; owed = o } in F ≡ record { line = l2; fresh = f2; owed = o2 }
+same_face : (l l2 : Line) (f f2 o o2 : Bool) → l ≡ l2 → f ≡ f2 → o ≡ o2 → let F : Face = record { line = l; fresh = f; owed = o } in F ≡ record
+    { line = l2; fresh = f2; owed = o2 }
 same_face l l2 f f2 o o2 el ef eo = λ i. record { line = el i; fresh = ef i; owed = eo i }
 
 -- few of each kind, part by part
@@ -150,7 +151,8 @@ module _ (tables : Tables) (caches : ℕ) (tags : Tags) (b : BlockState) (cache 
       sight tables rule true (alpha tags b a x) ≡ (if ok then settles (besides (party x)) rule (acted x) else Lost)
   on-acting x ne ok answered =
       h.start x ne
-      ∙ ap (λ (t : Bool). if t then settles (besides (party x)) rule (let q : Pair = line_acts (party x) fresh actions (begun x) in record q { first = record q.first { state = next } }) else Lost)
+      ∙ ap (λ (t : Bool). if t then settles (besides (party x)) rule (let q : Pair = line_acts (party x) fresh actions (begun x) in record q
+      { first = record q.first { state = next } }) else Lost)
       (same-answers to a x e actions ∙ answered)
       ∙ ap (λ (q : Pair). if ok then settles (besides (party x)) rule (record q { first = record q.first { state = next } }) else Lost)
       (sym (acts-seen (record { line = taken_in input line; fresh = fresh; owed = owed }) (face tags b x) b.home cache value fresh to actions tags w x ne))
@@ -266,7 +268,8 @@ module _ (tables : Tables) (caches : ℕ) (tags : Tags) (b : BlockState) (cache 
   line-elsewhere x ne = line_of-set_other b.lines a x (line_after input next line) ne
 
   -- WHERE NOTHING IS STORED
-  module _ (p : Plain (λ concerned q. settles concerned rule q) (moved_on input next line) fresh owed (line_after input next line) (line_completes input next line))
+  module _ (p : Plain (λ concerned q. settles concerned rule q) (moved_on input next line) fresh owed (line_after input next line)
+      (line_completes input next line))
       (answered : is_answered to e actions ≡ true) where
     abbrev plain_tags : Tags
     plain_tags = record after { line = tag_at a fresh tags.line }
@@ -305,7 +308,8 @@ module _ (tables : Tables) (caches : ℕ) (tags : Tags) (b : BlockState) (cache 
         (λ x ne. on-acting x ne true answered ∙ p.sees (besides (party x)) (face tags b x) after b.home u a x)
 
   -- WHERE A STORE COMPLETES
-  module _ (p : Stores (λ concerned q. settles concerned rule q) (moved_on input next line) fresh owed (line_after input next line) (line_completes input next line))
+  module _ (p : Stores (λ concerned q. settles concerned rule q) (moved_on input next line) fresh owed (line_after input next line)
+      (line_completes input next line))
       (answered : is_answered to e actions ≡ true) where
     stores-law : AckLaw tags b a (taken_in input line) owed u
     stores-law = h.acks u counted answered
@@ -346,4 +350,5 @@ module _ (tables : Tables) (caches : ℕ) (tags : Tags) (b : BlockState) (cache 
           at (inr (inl p)) = stores-goes p rightly
           at (inr (inr p)) =
               inl (breaks (subst (λ (s : Sight). IsBreach s)
-              (sym (on-acting see.cache see.apart true rightly ∙ p.sees (besides (party see.cache)) (face tags b see.cache) after b.home u a see.cache)) see.shows))
+              (sym (on-acting see.cache see.apart true rightly ∙ p.sees (besides (party see.cache)) (face tags b see.cache) after b.home u a see.cache))
+              see.shows))

@@ -1,5 +1,6 @@
 -- Lemma 2: what comes onto the links of the caches that don't act names none of them, but the one that acts.
-use Rattle.std.proofs.Common.{◌≡◌, ◌≢◌, ℕ, ◌<◌, List, [], ◌∷◌, ◌++◌, refl, ap, sym, subst, ◌∙◌, inl, inr, Option, Some, None, Bool, true, false, not, ◌&&◌, ◌==◌}
+use Rattle.std.proofs.Common.{◌≡◌, ◌≢◌, ℕ, ◌<◌, List, [], ◌∷◌, ◌++◌, refl, ap, sym, subst, ◌∙◌, inl, inr, Option, Some, None, Bool, true, false, not, ◌&&◌}
+use Rattle.std.proofs.Common.{◌==◌}
 use Rattle.std.proofs.Common.{if◌then◌else◌, map, length, arith, ◌≤◌, ◌+◌, set}
 use Rattle.std.proofs.lemmas.List.{get_or_past, length-set}
 use Rattle.std.proofs.lemmas.Bool.{cases_eq, ne_eqb, cases_lt}
@@ -138,7 +139,8 @@ line-names a cache value to (x ∷ actions) =
     (line-names a cache value to actions)
 
 -- a home's forwards name the one whose request it is
-inv-names : (to : CacheId) (i : ℕ) (t : Bool) → EachNames to.0 (if t then message.Forward (record { 0 = i }) (record { kind = Inv; requestor = to }) ∷ [] else [])
+inv-names : (to : CacheId) (i : ℕ) (t : Bool) → EachNames to.0 (if t then message.Forward (record { 0 = i }) (record { kind = Inv; requestor = to }) ∷ []
+    else [])
 inv-names to i true = (refl, tt)
 inv-names to i false = tt
 

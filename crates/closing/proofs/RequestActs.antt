@@ -149,7 +149,8 @@ module _ (tables : Tables) (caches : ℕ) (tags : Tags) (b : BlockState) (index 
       elim (cases_eq c r.from.0) [
         | inl same ↦ subst (λ (n : ℕ). (line_of b.lines n).acks +ℤ pos (acks_to last.wires n) ≡ pos (owed_to after n)) (sym same) (own-law even)
         | inr ne ↦
-            ap (λ (n : ℕ). (line_of b.lines c).acks +ℤ pos n) (serving.acks_elsewhere c ne) ∙ faithful.law c ∙ ap (λ (n : ℕ). pos n) (sym (serving.owed_elsewhere c ne))
+            ap (λ (n : ℕ). (line_of b.lines c).acks +ℤ pos n) (serving.acks_elsewhere c ne) ∙ faithful.law c
+            ∙ ap (λ (n : ℕ). pos n) (sym (serving.owed_elsewhere c ne))
       ]
 
   owed-after : last.debt ≡ Even → (c : ℕ) → owed_to after c ≤ 4294967296
@@ -223,7 +224,8 @@ module _ (tables : Tables) (caches : ℕ) (tags : Tags) (b : BlockState) (index 
             third_of r.from.0 x b.home.sharers,
             sees x ne
                 ∙ ap (λ (t : Bool). settled_in t (role (besides_of actions b.home.owner r.from.0) x) (alpha last.tags after r.from.0 x)) even
-                ∙ looked-few caches last.tags after (role (besides_of actions b.home.owner r.from.0) x) r.from.0 x whole-after (λ same. ne (sym same)) (few-pair x),
+                ∙ looked-few caches last.tags after (role (besides_of actions b.home.owner r.from.0) x) r.from.0 x whole-after (λ same. ne (sym same))
+                (few-pair x),
           );
     }
       where

@@ -44,7 +44,8 @@ request-acted tables caches tags b index r few whole faithful e next actions cel
     with-kind : (kind : RequestKind) → r.kind ≡ kind →
         directory_table.cell tables.directory b.home.state (request_event b.home.owner b.home.sharers kind r.from) ≡ table_entry.Act next actions
     with-kind kind same =
-        subst (λ (k : RequestKind). directory_table.cell tables.directory b.home.state (request_event b.home.owner b.home.sharers k r.from) ≡ table_entry.Act next actions) same cell
+        subst (λ (k : RequestKind). directory_table.cell tables.directory b.home.state (request_event b.home.owner b.home.sharers k r.from) ≡ table_entry.Act
+        next actions) same cell
 
     matches : (kind : RequestKind) (value : Option Bool) → r.kind ≡ kind → Matches value (value_in kind) b.latest → Matches value (value_in r.kind) b.latest
     matches kind value same m = subst (λ (k : RequestKind). Matches value (value_in k) b.latest) (sym same) m

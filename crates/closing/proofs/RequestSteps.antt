@@ -52,18 +52,27 @@ request-breach tables tags b index r d t e fit kind same blank = at kind same bl
         IsBreach (sight tables (request_rule kind) t (alpha tags b r.from.0 d))
     at request.GetS same blank =
         some-breach (alpha tags b r.from.0 d).first.gets _ (some is_gets (one is_gets request.GetS same))
-        (home-breach tables t true None home_event.GetS (record (alpha tags b r.from.0 d) { first = trimmed (record (alpha tags b r.from.0 d).first { gets = (alpha tags b r.from.0 d).first.gets - 1 }) }) fit blank)
+        (home-breach tables t true None home_event.GetS (record (alpha tags b r.from.0 d) {
+          first = trimmed
+              (record (alpha tags b r.from.0 d).first { gets = (alpha tags b r.from.0 d).first.gets - 1 });
+        }) fit blank)
     at request.GetM same blank =
         some-breach (alpha tags b r.from.0 d).first.getm _ (some is_getm (one is_getm request.GetM same))
-        (home-breach tables t true None home_event.GetM (record (alpha tags b r.from.0 d) { first = trimmed (record (alpha tags b r.from.0 d).first { getm = (alpha tags b r.from.0 d).first.getm - 1 }) }) fit blank)
+        (home-breach tables t true None home_event.GetM (record (alpha tags b r.from.0 d) {
+          first = trimmed
+              (record (alpha tags b r.from.0 d).first { getm = (alpha tags b r.from.0 d).first.getm - 1 });
+        }) fit blank)
     at request.PutS same blank =
         some-breach (alpha tags b r.from.0 d).first.puts _ (some is_puts (one is_puts request.PutS same)) (home-breach tables t true None
-        (if (alpha tags b r.from.0 d).first.shares && not (alpha tags b r.from.0 d).first.others then home_event.PutSLast else home_event.PutSNotLast) (record (alpha tags b r.from.0 d) { first = trimmed (record (alpha tags b r.from.0 d).first { puts = (alpha tags b r.from.0 d).first.puts - 1 }) }) fit
+        (if (alpha tags b r.from.0 d).first.shares && not (alpha tags b r.from.0 d).first.others then home_event.PutSLast else home_event.PutSNotLast)
+        (record (alpha tags b r.from.0 d) { first = trimmed (record (alpha tags b r.from.0 d).first { puts = (alpha tags b r.from.0 d).first.puts - 1 }) }) fit
         (ap (λ u. directory_table.cell tables.directory b.home.state (if u then home_event.PutSLast else home_event.PutSNotLast))
         (ap (λ u. shares b.home.sharers r.from.0 && u) (not-not (others_from 0 r.from.0 b.home.sharers == 0))) ∙ blank))
     at (request.PutM value) same blank =
-        some-breach (alpha tags b r.from.0 d).first.putm _ (some is_putm (one is_putm (request.PutM value) same)) (home-breach tables t true (Some (alpha tags b r.from.0 d).first.fresh_putm)
-        (if is_owner (alpha tags b r.from.0 d).first.owned then home_event.PutMOwner else home_event.PutMNonOwner) (record (alpha tags b r.from.0 d) { first = trimmed (record (alpha tags b r.from.0 d).first { putm = (alpha tags b r.from.0 d).first.putm - 1 }) }) fit
+        some-breach (alpha tags b r.from.0 d).first.putm _ (some is_putm (one is_putm (request.PutM value) same))
+        (home-breach tables t true (Some (alpha tags b r.from.0 d).first.fresh_putm)
+        (if is_owner (alpha tags b r.from.0 d).first.owned then home_event.PutMOwner else home_event.PutMNonOwner)
+        (record (alpha tags b r.from.0 d) { first = trimmed (record (alpha tags b r.from.0 d).first { putm = (alpha tags b r.from.0 d).first.putm - 1 }) }) fit
         (ap (λ u. directory_table.cell tables.directory b.home.state (if u then home_event.PutMOwner else home_event.PutMNonOwner))
         (same-owner b.home.owner r.from) ∙ blank))
 

@@ -92,7 +92,8 @@ module _ (tags : Tags) (b : BlockState) (index : ℕ) (r : Request) (e : Some r 
 
   -- its sender sees one less of its kind
   taken-side : (kind : RequestKind) (gets getm puts putm : ℕ) → r.kind ≡ kind → gets + is_gets kind ≡ (side tags b r.from.0).gets →
-      getm + is_getm kind ≡ (side tags b r.from.0).getm → puts + is_puts kind ≡ (side tags b r.from.0).puts → putm + is_putm kind ≡ (side tags b r.from.0).putm →
+      getm + is_getm kind ≡ (side tags b r.from.0).getm → puts + is_puts kind ≡ (side tags b r.from.0).puts → putm + is_putm kind ≡
+      (side tags b r.from.0).putm →
       trimmed (let s : Side = side tags b r.from.0 in record s { gets = gets; getm = getm; puts = puts; putm = putm }) ≡ side tags left r.from.0
   taken-side kind gets getm puts putm same eg em ep eq =
       let s : Side = side tags b r.from.0 in
@@ -109,7 +110,8 @@ module _ (tags : Tags) (b : BlockState) (index : ℕ) (r : Request) (e : Some r 
       putm-few request.PutS = inl refl
       putm-few (request.PutM value) = inr refl
 
-      taken-or : (n : ℕ) → (n ≡ 0) ⊎ (n ≡ 1) → putm + n ≡ (side tags b r.from.0).putm → putm ≡ sum_by (from r.from.0 is_putm) (remove b.traffic.requests index) →
+      taken-or : (n : ℕ) → (n ≡ 0) ⊎ (n ≡ 1) → putm + n ≡ (side tags b r.from.0).putm → putm ≡ sum_by (from r.from.0 is_putm)
+          (remove b.traffic.requests index) →
           ((side tags b r.from.0).putm ≡ sum_by (from r.from.0 is_putm) (remove b.traffic.requests index)) ⊎ ((side tags b r.from.0).putm ≢ 0)
       taken-or n (inl none) h q = inl (omega (arith, none, h, q))
       taken-or n (inr one) h q = inr (λ zero_is. absurd (omega (arith, one, h, zero_is)))
@@ -161,7 +163,8 @@ module _ (tags : Tags) (b : BlockState) (index : ℕ) (r : Request) (e : Some r 
   pub putm-true : (value : ℕ) → AreTrue tags b → r.kind ≡ request.PutM value → (side tags b r.from.0).fresh_putm ≡ true → value ≡ b.latest
   putm-true value h same fresh =
       let there : sum_by (from r.from.0 is_putm) b.traffic.requests ≢ 0 = some-there is_putm (request.PutM value) same refl in
-      let known : tags.putm r.from.0 ≡ true = sym (or-false (tags.putm r.from.0)) ∙ ap (λ (t : Bool). tags.putm r.from.0 || t) (sym (ne_eqb _ 0 there)) ∙ fresh in
+      let known : tags.putm r.from.0 ≡ true = sym (or-false (tags.putm r.from.0)) ∙ ap (λ (t : Bool). tags.putm r.from.0 || t) (sym (ne_eqb _ 0 there))
+      ∙ fresh in
       all-taken (Puts r.from.0 b.latest) b.traffic.requests index r e (h.putm r.from.0 known) refl value same
 
   -- what is known stays true

@@ -114,7 +114,8 @@ module _ (tables : Tables) (caches : ℕ) (tags : Tags) (b : BlockState) (cache 
   )
 
   pub known-acted : (line : Line) (rule : Rule) (fresh owed : Bool) → Known line rule fresh owed → (next : CacheState) (actions : List CacheAction) →
-      Some line ≡ slice_get b.lines a → cache_table.cell tables.cache line.state (event_at_line line.acks (line_input.Response r)) ≡ table_entry.Act next actions →
+      Some line ≡ slice_get b.lines a → cache_table.cell tables.cache line.state (event_at_line line.acks (line_input.Response r)) ≡ table_entry.Act next
+      actions →
       SimulatedBy tables tags b (carried_out (AtLine cache line (line_input.Response r) next actions (origin.Response index)) b)
   known-acted line rule fresh owed k next actions there acts =
       line-goes tables caches tags b cache line (line_input.Response r) next actions (origin.Response index) rule

@@ -33,7 +33,8 @@ use Rattle.closing.proofs.DirDataActs.{dir-known}
 use Rattle.closing.proofs.CopyActs.{owner-known, excl-known}
 use Rattle.closing.proofs.InvAckActs.{ack-known}
 use Rattle.closing.proofs.HomeDataActs.{home_data-acted}
-use Rattle.closing.proofs.Simulation.{IsBreach, SimulatedBy, Simulated, still, next-other, LineBlank, LineActs, line-simulated, HomeBlank, home-entry, home-breach, some-breach, or-cases}
+use Rattle.closing.proofs.Simulation.{IsBreach, SimulatedBy, Simulated, still, next-other, LineBlank, LineActs, line-simulated, HomeBlank, home-entry}
+use Rattle.closing.proofs.Simulation.{home-breach, some-breach, or-cases}
 
 -- what is known of a response that comes to its receiver's line
 response-known : (tables : Tables) (caches : ℕ) (tags : Tags) (b : BlockState) (cache : CacheId) (index : ℕ) (r : Response)

@@ -108,7 +108,8 @@ pub response-unseen : (f : Face) (tags : Tags) (datas : ℕ → Bool) (home : Ho
     excl_data c x ≡ 0 → datas c ≡ tags.data_to c → side_of f (record tags { data_to = datas }) home (response_sent x w) c ≡ side_of f tags home w c
 response-unseen f tags datas home w x c no_dir no_owner no_excl tag =
     let d : sum_by (dir_data c) (w.responses ++ x ∷ []) ≡ sum_by (dir_data c) w.responses = omega (arith, sum_by_push (dir_data c) w.responses x, no_dir) in
-    let o : sum_by (owner_data c) (w.responses ++ x ∷ []) ≡ sum_by (owner_data c) w.responses = omega (arith, sum_by_push (owner_data c) w.responses x, no_owner) in
+    let o : sum_by (owner_data c) (w.responses ++ x ∷ []) ≡ sum_by (owner_data c) w.responses = omega
+    (arith, sum_by_push (owner_data c) w.responses x, no_owner) in
     let e : sum_by (excl_data c) (w.responses ++ x ∷ []) ≡ sum_by (excl_data c) w.responses = omega (arith, sum_by_push (excl_data c) w.responses x, no_excl) in
     same_responses (side_of f tags home w c) _ _ _ _ _ _ _ _ d o e (λ i. tag i || (d i + o i + e i == 0))
 
@@ -133,7 +134,8 @@ owner_data-here f tags home w a to value fresh =
 pub owner_data-elsewhere : (f : Face) (tags : Tags) (home : Home) (w : Traffic) (a to : CacheId) (value : ℕ) (tag : Bool) (c : ℕ) → to.0 ≢ c →
     side_of f (record tags { data_to = tag_at to.0 tag tags.data_to }) home (response_sent (Data (Cache a) (Cache to) value 0) w) c ≡ side_of f tags home w c
 owner_data-elsewhere f tags home w a to value tag c ne =
-    response-unseen f tags (tag_at to.0 tag tags.data_to) home w (Data (Cache a) (Cache to) value 0) c refl (ap (λ (t : Bool). only t 1) (ne_eqb to.0 c ne)) refl
+    response-unseen f tags (tag_at to.0 tag tags.data_to) home w (Data (Cache a) (Cache to) value 0) c refl (ap (λ (t : Bool). only t 1) (ne_eqb to.0 c ne))
+    refl
     (tag-elsewhere to.0 tag tags.data_to c (λ e. ne (sym e)))
 
 -- the tag of all Data to the home after one more
@@ -149,7 +151,8 @@ home_data-shared tags home w a value fresh =
     sum_by_push home_data w.responses (Data (Cache a) Dir value 0) in
     same_home_data (shared_of tags home w) _ _ _ _ n (or-some (home_tag tags w fresh) _ _ n)
 
-pub response-shared : (tags : Tags) (home : Home) (w : Traffic) (x : Response) → home_data x ≡ 0 → shared_of tags home (response_sent x w) ≡ shared_of tags home w
+pub response-shared : (tags : Tags) (home : Home) (w : Traffic) (x : Response) → home_data x ≡ 0 → shared_of tags home (response_sent x w) ≡ shared_of tags
+    home w
 response-shared tags home w x none =
     let n : sum_by home_data (w.responses ++ x ∷ []) ≡ sum_by home_data w.responses = omega (arith, sum_by_push home_data w.responses x, none) in
     same_home_data (shared_of tags home w) _ _ _ _ n (λ i. tags.home_data || (n i == 0))
@@ -224,7 +227,8 @@ module _ (f g : Face) (home : Home) (a : CacheId) (value : ℕ) (fresh : Bool) (
         ]
       ]
 
-pub acted-seen : (f g : Face) (home : Home) (a : CacheId) (value : ℕ) (fresh : Bool) (to : Option CacheId) (x : CacheAction) (tags : Tags) (w : Traffic) (c : ℕ) →
+pub acted-seen : (f g : Face) (home : Home) (a : CacheId) (value : ℕ) (fresh : Bool) (to : Option CacheId) (x : CacheAction) (tags : Tags) (w : Traffic)
+    (c : ℕ) →
     c ≢ a.0 → Acts f g home a value fresh to x tags w c
 acted-seen f g home a value fresh to action.GetS tags w c ne =
     same_pair _ _ _ _ _ _ _ _ _ _ refl (gets-here f tags home w a) (request-elsewhere g tags tags.putm home w _ c (λ e. ne (sym e)) refl) refl refl
@@ -234,7 +238,8 @@ acted-seen f g home a value fresh to action.PutS tags w c ne =
     same_pair _ _ _ _ _ _ _ _ _ _ refl (puts-here f tags home w a) (request-elsewhere g tags tags.putm home w _ c (λ e. ne (sym e)) refl) refl refl
 acted-seen f g home a value fresh to action.PutM tags w c ne =
     same_pair _ _ _ _ _ _ _ _ _ _ refl (putm-here f tags home w a fresh value)
-    (request-elsewhere g tags (tag_at a.0 (putm_tag f tags home w a fresh) tags.putm) home w _ c (λ e. ne (sym e)) (tag-elsewhere a.0 _ tags.putm c ne)) refl refl
+    (request-elsewhere g tags (tag_at a.0 (putm_tag f tags home w a fresh) tags.putm) home w _ c (λ e. ne (sym e)) (tag-elsewhere a.0 _ tags.putm c ne)) refl
+    refl
 acted-seen f g home a value fresh (Some to) action.InvAck tags w c ne =
     same_pair _ _ _ _ _ _ _ _ _ _ (response-shared tags home w (InvAck a to) refl)
     (response-unseen f tags tags.data_to home w (InvAck a to) a.0 refl refl refl refl)

@@ -77,7 +77,8 @@ IsBreach other = ⊥
 -- some pair of the block has such a sight
 abbrev pub Breaks : Tables → Tags → BlockState → Type 0
 Breaks tables tags b =
-    (c : ℕ) × (d : ℕ) × (c ≢ d) × (t : Bool) × (((rule : Rule) × IsBreach (sight tables rule t (alpha tags b c d))) ⊎ IsBreach (home_data_seen tables t (alpha tags b c d)))
+    (c : ℕ) × (d : ℕ) × (c ≢ d) × (t : Bool) × (((rule : Rule) × IsBreach (sight tables rule t (alpha tags b c d))) ⊎ IsBreach
+    (home_data_seen tables t (alpha tags b c d)))
 
 -- a transition meets no blank cell, answers by the latest value, and changes nothing or is seen by all pairs
 pub record Goes (tables : Tables) (tags : Tags) (b : BlockState) (t : Transition) : Type 0 where
@@ -101,7 +102,8 @@ next-other n e = absurd (omega (arith, e))
 -- CELLS: a blank one and one that acts are left
 abbrev pub LineBlank : Tables → Tags → BlockState → CacheId → LineInput → Type 0
 LineBlank tables tags b cache input =
-    (line : Line) → Some line ≡ slice_get b.lines cache.0 → cache_table.cell tables.cache line.state (event_at_line line.acks input) ≡ table_entry.Blank → Breaks tables tags b
+    (line : Line) → Some line ≡ slice_get b.lines cache.0 → cache_table.cell tables.cache line.state (event_at_line line.acks input) ≡ table_entry.Blank →
+    Breaks tables tags b
 
 abbrev pub LineActs : Tables → Tags → BlockState → CacheId → LineInput → Origin → Type 0
 LineActs tables tags b cache input from =

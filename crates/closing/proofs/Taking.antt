@@ -135,7 +135,8 @@ module _ (tags : Tags) (home : Home) (w : Traffic) (i : ℕ) (r : Response) (e :
       let d : sum_by (dir_data c) (remove w.responses i) + 1 ≡ sum_by (dir_data c) w.responses = lost-count tags home w i r e (dir_data c) 1 one in
       let o : sum_by (owner_data c) (remove w.responses i) ≡ sum_by (owner_data c) w.responses = same-count tags home w i r e (owner_data c) no_owner in
       let x : sum_by (excl_data c) (remove w.responses i) ≡ sum_by (excl_data c) w.responses = same-count tags home w i r e (excl_data c) no_excl in
-      same_taken (record before { fresh = told }) _ _ _ _ _ _ _ _ _ _ _ _ (sym low) (or-again (tags.putm c) (before.putm == 0)) (omega (arith, d)) (sym o) (sym x)
+      same_taken (record before { fresh = told }) _ _ _ _ _ _ _ _ _ _ _ _ (sym low) (or-again (tags.putm c) (before.putm == 0)) (omega (arith, d)) (sym o)
+      (sym x)
       (fresh-left (tags.data_to c) (data_count c w.responses) (data_count c (remove w.responses i)) _ (omega (arith, d, o, x)) (omega (arith, d, o, x)))
 
   -- Data from a cache

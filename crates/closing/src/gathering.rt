@@ -19,6 +19,8 @@ pub enum Refusal {
     NoMemory,
     /// There are more than [`MOST_PAIRS`].
     TooMany,
+    /// This pair has more messages than are followed. It doesn't come about, as no step leads there.
+    Crowded(Pair),
     /// In this pair a writer stands beside a reader.
     TwoHolders(Pair),
     /// What comes of this pair by a step of its first cache isn't followed.
@@ -58,7 +60,7 @@ fn step(alloc: Global, tables: &Tables, listing: &mut Listing, pair: &Pair) -> R
         return Err(Refusal::TwoHolders(*pair));
     }
     if !(pair.is_few() && pair.is_marked()) {
-        return Err(Refusal::AtHome(*pair));
+        return Err(Refusal::Crowded(*pair));
     }
     for third_shares in [false, true] {
         match home_data_seen(tables, third_shares, pair) {

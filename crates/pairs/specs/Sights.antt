@@ -32,7 +32,8 @@ use Rattle.pairs.specs.declared.pair.Pair.{Pair}
 use Rattle.pairs.specs.declared.steps.Party.{Party}
 use Rattle.pairs.specs.declared.steps.Party.TheVariants.{Nobody, First, Second, Third}
 use Rattle.pairs.specs.declared.steps.Rule.{Rule}
-use Rattle.pairs.specs.declared.steps.Rule.TheVariants.{AsksLoad, AsksStore, AsksReplacement, TakesHead, SentGetS, SentGetM, SentPutS, SentPutM, GetsDirData, GetsOwnerData, GetsExclData, GetsInvAck}
+use Rattle.pairs.specs.declared.steps.Rule.TheVariants.{AsksLoad, AsksStore, AsksReplacement, TakesHead, SentGetS, SentGetM, SentPutS, SentPutM, GetsDirData}
+use Rattle.pairs.specs.declared.steps.Rule.TheVariants.{GetsOwnerData, GetsExclData, GetsInvAck}
 use Rattle.pairs.specs.declared.steps.Sight.{Sight}
 use Rattle.pairs.specs.declared.steps.Sight.TheVariants.{Unmoved, Lost, Spoilt, Seen}
 use Rattle.pairs.specs.declared.steps.Debt.{Debt}

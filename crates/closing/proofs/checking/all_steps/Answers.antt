@@ -13,14 +13,19 @@ loop-pair-preserved c =
       count = ap (λ xs. length xs) grown ∙ omega (arith, c.loop-pair.invariant.count, length-push c.loop-pair.all.items c.in-Some.steps);
       known = below_more (λ k. (p : Pair) → slice_get c.args.pairs.now k ≡ Some p →
           (told : Vec Followed) × (slice_get c.push.new.self.items k ≡ Some told) × IsFollowedBy c.args.tables.now c.args.pairs.now p told.items) _
-          (λ k low p at. (let old = c.loop-pair.invariant.known k low p at in
-          (old.0, ap (λ xs. slice_get xs k) grown ∙ get-before c.loop-pair.all.items c.in-Some.steps k (omega (arith, low, c.loop-pair.invariant.count)) ∙ old.1, old.2)))
+          (λ k low p at. (let old = c.loop-pair.invariant.known k low p at in (
+            old.0,
+            ap (λ xs. slice_get xs k) grown ∙ get-before c.loop-pair.all.items c.in-Some.steps k (omega (arith, low, c.loop-pair.invariant.count))
+                ∙ old.1,
+            old.2,
+          )))
           (λ p at. (
             c.in-Some.steps,
             ap (λ xs. slice_get xs c.loop-pair.pair-index) grown
                 ∙ get-last c.loop-pair.all.items c.in-Some.steps c.loop-pair.pair-index (sym c.loop-pair.invariant.count),
             subst (λ (q : Pair). IsFollowedBy c.args.tables.now c.args.pairs.now q c.in-Some.steps.items) (c.pair-item.is ∙ read c.args.pairs.now _ p _ at)
-                (subst (λ (o : Option (Vec Followed)). IfSome o (λ v. IsFollowedBy c.args.tables.now c.args.pairs.now c.pair-item.result v.items)) c.in-Some.is c.in_ok-steps.ensures),
+                (subst (λ (o : Option (Vec Followed)). IfSome o (λ v. IsFollowedBy c.args.tables.now c.args.pairs.now c.pair-item.result v.items))
+                c.in-Some.is c.in_ok-steps.ensures),
           ));
     }
 

@@ -7,7 +7,8 @@ use Rattle.closing.proofs.checking.lead_into.Goals as goal
 pub loop-step-preserved : goal.loop-step-preserved
 loop-step-preserved c =
     below_more (λ k. (f : Followed) → slice_get c.args.steps.now k ≡ Some f → LeadsInto c.args.pairs.now f) _ c.loop-step.invariant
-    (λ f at. subst (λ (g : Followed). LeadsInto c.args.pairs.now g) (c.step-item.is ∙ read c.args.steps.now _ f _ at) (c.leads_into.ensures c.if-not-leads_into.false))
+    (λ f at. subst (λ (g : Followed). LeadsInto c.args.pairs.now g) (c.step-item.is ∙ read c.args.steps.now _ f _ at)
+    (c.leads_into.ensures c.if-not-leads_into.false))
 
 pub returns : goal.returns
 returns c = λ t k f at. c.loop-step.invariant k (omega (arith, below-length c.args.steps.now k f at, c.loop-step-test.false)) f at

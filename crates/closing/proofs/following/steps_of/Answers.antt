@@ -9,7 +9,8 @@ use Rattle.closing.proofs.following.steps_of.Goals as goal
 
 pub loop-rule-preserved : goal.loop-rule-preserved
 loop-rule-preserved c =
-    below_more (λ k. (r : Rule) (t : Bool) → IsTold c.tell_rule.new.steps.items (get_or constants.Rule.ALL k r) (sights.sight c.args.tables.now (get_or constants.Rule.ALL k r) t c.args.pair.now))
+    below_more (λ k. (r : Rule) (t : Bool) → IsTold c.tell_rule.new.steps.items (get_or constants.Rule.ALL k r)
+    (sights.sight c.args.tables.now (get_or constants.Rule.ALL k r) t c.args.pair.now))
     _ (λ k low r t. told-still c.loop-rule.steps.items c.tell_rule.new.steps.items c.in_ok-tell_rule.ensures.kept _ _ (c.loop-rule.invariant k low r t))
     (λ r t. subst (λ (x : Rule). IsTold c.tell_rule.new.steps.items x (sights.sight c.args.tables.now x t c.args.pair.now))
     (get_or_default constants.Rule.ALL c.loop-rule.rule-index _ r c.loop-rule-test.true) (c.in_ok-tell_rule.ensures.told t))

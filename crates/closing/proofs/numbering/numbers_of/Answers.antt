@@ -12,14 +12,19 @@ loop-pair-preserved c =
       count = ap (λ xs. length xs) grown ∙ omega (arith, c.loop-pair.invariant.count, length-push c.loop-pair.numbers.items c.in-Some.number);
       known = below_more (λ k. (p : Pair) → slice_get c.args.pairs.now k ≡ Some p →
           (n : ℕ) × (slice_get c.push.new.self.items k ≡ Some n) × IsNumber c.args.views.now (if c.args.second then second_view p else first_view p) n) _
-          (λ k low p at. (let old = c.loop-pair.invariant.known k low p at in
-          (old.0, ap (λ xs. slice_get xs k) grown ∙ get-before c.loop-pair.numbers.items c.in-Some.number k (omega (arith, low, c.loop-pair.invariant.count)) ∙ old.1, old.2)))
+          (λ k low p at. (let old = c.loop-pair.invariant.known k low p at in (
+            old.0,
+            ap (λ xs. slice_get xs k) grown ∙ get-before c.loop-pair.numbers.items c.in-Some.number k (omega (arith, low, c.loop-pair.invariant.count))
+                ∙ old.1,
+            old.2,
+          )))
           (λ p at. (
             c.in-Some.number,
             ap (λ xs. slice_get xs c.loop-pair.pair-index) grown
                 ∙ get-last c.loop-pair.numbers.items c.in-Some.number c.loop-pair.pair-index (sym c.loop-pair.invariant.count),
             subst (λ (v : View). IsNumber c.args.views.now v c.in-Some.number)
-                (c.of.ensures ∙ ap (λ (q : Pair). if c.args.second then second_view q else first_view q) (c.pair-item.is ∙ read c.args.pairs.now _ p _ at)) c.in-Some.ensures,
+                (c.of.ensures ∙ ap (λ (q : Pair). if c.args.second then second_view q else first_view q) (c.pair-item.is ∙ read c.args.pairs.now _ p _ at))
+                c.in-Some.ensures,
           ));
     }
 

@@ -15,4 +15,5 @@ pub see_line-requires-clause-marked : goal.see_line-requires-clause-marked
 see_line-requires-clause-marked c =
     subst (λ (p : Pair). IsMarked p) (sym c.unname.ensures)
     (marked-headless c.requestor-to.result c.in-Some-Some.place.kind c.args.pair.now c.in-Some-Some.place c.behind-left.result
-    c.in-Some-Some.mark c.behind-left-in-Some-Some.result c.in-Some-Some.ensures c.behind-left.ensures.rest c.in-Some-Some.ensures' c.behind-left-in-Some-Some.ensures c.requires.marked)
+    c.in-Some-Some.mark c.behind-left-in-Some-Some.result c.in-Some-Some.ensures c.behind-left.ensures.rest c.in-Some-Some.ensures'
+    c.behind-left-in-Some-Some.ensures c.requires.marked)
