@@ -208,8 +208,8 @@ lengths-opened : (seats caches : ℕ) (tables : Tables) (seat : ℕ) (k : Kind) 
 lengths-opened seats caches tables seat k i [] = refl
 lengths-opened seats caches tables seat k i (v ∷ values) =
     ap (λ ns. 0 ∷ ns) (lengths-opened seats caches tables seat k (i + 1) values)
-    ∙ ap (λ xs. length (filter (belongs_in seats caches seat (opened_block caches v)) xs) ∷ lengths_from (ready_at seats caches tables seat k) (i + 1) (map (opened_block caches) values))
-    (sym (none-opened tables k (record { 0 = i }) caches v))
+    ∙ (let rest : List ℕ = lengths_from (ready_at seats caches tables seat k) (i + 1) (map (opened_block caches) values) in
+    ap (λ xs. length (filter (belongs_in seats caches seat (opened_block caches v)) xs) ∷ rest) (sym (none-opened tables k (record { 0 = i }) caches v)))
 
 -- before the first step nothing is ready for anybody
 pub shared_first : (seats : ℕ) (setup : Terms) (world : View) (shares : List Rows) → IsStart setup world →
@@ -234,6 +234,7 @@ shared_first seats setup world shares starts count none = record {
 
     zeros : (k : Kind) (seat : ℕ) → replicate blocks 0 ≡ lengths_from (ready_at seats world.shape.caches world.tables seat k) 0 world.state.blocks
     zeros k seat =
+        let opened : List BlockState = map (opened_block setup.shape.caches) setup.opening in
         lengths-opened seats setup.shape.caches world.tables seat k 0 setup.opening
-        ∙ ap (λ (x : Extent). lengths_from (ready_at seats x.caches world.tables seat k) 0 (map (opened_block setup.shape.caches) setup.opening)) (sym starts.shape)
+        ∙ ap (λ (x : Extent). lengths_from (ready_at seats x.caches world.tables seat k) 0 opened) (sym starts.shape)
         ∙ ap (λ (s : State). lengths_from (ready_at seats world.shape.caches world.tables seat k) 0 s.blocks) (sym starts.state)

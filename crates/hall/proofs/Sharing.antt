@@ -56,14 +56,14 @@ each-get f i (x ∷ bs) k zero r b e w there =
     ∙ get_front (f (record { 0 = i }) b) (of_each f (i + 1) bs) r w'
     ∙ ap (λ m. slice_get (f (record { 0 = m }) b) r) (sym (add-zero i))
 each-get f i (x ∷ bs) k (suc p) r b e w there =
-    let s : sum (length (f (record { 0 = i }) x) ∷ take p (lengths_from f (i + 1) bs)) ≡ length (f (record { 0 = i }) x) + sum (take p (lengths_from f (i + 1) bs)) =
-    sum_by-cons (λ x. x) (length (f (record { 0 = i }) x)) (take p (lengths_from f (i + 1) bs)) in
-    let q : k ≡ length (f (record { 0 = i }) x) + (sum (take p (lengths_from f (i + 1) bs)) + r) = omega (arith, e, s) in
+    let here : List Step = f (record { 0 = i }) x in
+    let lengths : List ℕ = take p (lengths_from f (i + 1) bs) in
+    let s : sum (length here ∷ lengths) ≡ length here + sum lengths = sum_by-cons (λ x. x) (length here) lengths in
+    let q : k ≡ length here + (sum lengths + r) = omega (arith, e, s) in
     let z : i + 1 + p ≡ i + suc p = omega arith in
-    ap (λ m. slice_get (f (record { 0 = i }) x ++ of_each f (i + 1) bs) m) q
-    ∙ get_behind (f (record { 0 = i }) x) (of_each f (i + 1) bs) (sum (take p (lengths_from f (i + 1) bs)) + r)
-    ∙ each-get f (i + 1) bs (sum (take p (lengths_from f (i + 1) bs)) + r) p r b refl
-    (subst (λ m. r < length (f (record { 0 = m }) b)) (sym z) w) there
+    ap (λ m. slice_get (here ++ of_each f (i + 1) bs) m) q
+    ∙ get_behind here (of_each f (i + 1) bs) (sum lengths + r)
+    ∙ each-get f (i + 1) bs (sum lengths + r) p r b refl (subst (λ m. r < length (f (record { 0 = m }) b)) (sym z) w) there
     ∙ ap (λ m. slice_get (f (record { 0 = m }) b) r) z
 
 pub lengths-length : (f : BlockId → BlockState → List Step) (i : ℕ) (bs : List BlockState) → length (lengths_from f i bs) ≡ length bs
@@ -236,8 +236,9 @@ heads-of : (tables : Tables) (n : ℕ) (b : BlockState) (i : ℕ) (ls : List (Li
 heads-of tables n b i [] = tt
 heads-of tables n b i ([] ∷ ls) = heads-of tables n b (i + 1) ls
 heads-of tables n b i ((x ∷ xs) ∷ ls) =
-    each-append (λ s. block_of s ≡ n) (unless_held tables (step.Forward (record { 0 = n }) (record { 0 = i })) b) (heads_from tables (record { 0 = n }) b (i + 1) ls)
-    (unless-of tables (step.Forward (record { 0 = n }) (record { 0 = i })) b n refl) (heads-of tables n b (i + 1) ls)
+    let head : Step = step.Forward (record { 0 = n }) (record { 0 = i }) in
+    each-append (λ s. block_of s ≡ n) (unless_held tables head b) (heads_from tables (record { 0 = n }) b (i + 1) ls)
+    (unless-of tables head b n refl) (heads-of tables n b (i + 1) ls)
 
 responses-of : (tables : Tables) (n : ℕ) (b : BlockState) (i : ℕ) (rs : List Response) → AreOf n (responses_from tables (record { 0 = n }) b i rs)
 responses-of tables n b i [] = tt
@@ -276,7 +277,8 @@ filter-each P Q f i (b ∷ bs) same =
     (subst (λ m. filter P (f (record { 0 = m }) b) ≡ filter (Q b) (f (record { 0 = m }) b)) (add-zero i) (same 0 b refl))
     ∙ ap (λ xs. filter (Q b) (f (record { 0 = i }) b) ++ xs)
     (filter-each P Q f (i + 1) bs (λ j c at.
-    subst (λ m. filter P (f (record { 0 = m }) c) ≡ filter (Q c) (f (record { 0 = m }) c)) (let z : i + suc j ≡ i + 1 + j = omega arith in z) (same (suc j) c at)))
+    let z : i + suc j ≡ i + 1 + j = omega arith in
+    subst (λ m. filter P (f (record { 0 = m }) c) ≡ filter (Q c) (f (record { 0 = m }) c)) z (same (suc j) c at)))
 
 module _ (seats caches : ℕ) (tables : Tables) (s : State) (seat : ℕ) where
   -- a step of a block that is there belongs to whom it belongs at the block
@@ -302,17 +304,18 @@ module _ (seats caches : ℕ) (tables : Tables) (s : State) (seat : ℕ) where
   -- all that is ready for a seat, block by block
   ready-all : s.broken ≡ false → ready_for seats caches tables s seat ≡ all-of (ready_at seats caches tables seat) s.blocks
   ready-all going =
-      ap (filter (λ x. belongs seats caches s seat x)) (enabled-going tables s going)
-      ∙ filter-append (λ x. belongs seats caches s seat x) (of_each (kind_enabled tables kind.Request) 0 s.blocks ++ of_each (kind_enabled tables kind.Head) 0 s.blocks)
-      (of_each (kind_enabled tables kind.Response) 0 s.blocks)
-      ∙ ap (λ xs. xs ++ filter (λ x. belongs seats caches s seat x) (of_each (kind_enabled tables kind.Response) 0 s.blocks))
-      (filter-append (λ x. belongs seats caches s seat x) (of_each (kind_enabled tables kind.Request) 0 s.blocks) (of_each (kind_enabled tables kind.Head) 0 s.blocks))
-      ∙ ap (λ xs. xs ++ filter (λ x. belongs seats caches s seat x) (of_each (kind_enabled tables kind.Head) 0 s.blocks)
-      ++ filter (λ x. belongs seats caches s seat x) (of_each (kind_enabled tables kind.Response) 0 s.blocks)) (kind-ready kind.Request)
-      ∙ ap (λ xs. of_each (ready_at seats caches tables seat kind.Request) 0 s.blocks ++ xs
-      ++ filter (λ x. belongs seats caches s seat x) (of_each (kind_enabled tables kind.Response) 0 s.blocks)) (kind-ready kind.Head)
-      ∙ ap (λ xs. of_each (ready_at seats caches tables seat kind.Request) 0 s.blocks ++ of_each (ready_at seats caches tables seat kind.Head) 0 s.blocks ++ xs)
-      (kind-ready kind.Response)
+      let its : Step → Bool = λ x. belongs seats caches s seat x in
+      let all : Kind → List Step = λ k. of_each (kind_enabled tables k) 0 s.blocks in
+      let mine : Kind → List Step = λ k. of_each (ready_at seats caches tables seat k) 0 s.blocks in
+      let requests : filter its (all kind.Request) ≡ mine kind.Request = kind-ready kind.Request in
+      let heads : filter its (all kind.Head) ≡ mine kind.Head = kind-ready kind.Head in
+      let responses : filter its (all kind.Response) ≡ mine kind.Response = kind-ready kind.Response in
+      ap (filter its) (enabled-going tables s going)
+      ∙ filter-append its (all kind.Request ++ all kind.Head) (all kind.Response)
+      ∙ ap (λ xs. xs ++ filter its (all kind.Response)) (filter-append its (all kind.Request) (all kind.Head))
+      ∙ ap (λ xs. xs ++ filter its (all kind.Head) ++ filter its (all kind.Response)) requests
+      ∙ ap (λ xs. mine kind.Request ++ xs ++ filter its (all kind.Response)) heads
+      ∙ ap (λ xs. mine kind.Request ++ mine kind.Head ++ xs) responses
 
   pub ready-broken : s.broken ≡ true → ready_for seats caches tables s seat ≡ []
   ready-broken broken = ap (λ (b : Bool). filter (λ x. belongs seats caches s seat x) (if b then [] else all_enabled tables s.blocks)) broken

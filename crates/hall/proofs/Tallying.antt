@@ -87,7 +87,8 @@ module _ (seats caches : ℕ) (s : State) (steps : List Step) (k : ℕ) (x : Ste
           with-it seat lt (ap its e) (omega (arith, b, c))
       by (Some at) e =
           let o : ℕ = controller caches (block_of x) at % seats in
-          let a : each' ≡ slice_set each o (slice_index each o + 1) = subst (λ p. IfSome p (λ o. each' ≡ slice_set each o (slice_index each o + 1))) (is ∙ ap owner e) some in
+          let a : each' ≡ slice_set each o (slice_index each o + 1) =
+          subst (λ p. IfSome p (λ o. each' ≡ slice_set each o (slice_index each o + 1))) (is ∙ ap owner e) some in
           let b : all' ≡ all = subst (λ p. IfSome p (λ o. all' ≡ all)) (is ∙ ap owner e) some_all in
           elim (cases_eq o seat) [
             | inl same ↦
@@ -156,15 +157,17 @@ get_none steps n k None e lt is =
     absurd (cc (nothing, there.1))
 get_none steps n k (Some x) e lt is = tt
 
+-- a word draws something of a list, and this is it
+abbrev IsTaken : List Step → ℕ → Option Step → Type 0
+IsTaken steps word found = (word % length steps < length steps) × (found ≡ slice_get steps (word % length steps))
+
 -- what is left at the spot that a word falls at is the step that it draws
 pub drawn_at : (seats : ℕ) (world : View) (seat word total from : ℕ) (shares : List Rows) (rows : Rows) (spot : Spot) (found : Option Step) →
     world.state.broken ≡ false → AreShared seats world shares → slice_get shares seat ≡ Some rows → total ≡ all_in rows → total ≢ 0 → from ≡ word →
     FallsAt rows (from % total) spot →
     found ≡ slice_get (filter (λ x. belongs seats world.shape.caches world.state seat x)
     (enabled_at_block world.tables spot.kind world.state (record { 0 = spot.block }))) spot.rest →
-    (word % length (ready_for seats world.shape.caches world.tables world.state seat) < length (ready_for seats world.shape.caches world.tables world.state seat))
-    × (found ≡ slice_get (ready_for seats world.shape.caches world.tables world.state seat)
-    (word % length (ready_for seats world.shape.caches world.tables world.state seat)))
+    IsTaken (ready_for seats world.shape.caches world.tables world.state seat) word found
 drawn_at seats world seat word total from shares rows spot found going shared at is some same falls left =
     let ready : List Step = ready_for seats world.shape.caches world.tables world.state seat in
     let counted = shared.each seat rows at in

@@ -1,6 +1,7 @@
 //! How many of each block's deliveries are ready for each seat: so a draw lists nothing, and a step counts one block again.
 
-ghost use Rattle.std.specs.Prelude.{◌≡◌, ◌+◌, ◌<◌, ◌≤◌, ◌^◌, ◌-◌, [], ℕ, None, All, IfNone, IfOk, IfSome, IsSome, Some, filter, length, slice_get, slice_index, slice_set};
+ghost use Rattle.std.specs.Prelude.{◌≡◌, ◌+◌, ◌<◌, ◌≤◌, ◌^◌, ◌-◌, [], ℕ, All, IfNone, IfOk, IfSome, IsSome, None, Some};
+ghost use Rattle.std.specs.Prelude.{filter, length, slice_get, slice_index, slice_set};
 ghost use Rattle.world.specs.Enabled.{enabled_at_block};
 ghost use Rattle.world.specs.inner.Counts.{Rows};
 ghost use Rattle.hall.specs.Belonging.{belongs, ready_for};
