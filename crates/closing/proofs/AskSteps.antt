@@ -78,7 +78,7 @@ ask-found tables caches tags b cache a None few whole faithful e = still tables 
 ask-found tables caches tags b cache a (Some line) few whole faithful e =
     ask-if tables caches tags b cache a line (is_idle a line.state) few whole faithful e refl
 
--- LEMMA 1, for each kind of step
+-- so each ask is seen by all pairs of its cache
 pub ask-simulated : (tables : Tables) (caches : ℕ) (tags : Tags) (b : BlockState) (cache : CacheId) (block : BlockId) (a : Ask) → caches ≤ 4294967296 →
     IsBlockAmong caches b → Faithful tags b → Simulated tables tags b (step.Ask cache block a)
 ask-simulated tables caches tags b cache block a few whole faithful =

@@ -39,7 +39,8 @@ use Rattle.closing.proofs.Alpha.{side, data_count}
 use Rattle.closing.proofs.LineActing.{AckCounts}
 use Rattle.closing.proofs.Taking.{face_with, counts-nothing, lost-count, same-count, dir-taken}
 use Rattle.closing.proofs.Taking.{data-acks}
-use Rattle.closing.proofs.ResponseActs.{passes, if-not, not-twice, few-dir, pair-taken, Known, same-owed, fresh-there, one-there}
+use Rattle.closing.proofs.Sending.{not-twice}
+use Rattle.closing.proofs.ResponseActs.{passes, if-not, few-dir, pair-taken, Known, same-owed, fresh-there, one-there}
 
 -- who a response goes to, as a flag
 pub here : (cache to : CacheId) → cache ≡ to → (n : ℕ) → only (to.0 == cache.0) n ≡ n

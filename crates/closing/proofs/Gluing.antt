@@ -123,7 +123,7 @@ actors-in tables pairs tags b new closed all m d ne = at m.besides refl
               (all x d differ) (alpha-meet tags b m.actor x d differ) (roles-alike m.besides x d differ) (m.sees x other).1 (m.sees d ne).1 refl refl)
         ]
 
--- Lemma 2 for the step
+-- the links of the caches that don't act keep what they name
 same-names : (tables : Tables) (tags : Tags) (b new : BlockState) (m : Moves tables tags b new) (x y : ℕ) → x ≢ m.actor → y ≢ m.actor →
     names_on new x y ≡ lengthened (side m.after new x).link (names_on b x y)
 same-names tables tags b new m x y x_other y_other =

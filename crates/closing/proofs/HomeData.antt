@@ -29,7 +29,10 @@ use Rattle.closing.proofs.HomeScene.{Frame, scene_of}
 use Rattle.closing.proofs.HomeSharing.{owner_debt, owner-added, sharers-cleared}
 use Rattle.closing.proofs.HomeActing.{IsAt}
 use Rattle.closing.proofs.HomeTruths.{owner-memory}
-use Rattle.closing.proofs.RequestTaken.{all-left, all-taken, fresh-left, or-false}
+use Rattle.closing.proofs.Sending.{or-false}
+use Rattle.closing.proofs.LineActing.{all-removed}
+use Rattle.closing.proofs.Taking.{all-there}
+use Rattle.closing.proofs.RequestTaken.{fresh-left}
 
 -- THE ACTIONS
 -- the tags after an action on Data, which brings a fresh value or not
@@ -171,13 +174,13 @@ module _ (tags : Tags) (b : BlockState) (index : ℕ) (by : Place) (value acks :
     pub value-true : AreTrue tags b → (shared tags b).fresh_home_data ≡ true → value ≡ b.latest
     value-true h fresh =
         let known : tags.home_data ≡ true = sym (or-false tags.home_data) ∙ ap (λ (t : Bool). tags.home_data || t) (sym (ne_eqb _ 0 home-there)) ∙ fresh in
-        all-taken (BringsHome b.latest) b.traffic.responses index (Data by Dir value acks) e (h.home_data known)
+        all-there (BringsHome b.latest) b.traffic.responses index (Data by Dir value acks) (h.home_data known) e
 
     pub left-true : AreTrue tags b → AreTrue tags left
     left-true h = record {
       line = h.line;
-      data_to = λ c known. all-left (Brings c b.latest) b.traffic.responses index (h.data_to c known);
+      data_to = λ c known. all-removed (Brings c b.latest) b.traffic.responses index (h.data_to c known);
       putm = h.putm;
-      home_data = λ known. all-left (BringsHome b.latest) b.traffic.responses index (h.home_data known);
+      home_data = λ known. all-removed (BringsHome b.latest) b.traffic.responses index (h.home_data known);
       memory = h.memory;
     }

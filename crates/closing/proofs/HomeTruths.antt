@@ -1,16 +1,15 @@
 -- What is known of values stays true while a cell of the home acts.
-use Rattle.std.proofs.Common.{◌≡◌, ◌≢◌, ℕ, List, [], ◌∷◌, ◌++◌, refl, ap, sym, subst, ◌∙◌, inl, inr, Option, Some, None, Bool, true, false, ◌==◌, arith}
-use Rattle.std.proofs.Common.{All, ◌||◌, ◌&&◌, eq-eqb, ◌⊎◌}
+use Rattle.std.proofs.Common.{◌≡◌, ◌≢◌, ℕ, List, [], ◌∷◌, ◌++◌, refl, ap, sym, subst, ◌∙◌, inl, inr, Option, Some, None, Bool, true, false, ◌==◌}
+use Rattle.std.proofs.Common.{All, ◌||◌, ◌&&◌, ◌⊎◌}
 use Rattle.std.proofs.lemmas.Bool.{cases_eq, ne_eqb}
-use Rattle.std.proofs.lemmas.List.Elements.{All-push, All-cons, All-nil}
-use Rattle.std.proofs.lemmas.List.Sums.{sum_by-cons}
+use Rattle.std.proofs.lemmas.List.Elements.{All-push}
 use Rattle.base.specs.declared.ids.CacheId.{CacheId}
 use Rattle.base.specs.declared.ids.Place.TheVariants.{Dir, Cache}
 use Rattle.network.specs.declared.message.ForwardKind.{ForwardKind}
 use Rattle.network.specs.declared.message.ForwardKind.TheVariants.{FwdGetS, FwdGetM}
 use Rattle.network.specs.declared.message.Request.{Request}
 use Rattle.network.specs.declared.message.Response.{Response}
-use Rattle.network.specs.declared.message.Response.TheVariants.{Data, InvAck, DataExcl}
+use Rattle.network.specs.declared.message.Response.TheVariants.{Data, DataExcl}
 use Rattle.network.specs.Traffic.{Traffic, all_sent, response_sent}
 use Rattle.directory_table.specs.declared.actions.DirectoryAction.{DirectoryAction}
 use Rattle.directory_table.specs.declared.actions.DirectoryAction.TheVariants as action
@@ -18,10 +17,9 @@ use Rattle.block_home.specs.declared.home.Home.{Home}
 use Rattle.control.specs.HomeEffect.{home_message, home_changed, with_owner, owner_message, invalidations}
 use Rattle.machine.specs.Block.{BlockState}
 use Rattle.machine.proofs.Invitations.{invs-requests, invs-responses}
-use Rattle.machine.proofs.Counts.{only}
-use Rattle.machine.proofs.Seen.{dir_data, owner_data, excl_data}
 use Rattle.closing.proofs.Alpha.{Tags, AreTrue, Brings, BringsHome, Puts, data_count}
 use Rattle.closing.proofs.Sending.{tag_at, tag-here, tag-elsewhere, data_tag}
+use Rattle.closing.proofs.LineActing.{none-brings}
 use Rattle.closing.proofs.HomeSending.{at}
 use Rattle.closing.proofs.HomeInviting.{memory_sent, all-invited}
 use Rattle.closing.proofs.HomeActing.{home_tags, Matches}
@@ -53,26 +51,6 @@ requests-kept a action.SetOwner home w = refl
 requests-kept a action.CopyData home w = refl
 
 -- TAGS
--- where no Data is on its way to a cache, all that are bring whatever value
-none-brings : (c value : ℕ) (rs : List Response) → data_count c rs ≡ 0 → All (Brings c value) rs
-none-brings c value [] e = All-nil (Brings c value)
-none-brings c value (x ∷ rs) e =
-    All-cons (Brings c value) x rs
-    (no-data x (omega (arith, e, sum_by-cons (dir_data c) x rs)) (omega (arith, e, sum_by-cons (owner_data c) x rs))
-    (omega (arith, e, sum_by-cons (excl_data c) x rs)))
-    (none-brings c value rs
-    (omega (arith, e, sum_by-cons (dir_data c) x rs, sum_by-cons (owner_data c) x rs, sum_by-cons (excl_data c) x rs)))
-  where
-    one : (to : CacheId) → to.0 ≡ c → only (to.0 == c) 1 ≡ 0 → ⊥
-    one to same e = absurd (omega (arith, e, ap (λ (t : Bool). only t 1) (eq-eqb to.0 c same)))
-
-    no-data : (x : Response) → dir_data c x ≡ 0 → owner_data c x ≡ 0 → excl_data c x ≡ 0 → Brings c value x
-    no-data (Data Dir (Cache to) v acks) d o e = λ same. absurd (one to same d)
-    no-data (Data (Cache by) (Cache to) v acks) d o e = λ same. absurd (one to same o)
-    no-data (Data by Dir v acks) d o e = tt
-    no-data (InvAck by to) d o e = tt
-    no-data (DataExcl to v) d o e = λ same. absurd (one to same e)
-
 pub and-left : (s t : Bool) → s && t ≡ true → s ≡ true
 and-left true t e = refl
 and-left false t e = absurd (cc)

@@ -1,4 +1,4 @@
--- Lemma 2: what comes onto the links of the caches that don't act names none of them, but the one that acts.
+-- What comes onto the links of the caches that don't act names none of them, but the one that acts.
 use Rattle.std.proofs.Common.{◌≡◌, ◌≢◌, ℕ, ◌<◌, List, [], ◌∷◌, ◌++◌, refl, ap, sym, subst, ◌∙◌, inl, inr, Option, Some, None, Bool, true, false, not, ◌&&◌}
 use Rattle.std.proofs.Common.{◌==◌}
 use Rattle.std.proofs.Common.{if◌then◌else◌, map, length, arith, ◌≤◌, ◌+◌, set}
@@ -177,7 +177,7 @@ home-names to value (x ∷ actions) home =
     each-append to.0 (home_message (Some to) x home) (home_messages (Some to) value actions (home_changed (Some to) value x home))
     (home_message-names to x home) (home-names to value actions (home_changed (Some to) value x home))
 
--- LEMMA 2: where a link grew by what names the actor, none of the others is named anew
+-- where a link grew by what names the actor, none of the others is named anew
 pub grown-names : (a y c : ℕ) (old new : List Forward) → a ≢ y → Grew a old new → marks_of y new ≡ lengthened (places_of c new) (marks_of y old)
 grown-names a y c old new ne g =
     subst (λ (l : List Forward). marks_of y l ≡ lengthened (places_of c l) (marks_of y old)) (sym g.grew) (grown-marks a y c old g.more ne g.name)

@@ -1,5 +1,5 @@
 -- A cell of the home acts on a request of any kind.
-use Rattle.std.proofs.Common.{◌≡◌, ℕ, ◌≤◌, refl, ap, sym, subst, ◌∙◌, Option, Some, None, Bool, true, false, ◌==◌, if◌then◌else◌, ◌&&◌, not, slice_get}
+use Rattle.std.proofs.Common.{◌≡◌, ℕ, ◌≤◌, refl, ap, sym, subst, ◌∙◌, Option, Some, None, Bool, true, false, ◌==◌, if◌then◌else◌, ◌&&◌, slice_get}
 use Rattle.base.specs.declared.ids.CacheId.{CacheId}
 use Rattle.base.specs.declared.controller.entry.Entry.TheVariants as table_entry
 use Rattle.network.specs.declared.message.Request.{Request}
@@ -24,10 +24,7 @@ use Rattle.closing.proofs.Simulation.{HomeActs, SimulatedBy}
 use Rattle.closing.proofs.HomeActing.{Matches}
 use Rattle.closing.proofs.RequestTaken.{gets-reaches, getm-reaches, puts-reaches, putm-reaches, putm-true, puts_event, putm_event}
 use Rattle.closing.proofs.RequestActs.{served}
-
-pub not-not : (t : Bool) → not (not t) ≡ t
-not-not true = refl
-not-not false = refl
+use Rattle.closing.proofs.Sending.{not-twice}
 
 owner-if : (t : Bool) → is_owner (if t then ByItself else ByAnother) ≡ t
 owner-if true = refl
@@ -61,7 +58,7 @@ request-acted tables caches tags b index r few whole faithful e next actions cel
         served tables caches tags b index r few whole faithful e None (matches request.PutS None same tt) next actions SentPutS
         (puts_event (side tags b r.from.0))
         (ap (λ (u : Bool). directory_table.cell tables.directory b.home.state (if u then home_event.PutSLast else home_event.PutSNotLast))
-        (ap (λ (u : Bool). shares b.home.sharers r.from.0 && u) (not-not (others_from 0 r.from.0 b.home.sharers == 0))) ∙ with-kind request.PutS same)
+        (ap (λ (u : Bool). shares b.home.sharers r.from.0 && u) (not-twice (others_from 0 r.from.0 b.home.sharers == 0))) ∙ with-kind request.PutS same)
         (λ x t ne. puts-reaches tags b index r e tables x t ne same)
     at (request.PutM value) same =
         served tables caches tags b index r few whole faithful e (Some (side tags b r.from.0).fresh_putm)

@@ -26,7 +26,8 @@ use Rattle.pairs.specs.declared.steps.Rule.{Rule}
 use Rattle.pairs.specs.declared.steps.Rule.TheVariants.{SentGetS, SentGetM, SentPutS, SentPutM}
 use Rattle.pairs.specs.Sights.{sight, is_owner}
 use Rattle.closing.proofs.Alpha.{Tags, alpha, Faithful}
-use Rattle.closing.proofs.RequestKinds.{not-not, same-owner, request-acted}
+use Rattle.closing.proofs.Sending.{not-twice}
+use Rattle.closing.proofs.RequestKinds.{same-owner, request-acted}
 use Rattle.closing.proofs.Simulation.{IsBreach, SimulatedBy, Simulated, still, next-other, HomeBlank, home-entry, home-breach, some-breach, or-cases}
 
 abbrev pub request_rule : RequestKind → Rule
@@ -67,7 +68,7 @@ request-breach tables tags b index r d t e fit kind same blank = at kind same bl
         (if (alpha tags b r.from.0 d).first.shares && not (alpha tags b r.from.0 d).first.others then home_event.PutSLast else home_event.PutSNotLast)
         (record (alpha tags b r.from.0 d) { first = trimmed (record (alpha tags b r.from.0 d).first { puts = (alpha tags b r.from.0 d).first.puts - 1 }) }) fit
         (ap (λ u. directory_table.cell tables.directory b.home.state (if u then home_event.PutSLast else home_event.PutSNotLast))
-        (ap (λ u. shares b.home.sharers r.from.0 && u) (not-not (others_from 0 r.from.0 b.home.sharers == 0))) ∙ blank))
+        (ap (λ u. shares b.home.sharers r.from.0 && u) (not-twice (others_from 0 r.from.0 b.home.sharers == 0))) ∙ blank))
     at (request.PutM value) same blank =
         some-breach (alpha tags b r.from.0 d).first.putm _ (some is_putm (one is_putm (request.PutM value) same))
         (home-breach tables t true (Some (alpha tags b r.from.0 d).first.fresh_putm)

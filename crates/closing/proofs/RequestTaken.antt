@@ -1,8 +1,7 @@
 -- A request taken off the wires, as the pairs of its sender see it.
-use Rattle.std.proofs.Common.{◌≡◌, ◌≢◌, ℕ, ◌+◌, ◌-◌, List, [], ◌∷◌, refl, ap, sym, ◌∙◌, inl, inr, Some, None, Bool, true, false, ◌==◌, arith, zero, suc}
-use Rattle.std.proofs.Common.{sum_by, eq-eqb, ◌||◌, slice_get, remove, All, if◌then◌else◌, not, ◌&&◌, ◌⊎◌}
+use Rattle.std.proofs.Common.{◌≡◌, ◌≢◌, ℕ, ◌+◌, ◌-◌, refl, ap, sym, ◌∙◌, inl, inr, Some, None, Bool, true, false, ◌==◌, arith}
+use Rattle.std.proofs.Common.{sum_by, eq-eqb, ◌||◌, slice_get, remove, if◌then◌else◌, not, ◌&&◌, ◌⊎◌}
 use Rattle.std.proofs.lemmas.Bool.{ne_eqb}
-use Rattle.std.proofs.lemmas.List.Elements.{All-cons, All-head, All-tail}
 use Rattle.network.specs.declared.message.Request.{Request}
 use Rattle.network.specs.declared.message.RequestKind.{RequestKind}
 use Rattle.network.specs.declared.message.RequestKind.TheVariants as request
@@ -22,30 +21,18 @@ use Rattle.pairs.specs.declared.steps.Rule.TheVariants.{SentGetS, SentGetM, Sent
 use Rattle.pairs.specs.Sights.{sight, where_some, at_home, is_owner}
 use Rattle.closing.proofs.Alpha.{Tags, AreTrue, Puts, alpha, side, data_count}
 use Rattle.closing.proofs.Sides.{same_requests}
+use Rattle.closing.proofs.Sending.{or-false}
+use Rattle.closing.proofs.LineActing.{all-removed}
+use Rattle.closing.proofs.Taking.{all-there}
 use Rattle.closing.proofs.HomeSending.{at}
 
 -- LISTS
 -- what holds of all holds of those that are left, and of the one that is taken
-pub all-left : {X : Type 0} (P : X → Type 0) (xs : List X) (i : ℕ) → All P xs → All P (remove xs i)
-all-left P [] zero h = h
-all-left P [] (suc i) h = h
-all-left P (x ∷ xs) zero h = All-tail P x xs h
-all-left P (x ∷ xs) (suc i) h = All-cons P x (remove xs i) (All-head P x xs h) (all-left P xs i (All-tail P x xs h))
-
-pub all-taken : {X : Type 0} (P : X → Type 0) (xs : List X) (i : ℕ) (x : X) → Some x ≡ slice_get xs i → All P xs → P x
-all-taken P [] i x e h = absurd (cc)
-all-taken P (y ∷ ys) zero x e h = let same : x ≡ y = cc in rw same (All-head P y ys h)
-all-taken P (y ∷ ys) (suc i) x e h = all-taken P ys i x e (All-tail P y ys h)
-
 -- TAGS
 or-twice : (t z : Bool) → (t || z) || z ≡ t || z
 or-twice true z = refl
 or-twice false true = refl
 or-twice false false = refl
-
-pub or-false : (t : Bool) → t || false ≡ t
-or-false true = refl
-or-false false = refl
 
 -- a tag of so many PutM is one of those that are left
 pub fresh-left : (t : Bool) (n left m : ℕ) → m ≡ left → (n ≡ left) ⊎ (n ≢ 0) → (t || (n == 0)) || (m == 0) ≡ t || (left == 0)
@@ -165,14 +152,14 @@ module _ (tags : Tags) (b : BlockState) (index : ℕ) (r : Request) (e : Some r 
       let there : sum_by (from r.from.0 is_putm) b.traffic.requests ≢ 0 = some-there is_putm (request.PutM value) same refl in
       let known : tags.putm r.from.0 ≡ true = sym (or-false (tags.putm r.from.0)) ∙ ap (λ (t : Bool). tags.putm r.from.0 || t) (sym (ne_eqb _ 0 there))
       ∙ fresh in
-      all-taken (Puts r.from.0 b.latest) b.traffic.requests index r e (h.putm r.from.0 known) refl value same
+      all-there (Puts r.from.0 b.latest) b.traffic.requests index r (h.putm r.from.0 known) e refl value same
 
   -- what is known stays true
   pub left-true : AreTrue tags b → AreTrue tags left
   left-true h = record {
     line = h.line;
     data_to = h.data_to;
-    putm = λ c known. all-left (Puts c b.latest) b.traffic.requests index (h.putm c known);
+    putm = λ c known. all-removed (Puts c b.latest) b.traffic.requests index (h.putm c known);
     home_data = h.home_data;
     memory = h.memory;
   }

@@ -53,10 +53,6 @@ pub if-not : {X : Type 0} (t : Bool) (x y : X) → (if not t then x else y) ≡ 
 if-not true x y = refl
 if-not false x y = refl
 
-pub not-twice : (t : Bool) → not (not t) ≡ t
-not-twice true = refl
-not-twice false = refl
-
 -- at most one Data from the home is on its way to a cache
 pub few-dir : (s : Side) → is_few_side s ≡ true → s.dir_data ≤ 1
 few-dir s few =

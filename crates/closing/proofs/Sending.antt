@@ -1,6 +1,6 @@
 -- What each message of a line makes of what two caches see, where the first of them sends it.
 use Rattle.std.proofs.Common.{◌≡◌, ◌≢◌, ℕ, ◌+◌, List, [], ◌∷◌, ◌++◌, refl, ap, sym, subst, ◌∙◌, inl, inr, Option, Some, None, Bool, true, false, ◌&&◌, ◌||◌}
-use Rattle.std.proofs.Common.{if◌then◌else◌, ◌==◌, sum_by, arith, eq-eqb}
+use Rattle.std.proofs.Common.{not, if◌then◌else◌, ◌==◌, sum_by, arith, eq-eqb}
 use Rattle.std.proofs.lemmas.Bool.{cases_eq, ne_eqb}
 use Rattle.std.proofs.lemmas.List.Sums.{sum_by_push}
 use Rattle.base.specs.declared.ids.CacheId.{CacheId}
@@ -35,13 +35,17 @@ tag-here a t tags = ap (λ (u : Bool). if u then t else tags a) (eq-eqb a a refl
 pub tag-elsewhere : (a : ℕ) (t : Bool) (tags : ℕ → Bool) (c : ℕ) → c ≢ a → tag_at a t tags c ≡ tags c
 tag-elsewhere a t tags c ne = ap (λ (u : Bool). if u then t else tags c) (ne_eqb c a ne)
 
+pub or-false : (t : Bool) → t || false ≡ t
+or-false true = refl
+or-false false = refl
+
+pub not-twice : (t : Bool) → not (not t) ≡ t
+not-twice true = refl
+not-twice false = refl
+
 -- where there is one there isn't none
 pub or-some : (t : Bool) (n m : ℕ) → n ≡ m + 1 → t || (n == 0) ≡ t
 or-some t n m e = ap (λ (u : Bool). t || u) (ne_eqb n 0 (λ z. absurd (omega (arith, e, z)))) ∙ or-false t
-  where
-    or-false : (t : Bool) → t || false ≡ t
-    or-false true = refl
-    or-false false = refl
 
 -- REQUESTS
 -- a request that is sent counts for its sender

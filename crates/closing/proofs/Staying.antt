@@ -1,4 +1,4 @@
--- Lemma 2 for each decision: the links of the caches that don't act keep what they name.
+-- By each decision the links of the caches that don't act keep what they name.
 use Rattle.std.proofs.Common.{◌≡◌, ◌≢◌, ℕ, List, refl, sym, subst, ◌∙◌}
 use Rattle.network.specs.declared.message.Forward.{Forward}
 use Rattle.network.specs.Traffic.{Traffic, link, all_sent}
@@ -53,7 +53,7 @@ links-grow a x (AtHome (home_input.Request r) next actions from) b h ne =
     (subst (λ (n : ℕ). EachNames n (home_sends input actions b.home)) h.0 (home-names r.from (brought_by input) actions b.home)))
 links-grow a x (AtHome (home_input.Data value) next actions from) b h ne = absurd h
 
--- LEMMA 2
+-- so what they name stays
 pub names-stay : (a : ℕ) (d : Decision) (b : BlockState) (after : Tags) → ActsFor a d → (x y : ℕ) → x ≢ a → y ≢ a →
     names_on (carried_out d b).block x y ≡ lengthened (side after (carried_out d b).block x).link (names_on b x y)
 names-stay a d b after h x y x_other y_other =

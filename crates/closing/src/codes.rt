@@ -2,20 +2,24 @@
 
 ghost use Rattle.std.specs.Prelude.{◌<◌};
 
-use cache_table::CacheState;
-use directory_table::DirectoryState;
+use base::controller::Listed;
 use network::ForwardKind;
 use pairs::{Link, Marks, Owned, Pair, Shared, Side, Waiting};
 
 /// A number with a few more bits behind its own.
-fn with(code: u128, bits: u32, more: u8) -> u128
+fn with(code: u128, bits: u32, more: u128) -> u128
     requires { bits < 128 }
 {
-    (code << bits) | u128::from(more)
+    (code << bits) | more
+}
+
+/// Where a state stands among its kind: there are at most 12.
+fn place_of<S: Listed>(state: S) -> u128 {
+    state.number() as u128
 }
 
 fn with_flag(code: u128, flag: bool) -> u128 {
-    with(code, 1, u8::from(flag))
+    with(code, 1, u128::from(flag))
 }
 
 /// The number of what all caches see and of one of them.
@@ -33,22 +37,22 @@ pub(crate) fn pair_code(pair: &Pair) -> u128 {
 }
 
 fn shared_code(code: u128, shared: &Shared) -> u128 {
-    let mut code = with(code, 3, home_number(shared.home));
+    let mut code = with(code, 3, place_of(shared.home));
     code = with_flag(code, shared.fresh_memory);
-    code = with(code, 2, shared.home_data);
+    code = with(code, 2, u128::from(shared.home_data));
     with_flag(code, shared.fresh_home_data)
 }
 
 fn side_code(code: u128, side: &Side) -> u128 {
-    let mut code = with(code, 4, state_number(side.state));
+    let mut code = with(code, 4, place_of(side.state));
     code = with(code, 2, waiting_number(side.waits));
     code = with_flag(code, side.fresh);
     for count in [side.gets, side.getm, side.puts, side.putm] {
-        code = with(code, 2, count);
+        code = with(code, 2, u128::from(count));
     }
     code = with_flag(code, side.fresh_putm);
     for count in [side.dir_data, side.owner_data, side.excl_data] {
-        code = with(code, 2, count);
+        code = with(code, 2, u128::from(count));
     }
     for flag in [
         side.fresh_data,
@@ -59,14 +63,14 @@ fn side_code(code: u128, side: &Side) -> u128 {
     ] {
         code = with_flag(code, flag);
     }
-    code = with(code, 2, side.fwd_gets);
-    code = with(code, 2, side.fwd_getm);
+    code = with(code, 2, u128::from(side.fwd_gets));
+    code = with(code, 2, u128::from(side.fwd_getm));
     code = with(code, 2, owned_number(side.owned));
     link_code(code, &side.link)
 }
 
 fn link_code(code: u128, link: &Link) -> u128 {
-    let mut code = with(code, 2, link.len());
+    let mut code = with(code, 2, u128::from(link.len()));
     let mut rest = *link;
     for _ in 0..3 {
         if let Some(place) = rest.head() {
@@ -92,33 +96,7 @@ fn marks_code(code: u128, marks: &Marks) -> u128 {
     code
 }
 
-fn state_number(state: CacheState) -> u8 {
-    match state {
-        CacheState::I => 0,
-        CacheState::IsD => 1,
-        CacheState::ImAd => 2,
-        CacheState::ImA => 3,
-        CacheState::S => 4,
-        CacheState::SmAd => 5,
-        CacheState::SmA => 6,
-        CacheState::M => 7,
-        CacheState::MiA => 8,
-        CacheState::SiA => 9,
-        CacheState::IiA => 10,
-        CacheState::E => 11,
-    }
-}
-
-fn home_number(state: DirectoryState) -> u8 {
-    match state {
-        DirectoryState::I => 0,
-        DirectoryState::S => 1,
-        DirectoryState::M => 2,
-        DirectoryState::SD => 3,
-    }
-}
-
-fn waiting_number(waits: Option<Waiting>) -> u8 {
+fn waiting_number(waits: Option<Waiting>) -> u128 {
     match waits {
         None => 0,
         Some(Waiting::Load) => 1,
@@ -126,7 +104,7 @@ fn waiting_number(waits: Option<Waiting>) -> u8 {
     }
 }
 
-fn owned_number(owned: Owned) -> u8 {
+fn owned_number(owned: Owned) -> u128 {
     match owned {
         Owned::ByNobody => 0,
         Owned::ByItself => 1,
@@ -134,7 +112,7 @@ fn owned_number(owned: Owned) -> u8 {
     }
 }
 
-fn kind_number(kind: ForwardKind) -> u8 {
+fn kind_number(kind: ForwardKind) -> u128 {
     match kind {
         ForwardKind::FwdGetS => 0,
         ForwardKind::FwdGetM => 1,

@@ -15,7 +15,5 @@ mod listing;
 mod numbering;
 
 pub use checking::is_closed;
-pub use following::{Breach, Followed};
 pub use gathering::{MOST_PAIRS, Refusal, gather};
 pub use laws::closed_tables_are_safe;
-pub use numbering::{Numbers, Span, View};
