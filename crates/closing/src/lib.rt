@@ -6,6 +6,7 @@
 
 mod checking;
 mod codes;
+mod deciding;
 mod following;
 mod gathering;
 mod glueing;
@@ -15,5 +16,6 @@ mod listing;
 mod numbering;
 
 pub use checking::is_closed;
+pub use deciding::closed_pairs;
 pub use gathering::{MOST_PAIRS, Refusal, gather};
 pub use laws::closed_tables_are_safe;
