@@ -29,14 +29,14 @@ pub(crate) fn print_refusal<O: Write + Drop>(
     format: Format,
     printer: &mut Printer<O>,
 ) {
-    let obstacle = obstacle(tables, refusal);
+    let obstacle = obstacle_of(tables, refusal);
     print_what(tables, &obstacle, format, printer);
     if let Some(pair) = &obstacle.pair {
         print_pair(pair, format, printer);
     }
 }
 
-fn obstacle(tables: &Tables, refusal: &Refusal) -> Obstacle {
+fn obstacle_of(tables: &Tables, refusal: &Refusal) -> Obstacle {
     let (what, cell, pair) = match refusal {
         Refusal::NoMemory => ("no memory", None, None),
         Refusal::NotClosed => ("the pairs aren't closed", None, None),
