@@ -7,15 +7,12 @@ use Rattle.machine.specs.Block.{BlockState, IsBlockAmong}
 use Rattle.pairs.specs.declared.pair.Pair.{Pair}
 use Rattle.pairs.specs.Pairs.{fits}
 use Rattle.pairs.specs.declared.steps.Party.{Party}
-use Rattle.pairs.specs.declared.steps.Sight.{Sight}
 use Rattle.pairs.specs.declared.steps.Party.TheVariants.{Nobody, First, Second, Third}
-use Rattle.pairs.specs.declared.steps.Sight.TheVariants.{Unmoved, Lost, Spoilt, Seen}
-use Rattle.pairs.specs.Sights.{sight, home_data_seen}
 use Rattle.closing.specs.declared.ranked.Order.{Order}
 use Rattle.closing.specs.declared.ranked.Order.TheVariants.{Unknown, Before, After}
 use Rattle.closing.specs.declared.ranked.RankedPair.{RankedPair}
 use Rattle.closing.specs.Closed.{glued}
-use Rattle.closing.specs.Ranked.{turned, turned_pair, is_open, ranked, is_request, order_after, LeadsTo, Ranked}
+use Rattle.closing.specs.Ranked.{turned, turned_pair, is_open, ranked, is_request, order_after, Sees, LeadsTo, Ranked}
 use Rattle.closing.proofs.Alpha.{Tags, alpha}
 use Rattle.closing.proofs.AlphaFits.{alpha-fits}
 use Rattle.closing.proofs.Simulation.{role, Moves, HomeMoves}
@@ -95,16 +92,12 @@ placed-as list times p c d o has so = record {
   so = kept-so (is_open p.first && is_open p.second) o (times c) (times d) so;
 }
 
--- what is seen and doesn't concern a third cache is among them
-leads-in : (list : List RankedPair) (o : Order) (concerned : Party) (p : Pair) (s : Sight) → LeadsTo list o s → s ≡ Seen concerned p → concerned ≢ Third →
-    Contains list (ranked p o)
-leads-in list o concerned p s h e ne = at concerned (subst (λ (s : Sight). LeadsTo list o s) e h) ne
-  where
-    at : (concerned : Party) → LeadsTo list o (Seen concerned p) → concerned ≢ Third → Contains list (ranked p o)
-    at Nobody h ne = h
-    at First h ne = h
-    at Second h ne = h
-    at Third h ne = absurd (ne refl)
+-- what doesn't concern a third cache is among them
+leads-in : (list : List RankedPair) (concerned : Party) (r : RankedPair) → LeadsTo list concerned r → concerned ≢ Third → Contains list r
+leads-in list Nobody r h ne = h
+leads-in list First r h ne = h
+leads-in list Second r h ne = h
+leads-in list Third r h ne = absurd (ne refl)
 
 module _ (tables : Tables) (list : List RankedPair) (caches : ℕ) (tags : Tags) (b new : BlockState) (ranks : Ranked tables list) (served : Served list tags b) where
   -- STEPS OF A CACHE
@@ -115,6 +108,12 @@ module _ (tables : Tables) (list : List RankedPair) (caches : ℕ) (tags : Tags)
     abbrev before : (c d : ℕ) → c ≢ d → RankedPair
     before c d ne = record { pair = alpha tags b c d; order = (served.placed c d ne).order }
 
+    -- a sight, by whom it concerns
+    sees-as : (x : ℕ) (one other : Party) → one ≡ other → Sees tables m.rule (alpha tags b m.actor x) one (alpha m.after new m.actor x) →
+        Sees tables m.rule (alpha tags b m.actor x) other (alpha m.after new m.actor x)
+    sees-as x one other same h =
+        subst (λ (p : Party). Sees tables m.rule (alpha tags b m.actor x) p (alpha m.after new m.actor x)) same h
+
     -- the one that acts, and another one
     actors-there : (d : ℕ) (ne : m.actor ≢ d) → Contains list (ranked (alpha m.after new m.actor d) (order_after m.rule (served.placed m.actor d ne).order))
     actors-there d ne = at m.besides refl
@@ -124,9 +123,9 @@ module _ (tables : Tables) (list : List RankedPair) (caches : ℕ) (tags : Tags)
 
         stays : role m.besides d ≢ Third → Contains list (ranked (alpha m.after new m.actor d) (order_after m.rule (served.placed m.actor d ne).order))
         stays not_third =
-            leads-in list (order_after m.rule (served.placed m.actor d ne).order) (role m.besides d) (alpha m.after new m.actor d)
-            (sight tables m.rule (m.sees d other).0 (alpha tags b m.actor d))
-            (ranks.steps (before m.actor d ne) m.rule (m.sees d other).0 (served.placed m.actor d ne).there) (m.sees d other).1 not_third
+            leads-in list (role m.besides d) (ranked (alpha m.after new m.actor d) (order_after m.rule (served.placed m.actor d ne).order))
+            (ranks.steps (before m.actor d ne) m.rule (role m.besides d) (alpha m.after new m.actor d) (served.placed m.actor d ne).there (m.sees d other))
+            not_third
 
         at : (besides : Option ℕ) → m.besides ≡ besides →
             Contains list (ranked (alpha m.after new m.actor d) (order_after m.rule (served.placed m.actor d ne).order))
@@ -137,11 +136,11 @@ module _ (tables : Tables) (list : List RankedPair) (caches : ℕ) (tags : Tags)
               | inr differ ↦
                   let apart : x ≢ m.actor = m.apart x e in
                   let ne_x : m.actor ≢ x = λ s. apart (sym s) in
-                  ranks.unconcerned (before m.actor x ne_x) (before m.actor d ne) (before x d differ) m.rule (m.sees x apart).0 (m.sees d other).0
+                  ranks.unconcerned (before m.actor x ne_x) (before m.actor d ne) (before x d differ) m.rule
                   (alpha m.after new m.actor x) (alpha m.after new m.actor d) (served.placed m.actor x ne_x).there (served.placed m.actor d ne).there
                   (served.placed x d differ).there (alpha-meet tags b m.actor x d differ)
-                  ((m.sees x apart).1 ∙ ap (λ (p : Party). Seen p (alpha m.after new m.actor x)) (ap (λ o. role o x) e ∙ role-there x))
-                  ((m.sees d other).1 ∙ ap (λ (p : Party). Seen p (alpha m.after new m.actor d)) (ap (λ o. role o d) e ∙ role-elsewhere x d differ)) refl refl
+                  (sees-as x (role m.besides x) Second (ap (λ o. role o x) e ∙ role-there x) (m.sees x apart))
+                  (sees-as d (role m.besides d) Third (ap (λ o. role o d) e ∙ role-elsewhere x d differ) (m.sees d other)) refl refl
             ]
 
     actors-placed : (d : ℕ) → m.actor ≢ d → Placed list times_after (alpha m.after new m.actor d) m.actor d
@@ -166,10 +165,10 @@ module _ (tables : Tables) (list : List RankedPair) (caches : ℕ) (tags : Tags)
         glued-is tables tags b new m c d c_other d_other in
         placed-as list times_after (alpha m.after new c d) c d old
         (subst (λ (p : Pair). Contains list (ranked p old)) same
-        (ranks.glue (before m.actor c ac) (before m.actor d ad) (before c d ne) m.rule (m.sees c c_other).0 (m.sees d d_other).0
+        (ranks.glue (before m.actor c ac) (before m.actor d ad) (before c d ne) m.rule
         (role m.besides c) (role m.besides d) (alpha m.after new m.actor c) (alpha m.after new m.actor d) (served.placed m.actor c ac).there
-        (served.placed m.actor d ad).there (served.placed c d ne).there (alpha-meet tags b m.actor c d ne) (roles-alike m.besides c d ne) (m.sees c c_other).1
-        (m.sees d d_other).1 refl refl (subst (λ (p : Pair). fits p ≡ true) (sym same) (alpha-fits caches m.after new c d whole ne))))
+        (served.placed m.actor d ad).there (served.placed c d ne).there (alpha-meet tags b m.actor c d ne) (roles-alike m.besides c d ne) (m.sees c c_other)
+        (m.sees d d_other) refl refl (subst (λ (p : Pair). fits p ≡ true) (sym same) (alpha-fits caches m.after new c d whole ne))))
         (others-so (is_request m.rule) old m.actor c d served.clock served.times c_other d_other (served.placed c d ne).so)
 
     all-placed : (c d : ℕ) → c ≢ d → Placed list times_after (alpha m.after new c d) c d
@@ -201,6 +200,5 @@ module _ (tables : Tables) (list : List RankedPair) (caches : ℕ) (tags : Tags)
     placed = λ c d ne.
         let old : Placed list served.times (alpha tags b c d) c d = served.placed c d ne in
         placed-as list served.times (alpha m.after new c d) c d old.order
-        (leads-in list old.order Nobody (alpha m.after new c d) (home_data_seen tables (m.sees c d ne).0 (alpha tags b c d))
-        (ranks.home_data (record { pair = alpha tags b c d; order = old.order }) (m.sees c d ne).0 old.there) (m.sees c d ne).1 nobody-third) old.so;
+        (ranks.home_data (record { pair = alpha tags b c d; order = old.order }) Nobody (alpha m.after new c d) old.there (m.sees c d ne)) old.so;
   }

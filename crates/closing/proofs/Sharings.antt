@@ -15,12 +15,9 @@ use Rattle.machine.proofs.Seen.{is_fwd_gets, of_kind, home_data}
 use Rattle.pairs.specs.declared.pair.Pair.{Pair}
 use Rattle.pairs.specs.Pairs.{same_kind}
 use Rattle.pairs.specs.declared.steps.Party.{Party}
-use Rattle.pairs.specs.declared.steps.Sight.{Sight}
 use Rattle.pairs.specs.declared.steps.Party.TheVariants.{Nobody, First, Second, Third}
-use Rattle.pairs.specs.declared.steps.Sight.TheVariants.{Seen}
-use Rattle.pairs.specs.Sights.{sight, home_data_seen}
 use Rattle.closing.specs.declared.ranked.RankedPair.{RankedPair}
-use Rattle.closing.specs.Ranked.{Balanced, IsBalanced, KeepsBalance, sharings_on, awaited}
+use Rattle.closing.specs.Ranked.{Balanced, KeepsBalance, sharings_on, awaited}
 use Rattle.closing.proofs.Alpha.{Tags, alpha, side}
 use Rattle.closing.proofs.AlphaFits.{places}
 use Rattle.closing.proofs.Simulation.{role, Moves, HomeMoves, next-other}
@@ -88,9 +85,6 @@ sharings-seen tags b c = sharings-sum c (link b.traffic c)
 abbrev pub IsLevel : BlockState → Type 0
 IsLevel b = sum_by home_data b.traffic.responses + total (of_kind is_fwd_gets) b.traffic.links ≡ awaited b.home.state
 
-balanced-seen : (concerned : Party) (p q : Pair) (s : Sight) → IsBalanced p s → s ≡ Seen concerned q → KeepsBalance concerned p q
-balanced-seen concerned p q s h e = subst (λ (s : Sight). IsBalanced p s) e h
-
 module _ (tables : Tables) (list : List RankedPair) (caches : ℕ) (tags : Tags) (b new : BlockState) (balanced : Balanced tables list)
     (served : Served list tags b) (level : IsLevel b) (few : IsBlockAmong caches b) (few_new : IsBlockAmong caches new) where
   abbrev on : ℕ → ℕ
@@ -106,9 +100,8 @@ module _ (tables : Tables) (list : List RankedPair) (caches : ℕ) (tags : Tags)
     step-kept : (x : ℕ) (ne : x ≢ m.actor) → KeepsBalance (role m.besides x) (alpha tags b m.actor x) (alpha m.after new m.actor x)
     step-kept x ne =
         let placed = served.placed m.actor x (λ e. ne (sym e)) in
-        balanced-seen (role m.besides x) (alpha tags b m.actor x) (alpha m.after new m.actor x)
-        (sight tables m.rule (m.sees x ne).0 (alpha tags b m.actor x))
-        (balanced.steps (record { pair = alpha tags b m.actor x; order = placed.order }) m.rule (m.sees x ne).0 placed.there) (m.sees x ne).1
+        balanced.steps (record { pair = alpha tags b m.actor x; order = placed.order }) m.rule (role m.besides x) (alpha m.after new m.actor x) placed.there
+        (m.sees x ne)
 
     abbrev keeps_as : Party → ℕ → Type 0
     keeps_as concerned x = KeepsBalance concerned (alpha tags b m.actor x) (alpha m.after new m.actor x)
@@ -157,8 +150,7 @@ module _ (tables : Tables) (list : List RankedPair) (caches : ℕ) (tags : Tags)
     home-kept : (c d : ℕ) (ne : c ≢ d) → KeepsBalance Nobody (alpha tags b c d) (alpha m.after new c d)
     home-kept c d ne =
         let placed = served.placed c d ne in
-        balanced-seen Nobody (alpha tags b c d) (alpha m.after new c d) (home_data_seen tables (m.sees c d ne).0 (alpha tags b c d))
-        (balanced.home_data (record { pair = alpha tags b c d; order = placed.order }) (m.sees c d ne).0 placed.there) (m.sees c d ne).1
+        balanced.home_data (record { pair = alpha tags b c d; order = placed.order }) Nobody (alpha m.after new c d) placed.there (m.sees c d ne)
 
     second-kept : (d : ℕ) → on_new d ≡ on d
     second-kept d =

@@ -11,7 +11,6 @@ use Rattle.pairs.specs.Pairs.{swapped, opened_pair, fits, data_to, same_kind}
 use Rattle.pairs.specs.declared.steps.Party.{Party}
 use Rattle.pairs.specs.declared.steps.Rule.{Rule}
 use Rattle.pairs.specs.declared.steps.Rule.TheVariants.{SentGetS, SentGetM, SentPutS, SentPutM}
-use Rattle.pairs.specs.declared.steps.Sight.{Sight}
 use Rattle.pairs.specs.declared.steps.Party.TheVariants.{Nobody, Second, Third}
 use Rattle.pairs.specs.declared.steps.Sight.TheVariants.{Seen}
 use Rattle.pairs.specs.Sights.{sight, home_data_seen}
@@ -57,23 +56,32 @@ is_request other = false
 abbrev pub order_after : Rule → Order → Order
 order_after rule order = if is_request rule then After else order
 
--- what comes of a pair is one of these, in this order; where the step concerns a third cache, that cache's own pair is looked at
-abbrev pub LeadsTo : List RankedPair → Order → Sight → Type 0
-LeadsTo list order (Seen Third p) = Unit {0}
-LeadsTo list order (Seen concerned p) = Contains list (ranked p order)
-LeadsTo list order other = Unit {0}
+-- a step of a pair's first cache by a rule may lead to another pair, and concern this cache besides
+abbrev pub Sees : Tables → Rule → Pair → Party → Pair → Type 0
+Sees tables rule p concerned q = (t : Bool) × (sight tables rule t p ≡ Seen concerned q)
+
+-- and so may Data that comes to the home
+abbrev pub SeesAtHome : Tables → Pair → Party → Pair → Type 0
+SeesAtHome tables p concerned q = (t : Bool) × (home_data_seen tables t p ≡ Seen concerned q)
+
+-- what comes of a pair is one of these; where the step concerns a third cache, that cache's own pair is looked at
+abbrev pub LeadsTo : List RankedPair → Party → RankedPair → Type 0
+LeadsTo list Third r = Unit {0}
+LeadsTo list concerned r = Contains list r
 
 -- no step of the pairs' first cache, of a third one or of the home leaves these
 pub record Ranked (tables : Tables) (list : List RankedPair) : Type 0 where
   pub opened : Contains list opened_ranked
   pub turned : (r : RankedPair) → Contains list r → Contains list (turned_pair r)
-  pub steps : (r : RankedPair) (rule : Rule) (t : Bool) → Contains list r → LeadsTo list (order_after rule r.order) (sight tables rule t r.pair)
-  pub home_data : (r : RankedPair) (t : Bool) → Contains list r → LeadsTo list r.order (home_data_seen tables t r.pair)
-  pub unconcerned : (p q r : RankedPair) (rule : Rule) (t u : Bool) (p2 q2 : Pair) → Contains list p → Contains list q → Contains list r →
-      Meet p.pair q.pair r.pair → sight tables rule t p.pair ≡ Seen Second p2 → sight tables rule u q.pair ≡ Seen Third q2 → p2.shared ≡ q2.shared →
+  pub steps : (r : RankedPair) (rule : Rule) (concerned : Party) (q : Pair) → Contains list r → Sees tables rule r.pair concerned q →
+      LeadsTo list concerned (ranked q (order_after rule r.order))
+  pub home_data : (r : RankedPair) (concerned : Party) (q : Pair) → Contains list r → SeesAtHome tables r.pair concerned q →
+      LeadsTo list concerned (ranked q r.order)
+  pub unconcerned : (p q r : RankedPair) (rule : Rule) (p2 q2 : Pair) → Contains list p → Contains list q → Contains list r →
+      Meet p.pair q.pair r.pair → Sees tables rule p.pair Second p2 → Sees tables rule q.pair Third q2 → p2.shared ≡ q2.shared →
       p2.first ≡ q2.first → Contains list (ranked q2 (order_after rule q.order))
-  pub glue : (p q r : RankedPair) (rule : Rule) (t u : Bool) (one other : Party) (p2 q2 : Pair) → Contains list p → Contains list q → Contains list r →
-      Meet p.pair q.pair r.pair → AreAlike one other → sight tables rule t p.pair ≡ Seen one p2 → sight tables rule u q.pair ≡ Seen other q2 →
+  pub glue : (p q r : RankedPair) (rule : Rule) (one other : Party) (p2 q2 : Pair) → Contains list p → Contains list q → Contains list r →
+      Meet p.pair q.pair r.pair → AreAlike one other → Sees tables rule p.pair one p2 → Sees tables rule q.pair other q2 →
       p2.shared ≡ q2.shared → p2.first ≡ q2.first → IsTrue (fits (glued p2 q2 r.pair)) → Contains list (ranked (glued p2 q2 r.pair) r.order)
 
 -- for how many Data of its last owner a home waits
@@ -97,11 +105,8 @@ KeepsBalance concerned p q =
     q.shared.home_data + sharings_on q.first.link + sharings_on q.second.link + awaited p.shared.home ≡
     p.shared.home_data + sharings_on p.first.link + sharings_on p.second.link + awaited q.shared.home
 
-abbrev pub IsBalanced : Pair → Sight → Type 0
-IsBalanced p (Seen concerned q) = KeepsBalance concerned p q
-IsBalanced p other = Unit {0}
-
 -- in each step of these pairs
 pub record Balanced (tables : Tables) (list : List RankedPair) : Type 0 where
-  pub steps : (r : RankedPair) (rule : Rule) (t : Bool) → Contains list r → IsBalanced r.pair (sight tables rule t r.pair)
-  pub home_data : (r : RankedPair) (t : Bool) → Contains list r → IsBalanced r.pair (home_data_seen tables t r.pair)
+  pub steps : (r : RankedPair) (rule : Rule) (concerned : Party) (q : Pair) → Contains list r → Sees tables rule r.pair concerned q →
+      KeepsBalance concerned r.pair q
+  pub home_data : (r : RankedPair) (concerned : Party) (q : Pair) → Contains list r → SeesAtHome tables r.pair concerned q → KeepsBalance concerned r.pair q

@@ -6,7 +6,7 @@ ghost use Rattle.pairs.specs.Pairs.{is_few};
 ghost use Rattle.pairs.specs.Sights.{home_data_seen};
 ghost use Rattle.closing.specs.declared.following.Followed.{Followed};
 ghost use Rattle.closing.specs.Ranked as ranks;
-ghost use Rattle.closing.specs.inner.RankedTold.{ArePairsOf, AreRankedSound, AreRankedTold, IsRankedBy, IsRankedSound, LeadsRanked};
+ghost use Rattle.closing.specs.inner.RankedTold.{ArePairsOf, AreRankedSound, AreRankedTold, IsRankedBy, IsRankedSound, LeadsRanked, StaysRanked};
 
 use crate::following::{Breach, Followed, steps_of};
 use crate::numbering::Numbers;
@@ -84,8 +84,7 @@ fn home_stays(
 ) -> bool
     requires few { is_few ranked.now.pair ≡ true }
     requires marked { IsMarked ranked.now.pair }
-    ensures { IsTrue result → (t : Bool) → ranks.LeadsTo list.now ranked.now.order (home_data_seen tables.now t ranked.now.pair) ×
-        ranks.IsBalanced ranked.now.pair (home_data_seen tables.now t ranked.now.pair) }
+    ensures { IsTrue result → (t : Bool) → StaysRanked list.now ranked.now (home_data_seen tables.now t ranked.now.pair) }
 {
     stays(
         list,
@@ -102,7 +101,7 @@ fn home_stays(
 
 /// Whether what is seen from a ranked pair by Data at the home is among these, and keeps the balance.
 fn stays(list: &[RankedPair], index: &RankedIndex, ranked: &RankedPair, sight: &Sight) -> bool
-    ensures { IsTrue result → ranks.LeadsTo list.now ranked.now.order sight.now × ranks.IsBalanced ranked.now.pair sight.now }
+    ensures { IsTrue result → StaysRanked list.now ranked.now sight.now }
 {
     match sight {
         Sight::Unmoved | Sight::Lost | Sight::Spoilt(_) => true,

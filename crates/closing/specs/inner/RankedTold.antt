@@ -5,6 +5,7 @@ use Rattle.both_tables.specs.Tables.{Tables}
 use Rattle.pairs.specs.declared.pair.Pair.{Pair}
 use Rattle.pairs.specs.declared.steps.Party.{Party}
 use Rattle.pairs.specs.declared.steps.Party.TheVariants.{Second, Third}
+use Rattle.pairs.specs.declared.steps.Sight.{Sight}
 use Rattle.pairs.specs.declared.steps.Sight.TheVariants.{Seen}
 use Rattle.pairs.specs.Marking.{IsMarked}
 use Rattle.pairs.specs.Pairs.{fits, is_few}
@@ -14,7 +15,7 @@ use Rattle.closing.specs.declared.numbering.Numbers.{Numbers}
 use Rattle.closing.specs.declared.numbering.Span.{Span}
 use Rattle.closing.specs.declared.ranked.RankedPair.{RankedPair}
 use Rattle.closing.specs.Closed.{AreAlike, are_apart, glued}
-use Rattle.closing.specs.Ranked.{ranked, turned_pair, order_after, LeadsTo, KeepsBalance, IsBalanced}
+use Rattle.closing.specs.Ranked.{ranked, turned_pair, order_after, LeadsTo, KeepsBalance}
 use Rattle.closing.specs.inner.Told.{AreOne, TellsAll}
 
 -- these are the pairs of that list, place by place
@@ -23,7 +24,7 @@ ArePairsOf list pairs = (k : ℕ) (r : RankedPair) → slice_get list k ≡ Some
 
 -- where a step concerns no third cache, it leads to one of these; and it is balanced
 pub record LeadsRanked (list : List RankedPair) (r : RankedPair) (f : Followed) : Type 0 where
-  pub leads : LeadsTo list (order_after f.rule r.order) (Seen f.concerned f.after)
+  pub leads : LeadsTo list f.concerned (ranked f.after (order_after f.rule r.order))
   pub balanced : KeepsBalance f.concerned r.pair f.after
 
 -- the pair of the cache that a step doesn't concern is one of these, where the other one is concerned
@@ -63,13 +64,17 @@ GluesRankedAt list numbers steps place =
     slice_get numbers.spans.items m ≡ Some between →
     (j : ℕ) → beside.begin ≤ j → j < beside.end → GluesRankedWith list numbers.seconds.items steps p mine.items between j
 
+-- what is seen from a ranked pair where Data comes to the home is one of these, and balanced
+abbrev pub StaysRanked : List RankedPair → RankedPair → Sight → Type 0
+StaysRanked list r (Seen concerned q) = LeadsTo list concerned (ranked q r.order) × KeepsBalance concerned r.pair q
+StaysRanked list r other = Unit {0}
+
 -- each ranked pair is followed, stands here in the other order too, and stays where Data comes to the home
 pub record IsRankedSound (tables : Tables) (list : List RankedPair) (r : RankedPair) : Type 0 where
   pub few : is_few r.pair ≡ true
   pub marked : IsMarked r.pair
   pub turned : Contains list (turned_pair r)
-  pub home_data : (t : Bool) → LeadsTo list r.order (home_data_seen tables t r.pair)
-  pub balanced : (t : Bool) → IsBalanced r.pair (home_data_seen tables t r.pair)
+  pub home_data : (t : Bool) → StaysRanked list r (home_data_seen tables t r.pair)
 
 abbrev pub AreRankedSound : Tables → List RankedPair → Type 0
 AreRankedSound tables list = (k : ℕ) (r : RankedPair) → slice_get list k ≡ Some r → IsRankedSound tables list r

@@ -10,6 +10,5 @@ returns c = λ all.
       few = sym c.is_few.ensures ∙ c.if-not-is_few.false;
       marked = c.is_marked.ensures.0 c.if-not-is_marked.false;
       turned = subst (λ (r : RankedPair). Contains c.args.list.now r) c.turned.ensures (c.is_listed.ensures each.0);
-      home_data = λ t. (c.home_stays.ensures each.1 t).0;
-      balanced = λ t. (c.home_stays.ensures each.1 t).1;
+      home_data = c.home_stays.ensures each.1;
     }
