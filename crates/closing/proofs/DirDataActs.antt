@@ -86,7 +86,7 @@ module _ (tables : Tables) (caches : ℕ) (tags : Tags) (b : BlockState) (cache 
       (faithful.owed a)
 
   -- so the event is what the pair says
-  same-event : (if owed then event.DataDirMore else event.DataDirZero) ≡ event_at_line line.acks (line_input.Response r)
+  pub same-event : (if owed then event.DataDirMore else event.DataDirZero) ≡ event_at_line line.acks (line_input.Response r)
   same-event =
       if-not (owed_to b a == 0) event.DataDirMore event.DataDirZero
       ∙ ap (λ k. if is_count k 0 then event.DataDirZero else event.DataDirMore) (sym awaited)
