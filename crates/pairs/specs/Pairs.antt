@@ -7,6 +7,7 @@ use Rattle.directory_table.specs.declared.state.DirectoryState.TheVariants as ho
 use Rattle.pairs.specs.declared.link.LinkPlace.{LinkPlace}
 use Rattle.pairs.specs.declared.side.Owned.{Owned}
 use Rattle.pairs.specs.declared.side.Owned.TheVariants.{ByNobody, ByItself, ByAnother}
+use Rattle.pairs.specs.declared.side.Lag.TheVariants.{Level}
 use Rattle.pairs.specs.declared.side.Side.{Side}
 use Rattle.pairs.specs.declared.pair.Shared.{Shared}
 use Rattle.pairs.specs.declared.pair.Pair.{Pair}
@@ -32,6 +33,7 @@ opened_side = record {
   fresh_data = true;
   low = true;
   owed = false;
+  lag = Level;
   fwd_gets = 0;
   fwd_getm = 0;
   link = [];

@@ -1,5 +1,6 @@
 ghost use Rattle.std.specs.Prelude.{◌≡◌};
 ghost use Rattle.pairs.specs.Pairs.{owners_fit};
+ghost use Rattle.pairs.specs.Sights.{awaited, shifted, still_owed};
 
 use crate::link::Link;
 use crate::marks::Marks;
@@ -20,6 +21,17 @@ pub enum Owned {
     ByNobody,
     ByItself,
     ByAnother,
+}
+
+/// How many Inv-Acks a cache awaits, in its line and by Data from the home that announce them, beside how many are owed to it.
+#[derive(Clone, Copy, PartialEq, Eq, Debug)]
+pub enum Lag {
+    /// Fewer are awaited than are owed.
+    Behind,
+    /// As many.
+    Level,
+    /// More are awaited.
+    Ahead,
 }
 
 /// What concerns one cache. What is fresh is known to be the value of the block's last store; of what isn't nothing is
@@ -49,6 +61,8 @@ pub struct Side {
     pub low: bool,
     /// Whether an Inv names the cache, or an Inv-Ack is on its way to it.
     pub owed: bool,
+    /// What is awaited beside what is owed.
+    pub lag: Lag,
     /// How many Fwd-GetS name the cache, on any link.
     pub fwd_gets: u8,
     /// How many Fwd-GetM name the cache, on any link.
@@ -72,6 +86,41 @@ impl Owned {
             | (Owned::ByAnother, Owned::ByAnother) => true,
             _ => false,
         }
+    }
+}
+
+impl Lag {
+    /// The lag where it was moved by another one, if that tells.
+    pub(crate) fn moved(self, by: Lag) -> Option<Lag>
+        ensures { result ≡ shifted by self }
+    {
+        match (by, self) {
+            (Lag::Level, lag) => Some(lag),
+            (Lag::Behind, Lag::Ahead) | (Lag::Ahead, Lag::Behind) => None,
+            (Lag::Behind, _) => Some(Lag::Behind),
+            (Lag::Ahead, _) => Some(Lag::Ahead),
+        }
+    }
+
+    /// Whether acks are owed, where the lag was moved by this one, to a cache to whom they were owed before or not. Where
+    /// one is owed less, that is guessed.
+    pub(crate) fn leaves_owed(self, guess: bool, owed: bool) -> bool
+        ensures { result ≡ still_owed guess self owed }
+    {
+        match self {
+            Lag::Level => owed,
+            Lag::Ahead => guess,
+            Lag::Behind => true,
+        }
+    }
+
+    /// How many acks a line awaits to whom all are announced, if that is known: none, or fewer or more than none. Some are
+    /// still owed to it or not.
+    pub(crate) fn awaited(self, owed: bool) -> Option<Lag>
+        ensures { result ≡ awaited self owed }
+    {
+        let coming = if owed { Lag::Ahead } else { Lag::Level };
+        self.moved(coming)
     }
 }
 
@@ -100,6 +149,7 @@ impl Side {
             fresh_data: true,
             low: true,
             owed: false,
+            lag: Lag::Level,
             fwd_gets: 0,
             fwd_getm: 0,
             link: Link::empty(),
