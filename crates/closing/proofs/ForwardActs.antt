@@ -74,8 +74,8 @@ less-side true PutAck s gets getm link g m = same_forwards s _ _ _ _ _ _ (omega 
 less-side false kind s gets getm link g m = same_forwards s _ _ _ _ _ _ (omega (arith, g)) (omega (arith, m)) refl
 
 -- it stays few
-fewer : (n : ℕ) → nat_le n 1 ≡ true → nat_le (n - 1) 1 ≡ true
-fewer n e = le-leb (n - 1) 1 (omega (arith, leb-true n 1 e))
+fewer : (n : ℕ) → nat_le n 2 ≡ true → nat_le (n - 1) 2 ≡ true
+fewer n e = le-leb (n - 1) 2 (omega (arith, leb-true n 2 e))
 
 less-few : (t : Bool) (kind : ForwardKind) (s : Side) → is_few_side s ≡ true → is_few_side (less t kind s) ≡ true
 less-few false kind s few = few
@@ -85,13 +85,13 @@ less-few true FwdGetS s few =
     let link = both-true _ _ few in
     let getm = both-true _ _ link.0 in
     let gets = both-true _ _ getm.0 in
-    ap (λ (t : Bool). t && nat_le (s.fwd_gets - 1) 1 && nat_le s.fwd_getm 1 && nat_le (length s.link) 2) gets.0
-    ∙ ap (λ (t : Bool). t && nat_le s.fwd_getm 1 && nat_le (length s.link) 2) (fewer s.fwd_gets gets.1)
+    ap (λ (t : Bool). t && nat_le (s.fwd_gets - 1) 2 && nat_le s.fwd_getm 2 && nat_le (length s.link) 2) gets.0
+    ∙ ap (λ (t : Bool). t && nat_le s.fwd_getm 2 && nat_le (length s.link) 2) (fewer s.fwd_gets gets.1)
     ∙ ap (λ (t : Bool). t && nat_le (length s.link) 2) getm.1 ∙ link.1
 less-few true FwdGetM s few =
     let link = both-true _ _ few in
     let getm = both-true _ _ link.0 in
-    ap (λ (t : Bool). t && nat_le (s.fwd_getm - 1) 1 && nat_le (length s.link) 2) getm.0
+    ap (λ (t : Bool). t && nat_le (s.fwd_getm - 1) 2 && nat_le (length s.link) 2) getm.0
     ∙ ap (λ (t : Bool). t && nat_le (length s.link) 2) (fewer s.fwd_getm getm.1) ∙ link.1
 
 -- the requestor of a head is the party that it names

@@ -71,9 +71,9 @@ the-first s t u v x y h =
 few-datas : (s : Side) → is_few_side s ≡ true → s.dir_data ≤ 1
 few-datas s h =
     leb-true s.dir_data 1
-    (and-right (nat_le s.gets 1 && nat_le s.getm 1 && nat_le s.puts 1 && nat_le s.putm 1) (nat_le s.dir_data 1)
-    (the-first (nat_le s.gets 1 && nat_le s.getm 1 && nat_le s.puts 1 && nat_le s.putm 1 && nat_le s.dir_data 1) (nat_le s.owner_data 1)
-    (nat_le s.excl_data 1) (nat_le s.fwd_gets 1) (nat_le s.fwd_getm 1) (nat_le (length s.link) 2) h))
+    (and-right (nat_le s.gets 2 && nat_le s.getm 2 && nat_le s.puts 1 && nat_le s.putm 1) (nat_le s.dir_data 1)
+    (the-first (nat_le s.gets 2 && nat_le s.getm 2 && nat_le s.puts 1 && nat_le s.putm 1 && nat_le s.dir_data 1) (nat_le s.owner_data 1)
+    (nat_le s.excl_data 1) (nat_le s.fwd_gets 2) (nat_le s.fwd_getm 2) (nat_le (length s.link) 2) h))
 
 module _ (tables : Tables) (caches : ℕ) (tags : Tags) (b : BlockState) (index : ℕ) (r : Request) (few : caches ≤ 4294967296) (whole : IsBlockAmong caches b)
     (faithful : Faithful tags b) (e : Some r ≡ slice_get b.traffic.requests index) (value : Option Bool) (m : Matches value (value_in r.kind) b.latest)

@@ -212,8 +212,8 @@ impl Side {
 
     /// One more forward of this kind names the cache, if there is an owner whom it goes to.
     pub(crate) fn name(&mut self, owner: Party, kind: ForwardKind)
-        requires sharing { self.old.fwd_gets ≤ 1 }
-        requires handing { self.old.fwd_getm ≤ 1 }
+        requires sharing { self.old.fwd_gets ≤ 2 }
+        requires handing { self.old.fwd_getm ≤ 2 }
         ensures { self.new ≡ named owner kind self.old }
     {
         match (owner, kind) {
@@ -253,19 +253,20 @@ impl Side {
         self.trim();
     }
 
-    /// Whether there are few enough of each kind: at most one message, and two on the link.
+    /// Whether there are few enough of each kind: at most two that ask for the block, two that hand such an ask on, two on the
+    /// link, and one of each other.
     pub(crate) fn is_few(&self) -> bool
         ensures { result ≡ is_few_side self.now }
     {
-        self.gets <= 1
-            && self.getm <= 1
+        self.gets <= 2
+            && self.getm <= 2
             && self.puts <= 1
             && self.putm <= 1
             && self.dir_data <= 1
             && self.owner_data <= 1
             && self.excl_data <= 1
-            && self.fwd_gets <= 1
-            && self.fwd_getm <= 1
+            && self.fwd_gets <= 2
+            && self.fwd_getm <= 2
             && self.link.len() <= 2
     }
 
