@@ -1,5 +1,6 @@
 -- The pair that two caches of a block are, where some of its values are known to be the last store's.
-use Rattle.std.proofs.Common.{◌≡◌, ℕ, ◌+◌, List, ◌==◌, Option, Some, None, Bool, true, not, if◌then◌else◌, map, sum_by, All, nat_le, ◌≤◌, pos, ◌+ℤ◌}
+use Rattle.std.proofs.Common.{◌≡◌, ℕ, ◌+◌, List, ◌==◌, Option, Some, None, Bool, true, not, if◌then◌else◌, map, sum_by, All, nat_le, ◌≤◌, ℤ, pos, ◌+ℤ◌}
+use Rattle.std.specs.Int.Signed.{◌<ℤ◌}
 use Rattle.base.specs.declared.ids.CacheId.{CacheId}
 use Rattle.base.specs.declared.ids.Place.TheVariants.{Dir, Cache}
 use Rattle.base.specs.declared.step.Ask.{Ask}
@@ -19,19 +20,23 @@ use Rattle.machine.proofs.Counts.{total}
 use Rattle.machine.proofs.Seen.{line_of, late_of, from, names, is_gets, is_getm, is_puts, is_putm, is_fwd_gets, is_fwd_getm, is_inv, dir_data, owner_data}
 use Rattle.machine.proofs.Seen.{excl_data, home_data, inv_ack, ack_number}
 use Rattle.pairs.specs.declared.side.Owned.{Owned}
+use Rattle.pairs.specs.declared.side.Lag.{Lag}
+use Rattle.pairs.specs.declared.side.Lag.TheVariants.{Behind, Level, Ahead}
 use Rattle.pairs.specs.declared.side.Side.{Side}
 use Rattle.pairs.specs.declared.pair.Shared.{Shared}
 use Rattle.pairs.specs.declared.pair.Pair.{Pair}
 use Rattle.pairs.specs.declared.side.Owned.TheVariants.{ByNobody, ByItself, ByAnother}
 use Rattle.pairs.specs.Pairs.{trimmed, trimmed_home, is_few_side}
 
--- of each place of a value whether it is known to be the last store's: lines, all Data to a cache, all PutM from it, all Data to the home, and memory
+-- of each place of a value whether it is known to be the last store's: lines, all Data to a cache, all PutM from it, all Data to the home, and memory. And of
+-- each cache what it awaits beside what is owed to it
 pub record Tags : Type 0 where
   pub line : ℕ → Bool
   pub data_to : ℕ → Bool
   pub putm : ℕ → Bool
   pub home_data : Bool
   pub memory : Bool
+  pub lag : ℕ → Lag
 
 -- the access that waits
 abbrev pub waiting_of : Option Ask → Option Waiting
@@ -56,11 +61,16 @@ names_in w c d = map (λ f. f.requestor.0 == d) (link w c)
 abbrev pub names_on : BlockState → ℕ → ℕ → List Bool
 names_on b c d = names_in b.traffic c d
 
--- what a cache shows besides what is on the wires: its line, whether that one's value is fresh, and whether acks are owed to it
+-- whether acks are owed to a cache, and what it awaits beside them
+pub record Owing : Type 0 where
+  pub any : Bool
+  pub lag : Lag
+
+-- what a cache shows besides what is on the wires: its line, whether that one's value is fresh, and what is owed to it
 pub record Face : Type 0 where
   pub line : Line
   pub fresh : Bool
-  pub owed : Bool
+  pub owed : Owing
 
 -- how many Data are on their way to a cache
 abbrev pub data_count : ℕ → List Response → ℕ
@@ -82,7 +92,8 @@ side_of f tags home w c = trimmed (record {
   excl_data = sum_by (excl_data c) w.responses;
   fresh_data = tags.data_to c;
   low = late_of f.line.acks == 0;
-  owed = f.owed;
+  owed = f.owed.any;
+  lag = f.owed.lag;
   fwd_gets = total (names c is_fwd_gets) w.links;
   fwd_getm = total (names c is_fwd_getm) w.links;
   link = map (λ f. record { kind = f.kind; own = f.requestor.0 == c }) (link w c);
@@ -110,9 +121,13 @@ pair_of f g tags home w c d = record {
   second_names = names_in w d c;
 }
 
+-- what is owed to a cache of a block
+abbrev pub owing : Tags → BlockState → ℕ → Owing
+owing tags b c = record { any = not (owed_to b c == 0); lag = tags.lag c }
+
 -- a cache of a block
 abbrev pub face : Tags → BlockState → ℕ → Face
-face tags b c = record { line = line_of b.lines c; fresh = tags.line c; owed = not (owed_to b c == 0) }
+face tags b c = record { line = line_of b.lines c; fresh = tags.line c; owed = owing tags b c }
 
 abbrev pub side : Tags → BlockState → ℕ → Side
 side tags b c = side_of (face tags b c) tags b.home b.traffic c
@@ -148,12 +163,16 @@ pub record AreTrue (tags : Tags) (b : BlockState) : Type 0 where
   pub home_data : tags.home_data ≡ true → All (BringsHome b.latest) b.traffic.responses
   pub memory : tags.memory ≡ true → b.home.memory ≡ b.latest
 
--- what pairs rest on: tags that are true, few messages of each kind, and each ack that is awaited or announced is owed. Of these there are so few that no count
--- of acks leaves 64 bits
+-- fewer acks are awaited than are owed, as many, or more. Where not fewer, so few are owed that no count of acks leaves 64 bits
+abbrev pub LagIs : Lag → ℤ → ℕ → Type 0
+LagIs Behind awaited owed = awaited <ℤ pos owed
+LagIs Level awaited owed = (awaited ≡ pos owed) × (owed ≤ 4294967296)
+LagIs Ahead awaited owed = (pos owed <ℤ awaited) × (owed ≤ 4294967296)
+
+-- what pairs rest on: tags that are true, and few messages of each kind
 pub record Faithful (tags : Tags) (b : BlockState) : Type 0 where
   pub tags_are_true : AreTrue tags b
   pub few : (c : ℕ) → is_few_side (side tags b c) ≡ true
   pub few_home : nat_le (sum_by home_data b.traffic.responses) 1 ≡ true
-  pub law : (c : ℕ) → (line_of b.lines c).acks +ℤ pos (sum_by (ack_number c) b.traffic.responses) ≡ pos (owed_to b c)
-  pub owed : (c : ℕ) → owed_to b c ≤ 4294967296
+  pub lags : (c : ℕ) → LagIs (tags.lag c) ((line_of b.lines c).acks +ℤ pos (sum_by (ack_number c) b.traffic.responses)) (owed_to b c)
   pub announced : (c : ℕ) → sum_by (ack_number c) b.traffic.responses ≤ 4294967296

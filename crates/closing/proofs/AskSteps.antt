@@ -34,15 +34,15 @@ use Rattle.closing.proofs.Simulation.{IsBreach, SimulatedBy, Simulated, still, n
 ask-blank : (tables : Tables) (a : Ask) (p : Pair) (state : CacheState) → p.first.state ≡ state → is_idle a state ≡ false →
     cache_table.cell tables.cache state (ask_event a) ≡ table_entry.Blank → IsBreach (sight tables (ask_rule a) true p)
 ask-blank tables ask.Load p state e busy blank =
-    subst (λ (x : CacheEntry). IsBreach (by_line AsksLoad Nobody Nobody event.Load x p))
+    subst (λ (x : CacheEntry). IsBreach (by_line AsksLoad true Nobody Nobody event.Load x p))
     (sym (ap (λ s. cache_table.cell tables.cache s event.Load) e ∙ blank)) tt
 ask-blank tables (ask.Store value) p state e busy blank =
-    subst (λ (x : CacheEntry). IsBreach (by_line AsksStore Nobody Nobody event.Store x p))
+    subst (λ (x : CacheEntry). IsBreach (by_line AsksStore true Nobody Nobody event.Store x p))
     (sym (ap (λ s. cache_table.cell tables.cache s event.Store) e ∙ blank)) tt
 ask-blank tables ask.Replace p state e busy blank =
-    subst (λ (t : Bool). IsBreach (if t then Unmoved else at_line tables AsksReplacement Nobody Nobody event.Replacement p))
+    subst (λ (t : Bool). IsBreach (if t then Unmoved else at_line tables AsksReplacement true Nobody Nobody event.Replacement p))
     (sym (ap (λ s. is_absent s) e ∙ not-absent state busy))
-    (subst (λ (x : CacheEntry). IsBreach (by_line AsksReplacement Nobody Nobody event.Replacement x p))
+    (subst (λ (x : CacheEntry). IsBreach (by_line AsksReplacement true Nobody Nobody event.Replacement x p))
     (sym (ap (λ s. cache_table.cell tables.cache s event.Replacement) e ∙ blank)) tt)
 
 ask-entry : (tables : Tables) (caches : ℕ) (tags : Tags) (b : BlockState) (cache : CacheId) (a : Ask) (line : Line) (x : CacheEntry) → caches ≤ 4294967296 →

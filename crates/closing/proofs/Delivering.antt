@@ -46,8 +46,10 @@ use Rattle.machine.proofs.Sound.{line_of-there}
 use Rattle.machine.proofs.Moves as moving
 use Rattle.machine.proofs.Cases.{by-test}
 use Rattle.pairs.specs.declared.link.LinkPlace.{LinkPlace}
+use Rattle.pairs.specs.declared.side.Lag.{Lag}
 use Rattle.pairs.specs.declared.side.Side.{Side}
-use Rattle.closing.specs.Blamed.{line_stalls, home_stalls, line_holds, home_holds, holds_head, holds_requests, dir_data_event, holds_data, holds_side}
+use Rattle.pairs.specs.Sights.{acks_awaited, is_level}
+use Rattle.closing.specs.Blamed.{line_stalls, home_stalls, line_holds, home_holds, holds_head, holds_requests, holds_dir_data, holds_data, holds_side}
 use Rattle.closing.specs.Blamed.{holds_home_data, puts_event, putm_event}
 use Rattle.closing.proofs.Alpha.{Tags, side, shared, Faithful}
 use Rattle.closing.proofs.AlphaFits.{places}
@@ -184,21 +186,30 @@ module _ (tables : Tables) (b : BlockState) (block : BlockId) where
         line-moves tables b cache (line_input.Response x) (origin.Response i) line there
         (subst (λ (v : CacheEvent). line_holds tables line.state v ≡ false) same (at-line cache.0 line e there h))
 
+    -- Data from the home can be delivered to a cache
+    abbrev TakesDirData : ℕ → Type 0
+    TakesDirData c = holds_dir_data tables (side tags b c).state (acks_awaited (side tags b c).lag (side tags b c).owed) ≡ false
+
     dir-at : (i : ℕ) (to : CacheId) (value acks : ℕ) → Some (Data Dir (Cache to) value acks) ≡ slice_get b.traffic.responses i → to.0 < caches →
-        line_holds tables (side tags b to.0).state (dir_data_event (side tags b to.0)) ≡ false → moving.Found tables b block
-    dir-at i to value acks at lt h =
-        let l = line-there to.0 lt in
-        response-found i (Data Dir (Cache to) value acks) at
-        (to-line to i (Data Dir (Cache to) value acks) (dir_data_event (side tags b to.0)) l.0 l.1
-        (same-event tables caches tags b to i to value acks whole faithful at refl l.0 (line_of-there b.lines to.0 l.0 l.1)) h)
+        TakesDirData to.0 → moving.Found tables b block
+    dir-at i to value acks at lt h = go (acks_awaited (side tags b to.0).lag (side tags b to.0).owed) refl h
+      where
+        go : (o : Option Lag) → acks_awaited (side tags b to.0).lag (side tags b to.0).owed ≡ o → holds_dir_data tables (side tags b to.0).state o ≡ false →
+            moving.Found tables b block
+        go None e free = absurd (cc)
+        go (Some k) e free =
+            let l = line-there to.0 lt in
+            response-found i (Data Dir (Cache to) value acks) at
+            (to-line to i (Data Dir (Cache to) value acks) (if is_level k then event.DataDirZero else event.DataDirMore) l.0 l.1
+            (same-event tables caches tags b to i to value acks whole faithful at refl l.0 (line_of-there b.lines to.0 l.0 l.1) k e) free)
 
     -- Data from the home to a cache
     dir_data-found : (c i : ℕ) (x : Response) → Some x ≡ slice_get b.traffic.responses i → dir_data c x ≢ 0 → c < caches →
-        line_holds tables (side tags b c).state (dir_data_event (side tags b c)) ≡ false → moving.Found tables b block
+        TakesDirData c → moving.Found tables b block
     dir_data-found c i (Data Dir (Cache to) value acks) at some lt h =
         let same : to.0 ≡ c = (only-some to.0 c 1 some).0 in
         dir-at i to value acks at (omega (arith, same, lt))
-        (subst (λ (n : ℕ). line_holds tables (side tags b n).state (dir_data_event (side tags b n)) ≡ false) (sym same) h)
+        (subst TakesDirData (sym same) h)
     dir_data-found c i (Data Dir Dir value acks) at some lt h = absurd (some refl)
     dir_data-found c i (Data (Cache by) to value acks) at some lt h = absurd (some refl)
     dir_data-found c i (InvAck by to) at some lt h = absurd (some refl)
@@ -257,7 +268,7 @@ module _ (tables : Tables) (b : BlockState) (block : BlockId) where
         elim (and-cases _ _ h) [
           | inl more ↦ elim (and-cases _ _ more) [
             | inl dir ↦
-                let some = some-held s.dir_data (line_holds tables s.state (dir_data_event s)) dir in
+                let some = some-held s.dir_data (holds_dir_data tables s.state (acks_awaited s.lag s.owed)) dir in
                 let x = find (dir_data c) b.traffic.responses some.0 in
                 dir_data-found c x.0 x.1 x.2 x.3 lt some.1
             | inr owner ↦

@@ -34,7 +34,7 @@ use Rattle.closing.specs.declared.ranked.Order.TheVariants.{After}
 use Rattle.closing.specs.declared.ranked.RankedPair.{RankedPair}
 use Rattle.closing.specs.Ranked.{is_busy, awaited}
 use Rattle.closing.specs.Blamed.{line_holds, holds_head, holds_requests, holds_data, holds_side, holds_home_data, is_held, is_noisy, requests_of, is_named, awaits_home}
-use Rattle.closing.specs.Blamed.{IsBlamable, IsBlamed, Blamed, home_holds, dir_data_event, puts_event, putm_event}
+use Rattle.closing.specs.Blamed.{IsBlamable, IsBlamed, Blamed, home_holds, puts_event, putm_event}
 use Rattle.closing.proofs.Alpha.{Tags, alpha, side, shared, names_on, Faithful, owed_to}
 use Rattle.closing.proofs.AlphaFits.{places, all-four, both, Weighs, weighs-gets, weighs-getm, weighs-inv, own-sum, marks-sum}
 use Rattle.closing.proofs.LineActing.{both-true, same-if}

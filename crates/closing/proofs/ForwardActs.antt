@@ -30,7 +30,7 @@ use Rattle.network.specs.Traffic.{Traffic}
 use Rattle.machine.proofs.Counts.{total}
 use Rattle.machine.proofs.Seen.{names, is_inv}
 use Rattle.pairs.specs.Sights.{inv_acks}
-use Rattle.closing.proofs.Alpha.{Face, face, pair_of, owed_to}
+use Rattle.closing.proofs.Alpha.{Face, face, pair_of, owing}
 use Rattle.closing.proofs.LineGoes.{line-goes}
 use Rattle.std.proofs.Common.{IsSome, map, remove, [], ◌∷◌, nat_le, length}
 use Rattle.std.proofs.lemmas.Bool.{le-leb, leb-true}
@@ -49,10 +49,10 @@ use Rattle.closing.proofs.Alpha.{side_of}
 use Rattle.closing.proofs.AlphaFits.{not-both}
 use Rattle.closing.proofs.Sides.{with_forwards, same_forwards, same_pair}
 use Rattle.closing.proofs.Sending.{party_of}
-use Rattle.closing.proofs.LineActing.{both-true, same-if}
+use Rattle.closing.proofs.LineActing.{both-true}
 use Rattle.closing.proofs.LineSettling.{message-settles}
-use Rattle.closing.proofs.Parties.{Witness, witness, is_answered}
-use Rattle.closing.proofs.AskActs.{still-law}
+use Rattle.closing.proofs.Parties.{Witness, witness}
+use Rattle.closing.proofs.ForwardAnswers.{forward-answers}
 
 -- a link that has a head begins with it
 begins : (l : List Forward) (m : Forward) → Some m ≡ slice_get l 0 → l ≡ m ∷ remove l 0
@@ -74,8 +74,8 @@ less-side true PutAck s gets getm link g m = same_forwards s _ _ _ _ _ _ (omega 
 less-side false kind s gets getm link g m = same_forwards s _ _ _ _ _ _ (omega (arith, g)) (omega (arith, m)) refl
 
 -- it stays few
-fewer : (n : ℕ) → nat_le n 1 ≡ true → nat_le (n - 1) 1 ≡ true
-fewer n e = le-leb (n - 1) 1 (omega (arith, leb-true n 1 e))
+fewer : (n : ℕ) → nat_le n 2 ≡ true → nat_le (n - 1) 2 ≡ true
+fewer n e = le-leb (n - 1) 2 (omega (arith, leb-true n 2 e))
 
 less-few : (t : Bool) (kind : ForwardKind) (s : Side) → is_few_side s ≡ true → is_few_side (less t kind s) ≡ true
 less-few false kind s few = few
@@ -85,13 +85,13 @@ less-few true FwdGetS s few =
     let link = both-true _ _ few in
     let getm = both-true _ _ link.0 in
     let gets = both-true _ _ getm.0 in
-    ap (λ (t : Bool). t && nat_le (s.fwd_gets - 1) 1 && nat_le s.fwd_getm 1 && nat_le (length s.link) 2) gets.0
-    ∙ ap (λ (t : Bool). t && nat_le s.fwd_getm 1 && nat_le (length s.link) 2) (fewer s.fwd_gets gets.1)
+    ap (λ (t : Bool). t && nat_le (s.fwd_gets - 1) 2 && nat_le s.fwd_getm 2 && nat_le (length s.link) 2) gets.0
+    ∙ ap (λ (t : Bool). t && nat_le s.fwd_getm 2 && nat_le (length s.link) 2) (fewer s.fwd_gets gets.1)
     ∙ ap (λ (t : Bool). t && nat_le (length s.link) 2) getm.1 ∙ link.1
 less-few true FwdGetM s few =
     let link = both-true _ _ few in
     let getm = both-true _ _ link.0 in
-    ap (λ (t : Bool). t && nat_le (s.fwd_getm - 1) 1 && nat_le (length s.link) 2) getm.0
+    ap (λ (t : Bool). t && nat_le (s.fwd_getm - 1) 2 && nat_le (length s.link) 2) getm.0
     ∙ ap (λ (t : Bool). t && nat_le (length s.link) 2) (fewer s.fwd_getm getm.1) ∙ link.1
 
 -- the requestor of a head is the party that it names
@@ -169,7 +169,7 @@ module _ (tables : Tables) (caches : ℕ) (tags : Tags) (b : BlockState) (cache 
 
   -- a face of the actor with this line
   abbrev mine : Line → Face
-  mine l = record { line = l; fresh = tags.line a; owed = not (owed_to b a == 0) }
+  mine l = record { line = l; fresh = tags.line a; owed = owing tags b a }
 
   -- a side of the actor and one of another, without the head
   own-side : (g : Face) → side_of g tags b.home w a ≡
@@ -197,32 +197,21 @@ module _ (tables : Tables) (caches : ℕ) (tags : Tags) (b : BlockState) (cache 
       (ap (map (λ m. m.requestor.0 == a)) (sym (link-taken_other b.traffic a x ne)))
 
   -- the sight of a head begins at the pair without it
-  head-start : (line : Line) → line_of b.lines a ≡ line → (y : CacheEntry) → cache_table.cell tables.cache line.state event_of ≡ y → (x : ℕ) → x ≢ a →
-      sight tables TakesHead true (alpha tags b a x) ≡
-      by_line TakesHead (party_of to a x) (besides (party_of to a x)) event_of y (pair_of (mine line) (face tags b x) tags b.home w a x)
-  head-start line same y cell x ne =
-      ap (λ (l : List Forward). head_seen tables (map (place a) l) (map (λ m. m.requestor.0 == x) l) (alpha tags b a x)) whole-link
-      ∙ ap (λ (l : Line). at_line tables TakesHead (requestor (place a f) (f.requestor.0 == x)) (besides (requestor (place a f) (f.requestor.0 == x))) event_of
+  head-start : (line : Line) → line_of b.lines a ≡ line → (y : CacheEntry) → cache_table.cell tables.cache line.state event_of ≡ y → (t : Bool) (x : ℕ) →
+      x ≢ a → sight tables TakesHead t (alpha tags b a x) ≡
+      by_line TakesHead t (party_of to a x) (besides (party_of to a x)) event_of y (pair_of (mine line) (face tags b x) tags b.home w a x)
+  head-start line same y cell t x ne =
+      ap (λ (l : List Forward). head_seen tables t (map (place a) l) (map (λ m. m.requestor.0 == x) l) (alpha tags b a x)) whole-link
+      ∙ ap (λ (l : Line). at_line tables TakesHead t (requestor (place a f) (f.requestor.0 == x)) (besides (requestor (place a f) (f.requestor.0 == x))) event_of
       (unnamed (requestor (place a f) (f.requestor.0 == x)) f.kind
       (headless (map (place a) rest) (map (λ m. m.requestor.0 == x) rest) (pair_of (mine l) (face tags b x) tags b.home b.traffic a x)))) same
-      ∙ ap (λ (q : Pair). at_line tables TakesHead (requestor (place a f) (f.requestor.0 == x)) (besides (requestor (place a f) (f.requestor.0 == x)))
+      ∙ ap (λ (q : Pair). at_line tables TakesHead t (requestor (place a f) (f.requestor.0 == x)) (besides (requestor (place a f) (f.requestor.0 == x)))
       event_of q)
       (behind-head (mine line) (face tags b x) x ne)
-      ∙ ap (λ (y : CacheEntry). by_line TakesHead (requestor (place a f) (f.requestor.0 == x)) (besides (requestor (place a f) (f.requestor.0 == x))) event_of y
+      ∙ ap (λ (y : CacheEntry). by_line TakesHead t (requestor (place a f) (f.requestor.0 == x)) (besides (requestor (place a f) (f.requestor.0 == x))) event_of y
       (pair_of (mine line) (face tags b x) tags b.home w a x)) cell
-      ∙ ap (λ (p : Party). by_line TakesHead p (besides p) event_of y (pair_of (mine line) (face tags b x) tags b.home w a x))
+      ∙ ap (λ (p : Party). by_line TakesHead t p (besides p) event_of y (pair_of (mine line) (face tags b x) tags b.home w a x))
       (same-party f.kind f.requestor a x)
-
-  -- an Inv is answered by one Inv-Ack, and nothing else is
-  acks-sent : (actions : List CacheAction) → is_answered to event_of actions ≡ true → (c : ℕ) → only (is_owner to c) (inv_acks actions) ≡ names c is_inv f
-  acks-sent actions answered c = by-kind f.kind answered
-    where
-      by-kind : (kind : ForwardKind) → is_answered (forward_requestor kind f.requestor) (forward_event kind) actions ≡ true →
-          only (is_owner (forward_requestor kind f.requestor) c) (inv_acks actions) ≡ only (f.requestor.0 == c) (is_inv kind)
-      by-kind FwdGetS h = ap (λ n. only (f.requestor.0 == c) n) (same-if (inv_acks actions) 0 h)
-      by-kind FwdGetM h = ap (λ n. only (f.requestor.0 == c) n) (same-if (inv_acks actions) 0 h)
-      by-kind Inv h = ap (λ n. only (f.requestor.0 == c) n) (same-if (inv_acks actions) 1 h)
-      by-kind PutAck h = sym (only-nothing (f.requestor.0 == c))
 
   pub forward-blank : LineBlank tables tags b cache (line_input.Forward f)
   forward-blank line there blank =
@@ -234,7 +223,7 @@ module _ (tables : Tables) (caches : ℕ) (tags : Tags) (b : BlockState) (cache 
         inl (
           TakesHead,
           subst (λ (s : Sight). IsBreach s)
-              (sym (head-start line (line_of-there b.lines a line there) table_entry.Blank blank see.cache see.apart)) see.shows,
+              (sym (head-start line (line_of-there b.lines a line there) table_entry.Blank blank true see.cache see.apart)) see.shows,
         ),
       )
 
@@ -244,7 +233,7 @@ module _ (tables : Tables) (caches : ℕ) (tags : Tags) (b : BlockState) (cache 
   pub forward-acted : LineActs tables tags b cache (line_input.Forward f) (origin.Head cache)
   forward-acted line next actions there acts =
       line-goes tables caches tags b cache line (line_input.Forward f) next actions (origin.Head cache) TakesHead event_of (tags.line a)
-      (not (owed_to b a == 0)) whole faithful (record {
+      (owing tags b a) whole faithful (record {
         there = there;
         origin_there = there-still;
         taken = refl;
@@ -254,18 +243,11 @@ module _ (tables : Tables) (caches : ℕ) (tags : Tags) (b : BlockState) (cache 
           putm = faithful.tags_are_true.putm;
           home_data = faithful.tags_are_true.home_data;
         };
-        start = λ x ne. head-start line same (table_entry.Act next actions) acts x ne;
+        start = λ t x ne. head-start line same (table_entry.Act next actions) acts t x ne;
         few = λ x ne far. ap (λ (s : Side). is_few_side s) (other-side (face tags b x) x ne)
             ∙ less-few (f.requestor.0 == x) f.kind (side_of (face tags b x) tags b.home b.traffic x) (faithful.few x);
-        settles = message-settles (record line { state = next }) (tags.line a) (not (owed_to b a == 0));
-        acks = λ u counts answered. still-law tags b a line u faithful (ap (λ (l : Line). l.acks) (sym same))
-            (λ c. omega (
-              arith,
-              ap (λ ls. total (names c is_inv) ls) counts.links,
-              counts.acks c,
-              acks-sent actions answered c,
-              head_taken-total (names c is_inv) b.traffic a f e,
-            )) counts.numbers;
+        settles = message-settles (record line { state = next }) (tags.line a) (owing tags b a);
+        acks = λ u counts. forward-answers tags b cache f line (inv_acks actions) faithful e (ap (λ (l : Line). l.acks) (sym same)) u counts;
       })
     where
       same : line_of b.lines a ≡ line

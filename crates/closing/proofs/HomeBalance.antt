@@ -151,8 +151,8 @@ module _ (b : BlockState) (home : Home) (w : Traffic) where
 -- the requestor was announced so many acks and is owed so many, from those at first: what is apart is the number of the others that share
 abbrev pub Owes : Debt → ℕ → ℕ → ℕ → ℕ → ℕ → Type 0
 Owes Even acks owed acks_first owed_first others = acks + owed_first ≡ owed + acks_first
-Owes Announced acks owed acks_first owed_first others = acks + owed_first ≡ owed + acks_first + others
-Owes Invalidated acks owed acks_first owed_first others = acks + owed_first + others ≡ owed + acks_first
+Owes Announced acks owed acks_first owed_first others = (acks + owed_first ≡ owed + acks_first + others) × (1 ≤ others)
+Owes Invalidated acks owed acks_first owed_first others = (acks + owed_first + others ≡ owed + acks_first) × (1 ≤ others)
 Owes Uneven acks owed acks_first owed_first others = Unit {0}
 
 pub none-if : (n : ℕ) → not (n == 0) ≡ false → n ≡ 0
@@ -161,16 +161,20 @@ none-if (suc n) e =
     let some : not (suc n == 0) ≡ true = ap (λ (t : Bool). not t) (ne_eqb (suc n) 0 (λ z. absurd (omega (arith, z)))) in
     absurd (cc)
 
+some-if : (n : ℕ) → not (n == 0) ≡ true → 1 ≤ n
+some-if zero e = absurd (cc)
+some-if (suc n) e = omega arith
+
 module _ (acks owed acks_first owed_first others : ℕ) where
   pub owes-announced : (debt : Debt) (t : Bool) → not (others == 0) ≡ t → Owes debt acks owed acks_first owed_first others →
       Owes (if t then more_announced debt else debt) (acks + others) owed acks_first owed_first others
-  owes-announced Even true e h = omega (arith, h)
+  owes-announced Even true e h = (omega (arith, h), some-if others e)
   owes-announced Announced true e h = tt
-  owes-announced Invalidated true e h = omega (arith, h)
+  owes-announced Invalidated true e h = omega (arith, h.0)
   owes-announced Uneven true e h = tt
   owes-announced Even false e h = omega (arith, h, none-if others e)
-  owes-announced Announced false e h = omega (arith, h, none-if others e)
-  owes-announced Invalidated false e h = omega (arith, h, none-if others e)
+  owes-announced Announced false e h = (omega (arith, h.0, none-if others e), h.1)
+  owes-announced Invalidated false e h = (omega (arith, h.0, none-if others e), h.1)
   owes-announced Uneven false e h = tt
 
   pub owes-invited : (debt : Debt) (t before : Bool) → not (others == 0) ≡ t → Owes debt acks owed acks_first owed_first others →
@@ -179,13 +183,13 @@ module _ (acks owed acks_first owed_first others : ℕ) where
   owes-invited Announced true true e h = tt
   owes-invited Invalidated true true e h = tt
   owes-invited Uneven true true e h = tt
-  owes-invited Even true false e h = omega (arith, h)
-  owes-invited Announced true false e h = omega (arith, h)
+  owes-invited Even true false e h = (omega (arith, h), some-if others e)
+  owes-invited Announced true false e h = omega (arith, h.0)
   owes-invited Invalidated true false e h = tt
   owes-invited Uneven true false e h = tt
   owes-invited Even false before e h = omega (arith, h, none-if others e)
-  owes-invited Announced false before e h = omega (arith, h, none-if others e)
-  owes-invited Invalidated false before e h = omega (arith, h, none-if others e)
+  owes-invited Announced false before e h = (omega (arith, h.0, none-if others e), h.1)
+  owes-invited Invalidated false before e h = (omega (arith, h.0, none-if others e), h.1)
   owes-invited Uneven false before e h = tt
 
   pub owes-settled : (debt : Debt) (more : ℕ) → Owes debt acks owed acks_first owed_first others → Owes (settled_debt debt) acks owed acks_first owed_first more
@@ -197,6 +201,6 @@ module _ (acks owed acks_first owed_first others : ℕ) where
   pub owes-same : (debt : Debt) (acks2 owed2 more : ℕ) → acks2 ≡ acks → owed2 ≡ owed → more ≡ others → Owes debt acks owed acks_first owed_first others →
       Owes debt acks2 owed2 acks_first owed_first more
   owes-same Even acks2 owed2 more e f g h = omega (arith, e, f, h)
-  owes-same Announced acks2 owed2 more e f g h = omega (arith, e, f, g, h)
-  owes-same Invalidated acks2 owed2 more e f g h = omega (arith, e, f, g, h)
+  owes-same Announced acks2 owed2 more e f g h = (omega (arith, e, f, g, h.0), omega (arith, g, h.1))
+  owes-same Invalidated acks2 owed2 more e f g h = (omega (arith, e, f, g, h.0), omega (arith, g, h.1))
   owes-same Uneven acks2 owed2 more e f g h = tt

@@ -44,6 +44,15 @@ abbrev pub data_tags_after : Bool → List DirectoryAction → Tags → Tags
 data_tags_after fresh [] tags = tags
 data_tags_after fresh (x ∷ actions) tags = data_tags_after fresh actions (data_tags fresh x tags)
 
+-- no action on Data moves a lag
+pub data-lags : (fresh : Bool) (actions : List DirectoryAction) (tags : Tags) → (data_tags_after fresh actions tags).lag ≡ tags.lag
+data-lags fresh [] tags = refl
+data-lags fresh (x ∷ actions) tags = data-lags fresh actions (data_tags fresh x tags) ∙ one x
+  where
+    one : (x : DirectoryAction) → (data_tags fresh x tags).lag ≡ tags.lag
+    one action.CopyData = refl
+    one other = refl
+
 even-owner : (o : Option CacheId) (c : ℕ) → owner_debt o c Even ≡ Even
 even-owner None c = refl
 even-owner (Some o) c = even (o.0 == c)
@@ -150,7 +159,7 @@ module _ (tags : Tags) (b : BlockState) (index : ℕ) (by : Place) (value acks :
         let owner : sum_by (owner_data c) (remove b.traffic.responses index) ≡ sum_by (owner_data c) b.traffic.responses = sum-left (owner_data c)
         (no-owner c by) in
         let excl : sum_by (excl_data c) (remove b.traffic.responses index) ≡ sum_by (excl_data c) b.traffic.responses = sum-left (excl_data c) refl in
-        (λ i. side_of (record (face tags b c) { owed = not (owed-left c i == 0) }) tags b.home (response_taken index b.traffic) c)
+        (λ i. side_of (record (face tags b c) { owed = record { any = not (owed-left c i == 0); lag = tags.lag c } }) tags b.home (response_taken index b.traffic) c)
         ∙ same_responses (side tags b c) _ _ _ _ _ _ _ _ dir owner excl (λ i. tags.data_to c || (dir i + owner i + excl i == 0))
 
     pub home-left : sum_by home_data (remove b.traffic.responses index) + 1 ≡ sum_by home_data b.traffic.responses

@@ -23,7 +23,7 @@ use Rattle.machine.specs.declared.decision.Decision.TheVariants.{AtHome}
 use Rattle.machine.specs.declared.decision.Origin.TheVariants as origin
 use Rattle.machine.specs.Transition.{carried_out}
 use Rattle.machine.proofs.Whole.{whole-at_home}
-use Rattle.machine.proofs.Seen.{line_of, home_data}
+use Rattle.machine.proofs.Seen.{line_of, home_data, ack_number}
 use Rattle.pairs.specs.declared.pair.Pair.{Pair}
 use Rattle.pairs.specs.declared.side.Side.{Side}
 use Rattle.pairs.specs.Pairs.{is_few, is_few_side}
@@ -33,12 +33,14 @@ use Rattle.pairs.specs.declared.steps.Debt.TheVariants.{Even}
 use Rattle.pairs.specs.declared.steps.Scene.{Scene}
 use Rattle.pairs.specs.declared.steps.Sight.TheVariants.{Unmoved, Seen}
 use Rattle.pairs.specs.Sights.{home_data_seen, at_home, by_home, home_acts, home_settled, looked_at, owner_in}
-use Rattle.closing.proofs.Alpha.{Tags, alpha, side, shared, AreTrue, Faithful}
+use Rattle.closing.proofs.Alpha.{Tags, LagIs, alpha, owed_to, side, shared, AreTrue, Faithful}
+use Rattle.closing.proofs.Lags.{same-lag}
+use Rattle.pairs.specs.declared.side.Lag.{Lag}
 use Rattle.closing.proofs.Simulation.{HomeActs, HomeMoves}
 use Rattle.closing.proofs.HomeSending.{at}
 use Rattle.closing.proofs.HomeScene.{Frame, frame_of, scene_of, third_of, third-fits, owner-seen_of, scene-left}
 use Rattle.closing.proofs.HomeActing.{IsAt}
-use Rattle.closing.proofs.HomeData.{data_tags_after, all-data, all-true, acks-left, owed-left, side-left, home-left, home-there, pair-left, value-true}
+use Rattle.closing.proofs.HomeData.{data_tags_after, all-data, all-true, acks-left, data-lags, owed-left, side-left, home-left, home-there, pair-left, value-true}
 use Rattle.closing.proofs.HomeData.{left-true}
 use Rattle.closing.proofs.RequestTaken.{some-seen}
 use Rattle.closing.proofs.RequestEnds.{looked-few}
@@ -100,10 +102,11 @@ module _ (tables : Tables) (caches : ℕ) (tags : Tags) (b : BlockState) (index 
         record { line = truths.line; data_to = truths.data_to; putm = truths.putm; home_data = truths.home_data; memory = truths.memory };
     few = few-after;
     few_home = few-home;
-    law =
-        λ c. ap (λ (n : ℕ). (line_of b.lines c).acks +ℤ pos n) (acks-left tags b index by value acks e c) ∙ faithful.law c
-        ∙ ap (λ (n : ℕ). pos n) (sym (owed-left tags b index by value acks e c));
-    owed = λ c. omega (arith, owed-left tags b index by value acks e c, faithful.owed c);
+    lags = λ c.
+        subst (λ (l : ℕ → Lag). LagIs (l c) ((line_of b.lines c).acks +ℤ pos (sum_by (ack_number c) wires.responses)) (owed_to (at b b.home wires) c))
+        (sym (data-lags fresh actions tags))
+        (same-lag (tags.lag c) _ _ _ _ _ _ refl (sym (acks-left tags b index by value acks e c)) (sym (owed-left tags b index by value acks e c))
+        (faithful.lags c));
     announced = λ c. omega (arith, acks-left tags b index by value acks e c, faithful.announced c);
   }
 

@@ -31,7 +31,7 @@ pub record IsServing (caches : ℕ) (b : BlockState) (a : CacheId) (first : Traf
   pub among : IsAt caches st.home st.wires
   pub truths : AreTrue st.tags (at_stage b st)
   pub owes : OwesAt b a.0 first st
-  pub owed : FewOwed st.debt (owed_to (at_stage b st) a.0)
+  pub owed : owed_to (at b b.home first) a.0 ≤ 4294967296 → FewOwed st.debt (owed_to (at_stage b st) a.0)
   pub announced : FewAnnounced (acks_to st.wires a.0) (datas_to st.wires a.0)
   pub acks_elsewhere : (c : ℕ) → c ≢ a.0 → acks_to st.wires c ≡ acks_to first c
   pub owed_elsewhere : (c : ℕ) → c ≢ a.0 → owed_to (at_stage b st) c ≡ owed_to (at b b.home first) c
@@ -65,7 +65,7 @@ module _ (caches : ℕ) (b : BlockState) (a : CacheId) (value : Option Bool) (br
         owes =
             owes-after st.home a (not (owed_to (at_stage b st) a.0 == 0)) (acks_to st.wires a.0) (owed_to (at_stage b st) a.0) (acks_to first a.0)
             (owed_to (at b b.home first) a.0) brought st.debt x _ _ adds.acks adds.owed h.owes;
-        owed = few-owed_after a.0 st.home x st.debt (owed_to (at_stage b st) a.0) _ others adds.owed h.owed;
+        owed = λ few_first. few-owed_after a.0 st.home x st.debt (owed_to (at_stage b st) a.0) _ others adds.owed (h.owed few_first);
         announced = few-announced_after st.home st.wires a.0 x _ _ others adds.acks adds.datas h.announced;
         acks_elsewhere =
             λ c ne. omega (arith, (adds-elsewhere b st.home st.wires caches a x c ne h.among l).acks, h.acks_elsewhere c ne);

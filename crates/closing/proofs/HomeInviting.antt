@@ -149,15 +149,18 @@ module _ (tags : Tags) (b : BlockState) (home : Home) (w : Traffic) (a : CacheId
   pub invs-first : (owed : Bool) → length home.sharers ≤ length w.links → not (owed_to (at b home w) a.0 + others_from 0 a.0 home.sharers == 0) ≡ owed →
       side tags (at b home behind) a.0 ≡ record (side tags (at b home w) a.0) { owed = owed }
   invs-first owed h e =
-      let f : Face = record (face tags (at b home w) a.0) { owed = owed } in
-      (λ i. side_of (record (face tags (at b home w) a.0) { owed = (ap (λ (n : ℕ). not (n == 0)) (invs-owed b home w a h) ∙ e) i }) tags home behind a.0)
+      let f : Face = record (face tags (at b home w) a.0) { owed = record { any = owed; lag = tags.lag a.0 } } in
+      (λ i. side_of (record (face tags (at b home w) a.0) {
+        owed = record { any = (ap (λ (n : ℕ). not (n == 0)) (invs-owed b home w a h) ∙ e) i; lag = tags.lag a.0 };
+      }) tags home behind a.0)
       ∙ invs-side f a.0 (places a.0 (link w a.0)) h (ap (λ (l : List Forward). places a.0 l) (own-link h))
 
   -- the other's side, with this link
   pub invs-second : (d : ℕ) (l : List LinkPlace) → d ≢ a.0 → length home.sharers ≤ length w.links → places d (link behind d) ≡ l →
       side tags (at b home behind) d ≡ record (side tags (at b home w) d) { link = l }
   invs-second d l ne h e =
-      (λ i. side_of (record (face tags (at b home w) d) { owed = not (invs-owed_other b home w a d ne h i == 0) }) tags home behind d)
+      (λ i. side_of (record (face tags (at b home w) d) { owed = record { any = not (invs-owed_other b home w a d ne h i == 0); lag = tags.lag d } }) tags home
+      behind d)
       ∙ invs-side (face tags (at b home w) d) d l h e
 
   -- the scene where the other one shares

@@ -27,7 +27,7 @@ at b home w = record { lines = b.lines; home = home; traffic = w; latest = b.lat
 -- a cache's face is as it was where what is owed to it is
 pub same-face : (tags : Tags) (datas : ℕ → Bool) (b : BlockState) (h k : Home) (v w : Traffic) (c : ℕ) → owed_to (at b h v) c ≡ owed_to (at b k w) c →
     face (record tags { data_to = datas }) (at b h v) c ≡ face tags (at b k w) c
-same-face tags datas b h k v w c e = λ i. record (face tags (at b k w) c) { owed = not (e i == 0) }
+same-face tags datas b h k v w c e = λ i. record (face tags (at b k w) c) { owed = record { any = not (e i == 0); lag = tags.lag c } }
 
 -- DATA
 -- what is owed to a cache isn't changed by a response other than an Inv-Ack

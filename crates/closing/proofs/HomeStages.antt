@@ -1,9 +1,10 @@
 -- A cell of the home acts action by action, and the pairs of the requestor see each stage.
-use Rattle.std.proofs.Common.{◌≡◌, ◌≢◌, ℕ, ◌<◌, List, [], ◌∷◌, refl, ap, sym, ◌∙◌, Option, Some, Bool, true, ◌==◌, not}
+use Rattle.std.proofs.Common.{◌≡◌, ◌≢◌, ℕ, ◌<◌, List, [], ◌∷◌, refl, ap, sym, ◌∙◌, Option, Some, None, Bool, true, ◌==◌, not}
 use Rattle.base.specs.declared.ids.CacheId.{CacheId}
 use Rattle.network.specs.Traffic.{Traffic, all_sent}
 use Rattle.network.proofs.Sending.{all_sent-append, links-all_sent}
 use Rattle.directory_table.specs.declared.actions.DirectoryAction.{DirectoryAction}
+use Rattle.directory_table.specs.declared.actions.DirectoryAction.TheVariants as action
 use Rattle.block_home.specs.declared.home.Home.{Home}
 use Rattle.control.specs.HomeEffect.{home_message, home_messages, home_changed, home_moved, IsAmong}
 use Rattle.control.proofs.HomeSends.{Keeps, keeps-changed, names-among}
@@ -64,6 +65,20 @@ module _ (caches : ℕ) (fr : Frame) (b : BlockState) (a : CacheId) (value : Opt
   all-acted (x ∷ actions) st ne l m h =
       all-acted actions (next_stage b a value brought x st) ne l m (next-among caches b a value brought x st l h)
       ∙ ap (λ (s : Scene). home_acts true value actions s) (acted caches fr st.debt st.tags b st.home st.wires a d value brought x ne h l m)
+
+-- no action on a request moves a lag in its tags
+pub last-lags : (b : BlockState) (a : CacheId) (value : Option Bool) (brought : Option ℕ) (actions : List DirectoryAction) (st : Stage) →
+    (last_stage b a value brought actions st).tags.lag ≡ st.tags.lag
+last-lags b a value brought [] st = refl
+last-lags b a value brought (x ∷ actions) st = last-lags b a value brought actions (next_stage b a value brought x st) ∙ one value x
+  where
+    one : (value : Option Bool) (x : DirectoryAction) → (home_tags a value x st.wires st.tags).lag ≡ st.tags.lag
+    one value action.DataReq = refl
+    one value action.DataAcks = refl
+    one value action.DataExcl = refl
+    one None action.CopyData = refl
+    one (Some fresh) action.CopyData = refl
+    one value other = refl
 
 -- the last stage is what the cell leaves
 pub last-home : (b : BlockState) (a : CacheId) (value : Option Bool) (brought : Option ℕ) (actions : List DirectoryAction) (st : Stage) →

@@ -26,7 +26,7 @@ use Rattle.network.specs.Traffic.{Traffic}
 use Rattle.cache_line.specs.LineEffect.{taken_in}
 use Rattle.machine.proofs.Counts.{total}
 use Rattle.machine.proofs.Seen.{names, is_inv, inv_ack, ack_number}
-use Rattle.closing.proofs.Alpha.{Face, face, pair_of, owed_to}
+use Rattle.closing.proofs.Alpha.{Face, LagIs, Owing, face, owing, pair_of, owed_to}
 use Rattle.closing.proofs.LineActing.{AckCounts}
 use Rattle.closing.proofs.LineGoes.{owed_on}
 use Rattle.closing.proofs.Alpha.{side_of}
@@ -39,10 +39,12 @@ use Rattle.machine.proofs.Counts.{total}
 use Rattle.machine.proofs.Facts.{promised-zero}
 use Rattle.machine.proofs.Seen.{dir_data, late_of}
 use Rattle.pairs.specs.Pairs.{alike}
-use Rattle.pairs.specs.Sights.{response_seen, ack_fits}
+use Rattle.pairs.specs.Sights.{response_seen, ack_fits, counts_fit}
 use Rattle.closing.proofs.LineActing.{AckCounts}
 use Rattle.closing.proofs.Taking.{face_with, counts-nothing, lost-count, same-count}
-use Rattle.closing.proofs.Taking.{ack-taken, ack-law, ack-low, not-last, all-awaited}
+use Rattle.closing.proofs.Taking.{ack-taken, not-last}
+use Rattle.closing.proofs.Lags.{ack-lag, ack-low, counts-fit, same-lag}
+use Rattle.closing.proofs.AskActs.{plain-replies}
 use Rattle.closing.proofs.ResponseActs.{pair-taken, Known}
 use Rattle.closing.proofs.DirDataActs.{here}
 
@@ -80,30 +82,26 @@ module _ (tables : Tables) (caches : ℕ) (tags : Tags) (b : BlockState) (cache 
   one-less : owed_to b a ≡ left + 1
   one-less = omega (arith, lost-count tags b.home b.traffic index r e (inv_ack a) 1 one-ack)
 
-  -- the law, before and behind it
-  law-before : line.acks +ℤ pos (sum_by (ack_number a) b.traffic.responses) ≡ pos (left + 1)
-  law-before =
-      ap (λ (l : Line). l.acks +ℤ pos (sum_by (ack_number a) b.traffic.responses)) (sym there) ∙ faithful.law a ∙ ap (λ n. pos n) one-less
-
-  few-left : left ≤ 4294967296
-  few-left = omega (arith, one-less, faithful.owed a)
-
-  same-low : late_of (one_ack_less line.acks) == 0 ≡ (late_of line.acks == 0) || last
-  same-low = ack-low line.acks (sum_by (ack_number a) b.traffic.responses) left law-before few-left (faithful.announced a)
+  -- what is awaited, before it was taken
+  lag-before : LagIs (tags.lag a) (line.acks +ℤ pos (sum_by (ack_number a) b.traffic.responses)) (left + 1)
+  lag-before = same-lag (tags.lag a) _ _ _ _ _ _ (ap (λ (l : Line). l.acks) there) refl one-less (faithful.lags a)
 
   -- where no Data from the home is on its way, nothing is announced any more
-  waits-so : (sum_by (dir_data a) b.traffic.responses == 0) ≡ true → (not (late_of line.acks == 0) && alike last (not some_left)) ≡ true
+  waits-so : (sum_by (dir_data a) b.traffic.responses == 0) ≡ true → counts_fit (tags.lag a) (late_of line.acks == 0) last some_left ≡ true
   waits-so none =
-      all-awaited line.acks left
-      (ap (λ n. line.acks +ℤ pos n) (sym (promised-zero a b.traffic.responses (same-if (sum_by (dir_data a) b.traffic.responses) 0 none))) ∙ law-before)
+      counts-fit (tags.lag a) line.acks left
+      (same-lag (tags.lag a) _ _ _ _ _ _ refl (promised-zero a b.traffic.responses (same-if (sum_by (dir_data a) b.traffic.responses) 0 none)) refl lag-before)
 
   fits-here : ack_fits (side_of (face_with tags b a line) tags b.home b.traffic a) last some_left ≡ true
   fits-here =
       fits-so (not (owed_to b a == 0)) (late_of line.acks == 0) last (sum_by (dir_data a) b.traffic.responses == 0) _
       (ap (λ (t : Bool). not t) (ne_eqb (owed_to b a) 0 (λ none. absurd (omega (arith, none, one-less))))) (not-last line.acks) waits-so
 
+  abbrev still : Owing
+  still = record { any = some_left; lag = tags.lag a }
+
   abbrev after : Face
-  after = record { line = taken_in (line_input.Response r) line; fresh = tags.line a; owed = some_left }
+  after = record { line = taken_in (line_input.Response r) line; fresh = tags.line a; owed = still }
 
   abbrev behind : ℕ → Pair
   behind x = pair_of after (face tags b x) tags b.home w a x
@@ -111,19 +109,19 @@ module _ (tables : Tables) (caches : ℕ) (tags : Tags) (b : BlockState) (cache 
   abbrev rule : Rule
   rule = GetsInvAck last some_left
 
-  began : (y : CacheEntry) → cache_table.cell tables.cache line.state (event_at_line line.acks (line_input.Response r)) ≡ y → (x : ℕ) → x ≢ a →
-      sight tables rule true (alpha tags b a x) ≡ by_line rule Nobody Nobody (event_at_line line.acks (line_input.Response r)) y (behind x)
-  began y cell x ne =
-      ap (λ (l : Line). sight tables rule true (pair_of (face_with tags b a l) (face tags b x) tags b.home b.traffic a x)) there
-      ∙ ap (λ (t : Bool). if t then (let p : Pair = pair_of (face_with tags b a line) (face tags b x) tags b.home b.traffic a x in
-      response_seen tables rule (if last then event.LastInvAck else event.InvAck) p (record p.first { owed = some_left; low = p.first.low || last }))
+  began : (y : CacheEntry) → cache_table.cell tables.cache line.state (event_at_line line.acks (line_input.Response r)) ≡ y → (t : Bool) (x : ℕ) → x ≢ a →
+      sight tables rule t (alpha tags b a x) ≡ by_line rule t Nobody Nobody (event_at_line line.acks (line_input.Response r)) y (behind x)
+  began y cell t x ne =
+      ap (λ (l : Line). sight tables rule t (pair_of (face_with tags b a l) (face tags b x) tags b.home b.traffic a x)) there
+      ∙ ap (λ (fit : Bool). if fit then (let p : Pair = pair_of (face_with tags b a line) (face tags b x) tags b.home b.traffic a x in
+      response_seen tables rule t (if last then event.LastInvAck else event.InvAck) p (record p.first { owed = some_left; low = p.first.low || last }))
       else Unmoved)
       fits-here
-      ∙ ap (λ (q : Pair). at_line tables rule Nobody Nobody (if last then event.LastInvAck else event.InvAck) q)
+      ∙ ap (λ (q : Pair). at_line tables rule t Nobody Nobody (if last then event.LastInvAck else event.InvAck) q)
       (pair-taken tables caches tags b cache index r whole faithful e same line _ after x ne
-      (ack-taken tags b.home b.traffic index r e a line (tags.line a) (not (owed_to b a == 0)) (one_ack_less line.acks) some_left
-      ((late_of line.acks == 0) || last) refl refl refl same-low))
-      ∙ ap (λ (z : CacheEntry). by_line rule Nobody Nobody (if last then event.LastInvAck else event.InvAck) z (behind x)) cell
+      (ack-taken tags b.home b.traffic index r e a line (tags.line a) (owing tags b a) (one_ack_less line.acks) some_left
+      ((late_of line.acks == 0) || last) refl refl refl (ack-low line.acks)))
+      ∙ ap (λ (z : CacheEntry). by_line rule t Nobody Nobody (if last then event.LastInvAck else event.InvAck) z (behind x)) cell
 
   -- how many are owed behind it
   owed-here : (u : Traffic) (sent : ℕ) → AckCounts cache None sent w u → owed_on u a ≡ left
@@ -142,28 +140,21 @@ module _ (tables : Tables) (caches : ℕ) (tags : Tags) (b : BlockState) (cache 
       sum_by (ack_number c) u.responses ≡ sum_by (ack_number c) b.traffic.responses
   numbers-same u sent counts c = counts.numbers c ∙ same-count tags b.home b.traffic index r e (ack_number c) refl
 
-  few-owed : (u : Traffic) (sent : ℕ) → AckCounts cache None sent w u → (c : ℕ) → owed_on u c ≤ 4294967296
-  few-owed u sent counts c =
-      elim (cases_eq c a) [
-        | inl here ↦ subst (λ n. owed_on u n ≤ 4294967296) (sym here) (omega (arith, owed-here u sent counts, few-left))
-        | inr ne ↦ omega (arith, owed-there u sent counts c ne, faithful.owed c)
-      ]
-
-  pub ack-known : Known tables caches tags b cache index r whole faithful e same line rule (tags.line a) some_left
+  pub ack-known : Known tables caches tags b cache index r whole faithful e same line rule (tags.line a) still
   ack-known = record {
     start = began;
     right = λ known. ap (λ (l : Line). l.value) (sym there) ∙ faithful.tags_are_true.line a known;
-    settles = λ next. message-settles (record (taken_in (line_input.Response r) line) { state = next }) (tags.line a) some_left;
-    law = λ u sent counts. record {
-      own = ap (λ n. not (n == 0)) (sym (owed-here u sent counts));
-      others = λ x ne. ap (λ n. not (n == 0)) (sym (owed-there u sent counts x ne));
-      law = ap (λ n. one_ack_less line.acks +ℤ pos n) (numbers-same u sent counts a)
-          ∙ ack-law line.acks (sum_by (ack_number a) b.traffic.responses) left law-before few-left (faithful.announced a)
-          ∙ ap (λ n. pos n) (sym (owed-here u sent counts));
-      other_laws = λ x ne.
-          ap (λ n. (line_of b.lines x).acks +ℤ pos n) (numbers-same u sent counts x) ∙ faithful.law x
-          ∙ ap (λ n. pos n) (sym (owed-there u sent counts x ne));
-      few = few-owed u sent counts;
-      announced = λ c. omega (arith, numbers-same u sent counts c, faithful.announced c);
+    settles = λ next. message-settles (record (taken_in (line_input.Response r) line) { state = next }) (tags.line a) still;
+    answers = λ by u sent counts. record {
+      lags = tags.lag;
+      owed_after = ap (λ (n : ℕ). record { any = not (n == 0); lag = tags.lag a }) (sym (owed-here u sent counts));
+      law = record {
+        own = same-lag (tags.lag a) _ _ _ _ _ _ refl (sym (numbers-same u sent counts a)) (sym (owed-here u sent counts))
+            (ack-lag (tags.lag a) line.acks (sum_by (ack_number a) b.traffic.responses) left lag-before (faithful.announced a));
+        others = λ x ne.
+            same-lag (tags.lag x) _ _ _ _ _ _ refl (sym (numbers-same u sent counts x)) (sym (owed-there u sent counts x ne)) (faithful.lags x);
+        announced = λ c. omega (arith, numbers-same u sent counts c, faithful.announced c);
+      };
+      replies = λ x ne f. plain-replies tags b a by w u x f (owed-there u sent counts x ne);
     };
   }

@@ -1,4 +1,5 @@
 pub mod Alpha
+pub mod Lags
 pub mod AlphaFits
 pub mod Sides
 pub mod Sending
@@ -11,6 +12,7 @@ pub mod Simulation
 pub mod LineGoes
 pub mod AskActs
 pub mod AskSteps
+pub mod ForwardAnswers
 pub mod ForwardActs
 pub mod ForwardSteps
 pub mod Taking
@@ -28,6 +30,7 @@ pub mod HomeStages
 pub mod HomeTruths
 pub mod HomeBalance
 pub mod HomeDebts
+pub mod HomeLags
 pub mod HomePast
 pub mod HomeGoing
 pub mod RequestTaken

@@ -15,19 +15,20 @@ use Rattle.machine.specs.declared.decision.Origin.TheVariants as origin
 use Rattle.machine.specs.Transition.{outcome_of, latest_after, plain_outcome}
 use Rattle.machine.proofs.LineValues.{FitsLatest}
 use Rattle.pairs.specs.declared.side.Waiting.TheVariants as waiting_for
+use Rattle.pairs.specs.declared.side.Lag.TheVariants.{Level}
 use Rattle.pairs.specs.declared.pair.Pair.{Pair}
 use Rattle.pairs.specs.declared.steps.Party.{Party}
 use Rattle.pairs.specs.declared.steps.Sight.{Sight}
 use Rattle.pairs.specs.declared.steps.Sight.TheVariants.{Spoilt}
 use Rattle.pairs.specs.Sights.{looked_at, loaded, stored, waiting, ask_settled, wait_settled}
-use Rattle.closing.proofs.Alpha.{Tags, Face, pair_of, waiting_of}
+use Rattle.closing.proofs.Alpha.{Owing, Tags, Face, pair_of, waiting_of}
 
--- nothing is known to be fresh but a line
+-- nothing is known to be fresh but a line. What is awaited isn't told
 abbrev pub stale_tags : ℕ → Tags
-stale_tags a = record { line = λ c. c == a; data_to = λ c. false; putm = λ c. false; home_data = false; memory = false }
+stale_tags a = record { line = λ c. c == a; data_to = λ c. false; putm = λ c. false; home_data = false; memory = false; lag = λ c. Level }
 
 -- nothing is stored: the pair goes on as the line does
-pub record Plain (settle : Party → Pair → Sight) (m : Line) (fresh owed : Bool) (l : Line) (done : Option LineCompletion) : Type 0 where
+pub record Plain (settle : Party → Pair → Sight) (m : Line) (fresh : Bool) (owed : Owing) (l : Line) (done : Option LineCompletion) : Type 0 where
   pub sees : (concerned : Party) (g : Face) (tags : Tags) (home : Home) (w : Traffic) (a x : ℕ) →
       settle concerned (pair_of (record { line = m; fresh = fresh; owed = owed }) g tags home w a x) ≡
       looked_at concerned (pair_of (record { line = l; fresh = fresh; owed = owed }) g tags home w a x)
@@ -38,7 +39,7 @@ pub record Plain (settle : Party → Pair → Sight) (m : Line) (fresh owed : Bo
   pub unmet : (cache : CacheId) (from : Origin) → outcome_of cache from done ≡ outcome.Blank → ⊥
 
 -- a store completes: its line alone is fresh from now on
-pub record Stores (settle : Party → Pair → Sight) (m : Line) (fresh owed : Bool) (l : Line) (done : Option LineCompletion) : Type 0 where
+pub record Stores (settle : Party → Pair → Sight) (m : Line) (fresh : Bool) (owed : Owing) (l : Line) (done : Option LineCompletion) : Type 0 where
   pub sees : (concerned : Party) (g : Face) (tags : Tags) (home : Home) (w : Traffic) (a x : ℕ) →
       settle concerned (pair_of (record { line = m; fresh = fresh; owed = owed }) g tags home w a x) ≡
       looked_at concerned (pair_of (record { line = l; fresh = true; owed = owed }) (record g { fresh = false }) (stale_tags a) home w a x)
@@ -48,11 +49,11 @@ pub record Stores (settle : Party → Pair → Sight) (m : Line) (fresh owed : B
   pub unmet : (cache : CacheId) (from : Origin) → outcome_of cache from done ≡ outcome.Blank → ⊥
 
 -- a load completes by what may not be the last store's value
-pub record Spoils (settle : Party → Pair → Sight) (m : Line) (fresh owed : Bool) : Type 0 where
+pub record Spoils (settle : Party → Pair → Sight) (m : Line) (fresh : Bool) (owed : Owing) : Type 0 where
   pub sees : (concerned : Party) (g : Face) (tags : Tags) (home : Home) (w : Traffic) (a x : ℕ) →
       settle concerned (pair_of (record { line = m; fresh = fresh; owed = owed }) g tags home w a x) ≡ Spoilt concerned
 
-abbrev pub SettlesAs : (Party → Pair → Sight) → Line → Bool → Bool → Line → Option LineCompletion → Type 0
+abbrev pub SettlesAs : (Party → Pair → Sight) → Line → Bool → Owing → Line → Option LineCompletion → Type 0
 SettlesAs settle m fresh owed l done = Plain settle m fresh owed l done ⊎ Stores settle m fresh owed l done ⊎ Spoils settle m fresh owed
 
 plain-fits : (from : Origin) (n : ℕ) → FitsLatest (plain_outcome from) n n
@@ -68,7 +69,7 @@ plain-unmet (origin.Head cache) e = absurd (cc)
 plain-unmet (origin.Response index) e = absurd (cc)
 
 -- nothing completes
-nothing-done : (settle : Party → Pair → Sight) (m : Line) (fresh owed : Bool) (l : Line) → l.value ≡ m.value → l.acks ≡ m.acks →
+nothing-done : (settle : Party → Pair → Sight) (m : Line) (fresh : Bool) (owed : Owing) (l : Line) → l.value ≡ m.value → l.acks ≡ m.acks →
     ((concerned : Party) (g : Face) (tags : Tags) (home : Home) (w : Traffic) (a x : ℕ) →
     settle concerned (pair_of (record { line = m; fresh = fresh; owed = owed }) g tags home w a x) ≡
     looked_at concerned (pair_of (record { line = l; fresh = fresh; owed = owed }) g tags home w a x)) → SettlesAs settle m fresh owed l None
@@ -82,7 +83,7 @@ nothing-done settle m fresh owed l value acks sees = inl (record {
 })
 
 -- a load completes
-load-done : (settle : Party → Pair → Sight) (m : Line) (owed : Bool) (l : Line) → l.value ≡ m.value → l.acks ≡ m.acks →
+load-done : (settle : Party → Pair → Sight) (m : Line) (owed : Owing) (l : Line) → l.value ≡ m.value → l.acks ≡ m.acks →
     ((concerned : Party) (g : Face) (tags : Tags) (home : Home) (w : Traffic) (a x : ℕ) →
     settle concerned (pair_of (record { line = m; fresh = true; owed = owed }) g tags home w a x) ≡
     looked_at concerned (pair_of (record { line = l; fresh = true; owed = owed }) g tags home w a x)) →
@@ -97,7 +98,7 @@ load-done settle m owed l value acks sees = inl (record {
 })
 
 -- a store completes
-store-done : (settle : Party → Pair → Sight) (m : Line) (fresh owed : Bool) (l : Line) (value : ℕ) → l.value ≡ value → l.acks ≡ m.acks →
+store-done : (settle : Party → Pair → Sight) (m : Line) (fresh : Bool) (owed : Owing) (l : Line) (value : ℕ) → l.value ≡ value → l.acks ≡ m.acks →
     ((concerned : Party) (g : Face) (tags : Tags) (home : Home) (w : Traffic) (a x : ℕ) →
     settle concerned (pair_of (record { line = m; fresh = fresh; owed = owed }) g tags home w a x) ≡
     looked_at concerned (pair_of (record { line = l; fresh = true; owed = owed }) (record g { fresh = false }) (stale_tags a) home w a x)) →
@@ -122,7 +123,7 @@ done_by ask.Load reads writes m = if reads then Some (done.Load m.value) else No
 done_by (ask.Store value) reads writes m = if writes then Some (done.Store value) else None
 done_by ask.Replace reads writes m = None
 
-asked : (a : Ask) (reads writes : Bool) (m : Line) (fresh owed : Bool) →
+asked : (a : Ask) (reads writes : Bool) (m : Line) (fresh : Bool) (owed : Owing) →
     SettlesAs (asks_by a reads writes) m fresh owed (after_ask a (done_by a reads writes m) m) (done_by a reads writes m)
 asked ask.Load true writes m true owed = load-done (asks_by ask.Load true writes) m owed m refl refl (λ concerned g tags home w a x. refl)
 asked ask.Load true writes m false owed = inr (inr (record { sees = λ concerned g tags home w a x. refl }))
@@ -137,7 +138,7 @@ asked ask.Replace reads writes m fresh owed =
     nothing-done (asks_by ask.Replace reads writes) m fresh owed m refl refl (λ concerned g tags home w a x. refl)
 
 -- how a pair settles hangs on what it makes of the line alone
-pub same-settle : (by to : Party → Pair → Sight) (m : Line) (fresh owed : Bool) (l : Line) (done : Option LineCompletion) →
+pub same-settle : (by to : Party → Pair → Sight) (m : Line) (fresh : Bool) (owed : Owing) (l : Line) (done : Option LineCompletion) →
     ((concerned : Party) (g : Face) (tags : Tags) (home : Home) (w : Traffic) (a x : ℕ) →
     to concerned (pair_of (record { line = m; fresh = fresh; owed = owed }) g tags home w a x) ≡
     by concerned (pair_of (record { line = m; fresh = fresh; owed = owed }) g tags home w a x)) →
@@ -161,19 +162,19 @@ same-settle by to m fresh owed l done same (inr (inr p)) =
     inr (inr (record { sees = λ concerned g tags home w a x. same concerned g tags home w a x ∙ p.sees concerned g tags home w a x }))
 
 -- asks settle as their rules say
-pub load-settles : (m : Line) (fresh owed : Bool) → SettlesAs (λ concerned q. ask_settled concerned waiting_for.Load q) m fresh owed
+pub load-settles : (m : Line) (fresh : Bool) (owed : Owing) → SettlesAs (λ concerned q. ask_settled concerned waiting_for.Load q) m fresh owed
     (after_ask ask.Load (completed ask.Load m) m) (completed ask.Load m)
 load-settles m fresh owed =
     same-settle (asks_by ask.Load (is_reader m.state) (is_modified m.state)) _ m fresh owed _ _ (λ concerned g tags home w a x. refl)
     (asked ask.Load (is_reader m.state) (is_modified m.state) m fresh owed)
 
-pub store-settles : (value : ℕ) (m : Line) (fresh owed : Bool) → SettlesAs (λ concerned q. ask_settled concerned waiting_for.Store q) m fresh owed
+pub store-settles : (value : ℕ) (m : Line) (fresh : Bool) (owed : Owing) → SettlesAs (λ concerned q. ask_settled concerned waiting_for.Store q) m fresh owed
     (after_ask (ask.Store value) (completed (ask.Store value) m) m) (completed (ask.Store value) m)
 store-settles value m fresh owed =
     same-settle (asks_by (ask.Store value) (is_reader m.state) (is_modified m.state)) _ m fresh owed _ _ (λ concerned g tags home w a x. refl)
     (asked (ask.Store value) (is_reader m.state) (is_modified m.state) m fresh owed)
 
-pub replacement-settles : (m : Line) (fresh owed : Bool) →
+pub replacement-settles : (m : Line) (fresh : Bool) (owed : Owing) →
     SettlesAs (λ concerned q. looked_at concerned q) m fresh owed (after_ask ask.Replace (completed ask.Replace m) m) (completed ask.Replace m)
 replacement-settles m fresh owed = nothing-done (λ concerned q. looked_at concerned q) m fresh owed m refl refl (λ concerned g tags home w a x. refl)
 
@@ -189,7 +190,7 @@ abbrev waiting_done_by : Option Ask → Bool → Bool → Line → Option LineCo
 waiting_done_by None reads writes m = None
 waiting_done_by (Some a) reads writes m = done_by a reads writes m
 
-waited : (o : Option Ask) (reads writes : Bool) (m : Line) (fresh owed : Bool) →
+waited : (o : Option Ask) (reads writes : Bool) (m : Line) (fresh : Bool) (owed : Owing) →
     SettlesAs (waits_by o reads writes) m fresh owed (after_message (waiting_done_by o reads writes m) m) (waiting_done_by o reads writes m)
 waited None reads writes m fresh owed = nothing-done (waits_by None reads writes) m fresh owed m refl refl (λ concerned g tags home w a x. refl)
 waited (Some ask.Load) true writes m true owed =
@@ -219,7 +220,7 @@ pending-done (Some (ask.Store value)) m = refl
 pending-done (Some ask.Replace) m = refl
 
 -- on a message what waits settles
-pub message-settles : (m : Line) (fresh owed : Bool) → SettlesAs (λ concerned q. wait_settled concerned q.first.waits q) m fresh owed
+pub message-settles : (m : Line) (fresh : Bool) (owed : Owing) → SettlesAs (λ concerned q. wait_settled concerned q.first.waits q) m fresh owed
     (after_message (pending_completed m.pending m) m) (pending_completed m.pending m)
 message-settles m fresh owed =
     same-settle (waits_by m.pending (is_reader m.state) (is_modified m.state)) _ m fresh owed _ _

@@ -9,13 +9,14 @@ use Rattle.machine.specs.Block.{IsBlockAmong, opened_block}
 use Rattle.machine.proofs.Counts.{total}
 use Rattle.machine.proofs.Opened.{idle-line, linkless}
 use Rattle.machine.proofs.Seen.{names, line_of, late_of, is_fwd_gets, is_fwd_getm, is_inv}
+use Rattle.pairs.specs.declared.side.Lag.TheVariants.{Level}
 use Rattle.pairs.specs.declared.side.Side.{Side}
 use Rattle.pairs.specs.declared.side.Owned.TheVariants.{ByNobody}
 use Rattle.pairs.specs.Pairs.{opened_side, opened_pair, is_few_side}
 use Rattle.closing.proofs.Alpha.{Tags, alpha, side, names_on, owed_to, waiting_of, Faithful}
 
 abbrev pub opened_tags : Tags
-opened_tags = record { line = λ c. false; data_to = λ c. false; putm = λ c. false; home_data = false; memory = true }
+opened_tags = record { line = λ c. false; data_to = λ c. false; putm = λ c. false; home_data = false; memory = true; lag = λ c. Level }
 
 no-messages : (f : Forward → ℕ) (n : ℕ) → total f (replicate n []) ≡ 0
 no-messages f zero = refl
@@ -49,6 +50,7 @@ opened-side n value c = λ i. record {
   fresh_data = true;
   low = ap (λ (l : Line). late_of l.acks == 0) (idle-line n c) i;
   owed = ap (λ k. not (k == 0)) (nothing-owed n value c) i;
+  lag = Level;
   fwd_gets = no-messages (names c is_fwd_gets) n i;
   fwd_getm = no-messages (names c is_fwd_getm) n i;
   link = ap (λ (l : List Forward). map (λ (f : Forward). record { kind = f.kind; own = f.requestor.0 == c }) l) (linkless n c) i;
@@ -87,8 +89,7 @@ opened-faithful caches value = record {
   };
   few = λ c. ap (λ (s : Side). is_few_side s) (opened-side caches value c);
   few_home = refl;
-  law = λ c. law caches value c (line_of (opened_block caches value).lines c) (idle-line caches c);
-  owed = λ c. omega (arith, nothing-owed caches value c);
+  lags = λ c. (law caches value c (line_of (opened_block caches value).lines c) (idle-line caches c), omega (arith, nothing-owed caches value c));
   announced = λ c. omega arith;
 }
 

@@ -3,13 +3,10 @@ use Rattle.std.proofs.Common.{◌≡◌, ◌≢◌, ℕ, ◌+◌, List, refl, ap
 use Rattle.std.proofs.Common.{if◌then◌else◌, arith, eq-eqb}
 use Rattle.std.proofs.lemmas.Bool.{cases_eq, ne_eqb}
 use Rattle.base.specs.declared.ids.CacheId.{CacheId}
-use Rattle.cache_table.specs.declared.event.CacheEvent.{CacheEvent}
-use Rattle.cache_table.specs.declared.event.CacheEvent.TheVariants as event
-use Rattle.cache_table.specs.declared.actions.CacheAction.{CacheAction}
 use Rattle.pairs.specs.declared.steps.Party.{Party}
 use Rattle.pairs.specs.declared.steps.Party.TheVariants.{Nobody, First, Second, Third}
 use Rattle.pairs.specs.declared.steps.Sight.TheVariants.{Spoilt}
-use Rattle.pairs.specs.Sights.{besides, answers_rightly}
+use Rattle.pairs.specs.Sights.{besides}
 use Rattle.closing.proofs.Sending.{party_of, party-first, party-second, party-third}
 use Rattle.closing.proofs.Simulation.{role, IsBreach}
 
@@ -78,50 +75,3 @@ witness (Some to) a =
         others = λ x ne far e. third-second (sym (party-third to a x differ (λ s. far (sym s))) ∙ e);
       }
     ]
-
--- ANSWERS
--- whether the actions answer rightly, whoever the requestor is
-abbrev pub is_answered : Option CacheId → CacheEvent → List CacheAction → Bool
-is_answered None e actions = answers_rightly Nobody e actions
-is_answered (Some to) e actions = answers_rightly First e actions
-
-second-answers : (e : CacheEvent) (actions : List CacheAction) → answers_rightly Second e actions ≡ answers_rightly First e actions
-second-answers event.Load actions = refl
-second-answers event.Store actions = refl
-second-answers event.Replacement actions = refl
-second-answers event.FwdGetS actions = refl
-second-answers event.FwdGetM actions = refl
-second-answers event.Inv actions = refl
-second-answers event.PutAck actions = refl
-second-answers event.DataDirZero actions = refl
-second-answers event.DataDirMore actions = refl
-second-answers event.DataOwner actions = refl
-second-answers event.InvAck actions = refl
-second-answers event.LastInvAck actions = refl
-second-answers event.DataDirExcl actions = refl
-
-third-answers : (e : CacheEvent) (actions : List CacheAction) → answers_rightly Third e actions ≡ answers_rightly First e actions
-third-answers event.Load actions = refl
-third-answers event.Store actions = refl
-third-answers event.Replacement actions = refl
-third-answers event.FwdGetS actions = refl
-third-answers event.FwdGetM actions = refl
-third-answers event.Inv actions = refl
-third-answers event.PutAck actions = refl
-third-answers event.DataDirZero actions = refl
-third-answers event.DataDirMore actions = refl
-third-answers event.DataOwner actions = refl
-third-answers event.InvAck actions = refl
-third-answers event.LastInvAck actions = refl
-third-answers event.DataDirExcl actions = refl
-
-answers-if : (s t : Bool) (e : CacheEvent) (actions : List CacheAction) →
-    answers_rightly (if s then First else (if t then Second else Third)) e actions ≡ answers_rightly First e actions
-answers-if true t e actions = refl
-answers-if false true e actions = second-answers e actions
-answers-if false false e actions = third-answers e actions
-
-pub same-answers : (to : Option CacheId) (a x : ℕ) (e : CacheEvent) (actions : List CacheAction) →
-    answers_rightly (party_of to a x) e actions ≡ is_answered to e actions
-same-answers None a x e actions = refl
-same-answers (Some to) a x e actions = answers-if (to.0 == a) (to.0 == x) e actions

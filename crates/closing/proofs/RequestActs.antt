@@ -1,5 +1,5 @@
 -- A cell of the home that acts on a request: all pairs of the sender have the step among their sights, or one breaks.
-use Rattle.std.proofs.Common.{◌≡◌, ◌≢◌, ℕ, ◌+◌, ◌≤◌, ◌<◌, List, refl, ap, sym, subst, ◌∙◌, inl, inr, Option, Some, Bool, true, false, arith}
+use Rattle.std.proofs.Common.{◌≡◌, ◌≢◌, ℕ, ◌+◌, ◌≤◌, ◌<◌, List, refl, ap, sym, subst, ◌∙◌, inl, inr, Option, Some, None, Bool, true, false, arith}
 use Rattle.std.proofs.Common.{◌&&◌, slice_get, length, nat_le, sum_by, ◌⊎◌, zero, suc, ℤ, pos, ◌+ℤ◌}
 use Rattle.std.proofs.lemmas.Bool.{cases_eq, cases_lt, leb-true}
 use Rattle.std.proofs.lemmas.Int.{ints}
@@ -27,19 +27,25 @@ use Rattle.pairs.specs.declared.steps.Debt.{Debt}
 use Rattle.pairs.specs.declared.steps.Debt.TheVariants.{Even, Announced, Invalidated, Uneven}
 use Rattle.pairs.specs.declared.steps.Sight.{Sight}
 use Rattle.pairs.specs.declared.steps.Sight.TheVariants.{Lost}
-use Rattle.pairs.specs.Sights.{sight, at_home, is_even}
-use Rattle.closing.proofs.Alpha.{Tags, alpha, side, owed_to, Faithful}
+use Rattle.pairs.specs.Sights.{sight, at_home, lag_after, lag_settled, looked_at}
+use Rattle.pairs.specs.declared.side.Lag.{Lag}
+use Rattle.pairs.specs.declared.pair.Pair.{Pair}
+use Rattle.control.specs.Sharing.{others_from}
+use Rattle.closing.proofs.Lags.{same-lag}
+use Rattle.closing.proofs.HomeLags.{lag-served}
+use Rattle.closing.proofs.Sending.{lag_at, lag-here, lag-elsewhere}
+use Rattle.closing.proofs.Alpha.{Tags, LagIs, alpha, side, owed_to, Faithful}
 use Rattle.closing.proofs.Simulation.{role, Moves, IsBreach, Breaks, SimulatedBy, next-other}
 use Rattle.closing.proofs.HomeSending.{at}
 use Rattle.closing.proofs.HomeScene.{third_of}
 use Rattle.closing.proofs.HomeActing.{Matches}
-use Rattle.closing.proofs.HomeStages.{Stage, last_stage, last-home, last-wires}
+use Rattle.closing.proofs.HomeStages.{Stage, last_stage, last-home, last-lags, last-wires}
 use Rattle.closing.proofs.HomeTruths.{and-left, and-right}
 use Rattle.closing.proofs.HomeBalance.{acks_to, datas_to}
 use Rattle.closing.proofs.HomeDebts.{FewOwed, FewAnnounced}
 use Rattle.closing.proofs.HomeGoing.{OwesAt, IsServing, serving-last}
 use Rattle.closing.proofs.RequestTaken.{left-elsewhere, left-true}
-use Rattle.closing.proofs.RequestEnds.{besides_of, besides-apart, ended, settled_in, begun_with, end-seen, looked-few, looked-many}
+use Rattle.closing.proofs.RequestEnds.{besides_of, besides-apart, ended, begun_with, end-seen, looked-few, settled-many}
 
 -- TESTS
 and-false : (s t u : Bool) → u ≡ false → s && t && u ≡ false
@@ -65,23 +71,9 @@ the-first s t u v x y h =
 few-datas : (s : Side) → is_few_side s ≡ true → s.dir_data ≤ 1
 few-datas s h =
     leb-true s.dir_data 1
-    (and-right (nat_le s.gets 1 && nat_le s.getm 1 && nat_le s.puts 1 && nat_le s.putm 1) (nat_le s.dir_data 1)
-    (the-first (nat_le s.gets 1 && nat_le s.getm 1 && nat_le s.puts 1 && nat_le s.putm 1 && nat_le s.dir_data 1) (nat_le s.owner_data 1)
-    (nat_le s.excl_data 1) (nat_le s.fwd_gets 1) (nat_le s.fwd_getm 1) (nat_le (length s.link) 2) h))
-
--- an even debt
-is-even : (debt : Debt) → is_even debt ≡ true → debt ≡ Even
-is-even Even e = refl
-is-even Announced e = absurd (cc)
-is-even Invalidated e = absurd (cc)
-is-even Uneven e = absurd (cc)
-
-even-uneven : Even ≡ Uneven → ⊥
-even-uneven e = absurd (cc)
-
-balanced : (counter : ℤ) (acks_first owed_first acks owed : ℕ) → counter +ℤ pos acks_first ≡ pos owed_first → acks + owed_first ≡ owed + acks_first →
-    counter +ℤ pos acks ≡ pos owed
-balanced counter acks_first owed_first acks owed e f = omega (arith, ints)
+    (and-right (nat_le s.gets 2 && nat_le s.getm 2 && nat_le s.puts 1 && nat_le s.putm 1) (nat_le s.dir_data 1)
+    (the-first (nat_le s.gets 2 && nat_le s.getm 2 && nat_le s.puts 1 && nat_le s.putm 1 && nat_le s.dir_data 1) (nat_le s.owner_data 1)
+    (nat_le s.excl_data 1) (nat_le s.fwd_gets 2) (nat_le s.fwd_getm 2) (nat_le (length s.link) 2) h))
 
 module _ (tables : Tables) (caches : ℕ) (tags : Tags) (b : BlockState) (index : ℕ) (r : Request) (few : caches ≤ 4294967296) (whole : IsBlockAmong caches b)
     (faithful : Faithful tags b) (e : Some r ≡ slice_get b.traffic.requests index) (value : Option Bool) (m : Matches value (value_in r.kind) b.latest)
@@ -123,7 +115,7 @@ module _ (tables : Tables) (caches : ℕ) (tags : Tags) (b : BlockState) (index 
     among = record { links = whole.links; sharers = whole.home.sharers; owner = whole.home.owner };
     truths = left-true tags b index r e faithful.tags_are_true;
     owes = omega arith;
-    owed = inr (faithful.owed r.from.0);
+    owed = λ few_first. inr few_first;
     announced = inl (faithful.announced r.from.0);
     acks_elsewhere = λ c ne. refl;
     owed_elsewhere = λ c ne. refl;
@@ -135,34 +127,41 @@ module _ (tables : Tables) (caches : ℕ) (tags : Tags) (b : BlockState) (index 
   serving : IsServing caches b r.from wires last
   serving = serving-last caches b r.from value (value_in r.kind) wires actions first few below m serving-first
 
-  -- what makes the tags faithful: the debt is even, and each cache has few
+  -- what makes the tags faithful: each cache has few
   abbrev IsEnding : Type 0
-  IsEnding = (last.debt ≡ Even) × (nat_le (sum_by home_data last.wires.responses) 1 ≡ true) × ((c : ℕ) → is_few_side (side last.tags after c) ≡ true)
+  IsEnding = (nat_le (sum_by home_data last.wires.responses) 1 ≡ true) × ((c : ℕ) → is_few_side (side last.tags after c) ≡ true)
 
-  own-law : last.debt ≡ Even → (line_of b.lines r.from.0).acks +ℤ pos (acks_to last.wires r.from.0) ≡ pos (owed_to after r.from.0)
-  own-law even =
-      balanced (line_of b.lines r.from.0).acks (acks_to wires r.from.0) (owed_to b r.from.0) (acks_to last.wires r.from.0) (owed_to after r.from.0)
-      (faithful.law r.from.0) (subst (λ (d : Debt). OwesAt b r.from.0 wires (record last { debt = d })) even serving.owes)
+  -- the requestor's lag, if that can be followed
+  abbrev lag_then : Option Lag
+  lag_then = lag_after last.debt (last.tags.lag r.from.0)
 
-  law-after : last.debt ≡ Even → (c : ℕ) → (line_of b.lines c).acks +ℤ pos (acks_to last.wires c) ≡ pos (owed_to after c)
-  law-after even c =
+  -- the tags with it
+  abbrev tags_with : Lag → Tags
+  tags_with k = record last.tags { lag = lag_at r.from.0 k last.tags.lag }
+
+  lag-kept : (c : ℕ) → last.tags.lag c ≡ tags.lag c
+  lag-kept c = ap (λ (l : ℕ → Lag). l c) (last-lags b r.from value (value_in r.kind) actions first)
+
+  own-lag : (k : Lag) → lag_then ≡ Some k →
+      LagIs k ((line_of b.lines r.from.0).acks +ℤ pos (acks_to last.wires r.from.0)) (owed_to after r.from.0)
+  own-lag k some =
+      lag-served last.debt (tags.lag r.from.0) k (line_of b.lines r.from.0).acks (acks_to last.wires r.from.0) (owed_to after r.from.0)
+      (acks_to wires r.from.0) (owed_to b r.from.0) (others_from 0 r.from.0 last.home.sharers)
+      (ap (λ (l : Lag). lag_after last.debt l) (sym (lag-kept r.from.0)) ∙ some) serving.owes (faithful.lags r.from.0) serving.owed
+
+  lags-after : (k : Lag) → lag_then ≡ Some k → (c : ℕ) →
+      LagIs ((tags_with k).lag c) ((line_of b.lines c).acks +ℤ pos (acks_to last.wires c)) (owed_to after c)
+  lags-after k some c =
       elim (cases_eq c r.from.0) [
-        | inl same ↦ subst (λ (n : ℕ). (line_of b.lines n).acks +ℤ pos (acks_to last.wires n) ≡ pos (owed_to after n)) (sym same) (own-law even)
+        | inl same ↦
+            subst (λ (n : ℕ). LagIs ((tags_with k).lag n) ((line_of b.lines n).acks +ℤ pos (acks_to last.wires n)) (owed_to after n)) (sym same)
+            (subst (λ (l : Lag). LagIs l ((line_of b.lines r.from.0).acks +ℤ pos (acks_to last.wires r.from.0)) (owed_to after r.from.0))
+            (sym (lag-here r.from.0 k last.tags.lag)) (own-lag k some))
         | inr ne ↦
-            ap (λ (n : ℕ). (line_of b.lines c).acks +ℤ pos n) (serving.acks_elsewhere c ne) ∙ faithful.law c
-            ∙ ap (λ (n : ℕ). pos n) (sym (serving.owed_elsewhere c ne))
+            subst (λ (l : Lag). LagIs l ((line_of b.lines c).acks +ℤ pos (acks_to last.wires c)) (owed_to after c))
+            (sym (lag-elsewhere r.from.0 k last.tags.lag c ne ∙ lag-kept c))
+            (same-lag (tags.lag c) _ _ _ _ _ _ refl (sym (serving.acks_elsewhere c ne)) (sym (serving.owed_elsewhere c ne)) (faithful.lags c))
       ]
-
-  owed-after : last.debt ≡ Even → (c : ℕ) → owed_to after c ≤ 4294967296
-  owed-after even c =
-      elim (cases_eq c r.from.0) [
-        | inl same ↦ subst (λ (n : ℕ). owed_to after n ≤ 4294967296) (sym same) (own serving.owed)
-        | inr ne ↦ omega (arith, serving.owed_elsewhere c ne, faithful.owed c)
-      ]
-    where
-      own : FewOwed last.debt (owed_to after r.from.0) → owed_to after r.from.0 ≤ 4294967296
-      own (inl uneven) = absurd (even-uneven (sym even ∙ uneven))
-      own (inr h) = h
 
   announced-after : ((c : ℕ) → is_few_side (side last.tags after c) ≡ true) → (c : ℕ) → acks_to last.wires c ≤ 4294967296
   announced-after all c =
@@ -175,8 +174,8 @@ module _ (tables : Tables) (caches : ℕ) (tags : Tags) (b : BlockState) (index 
       own (inl h) = h
       own (inr many) = absurd (omega (arith, many, few-datas (side last.tags after r.from.0) (all r.from.0)))
 
-  faithful-after : IsEnding → Faithful last.tags after
-  faithful-after h = record {
+  faithful-after : (k : Lag) → lag_then ≡ Some k → IsEnding → Faithful (tags_with k) after
+  faithful-after k some h = record {
     tags_are_true =
         record {
           line = serving.truths.line;
@@ -185,11 +184,10 @@ module _ (tables : Tables) (caches : ℕ) (tags : Tags) (b : BlockState) (index 
           home_data = serving.truths.home_data;
           memory = serving.truths.memory;
         };
-    few = h.2;
-    few_home = h.1;
-    law = law-after h.0;
-    owed = owed-after h.0;
-    announced = announced-after h.2;
+    few = h.1;
+    few_home = h.0;
+    lags = lags-after k some;
+    announced = announced-after h.1;
   }
 
   -- SIGHTS
@@ -197,19 +195,31 @@ module _ (tables : Tables) (caches : ℕ) (tags : Tags) (b : BlockState) (index 
       (reaches : (x : ℕ) (t : Bool) → x ≢ r.from.0 →
       sight tables rule t (alpha tags b r.from.0 x) ≡ at_home tables t true value ev (alpha tags (at b b.home wires) r.from.0 x)) where
     sees : (x : ℕ) → x ≢ r.from.0 → sight tables rule (third_of r.from.0 x b.home.sharers) (alpha tags b r.from.0 x) ≡
-        settled_in (is_even last.debt) (role (besides_of actions b.home.owner r.from.0) x) (alpha last.tags after r.from.0 x)
+        lag_settled (role (besides_of actions b.home.owner r.from.0) x) lag_then (alpha last.tags after r.from.0 x)
     sees x ne =
         reaches x (third_of r.from.0 x b.home.sharers) ne
         ∙ end-seen tables caches b r.from value (value_in r.kind) next actions tags wires ev x ne below m serving-first.among cell
 
     breaks : (x : ℕ) → x ≢ r.from.0 →
-        settled_in (is_even last.debt) (role (besides_of actions b.home.owner r.from.0) x) (alpha last.tags after r.from.0 x) ≡ Lost → Breaks tables tags b
+        lag_settled (role (besides_of actions b.home.owner r.from.0) x) lag_then (alpha last.tags after r.from.0 x) ≡ Lost → Breaks tables tags b
     breaks x ne lost =
         (r.from.0, x, (λ same. ne (sym same)), third_of r.from.0 x b.home.sharers, inl (rule, subst (λ (s : Sight). IsBreach s) (sym (sees x ne ∙ lost)) tt))
 
+    -- what is seen where that lag is known
+    seen-with : (k : Lag) → lag_then ≡ Some k → (x : ℕ) → x ≢ r.from.0 →
+        sight tables rule (third_of r.from.0 x b.home.sharers) (alpha tags b r.from.0 x) ≡
+        looked_at (role (besides_of actions b.home.owner r.from.0) x) (alpha (tags_with k) after r.from.0 x)
+    seen-with k some x ne =
+        let p : Pair = alpha last.tags after r.from.0 x in
+        sees x ne ∙ ap (λ (o : Option Lag). lag_settled (role (besides_of actions b.home.owner r.from.0) x) o p) some
+        ∙ (λ i. looked_at (role (besides_of actions b.home.owner r.from.0) x) (record p {
+          first = record p.first { lag = sym (lag-here r.from.0 k last.tags.lag) i };
+          second = record p.second { lag = sym (lag-elsewhere r.from.0 k last.tags.lag x ne) i };
+        }))
+
     -- all pairs of the sender move
-    moves : is_even last.debt ≡ true → IsEnding → Moves tables tags b after
-    moves even h = record {
+    moves : (k : Lag) → lag_then ≡ Some k → IsEnding → Moves tables tags b after
+    moves k some h = record {
       decided = AtHome (home_input.Request r) next actions (origin.Request index);
       made = same-block;
       actor = r.from.0;
@@ -217,29 +227,25 @@ module _ (tables : Tables) (caches : ℕ) (tags : Tags) (b : BlockState) (index 
       besides = besides_of actions b.home.owner r.from.0;
       apart = λ x same. besides-apart actions b.home.owner r.from.0 x same;
       rule = rule;
-      after = last.tags;
-      faithful = faithful-after h;
-      sees =
-          λ x ne. (
-            third_of r.from.0 x b.home.sharers,
-            sees x ne
-                ∙ ap (λ (t : Bool). settled_in t (role (besides_of actions b.home.owner r.from.0) x) (alpha last.tags after r.from.0 x)) even
-                ∙ looked-few caches last.tags after (role (besides_of actions b.home.owner r.from.0) x) r.from.0 x whole-after (λ same. ne (sym same))
-                (few-pair x),
-          );
+      after = tags_with k;
+      faithful = faithful-after k some h;
+      sees = λ x ne. (
+        third_of r.from.0 x b.home.sharers,
+        seen-with k some x ne
+            ∙ looked-few caches (tags_with k) after (role (besides_of actions b.home.owner r.from.0) x) r.from.0 x whole-after (λ same. ne (sym same))
+            (few-pair x),
+      );
     }
       where
-        few-pair : (x : ℕ) → is_few (alpha last.tags after r.from.0 x) ≡ true
+        few-pair : (x : ℕ) → is_few (alpha (tags_with k) after r.from.0 x) ≡ true
         few-pair x =
-            ap (λ (t : Bool). t && is_few_side (side last.tags after r.from.0) && is_few_side (side last.tags after x)) h.1
-            ∙ ap (λ (t : Bool). t && is_few_side (side last.tags after x)) (h.2 r.from.0) ∙ h.2 x
+            ap (λ (t : Bool). t && is_few_side (side last.tags after r.from.0) && is_few_side (side last.tags after x)) h.0
+            ∙ ap (λ (t : Bool). t && is_few_side (side last.tags after x)) (h.1 r.from.0) ∙ h.1 x
 
     -- too many of some kind
-    many-breaks : (x : ℕ) → x ≢ r.from.0 → is_even last.debt ≡ true → is_few (alpha last.tags after r.from.0 x) ≡ false → Breaks tables tags b
-    many-breaks x ne even many =
-        breaks x ne
-        (ap (λ (t : Bool). settled_in t (role (besides_of actions b.home.owner r.from.0) x) (alpha last.tags after r.from.0 x)) even
-        ∙ looked-many (role (besides_of actions b.home.owner r.from.0) x) (alpha last.tags after r.from.0 x) many)
+    many-breaks : (x : ℕ) → x ≢ r.from.0 → is_few (alpha last.tags after r.from.0 x) ≡ false → Breaks tables tags b
+    many-breaks x ne many =
+        breaks x ne (settled-many (role (besides_of actions b.home.owner r.from.0) x) lag_then (alpha last.tags after r.from.0 x) many)
 
     abbrev home_few : Bool
     home_few = nat_le (sum_by home_data last.wires.responses) 1
@@ -254,36 +260,37 @@ module _ (tables : Tables) (caches : ℕ) (tags : Tags) (b : BlockState) (index 
     next-apart same = next-other r.from.0 (sym same)
 
     -- the sender and its neighbour have few, so either each cache has, or one breaks
-    searched : is_even last.debt ≡ true → is_few (alpha last.tags after r.from.0 (r.from.0 + 1)) ≡ true →
+    searched : (k : Lag) → lag_then ≡ Some k → is_few (alpha last.tags after r.from.0 (r.from.0 + 1)) ≡ true →
         ((x : ℕ) → x < caches → is_few_side (side last.tags after x) ≡ true) ⊎ ((x : ℕ) × (is_few_side (side last.tags after x) ≡ false)) →
         Breaks tables tags b ⊎ Moves tables tags b after
-    searched even some (inl all) = inr (moves even (is-even last.debt even, and-left home_few own_few (and-left (home_few && own_few) next_few some), all-few))
+    searched k is some (inl all) = inr (moves k is (and-left home_few own_few (and-left (home_few && own_few) next_few some), all-few))
       where
         all-few : (c : ℕ) → is_few_side (side last.tags after c) ≡ true
         all-few c = elim (cases_lt c caches) [ inl there ↦ all c there | inr past ↦ serving.past c past ]
-    searched even some (inr found) =
+    searched k is some (inr found) =
         elim (cases_eq found.0 r.from.0) [
           | inl same ↦
               let own : is_few_side (side last.tags after r.from.0) ≡ true = and-right home_few own_few (and-left (home_few && own_few) next_few some) in
               let not_own : is_few_side (side last.tags after r.from.0) ≡ false =
               subst (λ (n : ℕ). is_few_side (side last.tags after n) ≡ false) same found.1 in
               absurd (cc)
-          | inr ne ↦ inl (many-breaks found.0 ne even (and-false home_few own_few (is_few_side (side last.tags after found.0)) found.1))
+          | inr ne ↦ inl (many-breaks found.0 ne (and-false home_few own_few (is_few_side (side last.tags after found.0)) found.1))
         ]
 
-    decided-few : (some : Bool) → is_even last.debt ≡ true → is_few (alpha last.tags after r.from.0 (r.from.0 + 1)) ≡ some →
+    decided-few : (k : Lag) → lag_then ≡ Some k → (some : Bool) → is_few (alpha last.tags after r.from.0 (r.from.0 + 1)) ≡ some →
         Breaks tables tags b ⊎ Moves tables tags b after
-    decided-few true even s = searched even s (all-or-one (λ (x : ℕ). is_few_side (side last.tags after x)) caches)
-    decided-few false even s = inl (many-breaks (r.from.0 + 1) next-apart even s)
+    decided-few k is true s = searched k is s (all-or-one (λ (x : ℕ). is_few_side (side last.tags after x)) caches)
+    decided-few k is false s = inl (many-breaks (r.from.0 + 1) next-apart s)
 
-    decided : (even : Bool) → is_even last.debt ≡ even → Breaks tables tags b ⊎ Moves tables tags b after
-    decided true e = decided-few (is_few (alpha last.tags after r.from.0 (r.from.0 + 1))) e refl
-    decided false e =
+    decided : (o : Option Lag) → lag_then ≡ o → Breaks tables tags b ⊎ Moves tables tags b after
+    decided (Some k) is = decided-few k is (is_few (alpha last.tags after r.from.0 (r.from.0 + 1))) refl
+    decided None none =
         inl (breaks (r.from.0 + 1) next-apart
-        (ap (λ (t : Bool). settled_in t (role (besides_of actions b.home.owner r.from.0) (r.from.0 + 1)) (alpha last.tags after r.from.0 (r.from.0 + 1))) e))
+        (ap (λ (o : Option Lag). lag_settled (role (besides_of actions b.home.owner r.from.0) (r.from.0 + 1)) o (alpha last.tags after r.from.0 (r.from.0 + 1)))
+        none))
 
     pub served : SimulatedBy tables tags b (carried_out (AtHome (home_input.Request r) next actions (origin.Request index)) b)
-    served = from-moves (decided (is_even last.debt) refl)
+    served = from-moves (decided lag_then refl)
       where
         from-moves : Breaks tables tags b ⊎ Moves tables tags b after →
             SimulatedBy tables tags b (carried_out (AtHome (home_input.Request r) next actions (origin.Request index)) b)

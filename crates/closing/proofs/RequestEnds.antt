@@ -11,6 +11,7 @@ use Rattle.directory_table.specs.Table as directory_table
 use Rattle.directory_table.specs.Table.{DirectoryEntry}
 use Rattle.both_tables.specs.Tables.{Tables}
 use Rattle.machine.specs.Block.{BlockState, IsBlockAmong}
+use Rattle.pairs.specs.declared.side.Lag.{Lag}
 use Rattle.pairs.specs.declared.pair.Pair.{Pair}
 use Rattle.pairs.specs.Pairs.{fits, is_few}
 use Rattle.pairs.specs.declared.steps.Party.{Party}
@@ -19,7 +20,7 @@ use Rattle.pairs.specs.declared.steps.Debt.TheVariants.{Even}
 use Rattle.pairs.specs.declared.steps.Scene.{Scene}
 use Rattle.pairs.specs.declared.steps.Sight.{Sight}
 use Rattle.pairs.specs.declared.steps.Sight.TheVariants.{Unmoved, Lost, Seen}
-use Rattle.pairs.specs.Sights.{at_home, by_home, home_acts, home_settled, looked_at, is_even, owner_in, concerned_by, any_names_owner}
+use Rattle.pairs.specs.Sights.{at_home, by_home, home_acts, home_settled, looked_at, lag_after, lag_settled, owner_in, concerned_by, any_names_owner}
 use Rattle.closing.proofs.Alpha.{Tags, alpha}
 use Rattle.closing.proofs.AlphaFits.{alpha-fits}
 use Rattle.closing.proofs.Sending.{party_of}
@@ -82,10 +83,6 @@ ended b next st = let c : BlockState = at_stage b st in record c { home = record
 abbrev pub begun_with : BlockState → Tags → Traffic → Stage
 begun_with b tags w = record { home = b.home; wires = w; tags = tags; debt = Even }
 
--- what is seen, where the debt is even or not
-abbrev pub settled_in : Bool → Party → Pair → Sight
-settled_in even concerned p = if even then looked_at concerned p else Lost
-
 module _ (tables : Tables) (caches : ℕ) (b : BlockState) (a : CacheId) (value : Option Bool) (brought : Option ℕ) (next : DirectoryState)
     (actions : List DirectoryAction) (tags : Tags) (w : Traffic) where
   abbrev begun : Stage
@@ -93,6 +90,10 @@ module _ (tables : Tables) (caches : ℕ) (b : BlockState) (a : CacheId) (value 
 
   abbrev done : Stage
   done = last_stage b a value brought actions begun
+
+  -- the requestor's lag in the end, if that can be followed
+  abbrev lag_then : Option Lag
+  lag_then = lag_after done.debt (done.tags.lag a.0)
 
   -- the scene at which they begin
   abbrev begin_scene : ℕ → Scene
@@ -108,7 +109,7 @@ module _ (tables : Tables) (caches : ℕ) (b : BlockState) (a : CacheId) (value 
 
   settled-seen : (x : ℕ) → x ≢ a.0 → a.0 < caches → Matches value brought b.latest → IsAt caches b.home w →
       home_settled (concerned_by true actions (begin_scene x).owner) next (home_acts true value actions (begin_scene x)) ≡
-      settled_in (is_even done.debt) (role (besides_of actions b.home.owner a.0) x) (alpha done.tags (ended b next done) a.0 x)
+      lag_settled (role (besides_of actions b.home.owner a.0) x) lag_then (alpha done.tags (ended b next done) a.0 x)
   settled-seen x ne l m h =
       let fr : Frame = frame_of (alpha tags (at_stage b begun) a.0 x) in
       let concerned : concerned_by true actions (begin_scene x).owner ≡ role (besides_of actions b.home.owner a.0) x =
@@ -116,14 +117,14 @@ module _ (tables : Tables) (caches : ℕ) (b : BlockState) (a : CacheId) (value 
       let scene : home_acts true value actions (begin_scene x) ≡ scene_at fr b done a.0 x =
       ap (λ (s : Scene). home_acts true value actions s) (begin-seen x ne) ∙ sym (all-acted caches fr b a value brought x actions begun ne l m h) in
       (λ i. home_settled (concerned i) next (scene i))
-      ∙ ap (λ (p : Pair). settled_in (is_even done.debt) (role (besides_of actions b.home.owner a.0) x) p)
+      ∙ ap (λ (p : Pair). lag_settled (role (besides_of actions b.home.owner a.0) x) lag_then p)
       (scene-left fr done.debt done.tags (at_stage b done) next a.0 x (λ e. ne (sym e)))
 
   -- the pair of the requestor and another cache sees all that the cell does
   pub end-seen : (e : DirectoryEvent) (x : ℕ) → x ≢ a.0 → a.0 < caches → Matches value brought b.latest → IsAt caches b.home w →
       directory_table.cell tables.directory b.home.state e ≡ table_entry.Act next actions →
       at_home tables (third_of a.0 x b.home.sharers) true value e (alpha tags (at_stage b begun) a.0 x) ≡
-      settled_in (is_even done.debt) (role (besides_of actions b.home.owner a.0) x) (alpha done.tags (ended b next done) a.0 x)
+      lag_settled (role (besides_of actions b.home.owner a.0) x) lag_then (alpha done.tags (ended b next done) a.0 x)
   end-seen e x ne l m h cell =
       ap (λ (t : Bool). if t then by_home true value (directory_table.cell tables.directory b.home.state e) (begin_scene x) else Unmoved)
       (third-fits tags (at_stage b begun) a.0 x (λ same. ne (sym same)))
@@ -139,3 +140,8 @@ looked-few caches tags b concerned c d whole ne few =
 
 pub looked-many : (concerned : Party) (p : Pair) → is_few p ≡ false → looked_at concerned p ≡ Lost
 looked-many concerned p many = ap (λ (t : Bool). if t then (if fits p then Seen concerned p else Unmoved) else Lost) many
+
+-- with whatever lag
+pub settled-many : (concerned : Party) (lag : Option Lag) (p : Pair) → is_few p ≡ false → lag_settled concerned lag p ≡ Lost
+settled-many concerned None p many = refl
+settled-many concerned (Some lag) p many = looked-many concerned (record p { first = record p.first { lag = lag } }) many

@@ -1,5 +1,5 @@
 -- A response comes to a line, as the pairs of its receiver see it.
-use Rattle.std.proofs.Common.{◌≡◌, ◌≢◌, ℕ, ◌≤◌, ◌+◌, List, refl, ap, sym, subst, ◌∙◌, inl, Option, Some, None, Bool, true, false, not, ◌||◌, ◌==◌}
+use Rattle.std.proofs.Common.{◌≡◌, ◌≢◌, ℕ, ◌≤◌, ◌+◌, List, refl, ap, sym, subst, ◌∙◌, inl, inr, Option, Some, None, Bool, true, false, not, ◌||◌, ◌==◌}
 use Rattle.std.proofs.Common.{if◌then◌else◌, sum_by, arith, slice_get, IsSome}
 use Rattle.std.proofs.lemmas.Bool.{ne_eqb, leb-true}
 use Rattle.base.specs.declared.ids.CacheId.{CacheId}
@@ -30,10 +30,11 @@ use Rattle.cache_line.specs.LineEffect.{taken_in, moved_on, line_after, line_com
 use Rattle.machine.proofs.Counts.{total}
 use Rattle.machine.proofs.Seen.{names, is_inv, inv_ack}
 use Rattle.pairs.specs.Sights.{settles, inv_acks}
-use Rattle.closing.proofs.Alpha.{Face, face, pair_of, owed_to}
+use Rattle.closing.proofs.Alpha.{Face, Owing, face, pair_of, owed_to}
 use Rattle.closing.proofs.LineActing.{AreTrueOn, AckCounts}
 use Rattle.closing.proofs.LineSettling.{SettlesAs}
-use Rattle.closing.proofs.LineGoes.{owed_on, AckLaw, line-goes}
+use Rattle.closing.proofs.LineGoes.{owed_on, Answered, line-goes}
+use Rattle.pairs.specs.declared.side.Lag.{Lag}
 use Rattle.pairs.specs.declared.side.Side.{Side}
 use Rattle.pairs.specs.Pairs.{is_few_side}
 use Rattle.closing.proofs.Alpha.{side_of}
@@ -80,14 +81,15 @@ module _ (tables : Tables) (caches : ℕ) (tags : Tags) (b : BlockState) (cache 
       (sym (taken-elsewhere tags b.home b.traffic index r e (face tags b x) x (counts-nothing cache r x receives ne))) refl refl
 
   -- what is known of a response that comes to a line
-  pub record Known (line : Line) (rule : Rule) (fresh owed : Bool) : Type 0 where
-    pub start : (y : CacheEntry) → cache_table.cell tables.cache line.state (event_at_line line.acks (line_input.Response r)) ≡ y → (x : ℕ) → x ≢ a →
-        sight tables rule true (alpha tags b a x) ≡ by_line rule Nobody Nobody (event_at_line line.acks (line_input.Response r)) y
+  pub record Known (line : Line) (rule : Rule) (fresh : Bool) (owed : Owing) : Type 0 where
+    pub start : (y : CacheEntry) → cache_table.cell tables.cache line.state (event_at_line line.acks (line_input.Response r)) ≡ y → (t : Bool) (x : ℕ) → x ≢ a →
+        sight tables rule t (alpha tags b a x) ≡ by_line rule t Nobody Nobody (event_at_line line.acks (line_input.Response r)) y
         (pair_of (record { line = taken_in (line_input.Response r) line; fresh = fresh; owed = owed }) (face tags b x) tags b.home w a x)
     pub right : fresh ≡ true → (taken_in (line_input.Response r) line).value ≡ b.latest
     pub settles : (next : CacheState) → SettlesAs (λ concerned q. settles concerned rule q) (moved_on (line_input.Response r) next line) fresh owed
         (line_after (line_input.Response r) next line) (line_completes (line_input.Response r) next line)
-    pub law : (u : Traffic) (sent : ℕ) → AckCounts cache None sent w u → AckLaw tags b a (taken_in (line_input.Response r) line) owed u
+    pub answers : (by : Lag) (u : Traffic) (sent : ℕ) → AckCounts cache None sent w u →
+        Answered tags b a (taken_in (line_input.Response r) line) owed None by w u
 
   there-still : IsSome (slice_get b.traffic.responses index)
   there-still = subst (λ (o : Option Response). IsSome o) e refl
@@ -99,17 +101,17 @@ module _ (tables : Tables) (caches : ℕ) (tags : Tags) (b : BlockState) (cache 
     home_data = λ known. all-removed (BringsHome b.latest) b.traffic.responses index (faithful.tags_are_true.home_data known);
   }
 
-  pub known-blank : (line : Line) (rule : Rule) (fresh owed : Bool) → Known line rule fresh owed →
+  pub known-blank : (line : Line) (rule : Rule) (fresh : Bool) (owed : Owing) → Known line rule fresh owed →
       cache_table.cell tables.cache line.state (event_at_line line.acks (line_input.Response r)) ≡ table_entry.Blank → Breaks tables tags b
   known-blank line rule fresh owed k blank = (
     a,
     a + 1,
     next-other a,
     true,
-    inl (rule, subst (λ (s : Sight). IsBreach s) (sym (k.start table_entry.Blank blank (a + 1) (λ same. next-other a (sym same)))) tt),
+    inl (rule, subst (λ (s : Sight). IsBreach s) (sym (k.start table_entry.Blank blank true (a + 1) (λ same. next-other a (sym same)))) tt),
   )
 
-  pub known-acted : (line : Line) (rule : Rule) (fresh owed : Bool) → Known line rule fresh owed → (next : CacheState) (actions : List CacheAction) →
+  pub known-acted : (line : Line) (rule : Rule) (fresh : Bool) (owed : Owing) → Known line rule fresh owed → (next : CacheState) (actions : List CacheAction) →
       Some line ≡ slice_get b.lines a → cache_table.cell tables.cache line.state (event_at_line line.acks (line_input.Response r)) ≡ table_entry.Act next
       actions →
       SimulatedBy tables tags b (carried_out (AtLine cache line (line_input.Response r) next actions (origin.Response index)) b)
@@ -126,7 +128,7 @@ module _ (tables : Tables) (caches : ℕ) (tags : Tags) (b : BlockState) (cache 
             ap (λ (s : Side). is_few_side s)
             (taken-elsewhere tags b.home b.traffic index r e (face tags b x) x (counts-nothing cache r x receives ne)) ∙ faithful.few x;
         settles = k.settles next;
-        acks = λ u counts answered. k.law u (inv_acks actions) counts;
+        acks = λ u counts. inr (k.answers _ u (inv_acks actions) counts);
       })
 
   -- how many acks are owed behind it, where it is no Inv-Ack

@@ -1,6 +1,7 @@
 -- Responses as the pairs of their receiver see them, and Data that come to the home as all pairs do.
 use Rattle.std.proofs.Common.{◌≡◌, ◌≢◌, ℕ, ◌≤◌, Option, Some, None, Bool, true, false}
-use Rattle.std.proofs.Common.{refl, inl, inr, ◌-◌, sum_by, arith, slice_get}
+use Rattle.std.proofs.Common.{refl, inl, inr, not, ◌==◌, ◌⊎◌, ◌-◌, sum_by, arith, slice_get}
+use Rattle.machine.specs.declared.decision.Decision.TheVariants.{AtLine}
 use Rattle.base.specs.declared.ids.BlockId.{BlockId}
 use Rattle.base.specs.declared.ids.CacheId.{CacheId}
 use Rattle.base.specs.declared.step.Step.TheVariants as step
@@ -25,44 +26,61 @@ use Rattle.machine.specs.Transition.{at_line as line_at}
 use Rattle.pairs.specs.Pairs.{thirds_fit, trimmed_home}
 use Rattle.pairs.specs.declared.steps.Rule.{Rule}
 use Rattle.pairs.specs.declared.steps.Rule.TheVariants.{GetsDirData, GetsOwnerData, GetsExclData}
-use Rattle.pairs.specs.Sights.{home_data_seen}
-use Rattle.closing.proofs.Alpha.{Tags, alpha, Faithful}
+use Rattle.pairs.specs.Sights.{acks_awaited, home_data_seen}
+use Rattle.pairs.specs.declared.side.Lag.{Lag}
+use Rattle.closing.proofs.Alpha.{Owing, Tags, alpha, owed_to, Faithful}
 use Rattle.closing.proofs.Taking.{Receives}
 use Rattle.closing.proofs.ResponseActs.{Known, known-blank, known-acted}
-use Rattle.closing.proofs.DirDataActs.{dir-known}
+use Rattle.closing.proofs.DirDataActs.{dir-known, dir-lost}
 use Rattle.closing.proofs.CopyActs.{owner-known, excl-known}
 use Rattle.closing.proofs.InvAckActs.{ack-known}
 use Rattle.closing.proofs.HomeDataActs.{home_data-acted}
-use Rattle.closing.proofs.Simulation.{IsBreach, SimulatedBy, Simulated, still, next-other, LineBlank, LineActs, line-simulated, HomeBlank, home-entry}
+use Rattle.closing.proofs.Simulation.{IsBreach, Breaks, SimulatedBy, Simulated, still, next-other, LineBlank, LineActs, line-simulated, HomeBlank, home-entry}
 use Rattle.closing.proofs.Simulation.{home-breach, some-breach, or-cases}
 
--- what is known of a response that comes to its receiver's line
+-- what is known of a response that comes to its receiver's line, if it can be followed
+abbrev IsKnown : (tables : Tables) (caches : ℕ) (tags : Tags) (b : BlockState) (cache : CacheId) (index : ℕ) (r : Response) (whole : IsBlockAmong caches b)
+    (faithful : Faithful tags b) (e : Some r ≡ slice_get b.traffic.responses index) (to : Receives cache r) (line : Line) → Type 0
+IsKnown tables caches tags b cache index r whole faithful e to line =
+    Breaks tables tags b ⊎ ((rule : Rule) × (fresh : Bool) × (owed : Owing) × Known tables caches tags b cache index r whole faithful e to line rule fresh owed)
+
 response-known : (tables : Tables) (caches : ℕ) (tags : Tags) (b : BlockState) (cache : CacheId) (index : ℕ) (r : Response)
     (whole : IsBlockAmong caches b) (faithful : Faithful tags b) (e : Some r ≡ slice_get b.traffic.responses index) (to : Receives cache r) (line : Line) →
-    line_of b.lines cache.0 ≡ line →
-    (rule : Rule) × (fresh : Bool) × (owed : Bool) × Known tables caches tags b cache index r whole faithful e to line rule fresh owed
+    line_of b.lines cache.0 ≡ line → IsKnown tables caches tags b cache index r whole faithful e to line
 response-known tables caches tags b cache index (Data Dir (Cache at) value acks) whole faithful e to line there =
-    (GetsDirData, _, _, dir-known tables caches tags b cache index at value acks whole faithful e to line there)
+    sought (acks_awaited (tags.lag cache.0) (not (owed_to b cache.0 == 0))) refl
+  where
+    sought : (o : Option Lag) → acks_awaited (tags.lag cache.0) (not (owed_to b cache.0 == 0)) ≡ o →
+        IsKnown tables caches tags b cache index (Data Dir (Cache at) value acks) whole faithful e to line
+    sought None none = inl (dir-lost tables caches tags b cache index at value acks whole faithful e to line there none)
+    sought (Some k) some = inr (GetsDirData, _, _, dir-known tables caches tags b cache index at value acks whole faithful e to line there k some)
 response-known tables caches tags b cache index (Data (Cache by) (Cache at) value acks) whole faithful e to line there =
-    (GetsOwnerData, _, _, owner-known tables caches tags b cache index by at value acks whole faithful e to line there)
+    inr (GetsOwnerData, _, _, owner-known tables caches tags b cache index by at value acks whole faithful e to line there)
 response-known tables caches tags b cache index (Data by Dir value acks) whole faithful e to line there = absurd to
 response-known tables caches tags b cache index (InvAck by at) whole faithful e to line there =
-    (_, _, _, ack-known tables caches tags b cache index by at whole faithful e to line there)
+    inr (_, _, _, ack-known tables caches tags b cache index by at whole faithful e to line there)
 response-known tables caches tags b cache index (DataExcl at value) whole faithful e to line there =
-    (GetsExclData, _, _, excl-known tables caches tags b cache index at value whole faithful e to line there)
+    inr (GetsExclData, _, _, excl-known tables caches tags b cache index at value whole faithful e to line there)
 
 response-blank : (tables : Tables) (caches : ℕ) (tags : Tags) (b : BlockState) (cache : CacheId) (index : ℕ) (r : Response) → IsBlockAmong caches b →
     Faithful tags b → Some r ≡ slice_get b.traffic.responses index → Receives cache r → LineBlank tables tags b cache (line_input.Response r)
 response-blank tables caches tags b cache index r whole faithful e to line there blank =
-    let known = response-known tables caches tags b cache index r whole faithful e to line (line_of-there b.lines cache.0 line there) in
-    known-blank tables caches tags b cache index r whole faithful e to line known.0 known.1 known.2 known.3 blank
+    at (response-known tables caches tags b cache index r whole faithful e to line (line_of-there b.lines cache.0 line there))
+  where
+    at : IsKnown tables caches tags b cache index r whole faithful e to line → Breaks tables tags b
+    at (inl broken) = broken
+    at (inr known) = known-blank tables caches tags b cache index r whole faithful e to line known.0 known.1 known.2 known.3 blank
 
 response-acted : (tables : Tables) (caches : ℕ) (tags : Tags) (b : BlockState) (cache : CacheId) (index : ℕ) (r : Response) → IsBlockAmong caches b →
     Faithful tags b → Some r ≡ slice_get b.traffic.responses index → Receives cache r →
     LineActs tables tags b cache (line_input.Response r) (origin.Response index)
 response-acted tables caches tags b cache index r whole faithful e to line next actions there acts =
-    let known = response-known tables caches tags b cache index r whole faithful e to line (line_of-there b.lines cache.0 line there) in
-    known-acted tables caches tags b cache index r whole faithful e to line known.0 known.1 known.2 known.3 next actions there acts
+    at (response-known tables caches tags b cache index r whole faithful e to line (line_of-there b.lines cache.0 line there))
+  where
+    at : IsKnown tables caches tags b cache index r whole faithful e to line →
+        SimulatedBy tables tags b (carried_out (AtLine cache line (line_input.Response r) next actions (origin.Response index)) b)
+    at (inl broken) = inl broken
+    at (inr known) = known-acted tables caches tags b cache index r whole faithful e to line known.0 known.1 known.2 known.3 next actions there acts
 
 pub home_data-blank : (tables : Tables) (tags : Tags) (b : BlockState) (index : ℕ) (by : Place) (value acks : ℕ) → Faithful tags b →
     Some (Data by Dir value acks) ≡ slice_get b.traffic.responses index → HomeBlank tables tags b (home_input.Data value)

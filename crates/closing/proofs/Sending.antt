@@ -22,6 +22,7 @@ use Rattle.pairs.specs.declared.steps.Party.{Party}
 use Rattle.pairs.specs.declared.steps.Party.TheVariants.{Nobody, First, Second, Third}
 use Rattle.pairs.specs.Sights.{line_acted, putm_sent, owner_data_sent, home_data_sent}
 use Rattle.closing.proofs.Alpha.{Tags, Face, side_of, shared_of, pair_of, data_count}
+use Rattle.pairs.specs.declared.side.Lag.{Lag}
 use Rattle.closing.proofs.Sides.{same_requests, same_responses, same_home_data, same_pair}
 
 -- TAGS
@@ -34,6 +35,16 @@ tag-here a t tags = ap (λ (u : Bool). if u then t else tags a) (eq-eqb a a refl
 
 pub tag-elsewhere : (a : ℕ) (t : Bool) (tags : ℕ → Bool) (c : ℕ) → c ≢ a → tag_at a t tags c ≡ tags c
 tag-elsewhere a t tags c ne = ap (λ (u : Bool). if u then t else tags c) (ne_eqb c a ne)
+
+-- lags with another one at a cache
+abbrev pub lag_at : ℕ → Lag → (ℕ → Lag) → ℕ → Lag
+lag_at a l lags c = if c == a then l else lags c
+
+pub lag-here : (a : ℕ) (l : Lag) (lags : ℕ → Lag) → lag_at a l lags a ≡ l
+lag-here a l lags = ap (λ (u : Bool). if u then l else lags a) (eq-eqb a a refl)
+
+pub lag-elsewhere : (a : ℕ) (l : Lag) (lags : ℕ → Lag) (c : ℕ) → c ≢ a → lag_at a l lags c ≡ lags c
+lag-elsewhere a l lags c ne = ap (λ (u : Bool). if u then l else lags c) (ne_eqb c a ne)
 
 pub or-false : (t : Bool) → t || false ≡ t
 or-false true = refl

@@ -18,7 +18,7 @@ use Rattle.pairs.specs.declared.side.Side.{Side}
 use Rattle.pairs.specs.Pairs.{alike}
 use Rattle.pairs.specs.Sights.{with_data}
 use Rattle.machine.specs.Block.{BlockState}
-use Rattle.closing.proofs.Alpha.{Tags, Face, owed_to, side_of, shared_of, data_count}
+use Rattle.closing.proofs.Alpha.{Owing, Tags, Face, owing, side_of, shared_of, data_count}
 use Rattle.closing.proofs.Sides.{same_responses, same_home_data}
 use Rattle.closing.proofs.Sending.{or-some}
 
@@ -37,7 +37,7 @@ all-there P (y ∷ ys) (suc i) x h e = all-there P ys i x (λ k d lt. h (suc k) 
 
 -- the face of a cache, where its line is this
 abbrev pub face_with : Tags → BlockState → ℕ → Line → Face
-face_with tags b a l = record { line = l; fresh = tags.line a; owed = not (owed_to b a == 0) }
+face_with tags b a l = record { line = l; fresh = tags.line a; owed = owing tags b a }
 
 -- OTHERS
 -- what a response counts for a cache that it doesn't go to
@@ -120,22 +120,22 @@ fresh-left tag before after n some same = ap (λ (t : Bool). t || (n == 0)) (or-
 abbrev pub valued : Line → ℕ → ℤ → Line
 valued l value acks = record l { value = value; acks = acks }
 
-module _ (tags : Tags) (home : Home) (w : Traffic) (i : ℕ) (r : Response) (e : Some r ≡ slice_get w.responses i) (c : ℕ) (l : Line) (fresh owed : Bool) where
+module _ (tags : Tags) (home : Home) (w : Traffic) (i : ℕ) (r : Response) (e : Some r ≡ slice_get w.responses i) (c : ℕ) (l : Line) (fresh : Bool) (owed : Owing) where
   abbrev before : Side
   before = side_of (record { line = l; fresh = fresh; owed = owed }) tags home w c
 
   abbrev told : Bool
   told = tags.data_to c || (data_count c w.responses == 0)
 
-  -- Data from the home, of which the line knows whether any acks are still owed
-  pub dir-taken : (value : ℕ) (acks : ℤ) → dir_data c r ≡ 1 → owner_data c r ≡ 0 → excl_data c r ≡ 0 → late_of acks == 0 ≡ not owed →
-      with_data (record before { dir_data = before.dir_data - 1; low = not before.owed }) ≡
+  -- Data from the home, with as many acks awaited then
+  pub dir-taken : (value : ℕ) (acks : ℤ) (low : Bool) → dir_data c r ≡ 1 → owner_data c r ≡ 0 → excl_data c r ≡ 0 → late_of acks == 0 ≡ low →
+      with_data (record before { dir_data = before.dir_data - 1; low = low }) ≡
       side_of (record { line = valued l value acks; fresh = told; owed = owed }) tags home (response_taken i w) c
-  dir-taken value acks one no_owner no_excl low =
+  dir-taken value acks low one no_owner no_excl is =
       let d : sum_by (dir_data c) (remove w.responses i) + 1 ≡ sum_by (dir_data c) w.responses = lost-count tags home w i r e (dir_data c) 1 one in
       let o : sum_by (owner_data c) (remove w.responses i) ≡ sum_by (owner_data c) w.responses = same-count tags home w i r e (owner_data c) no_owner in
       let x : sum_by (excl_data c) (remove w.responses i) ≡ sum_by (excl_data c) w.responses = same-count tags home w i r e (excl_data c) no_excl in
-      same_taken (record before { fresh = told }) _ _ _ _ _ _ _ _ _ _ _ _ (sym low) (or-again (tags.putm c) (before.putm == 0)) (omega (arith, d)) (sym o)
+      same_taken (record before { fresh = told }) _ _ _ _ _ _ _ _ _ _ _ _ (sym is) (or-again (tags.putm c) (before.putm == 0)) (omega (arith, d)) (sym o)
       (sym x)
       (fresh-left (tags.data_to c) (data_count c w.responses) (data_count c (remove w.responses i)) _ (omega (arith, d, o, x)) (omega (arith, d, o, x)))
 
@@ -164,7 +164,7 @@ module _ (tags : Tags) (home : Home) (w : Traffic) (i : ℕ) (r : Response) (e :
   -- an Inv-Ack, after which some may be owed or not
   pub ack-taken : (acks : ℤ) (still low : Bool) → dir_data c r ≡ 0 → owner_data c r ≡ 0 → excl_data c r ≡ 0 → late_of acks == 0 ≡ low →
       record before { owed = still; low = low } ≡
-      side_of (record { line = record l { acks = acks }; fresh = fresh; owed = still }) tags home (response_taken i w) c
+      side_of (record { line = record l { acks = acks }; fresh = fresh; owed = record { any = still; lag = owed.lag } }) tags home (response_taken i w) c
   ack-taken acks still low no_dir no_owner no_excl is =
       let d : sum_by (dir_data c) (remove w.responses i) ≡ sum_by (dir_data c) w.responses = same-count tags home w i r e (dir_data c) no_dir in
       let o : sum_by (owner_data c) (remove w.responses i) ≡ sum_by (owner_data c) w.responses = same-count tags home w i r e (owner_data c) no_owner in
@@ -173,28 +173,7 @@ module _ (tags : Tags) (home : Home) (w : Traffic) (i : ℕ) (r : Response) (e :
       (ap (λ n. tags.data_to c || (n == 0)) (omega (arith, d, o, x)))
 
 -- ACKS
--- Data that announces all that is still to be announced leaves as many awaited as are owed; no count leaves 64 bits
-pub data-acks : (a : ℤ) (n o : ℕ) → a +ℤ pos n ≡ pos o → o ≤ 4294967296 → more_acks a n ≡ pos o
-data-acks (pos m) n o law few = grind (arith, ints, law)
-data-acks (negsuc m) n o law few = grind (arith, ints, law)
-
--- an Inv-Ack that is taken is awaited no longer
-pub ack-law : (a : ℤ) (n o : ℕ) → a +ℤ pos n ≡ pos (o + 1) → o ≤ 4294967296 → n ≤ 4294967296 → one_ack_less a +ℤ pos n ≡ pos o
-ack-law (pos m) n o law few announced = grind (arith, ints, law)
-ack-law (negsuc m) n o law few announced = grind (arith, ints, law)
-
--- whether any are awaited behind it
-pub ack-low : (a : ℤ) (n o : ℕ) → a +ℤ pos n ≡ pos (o + 1) → o ≤ 4294967296 → n ≤ 4294967296 →
-    late_of (one_ack_less a) == 0 ≡ (late_of a == 0) || is_count a 1
-ack-low (pos m) n o law few announced = grind (arith, ints, law)
-ack-low (negsuc m) n o law few announced = grind (arith, ints, law)
-
 -- none is the last that the line waits for where it waits for none
 pub not-last : (a : ℤ) → not ((late_of a == 0) && is_count a 1) ≡ true
 not-last (pos m) = grind arith
 not-last (negsuc m) = refl
-
--- where nothing is announced any more, as many are awaited as are owed
-pub all-awaited : (a : ℤ) (o : ℕ) → a +ℤ pos 0 ≡ pos (o + 1) → (not (late_of a == 0) && alike (is_count a 1) (not (not (o == 0)))) ≡ true
-all-awaited (pos m) o law = grind (arith, ints, law)
-all-awaited (negsuc m) o law = grind (arith, ints, law)

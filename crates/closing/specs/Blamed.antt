@@ -1,5 +1,5 @@
 -- Lists of ranked pairs that show that no message is ever stuck: where all messages of a cache are held, another cache is to blame, which was served earlier.
-use Rattle.std.specs.Prelude.{◌≡◌, ◌≢◌, ◌⊎◌, ◌+◌, ℕ, List, [], ◌∷◌, None, Bool, true, false, not, ◌&&◌, ◌||◌, ◌==◌, if◌then◌else◌, nat_le, length, Contains}
+use Rattle.std.specs.Prelude.{◌≡◌, ◌≢◌, ◌⊎◌, ◌+◌, ℕ, List, [], ◌∷◌, Option, Some, None, Bool, true, false, not, ◌&&◌, ◌||◌, ◌==◌, if◌then◌else◌, nat_le, length, Contains}
 use Rattle.base.specs.declared.controller.entry.Entry.TheVariants.{Blank, Stall, Act}
 use Rattle.network.specs.declared.message.ForwardKind.{ForwardKind}
 use Rattle.network.specs.declared.message.ForwardKind.TheVariants.{FwdGetS, FwdGetM, Inv, PutAck}
@@ -16,11 +16,12 @@ use Rattle.directory_table.specs.Table.{DirectoryEntry}
 use Rattle.cache_line.specs.Events.{forward_event}
 use Rattle.both_tables.specs.Tables.{Tables}
 use Rattle.pairs.specs.declared.link.LinkPlace.{LinkPlace}
+use Rattle.pairs.specs.declared.side.Lag.{Lag}
 use Rattle.pairs.specs.declared.side.Side.{Side}
 use Rattle.pairs.specs.declared.pair.Shared.{Shared}
 use Rattle.pairs.specs.declared.pair.Pair.{Pair}
 use Rattle.pairs.specs.Pairs.{marked, own_marked}
-use Rattle.pairs.specs.Sights.{is_owner, is_absent}
+use Rattle.pairs.specs.Sights.{acks_awaited, is_level, is_owner, is_absent}
 use Rattle.closing.specs.declared.ranked.Order.TheVariants.{After}
 use Rattle.closing.specs.declared.ranked.RankedPair.{RankedPair}
 use Rattle.closing.specs.Ranked.{Ranked, Balanced, awaited, is_busy, is_open}
@@ -62,14 +63,15 @@ holds_requests tables h s =
     && ((s.puts == 0) || home_holds tables h (puts_event s))
     && ((s.putm == 0) || home_holds tables h (putm_event s))
 
--- the event that Data from the home are at a line
-abbrev pub dir_data_event : Side → CacheEvent
-dir_data_event s = if s.owed then event.DataDirMore else event.DataDirZero
+-- Data from the home, at a line in a state that then awaits this many acks; where that isn't known they count as held
+abbrev pub holds_dir_data : Tables → CacheState → Option Lag → Bool
+holds_dir_data tables s None = true
+holds_dir_data tables s (Some lag) = line_holds tables s (if is_level lag then event.DataDirZero else event.DataDirMore)
 
 -- Data on their way to a cache
 abbrev pub holds_data : Tables → Side → Bool
 holds_data tables s =
-    ((s.dir_data == 0) || line_holds tables s.state (dir_data_event s))
+    ((s.dir_data == 0) || holds_dir_data tables s.state (acks_awaited s.lag s.owed))
     && ((s.owner_data == 0) || line_holds tables s.state event.DataOwner)
     && ((s.excl_data == 0) || line_holds tables s.state event.DataDirExcl)
 

@@ -71,7 +71,7 @@ pub record Closed (tables : Tables) (pairs : List Pair) : Type 0 where
   pub opened : Contains pairs opened_pair
   pub turned : (p : Pair) → Contains pairs p → Contains pairs (swapped p)
   pub single : (p : Pair) → Contains pairs p → is_writer p.first.state ≡ true → is_reader p.second.state ≡ false
-  pub steps : (p : Pair) (rule : Rule) (third_shares : Bool) → Contains pairs p → StaysIn pairs (sight tables rule third_shares p)
+  pub steps : (p : Pair) (rule : Rule) (guess : Bool) → Contains pairs p → StaysIn pairs (sight tables rule guess p)
   pub home_data : (p : Pair) (third_shares : Bool) → Contains pairs p → StaysIn pairs (home_data_seen tables third_shares p)
   pub unconcerned : (p q r : Pair) (rule : Rule) (t u : Bool) (one other : Party) (p2 q2 : Pair) → Contains pairs p → Contains pairs q → Contains pairs r →
       Meet p q r → AreAlike one other → sight tables rule t p ≡ Seen one p2 → sight tables rule u q ≡ Seen other q2 → p2.shared ≡ q2.shared →

@@ -4,7 +4,7 @@ ghost use Rattle.std.specs.Prelude.{◌<◌};
 
 use base::controller::Listed;
 use network::ForwardKind;
-use pairs::{Link, Marks, Owned, Pair, Shared, Side, Waiting};
+use pairs::{Lag, Link, Marks, Owned, Pair, Shared, Side, Waiting};
 
 /// A number with a few more bits behind its own.
 fn with(code: u128, bits: u32, more: u128) -> u128
@@ -66,6 +66,7 @@ fn side_code(code: u128, side: &Side) -> u128 {
     code = with(code, 2, u128::from(side.fwd_gets));
     code = with(code, 2, u128::from(side.fwd_getm));
     code = with(code, 2, owned_number(side.owned));
+    code = with(code, 2, lag_number(side.lag));
     link_code(code, &side.link)
 }
 
@@ -109,6 +110,14 @@ fn owned_number(owned: Owned) -> u128 {
         Owned::ByNobody => 0,
         Owned::ByItself => 1,
         Owned::ByAnother => 2,
+    }
+}
+
+fn lag_number(lag: Lag) -> u128 {
+    match lag {
+        Lag::Level => 0,
+        Lag::Behind => 1,
+        Lag::Ahead => 2,
     }
 }
 

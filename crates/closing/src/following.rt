@@ -50,7 +50,7 @@ pub(crate) fn steps_of(alloc: Global, tables: &Tables, pair: &Pair) -> Result<Ve
     Ok(steps)
 }
 
-/// Notes what comes of a rule, whether a third cache shares or not.
+/// Notes what comes of a rule, whatever is guessed.
 fn tell_rule(
     tables: &Tables,
     pair: &Pair,
@@ -59,8 +59,8 @@ fn tell_rule(
 ) -> Result<(), Breach>
     requires few { is_few pair.now ≡ true }
     requires marked { IsMarked pair.now }
-    ensures told { OnOk result ((third_shares : Bool) →
-        IsTold steps.new.items rule (sights.sight tables.now rule third_shares pair.now)) }
+    ensures told { OnOk result ((guess : Bool) →
+        IsTold steps.new.items rule (sights.sight tables.now rule guess pair.now)) }
     ensures kept { OnOk result ((f : Followed) → Contains steps.old.items f → Contains steps.new.items f) }
 {
     tell(steps, rule, sight(tables, rule, false, pair))?;

@@ -1,7 +1,7 @@
 //! Which messages of a pair wait at stalls.
 
 ghost use Rattle.std.specs.Prelude.{◌≡◌};
-ghost use Rattle.pairs.specs.Sights.{is_owner};
+ghost use Rattle.pairs.specs.Sights.{acks_awaited, is_owner};
 ghost use Rattle.closing.specs.Blamed as blamed;
 
 use base::controller::Entry;
@@ -9,7 +9,7 @@ use both_tables::Tables;
 use cache_table::{CacheEvent, CacheState};
 use directory_table::{DirectoryEvent, DirectoryState};
 use network::ForwardKind;
-use pairs::{Link, Owned, Pair, Shared, Side};
+use pairs::{Lag, Link, Owned, Pair, Shared, Side};
 
 /// Whether an event is held at a line in a state.
 pub(crate) fn line_holds(tables: &Tables, state: CacheState, event: CacheEvent) -> bool
@@ -80,14 +80,14 @@ fn holds_requests(tables: &Tables, home: DirectoryState, side: &Side) -> bool
         && (side.putm == 0 || home_holds(tables, home, put_m_event(side)))
 }
 
-/// The event that Data from the home are at a cache's line.
-fn dir_data_event(side: &Side) -> CacheEvent
-    ensures { result ≡ blamed.dir_data_event side.now }
+/// Whether Data from the home are held at a cache's line. Where it isn't known how many acks that then awaits, they count as held.
+fn holds_dir_data(tables: &Tables, side: &Side) -> bool
+    ensures { result ≡ blamed.holds_dir_data tables.now side.now.state (acks_awaited side.now.lag side.now.owed) }
 {
-    if side.owed {
-        CacheEvent::DataDirMore
-    } else {
-        CacheEvent::DataDirZero
+    match side.lag.acks_awaited(side.owed) {
+        None => true,
+        Some(Lag::Level) => line_holds(tables, side.state, CacheEvent::DataDirZero),
+        Some(_) => line_holds(tables, side.state, CacheEvent::DataDirMore),
     }
 }
 
@@ -95,7 +95,7 @@ fn dir_data_event(side: &Side) -> CacheEvent
 fn holds_data(tables: &Tables, side: &Side) -> bool
     ensures { result ≡ blamed.holds_data tables.now side.now }
 {
-    (side.dir_data == 0 || line_holds(tables, side.state, dir_data_event(side)))
+    (side.dir_data == 0 || holds_dir_data(tables, side))
         && (side.owner_data == 0 || line_holds(tables, side.state, CacheEvent::DataOwner))
         && (side.excl_data == 0 || line_holds(tables, side.state, CacheEvent::DataDirExcl))
 }

@@ -1,8 +1,6 @@
 -- What completes at a pair, told apart from what a load returns.
 use Rattle.std.proofs.Common.{◌≡◌, ◌∙◌, ◌&&◌, if◌then◌else◌, not, Bool, true, false, Option, Some, None, List, refl, ap}
-use Rattle.base.specs.declared.controller.entry.Entry.TheVariants.{Act}
 use Rattle.cache_table.specs.declared.actions.CacheAction.{CacheAction}
-use Rattle.cache_table.specs.declared.event.CacheEvent.{CacheEvent}
 use Rattle.cache_table.specs.declared.state.CacheState.{CacheState}
 use Rattle.cache_line.specs.LineEffect.{is_reader, is_modified}
 use Rattle.pairs.specs.declared.side.Waiting.{Waiting}
@@ -15,7 +13,7 @@ use Rattle.pairs.specs.declared.steps.Sight.{Sight}
 use Rattle.pairs.specs.declared.steps.Sight.TheVariants.{Lost, Spoilt}
 use Rattle.pairs.specs.Pairs.{is_few}
 use Rattle.pairs.specs.Marking.{IsMarked}
-use Rattle.pairs.specs.Sights.{answers_rightly, by_line, line_acts, looked_at, settles, stored, wait_settled, waiting}
+use Rattle.pairs.specs.Sights.{line_acts, line_settled, looked_at, settles, stored, wait_settled, waiting}
 use Rattle.pairs.specs.inner.Following.{done, few_pair, loads, wait_done, wait_loads}
 use Rattle.pairs.proofs.LineActing.{KeepsLine, keeps-line_acts}
 
@@ -102,45 +100,40 @@ marked-state p next h = record { first = h.first; second = h.second }
 abbrev pub moved : Party → List CacheAction → CacheState → Pair → Pair
 moved to actions next p = let q : Pair = line_acts to p.first.fresh actions p in record q { first = record q.first { state = next } }
 
-if-rightly : (b : Bool) (seen : Sight) → b ≡ true → (if b then seen else Lost) ≡ seen
-if-rightly b seen e = rw e refl
-
 -- whether a load is spoilt is seen before the actions are done
-pub by_line-act : (rule : Rule) (to concerned : Party) (e : CacheEvent) (next : CacheState) (actions : List CacheAction) (p : Pair) →
-    answers_rightly to e actions ≡ true →
-    by_line rule to concerned e (Act next actions) p
+pub line_settled-act : (rule : Rule) (to concerned : Party) (next : CacheState) (actions : List CacheAction) (p : Pair) →
+    line_settled rule to concerned next actions (Some p)
     ≡ (if loads rule p.first.waits next && not p.first.fresh then Spoilt concerned else looked_at concerned (done rule (moved to actions next p)))
-by_line-act rule to concerned e next actions p rightly =
+line_settled-act rule to concerned next actions p =
     let q : Pair = line_acts to p.first.fresh actions p in
     let k : KeepsLine p q = keeps-line_acts to p.first.fresh actions p in
     let m : Pair = moved to actions next p in
     let seen : Sight = looked_at concerned (done rule m) in
-    if-rightly (answers_rightly to e actions) (settles concerned rule m) rightly
-    ∙ settles-done concerned rule m
+    settles-done concerned rule m
     ∙ ap (λ (waits : Option Waiting). if loads rule waits next && not q.first.fresh then Spoilt concerned else seen) k.waits
     ∙ ap (λ (fresh : Bool). if loads rule p.first.waits next && not fresh then Spoilt concerned else seen) k.fresh
 
 -- a load that returns what may not be the last store's value spoils all
-pub by_line-spoilt : (rule : Rule) (to concerned : Party) (e : CacheEvent) (next : CacheState) (actions : List CacheAction) (p : Pair) →
-    answers_rightly to e actions ≡ true → (loads rule p.first.waits next && not p.first.fresh) ≡ true →
-    by_line rule to concerned e (Act next actions) p ≡ Spoilt concerned
-by_line-spoilt rule to concerned e next actions p rightly old = by_line-act rule to concerned e next actions p rightly ∙ rw old refl
+pub line_settled-spoilt : (rule : Rule) (to concerned : Party) (next : CacheState) (actions : List CacheAction) (p : Pair) →
+    (loads rule p.first.waits next && not p.first.fresh) ≡ true →
+    line_settled rule to concerned next actions (Some p) ≡ Spoilt concerned
+line_settled-spoilt rule to concerned next actions p old = line_settled-act rule to concerned next actions p ∙ rw old refl
 
 -- else what comes of it is looked at
-pub by_line-looked_at : (rule : Rule) (to concerned : Party) (e : CacheEvent) (next : CacheState) (actions : List CacheAction) (p : Pair) →
-    answers_rightly to e actions ≡ true → (loads rule p.first.waits next && not p.first.fresh) ≡ false →
-    by_line rule to concerned e (Act next actions) p ≡ looked_at concerned (done rule (moved to actions next p))
-by_line-looked_at rule to concerned e next actions p rightly fresh = by_line-act rule to concerned e next actions p rightly ∙ rw fresh refl
+pub line_settled-looked_at : (rule : Rule) (to concerned : Party) (next : CacheState) (actions : List CacheAction) (p : Pair) →
+    (loads rule p.first.waits next && not p.first.fresh) ≡ false →
+    line_settled rule to concerned next actions (Some p) ≡ looked_at concerned (done rule (moved to actions next p))
+line_settled-looked_at rule to concerned next actions p fresh = line_settled-act rule to concerned next actions p ∙ rw fresh refl
 
 looked_at-lost : (concerned : Party) (p : Pair) → is_few p ≡ false → looked_at concerned p ≡ Lost
 looked_at-lost concerned p e = rw e refl
 
 -- and lost, where the pair isn't few after the actions
-pub by_line-lost : (rule : Rule) (to concerned : Party) (e : CacheEvent) (next : CacheState) (actions : List CacheAction) (p : Pair) →
-    answers_rightly to e actions ≡ true → (loads rule p.first.waits next && not p.first.fresh) ≡ false →
+pub line_settled-lost : (rule : Rule) (to concerned : Party) (next : CacheState) (actions : List CacheAction) (p : Pair) →
+    (loads rule p.first.waits next && not p.first.fresh) ≡ false →
     None ≡ few_pair (line_acts to p.first.fresh actions p) →
-    by_line rule to concerned e (Act next actions) p ≡ Lost
-by_line-lost rule to concerned e next actions p rightly fresh none =
+    line_settled rule to concerned next actions (Some p) ≡ Lost
+line_settled-lost rule to concerned next actions p fresh none =
     let q : Pair = line_acts to p.first.fresh actions p in
-    by_line-looked_at rule to concerned e next actions p rightly fresh
+    line_settled-looked_at rule to concerned next actions p fresh
     ∙ looked_at-lost concerned (done rule (moved to actions next p)) (few-done rule (moved to actions next p) ∙ few-none (is_few q) q none)

@@ -7,6 +7,7 @@ use Rattle.directory_table.specs.declared.state.DirectoryState.TheVariants as ho
 use Rattle.pairs.specs.declared.link.LinkPlace.{LinkPlace}
 use Rattle.pairs.specs.declared.side.Owned.{Owned}
 use Rattle.pairs.specs.declared.side.Owned.TheVariants.{ByNobody, ByItself, ByAnother}
+use Rattle.pairs.specs.declared.side.Lag.TheVariants.{Level}
 use Rattle.pairs.specs.declared.side.Side.{Side}
 use Rattle.pairs.specs.declared.pair.Shared.{Shared}
 use Rattle.pairs.specs.declared.pair.Pair.{Pair}
@@ -32,6 +33,7 @@ opened_side = record {
   fresh_data = true;
   low = true;
   owed = false;
+  lag = Level;
   fwd_gets = 0;
   fwd_getm = 0;
   link = [];
@@ -111,12 +113,12 @@ fits p =
     && names_fit p.first p.second p.second_names
     && names_fit p.second p.first p.first_names
 
--- few enough of each kind
+-- few enough of each kind: two that ask for the block, two that hand such an ask on, two on the link, and one of each other
 abbrev pub is_few_side : Side → Bool
 is_few_side s =
-    nat_le s.gets 1 && nat_le s.getm 1 && nat_le s.puts 1 && nat_le s.putm 1
+    nat_le s.gets 2 && nat_le s.getm 2 && nat_le s.puts 1 && nat_le s.putm 1
     && nat_le s.dir_data 1 && nat_le s.owner_data 1 && nat_le s.excl_data 1
-    && nat_le s.fwd_gets 1 && nat_le s.fwd_getm 1 && nat_le (length s.link) 2
+    && nat_le s.fwd_gets 2 && nat_le s.fwd_getm 2 && nat_le (length s.link) 2
 
 -- a pair that is followed: more than this many messages of a kind are given up
 abbrev pub is_few : Pair → Bool

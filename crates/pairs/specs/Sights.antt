@@ -26,6 +26,8 @@ use Rattle.pairs.specs.declared.side.Waiting.{Waiting}
 use Rattle.pairs.specs.declared.side.Waiting.TheVariants as waiting_for
 use Rattle.pairs.specs.declared.side.Owned.{Owned}
 use Rattle.pairs.specs.declared.side.Owned.TheVariants.{ByNobody, ByItself, ByAnother}
+use Rattle.pairs.specs.declared.side.Lag.{Lag}
+use Rattle.pairs.specs.declared.side.Lag.TheVariants.{Behind, Level, Ahead}
 use Rattle.pairs.specs.declared.side.Side.{Side}
 use Rattle.pairs.specs.declared.pair.Shared.{Shared}
 use Rattle.pairs.specs.declared.pair.Pair.{Pair}
@@ -40,6 +42,24 @@ use Rattle.pairs.specs.declared.steps.Debt.{Debt}
 use Rattle.pairs.specs.declared.steps.Debt.TheVariants.{Even, Announced, Invalidated, Uneven}
 use Rattle.pairs.specs.declared.steps.Scene.{Scene}
 use Rattle.pairs.specs.Pairs.{trimmed, alike, trimmed_home, thirds_fit, fits, is_few}
+
+-- WHAT IS AWAITED BESIDE WHAT IS OWED
+
+-- a lag that is moved one way; where it stood on the other side it may be any afterwards
+abbrev pub shifted : Lag → Lag → Option Lag
+shifted Level lag = Some lag
+shifted Behind Ahead = None
+shifted Behind lag = Some Behind
+shifted Ahead Behind = None
+shifted Ahead lag = Some Ahead
+
+abbrev pub is_level : Lag → Bool
+is_level Level = true
+is_level other = false
+
+abbrev pub is_ahead : Lag → Bool
+is_ahead Ahead = true
+is_ahead other = false
 
 -- WHAT THE ACTIONS OF A CELL DO
 
@@ -81,11 +101,32 @@ inv_acks [] = 0
 inv_acks (cache_action.InvAck ∷ actions) = 1 + inv_acks actions
 inv_acks (other ∷ actions) = inv_acks actions
 
--- each Inv is answered by one Inv-Ack, and nothing else is
-abbrev pub answers_rightly : Party → CacheEvent → List CacheAction → Bool
-answers_rightly Nobody e actions = true
-answers_rightly to event.Inv actions = inv_acks actions == 1
-answers_rightly to e actions = inv_acks actions == 0
+-- how this many Inv-Acks in answer to an event move what their receiver awaits beside what is owed to it: an Inv that named it is owed no longer
+abbrev pub moved_by : CacheEvent → ℕ → Lag
+moved_by event.Inv acks = if acks == 0 then Ahead else (if acks == 1 then Level else Behind)
+moved_by e acks = if acks == 0 then Level else Behind
+
+abbrev pub answer : CacheEvent → List CacheAction → Lag
+answer e actions = moved_by e (inv_acks actions)
+
+-- whether acks are owed to it afterwards: where it was one less, that is guessed
+abbrev pub still_owed : Bool → Lag → Bool → Bool
+still_owed guess Level owed = owed
+still_owed guess Ahead owed = guess
+still_owed guess Behind owed = true
+
+-- the second with this lag, if it is known
+abbrev pub second_lagged : Bool → Option Lag → Pair → Option Pair
+second_lagged owed None p = None
+second_lagged owed (Some lag) p = Some (record p { second = record p.second { owed = owed; lag = lag } })
+
+-- what an answer makes of the requestor, where that can be followed
+abbrev pub answered : Bool → Party → Lag → Pair → Option Pair
+answered guess Nobody by p = Some p
+answered guess Third by p = Some p
+answered guess First Level p = Some p
+answered guess First other p = None
+answered guess Second by p = second_lagged (still_owed guess by p.second.owed) (shifted by p.second.lag) p
 
 -- who owns the block
 abbrev pub owner_in : Owned → Owned → Party
@@ -234,18 +275,21 @@ settles concerned other p = wait_settled concerned p.first.waits p
 
 -- WHAT COMES TO A CELL
 
+-- the actions of a line's cell, at a pair whose requestor was answered
+abbrev pub line_settled : Rule → Party → Party → CacheState → List CacheAction → Option Pair → Sight
+line_settled rule to concerned next actions None = Lost
+line_settled rule to concerned next actions (Some p) =
+    let q : Pair = line_acts to p.first.fresh actions p in settles concerned rule (record q { first = record q.first { state = next } })
+
 -- an entry of the caches' table, at a pair from which the input was taken
-abbrev pub by_line : Rule → Party → Party → CacheEvent → CacheEntry → Pair → Sight
-by_line rule to concerned e Stall p = Unmoved
-by_line rule to concerned e Blank p = Spoilt concerned
-by_line rule to concerned e (Act next actions) p =
-    if answers_rightly to e actions then
-    (let q : Pair = line_acts to p.first.fresh actions p in settles concerned rule (record q { first = record q.first { state = next } }))
-    else Lost
+abbrev pub by_line : Rule → Bool → Party → Party → CacheEvent → CacheEntry → Pair → Sight
+by_line rule guess to concerned e Stall p = Unmoved
+by_line rule guess to concerned e Blank p = Spoilt concerned
+by_line rule guess to concerned e (Act next actions) p = line_settled rule to concerned next actions (answered guess to (answer e actions) p)
 
 -- an event comes to the first cache's line, from a forward that names this cache
-abbrev pub at_line : Tables → Rule → Party → Party → CacheEvent → Pair → Sight
-at_line tables rule to concerned e p = by_line rule to concerned e (cache_table.cell tables.cache p.first.state e) p
+abbrev pub at_line : Tables → Rule → Bool → Party → Party → CacheEvent → Pair → Sight
+at_line tables rule guess to concerned e p = by_line rule guess to concerned e (cache_table.cell tables.cache p.first.state e) p
 
 -- what a request or Data leaves of the home
 abbrev pub home_left : DirectoryState → Scene → Pair
@@ -278,12 +322,20 @@ concerned_by false actions owner = Nobody
 concerned_by true actions First = Nobody
 concerned_by true actions owner = if any_names_owner actions then owner else Nobody
 
-abbrev pub is_even : Debt → Bool
-is_even Even = true
-is_even other = false
+-- the requestor's lag where the debt is this in the end
+abbrev pub lag_after : Debt → Lag → Option Lag
+lag_after Even lag = Some lag
+lag_after Announced lag = shifted Ahead lag
+lag_after Invalidated lag = shifted Behind lag
+lag_after Uneven lag = None
+
+-- the first with this lag, if it is known
+abbrev pub lag_settled : Party → Option Lag → Pair → Sight
+lag_settled concerned None p = Lost
+lag_settled concerned (Some lag) p = looked_at concerned (record p { first = record p.first { lag = lag } })
 
 abbrev pub home_settled : Party → DirectoryState → Scene → Sight
-home_settled concerned next s = if is_even s.debt then looked_at concerned (home_left next s) else Lost
+home_settled concerned next s = lag_settled concerned (lag_after s.debt s.pair.first.lag) (home_left next s)
 
 -- an entry of the directory's table
 abbrev pub by_home : Bool → Option Bool → DirectoryEntry → Scene → Sight
@@ -336,11 +388,11 @@ abbrev pub headless : List LinkPlace → List Bool → Pair → Pair
 headless xs marks p = record p { first = record p.first { link = xs }; first_names = marks }
 
 -- the head of the first's link comes to its line
-abbrev pub head_seen : Tables → List LinkPlace → List Bool → Pair → Sight
-head_seen tables (x ∷ xs) (mark ∷ marks) p =
+abbrev pub head_seen : Tables → Bool → List LinkPlace → List Bool → Pair → Sight
+head_seen tables guess (x ∷ xs) (mark ∷ marks) p =
     let to : Party = requestor x mark in
-    at_line tables TakesHead to (besides to) (forward_event x.kind) (unnamed to x.kind (headless xs marks p))
-head_seen tables places marks p = Unmoved
+    at_line tables TakesHead guess to (besides to) (forward_event x.kind) (unnamed to x.kind (headless xs marks p))
+head_seen tables guess places marks p = Unmoved
 
 -- the value of a response is the line's from now on
 abbrev pub with_data : Side → Side
@@ -355,12 +407,29 @@ abbrev pub request_seen : Tables → Bool → Option Bool → DirectoryEvent →
 request_seen tables third_shares value e p s = at_home tables third_shares true value e (record p { first = trimmed s })
 
 -- a response to the first comes to its line
-abbrev pub response_seen : Tables → Rule → CacheEvent → Pair → Side → Sight
-response_seen tables rule e p s = at_line tables rule Nobody Nobody e (record p { first = s })
+abbrev pub response_seen : Tables → Rule → Bool → CacheEvent → Pair → Side → Sight
+response_seen tables rule guess e p s = at_line tables rule guess Nobody Nobody e (record p { first = s })
 
--- an Inv-Ack may be the last, and leave something owed or not: without Data from the home on its way it is the last where nothing is owed afterwards
+-- how many acks a line awaits to whom all are announced: none or more, or fewer if it was sent too many, where that is known
+abbrev pub acks_awaited : Lag → Bool → Option Lag
+acks_awaited lag owed = shifted (if owed then Ahead else Level) lag
+
+-- Data from the home comes to the line of the first, which then awaits this many
+abbrev pub dir_data_seen : Tables → Bool → Option Lag → Pair → Side → Sight
+dir_data_seen tables guess None p s = Lost
+dir_data_seen tables guess (Some lag) p s =
+    response_seen tables GetsDirData guess (if is_level lag then event.DataDirZero else event.DataDirMore) p
+    (with_data (record s { low = not (is_ahead lag) }))
+
+-- without Data from the home on its way, a line awaits what is owed to it, more or fewer
+abbrev pub counts_fit : Lag → Bool → Bool → Bool → Bool
+counts_fit Level low last owed = not low && alike last (not owed)
+counts_fit Ahead low last owed = not low && not last
+counts_fit Behind low last owed = low || owed
+
+-- an Inv-Ack may be the last, and leave something owed or not
 abbrev pub ack_fits : Side → Bool → Bool → Bool
-ack_fits s last owed = s.owed && not (s.low && last) && (not (s.dir_data == 0) || (not s.low && alike last (not owed)))
+ack_fits s last owed = s.owed && not (s.low && last) && (not (s.dir_data == 0) || counts_fit s.lag s.low last owed)
 
 abbrev pub is_owner : Owned → Bool
 is_owner ByItself = true
@@ -370,12 +439,13 @@ abbrev pub is_absent : CacheState → Bool
 is_absent state.I = true
 is_absent other = false
 
--- what a step of the first cache by this rule makes of a pair, where a third cache shares or not
+-- what a step of the first cache by this rule makes of a pair. It is guessed whether a third cache shares, where that counts, and of a head whether acks are
+-- still owed to the second
 abbrev pub sight : Tables → Rule → Bool → Pair → Sight
-sight tables AsksLoad t p = at_line tables AsksLoad Nobody Nobody event.Load p
-sight tables AsksStore t p = at_line tables AsksStore Nobody Nobody event.Store p
-sight tables AsksReplacement t p = if is_absent p.first.state then Unmoved else at_line tables AsksReplacement Nobody Nobody event.Replacement p
-sight tables TakesHead t p = head_seen tables p.first.link p.first_names p
+sight tables AsksLoad t p = at_line tables AsksLoad t Nobody Nobody event.Load p
+sight tables AsksStore t p = at_line tables AsksStore t Nobody Nobody event.Store p
+sight tables AsksReplacement t p = if is_absent p.first.state then Unmoved else at_line tables AsksReplacement t Nobody Nobody event.Replacement p
+sight tables TakesHead t p = head_seen tables t p.first.link p.first_names p
 sight tables SentGetS t p = where_some p.first.gets (request_seen tables t None home_event.GetS p (record p.first { gets = p.first.gets - 1 }))
 sight tables SentGetM t p = where_some p.first.getm (request_seen tables t None home_event.GetM p (record p.first { getm = p.first.getm - 1 }))
 sight tables SentPutS t p =
@@ -385,15 +455,14 @@ sight tables SentPutM t p =
     where_some p.first.putm (request_seen tables t (Some p.first.fresh_putm)
     (if is_owner p.first.owned then home_event.PutMOwner else home_event.PutMNonOwner) p (record p.first { putm = p.first.putm - 1 }))
 sight tables GetsDirData t p =
-    where_some p.first.dir_data (response_seen tables GetsDirData (if p.first.owed then event.DataDirMore else event.DataDirZero) p
-    (with_data (record p.first { dir_data = p.first.dir_data - 1; low = not p.first.owed })))
+    where_some p.first.dir_data (dir_data_seen tables t (acks_awaited p.first.lag p.first.owed) p (record p.first { dir_data = p.first.dir_data - 1 }))
 sight tables GetsOwnerData t p =
-    where_some p.first.owner_data (response_seen tables GetsOwnerData event.DataOwner p
+    where_some p.first.owner_data (response_seen tables GetsOwnerData t event.DataOwner p
     (with_data (record p.first { owner_data = p.first.owner_data - 1 })))
 sight tables GetsExclData t p =
-    where_some p.first.excl_data (response_seen tables GetsExclData event.DataDirExcl p (with_data (record p.first { excl_data = p.first.excl_data - 1 })))
+    where_some p.first.excl_data (response_seen tables GetsExclData t event.DataDirExcl p (with_data (record p.first { excl_data = p.first.excl_data - 1 })))
 sight tables (GetsInvAck last owed) t p =
-    if ack_fits p.first last owed then response_seen tables (GetsInvAck last owed) (if last then event.LastInvAck else event.InvAck) p
+    if ack_fits p.first last owed then response_seen tables (GetsInvAck last owed) t (if last then event.LastInvAck else event.InvAck) p
     (record p.first { owed = owed; low = p.first.low || last })
     else Unmoved
 

@@ -120,10 +120,12 @@ fn see_act(
     let Some(after) = acted(asked, value, actions, scene) else {
         return Sight::Lost;
     };
-    match after.debt {
-        Debt::Even => look_at(concerned(asked, actions, scene.owner), &after.left(next)),
-        Debt::Announced | Debt::Invalidated | Debt::Uneven => Sight::Lost,
-    }
+    let Some(lag) = after.debt.moved(after.pair.first.lag) else {
+        return Sight::Lost;
+    };
+    let mut left = after.left(next);
+    left.first.lag = lag;
+    look_at(concerned(asked, actions, scene.owner), &left)
 }
 
 /// What an entry of the directory's table makes of a scene.

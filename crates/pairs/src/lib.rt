@@ -17,5 +17,5 @@ pub use link::{Link, LinkPlace};
 pub use marks::Marks;
 pub use pair::{Pair, Shared};
 pub use seeing::{home_data_seen, sight};
-pub use side::{Owned, Side, Waiting};
+pub use side::{Lag, Owned, Side, Waiting};
 pub use steps::{Debt, Party, Rule, Scene, Sight, each_rule_is_listed};

@@ -1,11 +1,12 @@
-ghost use Rattle.std.specs.Prelude.{◌≡◌, IfSome, true};
+ghost use Rattle.std.specs.Prelude.{◌≡◌, IfSome, Some, true};
 ghost use Rattle.pairs.specs.Pairs.{is_few};
 ghost use Rattle.pairs.specs.Marking.{IsFollowed, IsMarked};
-ghost use Rattle.pairs.specs.Sights.{answers_rightly, at_line, by_line, inv_acks, line_acted, line_acts};
+ghost use Rattle.pairs.specs.Sights.{answer, answered, at_line, by_line, inv_acks, line_acted, line_acts, line_settled};
 ghost use Rattle.pairs.specs.inner.Following.{few_pair};
 
 use crate::pair::Pair;
 use crate::settling::{complete, look_at, returns_old};
+use crate::side::Lag;
 use crate::steps::{Party, Rule, Sight};
 use base::controller::Entry;
 use both_tables::Tables;
@@ -63,35 +64,56 @@ fn count_acks(actions: &[CacheAction]) -> usize
     count
 }
 
-/// Whether the actions answer an Inv by one Inv-Ack, and nothing else by one.
-fn answers(to: Party, event: CacheEvent, actions: &[CacheAction]) -> bool
-    ensures { result ≡ answers_rightly to event actions.now }
+/// How the Inv-Acks in answer to an event move what their receiver awaits beside what is owed to it: an Inv that named it is
+/// owed no longer.
+fn answer(event: CacheEvent, actions: &[CacheAction]) -> Lag
+    ensures { result ≡ answer event actions.now }
 {
-    match (to, event) {
-        (Party::Nobody, _) => true,
-        (_, CacheEvent::Inv) => count_acks(actions) == 1,
-        _ => count_acks(actions) == 0,
+    let acks = count_acks(actions);
+    match event {
+        CacheEvent::Inv if acks == 0 => Lag::Ahead,
+        CacheEvent::Inv if acks == 1 => Lag::Level,
+        CacheEvent::Inv => Lag::Behind,
+        _ if acks == 0 => Lag::Level,
+        _ => Lag::Behind,
     }
 }
 
-/// What a cell of the caches' table makes of a pair from which the input was taken.
-fn see_act(
+/// What an answer makes of the requestor, if that can be followed. It is guessed whether acks are still owed to it.
+fn answered(guess: bool, to: Party, by: Lag, pair: &Pair) -> Option<Pair>
+    requires few { is_few pair.now ≡ true }
+    requires marked { IsMarked pair.now }
+    ensures pair { result ≡ answered guess to by pair.now }
+    ensures few { IfSome result (λ q. is_few q ≡ true) }
+    ensures marked { IfSome result IsMarked }
+{
+    match (to, by) {
+        (Party::Nobody | Party::Third, _) | (Party::First, Lag::Level) => Some(*pair),
+        (Party::First, _) => None,
+        (Party::Second, _) => {
+            let lag = pair.second.lag.moved(by)?;
+            let mut answered = *pair;
+            answered.second.owed = by.leaves_owed(guess, pair.second.owed);
+            answered.second.lag = lag;
+            Some(answered)
+        }
+    }
+}
+
+/// What a cell of the caches' table makes of a pair whose requestor was answered.
+fn see_answered(
     rule: Rule,
     to: Party,
     concerned: Party,
-    event: CacheEvent,
     next: CacheState,
     actions: &[CacheAction],
     pair: &Pair,
 ) -> Sight
     requires few { is_few pair.now ≡ true }
     requires marked { IsMarked pair.now }
-    ensures seen { result ≡ by_line rule to concerned event (Entry.Act next actions.now) pair.now }
+    ensures seen { result ≡ line_settled rule to concerned next actions.now (Some pair.now) }
     ensures followed { IsFollowed result }
 {
-    if !answers(to, event, actions) {
-        return Sight::Lost;
-    }
     // What a load returns is seen first: no action changes the line's value.
     if returns_old(rule, next, &pair.first) {
         return Sight::Spoilt(concerned);
@@ -104,9 +126,32 @@ fn see_act(
     look_at(concerned, &after)
 }
 
+/// What a cell of the caches' table makes of a pair from which the input was taken.
+fn see_act(
+    rule: Rule,
+    guess: bool,
+    to: Party,
+    concerned: Party,
+    event: CacheEvent,
+    next: CacheState,
+    actions: &[CacheAction],
+    pair: &Pair,
+) -> Sight
+    requires few { is_few pair.now ≡ true }
+    requires marked { IsMarked pair.now }
+    ensures seen { result ≡ by_line rule guess to concerned event (Entry.Act next actions.now) pair.now }
+    ensures followed { IsFollowed result }
+{
+    match answered(guess, to, answer(event, actions), pair) {
+        Some(answered) => see_answered(rule, to, concerned, next, actions, &answered),
+        None => Sight::Lost,
+    }
+}
+
 /// What an entry of the caches' table makes of a pair from which the input was taken.
 fn see_entry(
     rule: Rule,
+    guess: bool,
     to: Party,
     concerned: Party,
     event: CacheEvent,
@@ -115,14 +160,15 @@ fn see_entry(
 ) -> Sight
     requires few { is_few pair.now ≡ true }
     requires marked { IsMarked pair.now }
-    ensures seen { result ≡ by_line rule to concerned event entry.now pair.now }
+    ensures seen { result ≡ by_line rule guess to concerned event entry.now pair.now }
     ensures followed { IsFollowed result }
 {
     match entry {
         Entry::Stall => Sight::Unmoved,
         Entry::Blank => Sight::Spoilt(concerned),
         Entry::Act { next, actions } => {
-            see_act(rule, to, concerned, event, *next, actions.as_slice(), pair)
+            let actions = actions.as_slice();
+            see_act(rule, guess, to, concerned, event, *next, actions, pair)
         }
     }
 }
@@ -131,6 +177,7 @@ fn see_entry(
 pub(crate) fn see_line(
     tables: &Tables,
     rule: Rule,
+    guess: bool,
     to: Party,
     concerned: Party,
     event: CacheEvent,
@@ -138,9 +185,9 @@ pub(crate) fn see_line(
 ) -> Sight
     requires few { is_few pair.now ≡ true }
     requires marked { IsMarked pair.now }
-    ensures seen { result ≡ at_line tables.now rule to concerned event pair.now }
+    ensures seen { result ≡ at_line tables.now rule guess to concerned event pair.now }
     ensures followed { IsFollowed result }
 {
     let entry = tables.cache.entry(pair.first.state, event);
-    see_entry(rule, to, concerned, event, &entry, pair)
+    see_entry(rule, guess, to, concerned, event, &entry, pair)
 }

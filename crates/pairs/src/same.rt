@@ -81,11 +81,12 @@ impl Side {
             & (self.low == other.low)
     }
 
-    /// Whether both are owed, share and own alike.
+    /// Whether both are owed and await, share and own alike.
     fn stands_alike(&self, other: &Side) -> bool
         ensures { IsTrue result ↔ StandAlike self.now other.now }
     {
         (self.owed == other.owed)
+            & (self.lag == other.lag)
             & (self.shares == other.shares)
             & (self.others == other.others)
             & (self.owned == other.owned)

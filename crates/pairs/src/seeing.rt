@@ -2,13 +2,13 @@ ghost use Rattle.std.specs.Prelude.{◌≡◌, true};
 ghost use Rattle.cache_line.specs.Events.{forward_event};
 ghost use Rattle.pairs.specs.Pairs.{is_few};
 ghost use Rattle.pairs.specs.Marking.{IsFollowed, IsMarked};
-ghost use Rattle.pairs.specs.Sights.{ack_fits, at_line, besides, home_data_seen, requestor, sight, unnamed};
+ghost use Rattle.pairs.specs.Sights.{ack_fits, at_line, counts_fit, besides, home_data_seen, requestor, sight, unnamed};
 
 use crate::homes::see_home;
 use crate::lines::see_line;
 use crate::link::LinkPlace;
 use crate::pair::Pair;
-use crate::side::{Owned, Side};
+use crate::side::{Lag, Owned, Side};
 use crate::steps::{Party, Rule, Sight};
 use both_tables::Tables;
 use cache_table::{CacheEvent, CacheState};
@@ -16,13 +16,13 @@ use directory_table::DirectoryEvent;
 use network::ForwardKind;
 
 /// What is seen where an event that names no other cache comes to the first's line, from a pair that it was taken from.
-fn see_event(tables: &Tables, rule: Rule, event: CacheEvent, pair: &Pair) -> Sight
+fn see_event(tables: &Tables, rule: Rule, guess: bool, event: CacheEvent, pair: &Pair) -> Sight
     requires few { is_few pair.now ≡ true }
     requires marked { IsMarked pair.now }
-    ensures seen { result ≡ at_line tables.now rule Party.Nobody Party.Nobody event pair.now }
+    ensures seen { result ≡ at_line tables.now rule guess Party.Nobody Party.Nobody event pair.now }
     ensures followed { IsFollowed result }
 {
-    see_line(tables, rule, Party::Nobody, Party::Nobody, event, pair)
+    see_line(tables, rule, guess, Party::Nobody, Party::Nobody, event, pair)
 }
 
 /// The event that the head of a link is at a line.
@@ -71,10 +71,10 @@ fn unname(to: Party, kind: ForwardKind, pair: &mut Pair)
 }
 
 /// What is seen where the head of the first's link comes to its line.
-fn see_head(tables: &Tables, third_shares: bool, pair: &Pair) -> Sight
+fn see_head(tables: &Tables, guess: bool, pair: &Pair) -> Sight
     requires few { is_few pair.now ≡ true }
     requires marked { IsMarked pair.now }
-    ensures seen { result ≡ sight tables.now Rule.TakesHead third_shares pair.now }
+    ensures seen { result ≡ sight tables.now Rule.TakesHead guess pair.now }
     ensures followed { IsFollowed result }
 {
     match (pair.first.link.head(), pair.first_names.head()) {
@@ -85,7 +85,7 @@ fn see_head(tables: &Tables, third_shares: bool, pair: &Pair) -> Sight
             let to = requestor(place, mark);
             unname(to, place.kind, &mut left);
             let event = head_event(place.kind);
-            see_line(tables, Rule::TakesHead, to, besides(to), event, &left)
+            see_line(tables, Rule::TakesHead, guess, to, besides(to), event, &left)
         }
         _ => Sight::Unmoved,
     }
@@ -180,32 +180,34 @@ fn see_put_m(tables: &Tables, third_shares: bool, pair: &Pair) -> Sight
 }
 
 /// What is seen where Data from the home come to the first's line.
-fn see_dir_data(tables: &Tables, third_shares: bool, pair: &Pair) -> Sight
+fn see_dir_data(tables: &Tables, guess: bool, pair: &Pair) -> Sight
     requires few { is_few pair.now ≡ true }
     requires marked { IsMarked pair.now }
-    ensures seen { result ≡ sight tables.now Rule.GetsDirData third_shares pair.now }
+    ensures seen { result ≡ sight tables.now Rule.GetsDirData guess pair.now }
     ensures followed { IsFollowed result }
 {
     if pair.first.dir_data == 0 {
         return Sight::Unmoved;
     }
-    let event = if pair.first.owed {
-        CacheEvent::DataDirMore
-    } else {
-        CacheEvent::DataDirZero
+    let Some(awaited) = pair.first.lag.acks_awaited(pair.first.owed) else {
+        return Sight::Lost;
+    };
+    let event = match awaited {
+        Lag::Level => CacheEvent::DataDirZero,
+        Lag::Behind | Lag::Ahead => CacheEvent::DataDirMore,
     };
     let mut left = *pair;
     left.first.dir_data -= 1;
-    left.first.low = !pair.first.owed;
+    left.first.low = awaited != Lag::Ahead;
     left.first.take_data();
-    see_event(tables, Rule::GetsDirData, event, &left)
+    see_event(tables, Rule::GetsDirData, guess, event, &left)
 }
 
 /// What is seen where Data of another cache come to the first's line.
-fn see_owner_data(tables: &Tables, third_shares: bool, pair: &Pair) -> Sight
+fn see_owner_data(tables: &Tables, guess: bool, pair: &Pair) -> Sight
     requires few { is_few pair.now ≡ true }
     requires marked { IsMarked pair.now }
-    ensures seen { result ≡ sight tables.now Rule.GetsOwnerData third_shares pair.now }
+    ensures seen { result ≡ sight tables.now Rule.GetsOwnerData guess pair.now }
     ensures followed { IsFollowed result }
 {
     if pair.first.owner_data == 0 {
@@ -214,14 +216,14 @@ fn see_owner_data(tables: &Tables, third_shares: bool, pair: &Pair) -> Sight
     let mut left = *pair;
     left.first.owner_data -= 1;
     left.first.take_data();
-    see_event(tables, Rule::GetsOwnerData, CacheEvent::DataOwner, &left)
+    see_event(tables, Rule::GetsOwnerData, guess, CacheEvent::DataOwner, &left)
 }
 
 /// What is seen where exclusive Data come to the first's line.
-fn see_excl_data(tables: &Tables, third_shares: bool, pair: &Pair) -> Sight
+fn see_excl_data(tables: &Tables, guess: bool, pair: &Pair) -> Sight
     requires few { is_few pair.now ≡ true }
     requires marked { IsMarked pair.now }
-    ensures seen { result ≡ sight tables.now Rule.GetsExclData third_shares pair.now }
+    ensures seen { result ≡ sight tables.now Rule.GetsExclData guess pair.now }
     ensures followed { IsFollowed result }
 {
     if pair.first.excl_data == 0 {
@@ -230,23 +232,33 @@ fn see_excl_data(tables: &Tables, third_shares: bool, pair: &Pair) -> Sight
     let mut left = *pair;
     left.first.excl_data -= 1;
     left.first.take_data();
-    see_event(tables, Rule::GetsExclData, CacheEvent::DataDirExcl, &left)
+    see_event(tables, Rule::GetsExclData, guess, CacheEvent::DataDirExcl, &left)
 }
 
-/// Whether an Inv-Ack may be the last one or not, and leave something owed or not. Without Data from the home on its
-/// way it is the last where nothing is owed afterwards.
+/// Whether an Inv-Ack may be the last one or not, and leave something owed or not, where no Data from the home is on its way: a
+/// line awaits what is owed to it, more or fewer.
+fn counts_fit(side: &Side, last: bool, owed: bool) -> bool
+    ensures { result ≡ counts_fit side.now.lag side.now.low last owed }
+{
+    match side.lag {
+        Lag::Level => !side.low && last != owed,
+        Lag::Ahead => !side.low && !last,
+        Lag::Behind => side.low || owed,
+    }
+}
+
+/// Whether an Inv-Ack may be the last one or not, and leave something owed or not.
 fn may_get_ack(side: &Side, last: bool, owed: bool) -> bool
     ensures { result ≡ ack_fits side.now last owed }
 {
-    let is_last_of_all = last != owed;
-    side.owed && !(side.low && last) && (side.dir_data != 0 || (!side.low && is_last_of_all))
+    side.owed && !(side.low && last) && (side.dir_data != 0 || counts_fit(side, last, owed))
 }
 
 /// What is seen where an Inv-Ack comes to the first's line, the last one or not, which leaves something owed or not.
-fn see_ack(tables: &Tables, last: bool, owed: bool, third_shares: bool, pair: &Pair) -> Sight
+fn see_ack(tables: &Tables, last: bool, owed: bool, guess: bool, pair: &Pair) -> Sight
     requires few { is_few pair.now ≡ true }
     requires marked { IsMarked pair.now }
-    ensures seen { result ≡ sight tables.now (Rule.GetsInvAck last owed) third_shares pair.now }
+    ensures seen { result ≡ sight tables.now (Rule.GetsInvAck last owed) guess pair.now }
     ensures followed { IsFollowed result }
 {
     if !may_get_ack(&pair.first, last, owed) {
@@ -260,42 +272,43 @@ fn see_ack(tables: &Tables, last: bool, owed: bool, third_shares: bool, pair: &P
     let mut left = *pair;
     left.first.owed = owed;
     left.first.low = pair.first.low || last;
-    see_event(tables, Rule::GetsInvAck { last, owed }, event, &left)
+    see_event(tables, Rule::GetsInvAck { last, owed }, guess, event, &left)
 }
 
 /// What is seen where a core asks for a replacement at the first's line.
-fn see_replacement(tables: &Tables, third_shares: bool, pair: &Pair) -> Sight
+fn see_replacement(tables: &Tables, guess: bool, pair: &Pair) -> Sight
     requires few { is_few pair.now ≡ true }
     requires marked { IsMarked pair.now }
-    ensures seen { result ≡ sight tables.now Rule.AsksReplacement third_shares pair.now }
+    ensures seen { result ≡ sight tables.now Rule.AsksReplacement guess pair.now }
     ensures followed { IsFollowed result }
 {
     match pair.first.state {
         CacheState::I => Sight::Unmoved,
-        _ => see_event(tables, Rule::AsksReplacement, CacheEvent::Replacement, pair),
+        _ => see_event(tables, Rule::AsksReplacement, guess, CacheEvent::Replacement, pair),
     }
 }
 
-/// What a step of the first cache by this rule makes of a pair, where a third cache shares or not.
-pub fn sight(tables: &Tables, rule: Rule, third_shares: bool, pair: &Pair) -> Sight
+/// What a step of the first cache by this rule makes of a pair. What that doesn't tell is guessed: of a request whether a third
+/// cache shares, of a head whether acks are still owed to the second.
+pub fn sight(tables: &Tables, rule: Rule, guess: bool, pair: &Pair) -> Sight
     requires few { is_few pair.now ≡ true }
     requires marked { IsMarked pair.now }
-    ensures seen { result ≡ sight tables.now rule third_shares pair.now }
+    ensures seen { result ≡ sight tables.now rule guess pair.now }
     ensures followed { IsFollowed result }
 {
     match rule {
-        Rule::AsksLoad => see_event(tables, rule, CacheEvent::Load, pair),
-        Rule::AsksStore => see_event(tables, rule, CacheEvent::Store, pair),
-        Rule::AsksReplacement => see_replacement(tables, third_shares, pair),
-        Rule::TakesHead => see_head(tables, third_shares, pair),
-        Rule::SentGetS => see_get_s(tables, third_shares, pair),
-        Rule::SentGetM => see_get_m(tables, third_shares, pair),
-        Rule::SentPutS => see_put_s(tables, third_shares, pair),
-        Rule::SentPutM => see_put_m(tables, third_shares, pair),
-        Rule::GetsDirData => see_dir_data(tables, third_shares, pair),
-        Rule::GetsOwnerData => see_owner_data(tables, third_shares, pair),
-        Rule::GetsExclData => see_excl_data(tables, third_shares, pair),
-        Rule::GetsInvAck { last, owed } => see_ack(tables, last, owed, third_shares, pair),
+        Rule::AsksLoad => see_event(tables, rule, guess, CacheEvent::Load, pair),
+        Rule::AsksStore => see_event(tables, rule, guess, CacheEvent::Store, pair),
+        Rule::AsksReplacement => see_replacement(tables, guess, pair),
+        Rule::TakesHead => see_head(tables, guess, pair),
+        Rule::SentGetS => see_get_s(tables, guess, pair),
+        Rule::SentGetM => see_get_m(tables, guess, pair),
+        Rule::SentPutS => see_put_s(tables, guess, pair),
+        Rule::SentPutM => see_put_m(tables, guess, pair),
+        Rule::GetsDirData => see_dir_data(tables, guess, pair),
+        Rule::GetsOwnerData => see_owner_data(tables, guess, pair),
+        Rule::GetsExclData => see_excl_data(tables, guess, pair),
+        Rule::GetsInvAck { last, owed } => see_ack(tables, last, owed, guess, pair),
     }
 }
 

@@ -1,5 +1,6 @@
 ghost use Rattle.std.specs.Prelude.{◌≡◌};
 ghost use Rattle.pairs.specs.Pairs.{owners_fit};
+ghost use Rattle.pairs.specs.Sights.{acks_awaited, shifted, still_owed};
 
 use crate::link::Link;
 use crate::marks::Marks;
@@ -20,6 +21,17 @@ pub enum Owned {
     ByNobody,
     ByItself,
     ByAnother,
+}
+
+/// How many Inv-Acks a cache awaits, in its line and by Data from the home that announce them, beside how many are owed to it.
+#[derive(Clone, Copy, PartialEq, Eq, Debug)]
+pub enum Lag {
+    /// Fewer are awaited than are owed.
+    Behind,
+    /// As many.
+    Level,
+    /// More are awaited.
+    Ahead,
 }
 
 /// What concerns one cache. What is fresh is known to be the value of the block's last store; of what isn't nothing is
@@ -49,6 +61,8 @@ pub struct Side {
     pub low: bool,
     /// Whether an Inv names the cache, or an Inv-Ack is on its way to it.
     pub owed: bool,
+    /// What is awaited beside what is owed.
+    pub lag: Lag,
     /// How many Fwd-GetS name the cache, on any link.
     pub fwd_gets: u8,
     /// How many Fwd-GetM name the cache, on any link.
@@ -72,6 +86,41 @@ impl Owned {
             | (Owned::ByAnother, Owned::ByAnother) => true,
             _ => false,
         }
+    }
+}
+
+impl Lag {
+    /// The lag where it was moved by another one, if that tells.
+    pub(crate) fn moved(self, by: Lag) -> Option<Lag>
+        ensures { result ≡ shifted by self }
+    {
+        match (by, self) {
+            (Lag::Level, lag) => Some(lag),
+            (Lag::Behind, Lag::Ahead) | (Lag::Ahead, Lag::Behind) => None,
+            (Lag::Behind, _) => Some(Lag::Behind),
+            (Lag::Ahead, _) => Some(Lag::Ahead),
+        }
+    }
+
+    /// Whether acks are owed, where the lag was moved by this one, to a cache to whom they were owed before or not. Where
+    /// one is owed less, that is guessed.
+    pub(crate) fn leaves_owed(self, guess: bool, owed: bool) -> bool
+        ensures { result ≡ still_owed guess self owed }
+    {
+        match self {
+            Lag::Level => owed,
+            Lag::Ahead => guess,
+            Lag::Behind => true,
+        }
+    }
+
+    /// How many acks a line awaits to whom all are announced, if that is known: none, or fewer or more than none. Some are
+    /// still owed to it or not.
+    pub fn acks_awaited(self, owed: bool) -> Option<Lag>
+        ensures { result ≡ acks_awaited self owed }
+    {
+        let coming = if owed { Lag::Ahead } else { Lag::Level };
+        self.moved(coming)
     }
 }
 
@@ -100,6 +149,7 @@ impl Side {
             fresh_data: true,
             low: true,
             owed: false,
+            lag: Lag::Level,
             fwd_gets: 0,
             fwd_getm: 0,
             link: Link::empty(),
@@ -162,8 +212,8 @@ impl Side {
 
     /// One more forward of this kind names the cache, if there is an owner whom it goes to.
     pub(crate) fn name(&mut self, owner: Party, kind: ForwardKind)
-        requires sharing { self.old.fwd_gets ≤ 1 }
-        requires handing { self.old.fwd_getm ≤ 1 }
+        requires sharing { self.old.fwd_gets ≤ 2 }
+        requires handing { self.old.fwd_getm ≤ 2 }
         ensures { self.new ≡ named owner kind self.old }
     {
         match (owner, kind) {
@@ -203,19 +253,20 @@ impl Side {
         self.trim();
     }
 
-    /// Whether there are few enough of each kind: at most one message, and two on the link.
+    /// Whether there are few enough of each kind: at most two that ask for the block, two that hand such an ask on, two on the
+    /// link, and one of each other.
     pub(crate) fn is_few(&self) -> bool
         ensures { result ≡ is_few_side self.now }
     {
-        self.gets <= 1
-            && self.getm <= 1
+        self.gets <= 2
+            && self.getm <= 2
             && self.puts <= 1
             && self.putm <= 1
             && self.dir_data <= 1
             && self.owner_data <= 1
             && self.excl_data <= 1
-            && self.fwd_gets <= 1
-            && self.fwd_getm <= 1
+            && self.fwd_gets <= 2
+            && self.fwd_getm <= 2
             && self.link.len() <= 2
     }
 

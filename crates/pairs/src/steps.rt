@@ -2,7 +2,7 @@ ghost use Rattle.std.specs.Prelude.{Contains};
 ghost use Rattle.pairs.specs.declared.steps.Rule.{Rule};
 
 use crate::pair::Pair;
-use crate::side::Owned;
+use crate::side::{Lag, Owned};
 use directory_table::DirectoryState;
 use network::ForwardKind;
 
@@ -116,7 +116,7 @@ pub fn each_rule_is_listed()
 
 impl Debt {
     ghost use Rattle.std.specs.Prelude.{◌≡◌};
-    ghost use Rattle.pairs.specs.Sights.{more_announced, more_invalidated, settled_debt};
+    ghost use Rattle.pairs.specs.Sights.{lag_after, more_announced, more_invalidated, settled_debt};
 
     /// The requestor was told of the other sharers once more.
     fn announced(self) -> Debt
@@ -137,6 +137,18 @@ impl Debt {
             Debt::Even if !owed => Debt::Invalidated,
             Debt::Announced if !owed => Debt::Even,
             _ => Debt::Uneven,
+        }
+    }
+
+    /// The lag of the requestor where the debt is this in the end, if that tells.
+    pub(crate) fn moved(self, lag: Lag) -> Option<Lag>
+        ensures { result ≡ lag_after self lag }
+    {
+        match self {
+            Debt::Even => Some(lag),
+            Debt::Announced => lag.moved(Lag::Ahead),
+            Debt::Invalidated => lag.moved(Lag::Behind),
+            Debt::Uneven => None,
         }
     }
 

@@ -27,7 +27,7 @@ IsTold told rule (Seen concerned p) = Contains told (record { rule = rule; conce
 
 -- all steps of a pair are told
 abbrev pub TellsAll : Tables → Pair → List Followed → Type 0
-TellsAll tables p told = (rule : Rule) (third_shares : Bool) → IsTold told rule (sight tables rule third_shares p)
+TellsAll tables p told = (rule : Rule) (guess : Bool) → IsTold told rule (sight tables rule guess p)
 
 -- where a step concerns no third cache, it leads to one of these
 abbrev pub LeadsInto : List Pair → Followed → Type 0

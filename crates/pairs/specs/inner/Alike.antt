@@ -20,4 +20,4 @@ HaveLinesAlike s t = (s.state ≡ t.state) × (s.waits ≡ t.waits) × (s.fresh 
 
 -- all else
 abbrev pub StandAlike : Side → Side → Type 0
-StandAlike s t = (s.owed ≡ t.owed) × (s.shares ≡ t.shares) × (s.others ≡ t.others) × (s.owned ≡ t.owned)
+StandAlike s t = (s.owed ≡ t.owed) × (s.lag ≡ t.lag) × (s.shares ≡ t.shares) × (s.others ≡ t.others) × (s.owned ≡ t.owned)

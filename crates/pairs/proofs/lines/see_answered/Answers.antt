@@ -3,16 +3,16 @@ use Rattle.pairs.specs.declared.pair.Pair.{Pair}
 use Rattle.pairs.specs.Marking.{IsMarked}
 use Rattle.pairs.specs.Sights.{looked_at}
 use Rattle.pairs.specs.inner.Following.{done}
-use Rattle.pairs.proofs.Completing.{by_line-looked_at, by_line-lost, by_line-spoilt, few_pair-some, marked-done, marked-state}
-use Rattle.pairs.proofs.lines.see_act.Goals as goal
+use Rattle.pairs.proofs.Completing.{line_settled-looked_at, line_settled-lost, line_settled-spoilt, few_pair-some, marked-done, marked-state}
+use Rattle.pairs.proofs.lines.see_answered.Goals as goal
 
 pub returns-then-returns_old-clause-seen : goal.returns-then-returns_old-clause-seen
-returns-then-returns_old-clause-seen c = sym (by_line-spoilt c.args.rule c.args.to c.args.concerned c.args.event c.args.next _ _
-    (sym c.if-not-answers.ensures) (sym c.if-returns_old.ensures))
+returns-then-returns_old-clause-seen c = sym (line_settled-spoilt c.args.rule c.args.to c.args.concerned c.args.next c.args.actions.now c.args.pair.now
+    (sym c.if-returns_old.ensures))
 
 pub returns-in_default-clause-seen : goal.returns-in_default-clause-seen
-returns-in_default-clause-seen c = sym (by_line-lost c.args.rule c.args.to c.args.concerned c.args.event c.args.next _ _
-    (sym c.if-not-answers.ensures) (sym c.if-returns_old.ensures) c.in_default.ensures.pair)
+returns-in_default-clause-seen c = sym (line_settled-lost c.args.rule c.args.to c.args.concerned c.args.next c.args.actions.now c.args.pair.now
+    (sym c.if-returns_old.ensures) c.in_default.ensures.pair)
 
 pub look_at-requires : goal.look_at-requires
 look_at-requires c =
@@ -25,4 +25,4 @@ returns-clause-seen c =
     let moved = λ (q : Pair). done c.args.rule (record q { first = record q.first { state = c.args.next } }) in
     c.look_at.ensures.seen
     ∙ ap (λ (q : Pair). looked_at c.args.concerned q) (c.complete.ensures ∙ ap moved same)
-    ∙ sym (by_line-looked_at c.args.rule c.args.to c.args.concerned c.args.event c.args.next _ _ (sym c.if-not-answers.ensures) (sym c.if-returns_old.ensures))
+    ∙ sym (line_settled-looked_at c.args.rule c.args.to c.args.concerned c.args.next c.args.actions.now c.args.pair.now (sym c.if-returns_old.ensures))
