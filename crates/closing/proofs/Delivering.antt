@@ -1,8 +1,7 @@
 -- A message that no stall holds gives a step that delivers it.
-use Rattle.std.proofs.Common.{◌≡◌, ◌≢◌, ◌⊎◌, ℕ, ◌+◌, ◌<◌, ◌≤◌, List, [], ◌∷◌, refl, ap, sym, subst, ◌∙◌, inl, inr, Option, Some, None, Bool, true, false, not}
-use Rattle.std.proofs.Common.{◌&&◌, ◌||◌, ◌==◌, if◌then◌else◌, slice_get, sum_by, zero, suc, arith, map, length, eq-eqb}
-use Rattle.std.proofs.lemmas.Bool.{cases_eq, cases_lt}
-use Rattle.std.proofs.lemmas.List.{get_or_past}
+use Rattle.std.proofs.Common.{◌≡◌, ◌≢◌, ◌⊎◌, ℕ, ◌<◌, List, [], ◌∷◌, refl, ap, sym, subst, inl, inr, Option, Some, None, Bool, true, false}
+use Rattle.std.proofs.Common.{◌&&◌, ◌||◌, ◌==◌, if◌then◌else◌, slice_get, sum_by, suc, arith, eq-eqb}
+use Rattle.std.proofs.lemmas.Bool.{cases_eq}
 use Rattle.std.proofs.lemmas.List.Sums.{sum_by-cons}
 use Rattle.base.specs.declared.ids.CacheId.{CacheId}
 use Rattle.base.specs.declared.ids.BlockId.{BlockId}
@@ -32,20 +31,19 @@ use Rattle.cache_line.specs.declared.line.LineCompletion.{LineCompletion}
 use Rattle.cache_line.specs.declared.line.LineCompletion.TheVariants as done
 use Rattle.block_home.specs.declared.home.HomeInput.{HomeInput}
 use Rattle.block_home.specs.declared.home.HomeInput.TheVariants as home_input
-use Rattle.control.specs.Events.{event_at_line, event_at_home, request_event, response_event, forward_event, is_count, owns}
+use Rattle.control.specs.Events.{event_at_line, request_event, response_event, forward_event, is_count}
 use Rattle.control.specs.LineEffect.{line_completes}
 use Rattle.control.specs.Sharing.{shares, others_from}
 use Rattle.both_tables.specs.Tables.{Tables}
 use Rattle.machine.specs.Block.{BlockState, IsBlockAmong}
-use Rattle.machine.specs.Transition.{outcome_of, carried_out, by_line_entry, by_home_entry, at_line, at_home, at_request, at_forward, at_response}
+use Rattle.machine.specs.Transition.{outcome_of, carried_out, by_line_entry, by_home_entry, at_line, at_request, at_forward, at_response}
 use Rattle.machine.specs.declared.decision.Origin.{Origin}
 use Rattle.machine.specs.declared.decision.Origin.TheVariants as origin
 use Rattle.machine.proofs.Counts.{only}
-use Rattle.machine.proofs.Seen.{line_of, from, is_gets, is_getm, is_puts, is_putm, dir_data, owner_data, excl_data, home_data, inv_ack}
+use Rattle.machine.proofs.Seen.{from, is_gets, is_getm, is_puts, is_putm, dir_data, owner_data, excl_data, home_data, inv_ack}
 use Rattle.machine.proofs.Sound.{line_of-there}
 use Rattle.machine.proofs.Moves as moving
 use Rattle.machine.proofs.Cases.{by-test}
-use Rattle.pairs.specs.declared.link.LinkPlace.{LinkPlace}
 use Rattle.pairs.specs.declared.side.Lag.{Lag}
 use Rattle.pairs.specs.declared.side.Side.{Side}
 use Rattle.pairs.specs.Sights.{acks_awaited, is_level}

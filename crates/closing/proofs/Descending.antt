@@ -1,6 +1,6 @@
 -- In a block with messages one can be delivered: whoever holds all of its own blames a cache that was served earlier, and so on.
-use Rattle.std.proofs.Common.{◌≡◌, ◌≢◌, ◌⊎◌, ℕ, ◌+◌, ◌<◌, ◌≤◌, List, [], ◌∷◌, refl, ap, sym, subst, ◌∙◌, inl, inr, Option, Some, None, Bool, true, false, not}
-use Rattle.std.proofs.Common.{◌&&◌, ◌||◌, ◌==◌, slice_get, get_or, sum_by, zero, suc, arith, length, nat_le, eq-eqb, map}
+use Rattle.std.proofs.Common.{◌≡◌, ◌≢◌, ◌⊎◌, ℕ, ◌+◌, ◌<◌, ◌≤◌, List, [], ◌∷◌, refl, ap, sym, subst, inl, inr, Bool, true, false, not}
+use Rattle.std.proofs.Common.{◌||◌, ◌==◌, get_or, sum_by, zero, suc, arith, length, nat_le, eq-eqb}
 use Rattle.std.proofs.lemmas.Bool.{cases_eq, cases_lt, ne_eqb, le-leb}
 use Rattle.std.proofs.lemmas.List.{get_or_past}
 use Rattle.std.proofs.lemmas.List.Sums.{sum_by-cons}
@@ -14,35 +14,32 @@ use Rattle.network.specs.declared.message.ForwardKind.{ForwardKind}
 use Rattle.network.specs.declared.message.ForwardKind.TheVariants.{FwdGetS, FwdGetM, Inv, PutAck}
 use Rattle.network.specs.declared.message.Response.{Response}
 use Rattle.network.specs.declared.message.Response.TheVariants.{Data, InvAck, DataExcl}
-use Rattle.network.specs.Traffic.{Traffic, link}
-use Rattle.cache_table.specs.declared.event.CacheEvent.TheVariants as event
+use Rattle.network.specs.Traffic.{link}
 use Rattle.directory_table.specs.declared.state.DirectoryState.{DirectoryState}
 use Rattle.both_tables.specs.Tables.{Tables}
 use Rattle.machine.specs.Block.{BlockState, IsBlockAmong, AllFrom}
-use Rattle.machine.proofs.Counts.{only, total, link-there, link-total}
+use Rattle.machine.proofs.Counts.{only, total, link-total}
 use Rattle.machine.proofs.Seen.{from, is_gets, is_getm, is_puts, is_putm, names, is_fwd_gets, is_fwd_getm, is_inv, of_kind, dir_data, owner_data, excl_data}
 use Rattle.machine.proofs.Seen.{home_data, inv_ack}
 use Rattle.machine.proofs.Moves as moving
 use Rattle.machine.proofs.Quiet.{IsQuiet}
-use Rattle.machine.proofs.Cases.{by-test}
 use Rattle.pairs.specs.declared.link.LinkPlace.{LinkPlace}
 use Rattle.pairs.specs.declared.side.Side.{Side}
-use Rattle.pairs.specs.declared.pair.Pair.{Pair}
 use Rattle.pairs.specs.Pairs.{data_to, marked, own_marked}
 use Rattle.closing.specs.declared.ranked.Order.{Order}
 use Rattle.closing.specs.declared.ranked.Order.TheVariants.{After}
 use Rattle.closing.specs.declared.ranked.RankedPair.{RankedPair}
 use Rattle.closing.specs.Ranked.{is_busy, awaited}
-use Rattle.closing.specs.Blamed.{line_holds, holds_head, holds_requests, holds_data, holds_side, holds_home_data, is_held, is_noisy, requests_of, is_named, awaits_home}
-use Rattle.closing.specs.Blamed.{IsBlamable, IsBlamed, Blamed, home_holds, puts_event, putm_event}
+use Rattle.closing.specs.Blamed.{holds_head, holds_side, holds_home_data, is_held, is_noisy, requests_of, is_named, awaits_home}
+use Rattle.closing.specs.Blamed.{IsBlamed, Blamed}
 use Rattle.closing.proofs.Alpha.{Tags, alpha, side, shared, names_on, Faithful, owed_to}
 use Rattle.closing.proofs.AlphaFits.{places, all-four, both, Weighs, weighs-gets, weighs-getm, weighs-inv, own-sum, marks-sum}
 use Rattle.closing.proofs.LineActing.{both-true, same-if}
 use Rattle.closing.proofs.Simulation.{next-other}
 use Rattle.closing.proofs.Serving.{Placed, Served, IsOrder}
 use Rattle.closing.proofs.Sharings.{IsLevel}
-use Rattle.closing.proofs.Receivers.{WiresBelow, Received, AllGoBelow, GoesBelow}
-use Rattle.closing.proofs.Delivering.{not-zero, find, only-some, side-found, home_data-found, inv_ack-found}
+use Rattle.closing.proofs.Receivers.{Received, AllGoBelow, GoesBelow}
+use Rattle.closing.proofs.Delivering.{not-zero, side-found, home_data-found, inv_ack-found}
 
 -- TESTS
 not-true : (t : Bool) → not t ≡ true → t ≡ false

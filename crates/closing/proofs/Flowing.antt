@@ -1,7 +1,6 @@
 -- Under tables that have a closed set of pairs, and ranked pairs in which blame works, no run is stuck.
-use Rattle.std.proofs.Common.{◌≡◌, ◌≢◌, ◌⊎◌, ℕ, ◌+◌, ◌≤◌, ◌<◌, List, [], ◌∷◌, refl, ap, sym, subst, ◌∙◌, inl, inr, Option, Some, None, Bool, true, false, not}
-use Rattle.std.proofs.Common.{◌&&◌, ◌||◌, ◌==◌, if◌then◌else◌, slice_get, get_or, sum_by, arith, length, Contains, zero, suc}
-use Rattle.std.proofs.lemmas.Bool.{cases_eq}
+use Rattle.std.proofs.Common.{◌≡◌, ◌≢◌, ◌⊎◌, ℕ, ◌+◌, ◌≤◌, List, [], ◌∷◌, refl, ap, sym, subst, ◌∙◌, inl, inr, Option, Some, None, Bool, true, false, not}
+use Rattle.std.proofs.Common.{◌&&◌, ◌||◌, ◌==◌, if◌then◌else◌, slice_get, get_or, sum_by, arith, length, Contains, suc}
 use Rattle.base.specs.Extent.{Extent, IsWithinLimits}
 use Rattle.base.specs.Steps.{block_of}
 use Rattle.base.specs.declared.ids.BlockId.{BlockId}
@@ -15,17 +14,14 @@ use Rattle.base.specs.declared.step.Outcome.TheVariants as outcome
 use Rattle.network.specs.declared.message.Forward.{Forward}
 use Rattle.network.specs.declared.message.Request.{Request}
 use Rattle.network.specs.declared.message.Response.{Response}
-use Rattle.network.specs.Traffic.{Traffic, link, is_quiet}
 use Rattle.cache_table.specs.declared.state.CacheState.{CacheState}
-use Rattle.cache_table.specs.declared.state.CacheState.TheVariants as state
-use Rattle.cache_table.specs.declared.event.CacheEvent.TheVariants as event
 use Rattle.cache_table.specs.Table as cache_table
 use Rattle.cache_line.specs.declared.line.Line.{Line}
 use Rattle.cache_line.specs.declared.line.LineInput.TheVariants as line_input
 use Rattle.control.specs.Events.{ask_event}
 use Rattle.both_tables.specs.Tables.{Tables}
 use Rattle.machine.specs.Block.{BlockState, IsBlockAmong, opened_block}
-use Rattle.machine.specs.Transition.{transition, decision_of, carried_out, by_line_entry, at_line, at_ask, is_idle}
+use Rattle.machine.specs.Transition.{transition, decision_of, carried_out, at_line, at_ask, is_idle}
 use Rattle.machine.specs.declared.decision.Origin.TheVariants as origin
 use Rattle.machine.specs.declared.decision.Decision.TheVariants.{Refused}
 use Rattle.machine.specs.Machine.{State, Next, IsRefusal, next, next_at, is_blank, opened, state_after}
@@ -38,23 +34,22 @@ use Rattle.machine.proofs.Opened.{linkless}
 use Rattle.machine.proofs.Quiet.{IsQuiet, quiet-told, quiet-tells}
 use Rattle.machine.proofs.Runs.{EachBlock, Guards, guarded, next-each}
 use Rattle.machine.proofs.Safety.{few-enough}
-use Rattle.machine.proofs.Seen.{line_of, names, is_fwd_gets, is_fwd_getm, is_inv, inv_ack, dir_data, owner_data, excl_data, from, is_gets, is_getm, is_puts, is_putm, of_kind, home_data}
+use Rattle.machine.proofs.Seen.{names, is_fwd_gets, is_fwd_getm, is_inv, inv_ack, dir_data, owner_data, excl_data, from, is_gets, is_getm, is_puts, is_putm, of_kind, home_data}
 use Rattle.machine.proofs.Sound.{line_of-there}
 use Rattle.machine.proofs.Whole.{whole-carried_out}
-use Rattle.pairs.specs.declared.link.LinkPlace.{LinkPlace}
 use Rattle.pairs.specs.declared.pair.Pair.{Pair}
 use Rattle.pairs.specs.declared.side.Side.{Side}
-use Rattle.pairs.specs.Pairs.{data_to, opened_pair}
+use Rattle.pairs.specs.Pairs.{data_to}
 use Rattle.pairs.specs.Sights.{is_absent}
 use Rattle.closing.specs.declared.ranked.Order.TheVariants.{Unknown}
 use Rattle.closing.specs.declared.ranked.RankedPair.{RankedPair}
 use Rattle.closing.specs.Closed.{Closed}
 use Rattle.closing.specs.Ranked.{is_open}
-use Rattle.closing.specs.Blamed.{Blamed, ServesAsks, is_silent, requests_of, serves_asks, line_holds, line_stalls}
+use Rattle.closing.specs.Blamed.{Blamed, ServesAsks, is_silent, requests_of, serves_asks, line_holds}
 use Rattle.closing.proofs.Alpha.{Tags, alpha, side, waiting_of, owed_to}
 use Rattle.closing.proofs.AlphaFits.{places}
 use Rattle.closing.proofs.LineActing.{both-true}
-use Rattle.closing.proofs.Simulation.{Moves, HomeMoves, Goes, next-other}
+use Rattle.closing.proofs.Simulation.{Moves, HomeMoves, next-other}
 use Rattle.closing.proofs.Opening.{opened_tags, opened-alpha, opened-faithful, opened-whole}
 use Rattle.closing.proofs.Closing.{Followed, goes, closed-guards}
 use Rattle.closing.proofs.Gluing.{moved-in, home_moved-in}

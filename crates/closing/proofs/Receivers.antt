@@ -1,7 +1,6 @@
 -- Forwards name caches that are there, responses go to such, and no line waits for a replacement: each step keeps that.
-use Rattle.std.proofs.Common.{◌≡◌, ◌≢◌, ℕ, ◌+◌, ◌<◌, List, [], ◌∷◌, ◌++◌, refl, ap, sym, subst, ◌∙◌, inl, inr, Option, Some, None, Bool, true, false, not, ◌&&◌}
-use Rattle.std.proofs.Common.{◌==◌, if◌then◌else◌, get_or, set, remove, slice_get, slice_set, zero, suc, arith, map, replicate, length}
-use Rattle.std.proofs.lemmas.Bool.{cases_eq}
+use Rattle.std.proofs.Common.{◌≡◌, ℕ, ◌+◌, ◌<◌, List, [], ◌∷◌, ◌++◌, refl, sym, subst, Option, Some, None, Bool, true, false, not, ◌&&◌}
+use Rattle.std.proofs.Common.{◌==◌, if◌then◌else◌, get_or, set, remove, slice_get, slice_set, zero, suc, replicate}
 use Rattle.base.specs.declared.ids.CacheId.{CacheId}
 use Rattle.base.specs.declared.ids.Place.TheVariants.{Dir, Cache}
 use Rattle.base.specs.declared.step.Ask.{Ask}
@@ -18,13 +17,12 @@ use Rattle.network.specs.declared.message.Response.{Response}
 use Rattle.network.specs.declared.message.Response.TheVariants.{Data, InvAck, DataExcl}
 use Rattle.network.specs.declared.message.Message.{Message}
 use Rattle.network.specs.declared.message.Message.TheVariants as message
-use Rattle.network.specs.Traffic.{Traffic, link, sent, all_sent, forward_sent, head_taken, quiet}
+use Rattle.network.specs.Traffic.{Traffic, link, sent, all_sent}
 use Rattle.cache_table.specs.declared.state.CacheState.{CacheState}
 use Rattle.cache_table.specs.declared.actions.CacheAction.{CacheAction}
 use Rattle.cache_table.specs.declared.actions.CacheAction.TheVariants as line_action
 use Rattle.cache_table.specs.Table as cache_table
 use Rattle.cache_table.specs.Table.{CacheEntry}
-use Rattle.directory_table.specs.declared.state.DirectoryState.{DirectoryState}
 use Rattle.directory_table.specs.declared.actions.DirectoryAction.{DirectoryAction}
 use Rattle.directory_table.specs.declared.actions.DirectoryAction.TheVariants as action
 use Rattle.directory_table.specs.Table as directory_table
@@ -38,14 +36,14 @@ use Rattle.block_home.specs.declared.home.Home.{Home}
 use Rattle.block_home.specs.declared.home.HomeInput.{HomeInput}
 use Rattle.block_home.specs.declared.home.HomeInput.TheVariants as home_input
 use Rattle.control.specs.Events.{event_at_line, event_at_home}
-use Rattle.control.specs.LineEffect.{opened_line, forward_requestor, requestor_of, line_message, line_messages, line_sends, taken_in, written, after_ask, after_message}
+use Rattle.control.specs.LineEffect.{opened_line, forward_requestor, requestor_of, line_message, line_messages, line_sends, taken_in, after_ask, after_message}
 use Rattle.control.specs.LineEffect.{after_settling, moved_on, line_completes, line_after}
 use Rattle.control.specs.HomeEffect.{sender_of, brought_by, home_message, home_messages, home_changed, home_sends, invalidation, invalidations, owner_message}
 use Rattle.control.specs.HomeEffect.{IsBelow}
 use Rattle.control.proofs.HomeCounts.{nothing-sent}
 use Rattle.both_tables.specs.Tables.{Tables}
 use Rattle.machine.specs.Block.{BlockState, IsBlockAmong, opened_block}
-use Rattle.machine.specs.Transition.{transition, carried_out, by_line_entry, by_home_entry, at_line, at_home, at_ask, at_request, at_forward, at_response, without}
+use Rattle.machine.specs.Transition.{transition, carried_out, by_line_entry, by_home_entry, at_line, at_ask, at_request, at_forward, at_response, without}
 use Rattle.machine.specs.Transition.{is_idle}
 use Rattle.machine.specs.declared.decision.Origin.{Origin}
 use Rattle.machine.specs.declared.decision.Origin.TheVariants as origin

@@ -12,7 +12,7 @@ use Rattle.closing.specs.declared.ranked.Order.{Order}
 use Rattle.closing.specs.declared.ranked.Order.TheVariants.{Unknown, Before, After}
 use Rattle.closing.specs.declared.ranked.RankedPair.{RankedPair}
 use Rattle.closing.specs.Closed.{glued}
-use Rattle.closing.specs.Ranked.{turned, turned_pair, is_open, ranked, is_request, order_after, Sees, LeadsTo, Ranked}
+use Rattle.closing.specs.Ranked.{turned, is_open, ranked, is_request, order_after, Sees, LeadsTo, Ranked}
 use Rattle.closing.proofs.Alpha.{Tags, alpha}
 use Rattle.closing.proofs.AlphaFits.{alpha-fits}
 use Rattle.closing.proofs.Simulation.{role, Moves, HomeMoves}

@@ -1,8 +1,6 @@
 -- A home waits for as many Data as are on their way to it or are brought by a Fwd-GetS: each step keeps that.
-use Rattle.std.proofs.Common.{◌≡◌, ◌≢◌, ℕ, ◌+◌, List, [], ◌∷◌, refl, ap, sym, subst, ◌∙◌, inl, inr, Option, Some, None, Bool, true, false, length, map}
-use Rattle.std.proofs.Common.{if◌then◌else◌, get_or, set, sum_by, zero, suc, arith, Contains}
-use Rattle.std.proofs.lemmas.Bool.{cases_eq, cases_lt}
-use Rattle.std.proofs.lemmas.List.{get_or_past}
+use Rattle.std.proofs.Common.{◌≡◌, ◌≢◌, ℕ, ◌+◌, List, [], ◌∷◌, refl, ap, sym, subst, ◌∙◌, Option, Some, None, length}
+use Rattle.std.proofs.Common.{if◌then◌else◌, get_or, sum_by, zero, suc, arith}
 use Rattle.std.proofs.lemmas.List.Sums.{sum_by-cons}
 use Rattle.network.specs.declared.message.Forward.{Forward}
 use Rattle.network.specs.declared.message.ForwardKind.{ForwardKind}
@@ -12,10 +10,9 @@ use Rattle.both_tables.specs.Tables.{Tables}
 use Rattle.machine.specs.Block.{BlockState, IsBlockAmong}
 use Rattle.machine.proofs.Counts.{total}
 use Rattle.machine.proofs.Seen.{is_fwd_gets, of_kind, home_data}
-use Rattle.pairs.specs.declared.pair.Pair.{Pair}
 use Rattle.pairs.specs.Pairs.{same_kind}
 use Rattle.pairs.specs.declared.steps.Party.{Party}
-use Rattle.pairs.specs.declared.steps.Party.TheVariants.{Nobody, First, Second, Third}
+use Rattle.pairs.specs.declared.steps.Party.TheVariants.{Nobody, Second, Third}
 use Rattle.closing.specs.declared.ranked.RankedPair.{RankedPair}
 use Rattle.closing.specs.Ranked.{Balanced, KeepsBalance, sharings_on, awaited}
 use Rattle.closing.proofs.Alpha.{Tags, alpha, side}

@@ -4,7 +4,7 @@ use Rattle.network.specs.declared.message.ForwardKind.{ForwardKind}
 use Rattle.both_tables.specs.Tables.{Tables}
 use Rattle.pairs.specs.declared.pair.Pair.{Pair}
 use Rattle.closing.specs.declared.ranked.RankedPair.{RankedPair}
-use Rattle.closing.specs.Blamed.{is_held, is_noisy, is_silent, awaits_home, serves_asks, IsBlamed}
+use Rattle.closing.specs.Blamed.{is_held, is_noisy, is_silent, awaits_home, IsBlamed}
 
 -- somebody is to blame
 abbrev pub HasBlame : Tables → List RankedPair → Pair → Type 0

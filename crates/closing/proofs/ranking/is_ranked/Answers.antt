@@ -1,4 +1,4 @@
-use Rattle.std.proofs.Common.{◌≡◌, ℕ, sym, subst, Contains, List, Option, Some, IfSome, slice_get}
+use Rattle.std.proofs.Common.{sym, subst, Contains, List, Option, IfSome}
 use Rattle.std.specs.Global.{Vec}
 use Rattle.pairs.specs.declared.pair.Pair.{Pair}
 use Rattle.closing.specs.declared.following.Followed.{Followed}
