@@ -10,14 +10,17 @@ ghost use Rattle.machine.specs.Going.{KeepsGoing};
 ghost use Rattle.machine.specs.Machine.{after, opened};
 ghost use Rattle.machine.specs.Restraint.{AreRestrained};
 ghost use Rattle.machine.specs.Unstuck.{Flowing, Unstuck};
-ghost use Rattle.certify.specs.Certificates.{IsCertificate, SaysSafe, SaysFlowing, SaysRestrained, IsFirstAgainst};
+ghost use Rattle.certify.specs.Certificates.{IsCertificate, SaysSafe, SaysFlowing, SaysNeverStuck, SaysRestrained, IsFirstAgainst};
 ghost use Rattle.certify.specs.Standings.{IsAdmitted};
 ghost use Rattle.certify.specs.inner.Demands.{Meets};
 
 use crate::going::{holds_ask, is_jam};
 use crate::standings::{Standing, standing_of};
+use base::NoMemory;
 use both_tables::{CELLS, CellPlace, Tables};
-use closing::{Refusal, closed_pairs, closed_tables_are_safe};
+use closing::{
+    Flow, Refusal, blamed_tables_are_unstuck, closed_pairs, closed_tables_are_safe, flow_of,
+};
 use machine::{restrained_tables_are_safe, restrained_tables_are_unstuck};
 use std::alloc::Global;
 
@@ -28,9 +31,9 @@ pub enum Certificate {
     /// Nothing is: this cell isn't admitted, and no closed list of pairs of caches is known, for this reason. The tables may be
     /// safe all the same.
     NotProved(CellPlace, Refusal),
-    /// They are safe: this cell isn't admitted, but a list of so many pairs of caches is closed, each of them in both orders. Of
-    /// messages and asks it isn't proved that they don't get stuck.
-    ClosedPairs(CellPlace, usize),
+    /// They are safe: this cell isn't admitted, but a list of so many pairs of caches is closed, each of them in both orders. It
+    /// is shown this far that nothing gets stuck.
+    ClosedPairs(CellPlace, usize, Flow),
     /// They are safe, and no run under them ever gets stuck.
     NeverStuck,
     /// They are safe, and no message is ever stuck; but this cell holds an ask at a line that waits for nothing, for ever
@@ -54,12 +57,13 @@ pub fn certify(alloc: Global, tables: &Tables) -> Certificate
         ¬ Met (baseline_of tables.now.protocol) (after tables.now (opened shape opening) steps).state step }
     ensures flowing { SaysFlowing result → (shape : Extent) (opening : List ℕ) (steps : List Step) →
         IsWithinLimits shape → length opening ≡ shape.blocks → Flowing tables.now (after tables.now (opened shape opening) steps).state }
-    ensures unstuck { result ≡ Certificate.NeverStuck → (shape : Extent) (opening : List ℕ) (steps : List Step) →
+    ensures unstuck { SaysNeverStuck result → (shape : Extent) (opening : List ℕ) (steps : List Step) →
         IsWithinLimits shape → length opening ≡ shape.blocks → Unstuck tables.now (after tables.now (opened shape opening) steps).state }
 {
     restrained_tables_are_safe();
     restrained_tables_are_unstuck();
     closed_tables_are_safe();
+    blamed_tables_are_unstuck();
     answer_to(alloc, tables)
 }
 
@@ -76,9 +80,13 @@ fn answer_by_pairs(alloc: Global, tables: &Tables, cell: CellPlace) -> Certifica
     requires { IsFirstAgainst (IsAdmitted tables.now) cell }
     ensures { IsCertificate tables.now result }
 {
-    match closed_pairs(alloc, tables) {
-        Ok(pairs) => Certificate::ClosedPairs(cell, pairs.as_slice().len()),
-        Err(refusal) => Certificate::NotProved(cell, refusal),
+    let pairs = match closed_pairs(alloc, tables) {
+        Ok(pairs) => pairs,
+        Err(refusal) => return Certificate::NotProved(cell, refusal),
+    };
+    match flow_of(alloc, tables) {
+        Ok(flow) => Certificate::ClosedPairs(cell, pairs.as_slice().len(), flow),
+        Err(NoMemory) => Certificate::NotProved(cell, Refusal::NoMemory),
     }
 }
 

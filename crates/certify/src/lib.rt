@@ -9,5 +9,5 @@ mod proved;
 mod standings;
 
 pub use certifying::{Certificate, certify};
-pub use closing::{Refusal, closed_pairs};
+pub use closing::{Flow, Refusal, closed_pairs};
 pub use standings::{Standing, standing_of};

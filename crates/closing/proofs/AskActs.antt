@@ -1,6 +1,6 @@
 -- A cell that acts on an ask, as the pairs of its cache see it.
-use Rattle.std.proofs.Common.{◌≡◌, ℕ, ◌≤◌, List, Some, Bool, true, false, ◌==◌, if◌then◌else◌}
-use Rattle.std.proofs.Common.{inr, None, refl, ap, sym, ◌∙◌, not, sum_by, arith, slice_get, pos, ◌+ℤ◌}
+use Rattle.std.proofs.Common.{◌≡◌, ℕ, ◌≤◌, List, Some, Bool, false, ◌==◌, if◌then◌else◌}
+use Rattle.std.proofs.Common.{inr, None, refl, ap, sym, ◌∙◌, not, sum_by, arith, slice_get}
 use Rattle.base.specs.declared.ids.CacheId.{CacheId}
 use Rattle.base.specs.declared.step.Ask.{Ask}
 use Rattle.both_tables.specs.Tables.{Tables}

@@ -1,5 +1,5 @@
 -- Data from a cache, or exclusive Data, comes to a line, as the pairs of its receiver see it.
-use Rattle.std.proofs.Common.{◌≡◌, ℕ, ◌-◌, refl, ap, sym, ◌∙◌, Some, None, Bool, not, ◌||◌, ◌==◌}
+use Rattle.std.proofs.Common.{◌≡◌, ℕ, ◌-◌, refl, ap, sym, ◌∙◌, Some, None, Bool, ◌||◌, ◌==◌}
 use Rattle.std.proofs.Common.{sum_by, slice_get}
 use Rattle.base.specs.declared.ids.CacheId.{CacheId}
 use Rattle.both_tables.specs.Tables.{Tables}

@@ -1,7 +1,6 @@
 -- Data from the home comes to a line, as the pairs of its receiver see it.
 use Rattle.std.proofs.Common.{◌≡◌, ◌≢◌, ℕ, ◌+◌, ◌-◌, refl, ap, sym, subst, ◌∙◌, inl, Option, Some, None, Bool, true, not, ◌||◌, ◌==◌}
-use Rattle.std.proofs.Common.{if◌then◌else◌, sum_by, arith, slice_get, eq-eqb, pos, ◌+ℤ◌}
-use Rattle.std.proofs.lemmas.Int.{ints}
+use Rattle.std.proofs.Common.{if◌then◌else◌, sum_by, arith, slice_get, eq-eqb}
 use Rattle.base.specs.declared.ids.CacheId.{CacheId}
 use Rattle.both_tables.specs.Tables.{Tables}
 use Rattle.machine.specs.Block.{BlockState, IsBlockAmong}
@@ -31,9 +30,9 @@ use Rattle.closing.proofs.LineActing.{AckCounts}
 use Rattle.closing.proofs.LineGoes.{owed_on}
 use Rattle.closing.proofs.LineSettling.{message-settles}
 use Rattle.network.specs.Traffic.{response_taken}
-use Rattle.cache_line.specs.Events.{more_acks, is_count}
+use Rattle.cache_line.specs.Events.{more_acks}
 use Rattle.machine.proofs.Facts.{promised-zero}
-use Rattle.machine.proofs.Seen.{dir_data, late_of}
+use Rattle.machine.proofs.Seen.{dir_data}
 use Rattle.pairs.specs.Sights.{response_seen, with_data, acks_awaited, dir_data_seen, is_ahead, is_level}
 use Rattle.pairs.specs.declared.side.Lag.{Lag}
 use Rattle.pairs.specs.declared.steps.Sight.{Sight}
@@ -94,8 +93,11 @@ module _ (tables : Tables) (caches : ℕ) (tags : Tags) (b : BlockState) (cache 
     a + 1,
     next-other a,
     true,
-    inl (GetsDirData, subst (λ (s : Sight). IsBreach s) (sym (seeks true (a + 1) ∙ ap (λ (o : Option Lag). dir_data_seen tables true o (alpha tags b a (a + 1))
-        (record (side tags b a) { dir_data = (side tags b a).dir_data - 1 })) none)) tt),
+    inl (
+      GetsDirData,
+      subst (λ (s : Sight). IsBreach s) (sym (seeks true (a + 1) ∙ ap (λ (o : Option Lag). dir_data_seen tables true o (alpha tags b a (a + 1))
+          (record (side tags b a) { dir_data = (side tags b a).dir_data - 1 })) none)) tt,
+    ),
   )
 
   module _ (k : Lag) (some : acks_awaited (tags.lag a) owed.any ≡ Some k) where

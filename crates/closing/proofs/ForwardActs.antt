@@ -1,12 +1,11 @@
 -- The head of a link comes to its line, as the pairs of its cache see it.
 use Rattle.std.proofs.Common.{◌≡◌, ◌≢◌, ℕ, List, Option, Some, Bool, true, false, ◌==◌, if◌then◌else◌}
-use Rattle.std.proofs.Common.{refl, ap, sym, subst, ◌∙◌, inl, ◌+◌, ◌-◌, ◌&&◌, not, arith, slice_get}
+use Rattle.std.proofs.Common.{refl, ap, sym, subst, ◌∙◌, inl, ◌+◌, ◌-◌, ◌&&◌, arith, slice_get}
 use Rattle.base.specs.declared.ids.CacheId.{CacheId}
 use Rattle.both_tables.specs.Tables.{Tables}
 use Rattle.machine.specs.Block.{BlockState, IsBlockAmong}
 use Rattle.machine.specs.declared.decision.Origin.TheVariants as origin
 use Rattle.base.specs.declared.controller.entry.Entry.TheVariants as table_entry
-use Rattle.cache_table.specs.declared.actions.CacheAction.{CacheAction}
 use Rattle.cache_table.specs.Table as cache_table
 use Rattle.cache_table.specs.Table.{CacheEntry}
 use Rattle.cache_table.specs.declared.event.CacheEvent.{CacheEvent}
@@ -28,7 +27,7 @@ use Rattle.closing.proofs.Simulation.{IsBreach, LineBlank, LineActs}
 use Rattle.cache_line.specs.declared.line.Line.{Line}
 use Rattle.network.specs.Traffic.{Traffic}
 use Rattle.machine.proofs.Counts.{total}
-use Rattle.machine.proofs.Seen.{names, is_inv}
+use Rattle.machine.proofs.Seen.{names}
 use Rattle.pairs.specs.Sights.{inv_acks}
 use Rattle.closing.proofs.Alpha.{Face, face, pair_of, owing}
 use Rattle.closing.proofs.LineGoes.{line-goes}
@@ -39,8 +38,8 @@ use Rattle.network.specs.declared.message.ForwardKind.TheVariants.{FwdGetS, FwdG
 use Rattle.network.specs.Traffic.{head_taken}
 use Rattle.cache_line.specs.Events.{forward_event}
 use Rattle.cache_line.specs.LineEffect.{forward_requestor}
-use Rattle.machine.proofs.Counts.{link-there, head_taken-total, link-taken, link-taken_other, only-nothing}
-use Rattle.machine.proofs.Seen.{is_fwd_gets, is_fwd_getm, is_owner}
+use Rattle.machine.proofs.Counts.{link-there, head_taken-total, link-taken, link-taken_other}
+use Rattle.machine.proofs.Seen.{is_fwd_gets, is_fwd_getm}
 use Rattle.pairs.specs.declared.link.LinkPlace.{LinkPlace}
 use Rattle.pairs.specs.declared.side.Side.{Side}
 use Rattle.pairs.specs.Pairs.{is_few_side}

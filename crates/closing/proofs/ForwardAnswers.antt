@@ -1,5 +1,5 @@
 -- What the Inv-Acks in answer to a forward make of what its requestor awaits beside what is owed to it.
-use Rattle.std.proofs.Common.{◌≡◌, ◌≢◌, ℕ, ◌+◌, Option, Some, None, Bool, true, false, not, ◌==◌, if◌then◌else◌, ◌⊎◌}
+use Rattle.std.proofs.Common.{◌≡◌, ◌≢◌, ℕ, ◌+◌, Option, Some, None, Bool, true, false, not, ◌==◌, ◌⊎◌}
 use Rattle.std.proofs.Common.{refl, ap, sym, subst, ◌∙◌, inl, inr, arith, slice_get, sum_by, ℤ, pos, ◌+ℤ◌}
 use Rattle.std.proofs.lemmas.Bool.{cases_eq, ne_eqb}
 use Rattle.std.proofs.Common.{eq-eqb}
@@ -13,18 +13,18 @@ use Rattle.network.specs.declared.message.ForwardKind.{ForwardKind}
 use Rattle.network.specs.declared.message.ForwardKind.TheVariants.{FwdGetS, FwdGetM, Inv, PutAck}
 use Rattle.network.specs.Traffic.{Traffic, link, head_taken}
 use Rattle.machine.proofs.Counts.{total, only, only-nothing, head_taken-total}
-use Rattle.machine.proofs.Seen.{line_of, names, is_inv, is_owner, inv_ack, ack_number}
+use Rattle.machine.proofs.Seen.{line_of, names, is_inv, is_owner, ack_number}
 use Rattle.pairs.specs.declared.side.Lag.{Lag}
 use Rattle.pairs.specs.declared.side.Lag.TheVariants.{Behind, Level, Ahead}
 use Rattle.pairs.specs.declared.pair.Pair.{Pair}
 use Rattle.pairs.specs.declared.steps.Party.{Party}
-use Rattle.pairs.specs.declared.steps.Party.TheVariants.{Nobody, First, Second, Third}
+use Rattle.pairs.specs.declared.steps.Party.TheVariants.{First}
 use Rattle.pairs.specs.Sights.{answered, moved_by, second_lagged, shifted, still_owed}
-use Rattle.closing.proofs.Alpha.{Tags, Face, Owing, face, owing, pair_of, owed_to, Faithful, LagIs}
+use Rattle.closing.proofs.Alpha.{Tags, Face, face, owing, pair_of, owed_to, Faithful, LagIs}
 use Rattle.closing.proofs.Lags.{same-lag, Shifts, answer-shifts, lag-answered, still-so}
 use Rattle.closing.proofs.Sending.{party_of, party-first, party-second, party-third, lag_at, lag-here, lag-elsewhere}
 use Rattle.closing.proofs.LineActing.{AckCounts}
-use Rattle.closing.proofs.LineGoes.{owed_on, owing_on, face_on, AckLaw, Answered, IsUnanswered}
+use Rattle.closing.proofs.LineGoes.{owed_on, owing_on, face_on, Answered, IsUnanswered}
 use Rattle.closing.proofs.AskActs.{plain-replies, still-answered, still-law}
 
 module _ (tags : Tags) (b : BlockState) (a : ℕ) (line : Line) (w u : Traffic) (faithful : Faithful tags b) (acks : line.acks ≡ (line_of b.lines a).acks)
@@ -80,10 +80,13 @@ module _ (tags : Tags) (b : BlockState) (a : ℕ) (line : Line) (w u : Traffic) 
         omega (arith, counts c, ap (λ (t : Bool). only t invs) no, ap (λ (t : Bool). only t sent) no)
 
     other-unanswered : shifted by (tags.lag r.0) ≡ None → IsUnanswered tags b a (Some r) by w
-    other-unanswered none =
-        (r.0, apart, (λ f. let p : Pair = pair_of f (face tags b r.0) tags b.home w a r.0 in
-        ap (λ (party : Party). answered true party by p) (party-second r a r.0 apart refl)
-        ∙ ap (λ (o : Option Lag). second_lagged (still_owed true by p.second.owed) o p) none))
+    other-unanswered none = (
+      r.0,
+      apart,
+      (λ f. let p : Pair = pair_of f (face tags b r.0) tags b.home w a r.0 in
+          ap (λ (party : Party). answered true party by p) (party-second r a r.0 apart refl)
+          ∙ ap (λ (o : Option Lag). second_lagged (still_owed true by p.second.owed) o p) none),
+    )
 
     module _ (l : Lag) (some : shifted by (tags.lag r.0) ≡ Some l) where
       abbrev lags : ℕ → Lag

@@ -1,13 +1,13 @@
 -- What a cell of the home makes of what the requestor awaits beside what is owed to it.
-use Rattle.std.proofs.Common.{◌≡◌, ℕ, ◌+◌, ◌≤◌, ◌<◌, ◌⊎◌, inl, inr, Some, arith, ℤ, pos, ◌+ℤ◌}
+use Rattle.std.proofs.Common.{◌≡◌, ℕ, ◌≤◌, inl, inr, Some, arith, ℤ, pos, ◌+ℤ◌}
 use Rattle.std.proofs.lemmas.Int.{ints}
 use Rattle.pairs.specs.declared.side.Lag.{Lag}
 use Rattle.pairs.specs.declared.side.Lag.TheVariants.{Behind, Level, Ahead}
 use Rattle.pairs.specs.declared.steps.Debt.{Debt}
 use Rattle.pairs.specs.declared.steps.Debt.TheVariants.{Even, Announced, Invalidated, Uneven}
-use Rattle.pairs.specs.Sights.{lag_after, shifted}
+use Rattle.pairs.specs.Sights.{lag_after}
 use Rattle.closing.proofs.Alpha.{LagIs}
-use Rattle.closing.proofs.Lags.{MovesBy, lag-moved, not-behind, not-none, some-lag}
+use Rattle.closing.proofs.Lags.{lag-moved, not-behind, not-none}
 use Rattle.closing.proofs.HomeBalance.{Owes}
 use Rattle.closing.proofs.HomeDebts.{FewOwed}
 

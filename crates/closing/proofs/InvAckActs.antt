@@ -1,7 +1,7 @@
 -- An Inv-Ack comes to a line, as the pairs of its receiver see it.
-use Rattle.std.proofs.Common.{◌≡◌, ◌≢◌, ℕ, ◌≤◌, ◌+◌, refl, ap, sym, subst, ◌∙◌, inl, inr, Some, None, Bool, true, false, not, ◌&&◌, ◌||◌, ◌==◌}
+use Rattle.std.proofs.Common.{◌≡◌, ◌≢◌, ℕ, ◌+◌, refl, ap, sym, ◌∙◌, Some, None, Bool, true, false, not, ◌&&◌, ◌||◌, ◌==◌}
 use Rattle.std.proofs.Common.{if◌then◌else◌, sum_by, arith, slice_get, pos, ◌+ℤ◌}
-use Rattle.std.proofs.lemmas.Bool.{cases_eq, ne_eqb}
+use Rattle.std.proofs.lemmas.Bool.{ne_eqb}
 use Rattle.base.specs.declared.ids.CacheId.{CacheId}
 use Rattle.both_tables.specs.Tables.{Tables}
 use Rattle.machine.specs.Block.{BlockState, IsBlockAmong}
@@ -38,7 +38,6 @@ use Rattle.cache_line.specs.LineEffect.{one_ack_less}
 use Rattle.machine.proofs.Counts.{total}
 use Rattle.machine.proofs.Facts.{promised-zero}
 use Rattle.machine.proofs.Seen.{dir_data, late_of}
-use Rattle.pairs.specs.Pairs.{alike}
 use Rattle.pairs.specs.Sights.{response_seen, ack_fits, counts_fit}
 use Rattle.closing.proofs.LineActing.{AckCounts}
 use Rattle.closing.proofs.Taking.{face_with, counts-nothing, lost-count, same-count}

@@ -1,6 +1,6 @@
 -- What is awaited beside what is owed, in numbers.
-use Rattle.std.proofs.Common.{◌≡◌, ◌≢◌, ℕ, ◌+◌, ◌≤◌, ◌<◌, refl, ap, sym, ◌∙◌, ◌⊎◌, inl, inr, Option, Some, None, Bool, true, false, not, ◌||◌, ◌==◌}
-use Rattle.std.proofs.Common.{subst, if◌then◌else◌, arith, eq-eqb, zero, suc, ℤ, pos, negsuc, ◌+ℤ◌}
+use Rattle.std.proofs.Common.{◌≡◌, ◌≢◌, ℕ, ◌+◌, ◌≤◌, ◌<◌, refl, ap, sym, ◌∙◌, ◌⊎◌, inl, inr, Some, None, Bool, true, false, not, ◌||◌, ◌==◌}
+use Rattle.std.proofs.Common.{subst, if◌then◌else◌, arith, eq-eqb, ℤ, pos, negsuc, ◌+ℤ◌}
 use Rattle.std.proofs.lemmas.Int.{ints}
 use Rattle.std.proofs.lemmas.Bool.{cases_eq, ne_eqb}
 use Rattle.std.specs.Int.Signed.{◌<ℤ◌}

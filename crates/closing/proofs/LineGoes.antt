@@ -30,7 +30,7 @@ use Rattle.pairs.specs.declared.steps.Sight.{Sight}
 use Rattle.pairs.specs.declared.steps.Sight.TheVariants.{Unmoved, Lost, Seen}
 use Rattle.pairs.specs.Pairs.{fits, is_few, is_few_side}
 use Rattle.pairs.specs.declared.side.Lag.{Lag}
-use Rattle.pairs.specs.Sights.{sight, settles, looked_at, by_line, besides, line_acts, inv_acks, answer, answered, line_settled}
+use Rattle.pairs.specs.Sights.{sight, settles, looked_at, by_line, besides, inv_acks, answer, answered, line_settled}
 use Rattle.closing.proofs.Alpha.{Owing, Tags, Face, face, side, side_of, pair_of, alpha, AreTrue, Faithful, LagIs, Brings, BringsHome, Puts}
 use Rattle.closing.proofs.AlphaFits.{alpha-fits}
 use Rattle.closing.proofs.Sending.{tag_at, tag-here, tag-elsewhere, party_of, tags_after}
@@ -177,9 +177,18 @@ module _ (tables : Tables) (caches : ℕ) (tags : Tags) (b : BlockState) (cache 
   lost : IsUnanswered tags b a to (answer e actions) w → SimulatedBy tables tags b (carried_out decided b)
   lost none =
       let x : ℕ = none.0 in
-      inl (a, x, (λ same. none.1 (sym same)), true, inl (rule, subst (λ (s : Sight). IsBreach s)
-      (sym (h.start true x none.1
-      ∙ ap (λ (o : Option Pair). line_settled rule (party x) (besides (party x)) next actions o) (none.2 own_face))) tt))
+      inl (
+        a,
+        x,
+        (λ same. none.1 (sym same)),
+        true,
+        inl (
+          rule,
+          subst (λ (s : Sight). IsBreach s)
+              (sym (h.start true x none.1
+              ∙ ap (λ (o : Option Pair). line_settled rule (party x) (besides (party x)) next actions o) (none.2 own_face))) tt,
+        ),
+      )
 
   -- WHERE EACH PAIR IS ANSWERED
   module _ (ok : Answered tags b a (taken_in input line) owed to (answer e actions) w u) where

@@ -1,8 +1,7 @@
 -- A cell of the home that acts on a request: all pairs of the sender have the step among their sights, or one breaks.
 use Rattle.std.proofs.Common.{◌≡◌, ◌≢◌, ℕ, ◌+◌, ◌≤◌, ◌<◌, List, refl, ap, sym, subst, ◌∙◌, inl, inr, Option, Some, None, Bool, true, false, arith}
-use Rattle.std.proofs.Common.{◌&&◌, slice_get, length, nat_le, sum_by, ◌⊎◌, zero, suc, ℤ, pos, ◌+ℤ◌}
+use Rattle.std.proofs.Common.{◌&&◌, slice_get, length, nat_le, sum_by, ◌⊎◌, zero, suc, pos, ◌+ℤ◌}
 use Rattle.std.proofs.lemmas.Bool.{cases_eq, cases_lt, leb-true}
-use Rattle.std.proofs.lemmas.Int.{ints}
 use Rattle.base.specs.declared.controller.entry.Entry.TheVariants as table_entry
 use Rattle.network.specs.declared.message.Request.{Request}
 use Rattle.network.specs.Traffic.{Traffic, request_taken}
@@ -23,8 +22,6 @@ use Rattle.machine.proofs.Seen.{line_of, home_data}
 use Rattle.pairs.specs.declared.side.Side.{Side}
 use Rattle.pairs.specs.Pairs.{is_few, is_few_side}
 use Rattle.pairs.specs.declared.steps.Rule.{Rule}
-use Rattle.pairs.specs.declared.steps.Debt.{Debt}
-use Rattle.pairs.specs.declared.steps.Debt.TheVariants.{Even, Announced, Invalidated, Uneven}
 use Rattle.pairs.specs.declared.steps.Sight.{Sight}
 use Rattle.pairs.specs.declared.steps.Sight.TheVariants.{Lost}
 use Rattle.pairs.specs.Sights.{sight, at_home, lag_after, lag_settled, looked_at}
@@ -42,8 +39,8 @@ use Rattle.closing.proofs.HomeActing.{Matches}
 use Rattle.closing.proofs.HomeStages.{Stage, last_stage, last-home, last-lags, last-wires}
 use Rattle.closing.proofs.HomeTruths.{and-left, and-right}
 use Rattle.closing.proofs.HomeBalance.{acks_to, datas_to}
-use Rattle.closing.proofs.HomeDebts.{FewOwed, FewAnnounced}
-use Rattle.closing.proofs.HomeGoing.{OwesAt, IsServing, serving-last}
+use Rattle.closing.proofs.HomeDebts.{FewAnnounced}
+use Rattle.closing.proofs.HomeGoing.{IsServing, serving-last}
 use Rattle.closing.proofs.RequestTaken.{left-elsewhere, left-true}
 use Rattle.closing.proofs.RequestEnds.{besides_of, besides-apart, ended, begun_with, end-seen, looked-few, settled-many}
 

@@ -18,7 +18,6 @@ use Rattle.pairs.specs.declared.steps.Party.{Party}
 use Rattle.pairs.specs.declared.steps.Party.TheVariants.{Nobody, First, Second, Third}
 use Rattle.pairs.specs.declared.steps.Debt.TheVariants.{Even}
 use Rattle.pairs.specs.declared.steps.Scene.{Scene}
-use Rattle.pairs.specs.declared.steps.Sight.{Sight}
 use Rattle.pairs.specs.declared.steps.Sight.TheVariants.{Unmoved, Lost, Seen}
 use Rattle.pairs.specs.Sights.{at_home, by_home, home_acts, home_settled, looked_at, lag_after, lag_settled, owner_in, concerned_by, any_names_owner}
 use Rattle.closing.proofs.Alpha.{Tags, alpha}

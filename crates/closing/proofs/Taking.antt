@@ -1,21 +1,18 @@
 -- A response comes to the line of its receiver: what that makes of sides, of tags and of acks.
-use Rattle.std.proofs.Common.{◌≡◌, ◌≢◌, ℕ, ◌≤◌, ◌+◌, ◌-◌, List, [], ◌∷◌, refl, ap, sym, subst, ◌∙◌, Some, Bool, true, false, not, ◌&&◌, ◌||◌, ◌==◌}
-use Rattle.std.proofs.Common.{sum_by, arith, slice_get, remove, zero, suc, All, ℤ, pos, negsuc, ◌+ℤ◌}
+use Rattle.std.proofs.Common.{◌≡◌, ◌≢◌, ℕ, ◌+◌, ◌-◌, List, [], ◌∷◌, refl, ap, sym, subst, ◌∙◌, Some, Bool, true, false, not, ◌&&◌, ◌||◌, ◌==◌}
+use Rattle.std.proofs.Common.{sum_by, arith, slice_get, remove, zero, suc, All, ℤ, pos, negsuc}
 use Rattle.std.proofs.lemmas.Bool.{ne_eqb}
-use Rattle.std.proofs.lemmas.Int.{ints}
 use Rattle.base.specs.declared.ids.CacheId.{CacheId}
 use Rattle.base.specs.declared.ids.Place.TheVariants.{Dir, Cache}
 use Rattle.network.specs.declared.message.Response.{Response}
 use Rattle.network.specs.declared.message.Response.TheVariants.{Data, InvAck, DataExcl}
 use Rattle.network.specs.Traffic.{Traffic, response_taken}
 use Rattle.cache_line.specs.declared.line.Line.{Line}
-use Rattle.cache_line.specs.Events.{more_acks, is_count}
-use Rattle.cache_line.specs.LineEffect.{one_ack_less}
+use Rattle.cache_line.specs.Events.{is_count}
 use Rattle.block_home.specs.declared.home.Home.{Home}
 use Rattle.machine.proofs.Counts.{only, sum_by-remove}
 use Rattle.machine.proofs.Seen.{dir_data, owner_data, excl_data, home_data, inv_ack, ack_number, late_of}
 use Rattle.pairs.specs.declared.side.Side.{Side}
-use Rattle.pairs.specs.Pairs.{alike}
 use Rattle.pairs.specs.Sights.{with_data}
 use Rattle.machine.specs.Block.{BlockState}
 use Rattle.closing.proofs.Alpha.{Owing, Tags, Face, owing, side_of, shared_of, data_count}

@@ -24,6 +24,8 @@ use Rattle.pairs.specs.Pairs.{marked, own_marked}
 use Rattle.pairs.specs.Sights.{acks_awaited, is_level, is_owner, is_absent}
 use Rattle.closing.specs.declared.ranked.Order.TheVariants.{After}
 use Rattle.closing.specs.declared.ranked.RankedPair.{RankedPair}
+use Rattle.closing.specs.declared.deciding.Flow.{Flow}
+use Rattle.closing.specs.declared.deciding.Flow.TheVariants.{NeverStuck, AsksMayBeHeld, MessagesMayGetStuck}
 use Rattle.closing.specs.Ranked.{Ranked, Balanced, awaited, is_busy, is_open}
 
 -- WHAT IS HELD
@@ -141,3 +143,9 @@ serves_asks tables s =
 
 abbrev pub ServesAsks : Tables → List RankedPair → Type 0
 ServesAsks tables list = (r : RankedPair) → Contains list r → is_silent r.pair ≡ true → serves_asks tables r.pair.first.state ≡ true
+
+-- some ranked pairs show this of what may get stuck
+abbrev pub HasFlow : Tables → Flow → Type 0
+HasFlow tables NeverStuck = (list : List RankedPair) × Blamed tables list × ServesAsks tables list
+HasFlow tables AsksMayBeHeld = (list : List RankedPair) × Blamed tables list
+HasFlow tables MessagesMayGetStuck = Unit {0}

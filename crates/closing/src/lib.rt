@@ -25,7 +25,7 @@ mod ranking;
 
 pub use blaming::{is_blamed, serves_asks};
 pub use checking::is_closed;
-pub use deciding::closed_pairs;
+pub use deciding::{Flow, closed_pairs, flow_of};
 pub use gathering::{MOST_PAIRS, Refusal, gather};
 pub use laws::{blamed_tables_are_unstuck, closed_tables_are_safe};
 pub use ranked::{Order, RankedPair};

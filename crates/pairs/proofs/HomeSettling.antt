@@ -5,7 +5,6 @@ use Rattle.pairs.specs.declared.side.Lag.{Lag}
 use Rattle.pairs.specs.declared.pair.Pair.{Pair}
 use Rattle.pairs.specs.declared.steps.Party.{Party}
 use Rattle.pairs.specs.declared.steps.Scene.{Scene}
-use Rattle.pairs.specs.declared.steps.Sight.{Sight}
 use Rattle.pairs.specs.declared.steps.Sight.TheVariants.{Lost}
 use Rattle.pairs.specs.Pairs.{is_few}
 use Rattle.pairs.specs.Sights.{home_left, home_settled, lag_after, lag_settled, looked_at}

@@ -22,7 +22,15 @@ fn see_event(tables: &Tables, rule: Rule, guess: bool, event: CacheEvent, pair: 
     ensures seen { result ≡ at_line tables.now rule guess Party.Nobody Party.Nobody event pair.now }
     ensures followed { IsFollowed result }
 {
-    see_line(tables, rule, guess, Party::Nobody, Party::Nobody, event, pair)
+    see_line(
+        tables,
+        rule,
+        guess,
+        Party::Nobody,
+        Party::Nobody,
+        event,
+        pair,
+    )
 }
 
 /// The event that the head of a link is at a line.
@@ -85,7 +93,15 @@ fn see_head(tables: &Tables, guess: bool, pair: &Pair) -> Sight
             let to = requestor(place, mark);
             unname(to, place.kind, &mut left);
             let event = head_event(place.kind);
-            see_line(tables, Rule::TakesHead, guess, to, besides(to), event, &left)
+            see_line(
+                tables,
+                Rule::TakesHead,
+                guess,
+                to,
+                besides(to),
+                event,
+                &left,
+            )
         }
         _ => Sight::Unmoved,
     }
@@ -216,7 +232,13 @@ fn see_owner_data(tables: &Tables, guess: bool, pair: &Pair) -> Sight
     let mut left = *pair;
     left.first.owner_data -= 1;
     left.first.take_data();
-    see_event(tables, Rule::GetsOwnerData, guess, CacheEvent::DataOwner, &left)
+    see_event(
+        tables,
+        Rule::GetsOwnerData,
+        guess,
+        CacheEvent::DataOwner,
+        &left,
+    )
 }
 
 /// What is seen where exclusive Data come to the first's line.
@@ -232,7 +254,13 @@ fn see_excl_data(tables: &Tables, guess: bool, pair: &Pair) -> Sight
     let mut left = *pair;
     left.first.excl_data -= 1;
     left.first.take_data();
-    see_event(tables, Rule::GetsExclData, guess, CacheEvent::DataDirExcl, &left)
+    see_event(
+        tables,
+        Rule::GetsExclData,
+        guess,
+        CacheEvent::DataDirExcl,
+        &left,
+    )
 }
 
 /// Whether an Inv-Ack may be the last one or not, and leave something owed or not, where no Data from the home is on its way: a
@@ -284,7 +312,13 @@ fn see_replacement(tables: &Tables, guess: bool, pair: &Pair) -> Sight
 {
     match pair.first.state {
         CacheState::I => Sight::Unmoved,
-        _ => see_event(tables, Rule::AsksReplacement, guess, CacheEvent::Replacement, pair),
+        _ => see_event(
+            tables,
+            Rule::AsksReplacement,
+            guess,
+            CacheEvent::Replacement,
+            pair,
+        ),
     }
 }
 

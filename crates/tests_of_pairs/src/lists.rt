@@ -48,17 +48,53 @@ fn a_list_that_misses_a_pair(rt: HostRuntime) {
     }
 }
 
+/// How many pairs come about under tables, if they are followed to the end and their list is closed.
+fn closed_count(rt: &impl Abort, alloc: Global, tables: &Tables) -> Option<usize> {
+    let pairs = gathered(rt, alloc, tables)?;
+    if is_closed(alloc, tables, &pairs).expect(rt, "memory") {
+        Some(pairs.len())
+    } else {
+        None
+    }
+}
+
+/// Each change of a cell with the number of pairs that come about then, if their list is closed.
+type Change = (
+    CacheState,
+    CacheEvent,
+    CacheState,
+    &'static [CacheAction],
+    Option<usize>,
+);
+
+/// Fails the test unless as many pairs come about after each change.
+fn are_told(rt: &impl Abort, alloc: Global, changes: &[Change]) {
+    for (state, event, next, actions, wanted) in changes {
+        let actions = CacheActions::of(actions).expect(rt, "few actions");
+        let mut tables = Tables::baseline();
+        tables.cache = tables.cache.with(
+            *state,
+            *event,
+            CacheEntry::Act {
+                next: *next,
+                actions,
+            },
+        );
+        let count = closed_count(rt, alloc, &tables);
+        assert_eq!(rt; count, *wanted, "at {state:?} {event:?}");
+    }
+}
+
 #[test]
 fn changes_of_one_cell(rt: HostRuntime) {
-    let alloc = rt.alloc();
-    let rows: [(CacheState, CacheEvent, CacheState, &[CacheAction], bool); 4] = [
+    let changes: [Change; 3] = [
         // A load asks for the block to write.
         (
             CacheState::I,
             CacheEvent::Load,
             CacheState::ImAd,
             &[CacheAction::GetM],
-            true,
+            Some(2639),
         ),
         // A store that has its Data waits no longer for acks.
         (
@@ -66,7 +102,7 @@ fn changes_of_one_cell(rt: HostRuntime) {
             CacheEvent::DataDirMore,
             CacheState::M,
             &[],
-            false,
+            None,
         ),
         // A sharer gives its copy up and tells nobody, and isn't ready for an Inv.
         (
@@ -74,27 +110,47 @@ fn changes_of_one_cell(rt: HostRuntime) {
             CacheEvent::Replacement,
             CacheState::I,
             &[],
-            false,
+            None,
         ),
+    ];
+    are_told(&rt, rt.alloc(), &changes);
+}
+
+#[test]
+fn changes_that_send_too_much_or_too_little(rt: HostRuntime) {
+    let changes: [Change; 4] = [
         // An Inv at a copy is answered twice.
         (
             CacheState::S,
             CacheEvent::Inv,
             CacheState::I,
             &[CacheAction::InvAck, CacheAction::InvAck],
-            false,
+            None,
+        ),
+        // It isn't answered.
+        (
+            CacheState::S,
+            CacheEvent::Inv,
+            CacheState::I,
+            &[],
+            Some(8433),
+        ),
+        // A writer sends an Inv-Ack in place of its Data.
+        (
+            CacheState::M,
+            CacheEvent::FwdGetM,
+            CacheState::I,
+            &[CacheAction::InvAck],
+            Some(6577),
+        ),
+        // A sharer that asked to write asks once more.
+        (
+            CacheState::SmAd,
+            CacheEvent::FwdGetS,
+            CacheState::ImAd,
+            &[CacheAction::GetM],
+            Some(6723),
         ),
     ];
-    for (state, event, next, actions, wanted) in rows {
-        let actions = CacheActions::of(actions).expect(&rt, "few actions");
-        let mut tables = Tables::baseline();
-        tables.cache = tables
-            .cache
-            .with(state, event, CacheEntry::Act { next, actions });
-        let closed = match gathered(&rt, alloc, &tables) {
-            Some(pairs) => is_closed(alloc, &tables, &pairs).expect(&rt, "memory"),
-            None => false,
-        };
-        assert_eq!(rt; closed, wanted, "at {state:?} {event:?}");
-    }
+    are_told(&rt, rt.alloc(), &changes);
 }
