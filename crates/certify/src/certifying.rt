@@ -10,6 +10,7 @@ ghost use Rattle.machine.specs.Going.{KeepsGoing};
 ghost use Rattle.machine.specs.Machine.{after, opened};
 ghost use Rattle.machine.specs.Restraint.{AreRestrained};
 ghost use Rattle.machine.specs.Unstuck.{Flowing, Unstuck};
+ghost use Rattle.closing.specs.Closed.{Closed};
 ghost use Rattle.certify.specs.Certificates.{IsCertificate, SaysSafe, SaysFlowing, SaysNeverStuck, SaysRestrained, IsFirstAgainst};
 ghost use Rattle.certify.specs.Standings.{IsAdmitted};
 ghost use Rattle.certify.specs.inner.Demands.{Meets};
@@ -22,6 +23,7 @@ use closing::{
     Flow, Refusal, blamed_tables_are_unstuck, closed_pairs, closed_tables_are_safe, flow_of,
 };
 use machine::{restrained_tables_are_safe, restrained_tables_are_unstuck};
+use pairs::Pair;
 use std::alloc::Global;
 
 /// What is proved of changed tables, for any number of caches and blocks and any list of steps. A cell that it names is the
@@ -80,12 +82,19 @@ fn answer_by_pairs(alloc: Global, tables: &Tables, cell: CellPlace) -> Certifica
     requires { IsFirstAgainst (IsAdmitted tables.now) cell }
     ensures { IsCertificate tables.now result }
 {
-    let pairs = match closed_pairs(alloc, tables) {
-        Ok(pairs) => pairs,
-        Err(refusal) => return Certificate::NotProved(cell, refusal),
-    };
+    match closed_pairs(alloc, tables) {
+        Ok(pairs) => answer_by_flow(alloc, tables, cell, &pairs),
+        Err(refusal) => Certificate::NotProved(cell, refusal),
+    }
+}
+
+fn answer_by_flow(alloc: Global, tables: &Tables, cell: CellPlace, pairs: &[Pair]) -> Certificate
+    requires first { IsFirstAgainst (IsAdmitted tables.now) cell }
+    requires closed { Closed tables.now pairs.now }
+    ensures { IsCertificate tables.now result }
+{
     match flow_of(alloc, tables) {
-        Ok(flow) => Certificate::ClosedPairs(cell, pairs.as_slice().len(), flow),
+        Ok(flow) => Certificate::ClosedPairs(cell, pairs.len(), flow),
         Err(NoMemory) => Certificate::NotProved(cell, Refusal::NoMemory),
     }
 }

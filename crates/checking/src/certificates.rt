@@ -4,8 +4,9 @@ use crate::listing::print_pairs;
 use crate::objects::print_cell_object;
 use crate::refusals::print_refusal;
 use crate::schedules::CACHES;
+use base::NoMemory;
 use both_tables::{CELLS, CellPlace, Tables};
-use certify::{Certificate, Refusal, Standing, certify, standing_of};
+use certify::{Certificate, Flow, Refusal, Standing, certify, standing_of};
 use console::{Fault, Finding, Format, Printer};
 use std::alloc::Global;
 use std::io::Write;
@@ -61,9 +62,18 @@ fn print_answer<O: Write + Drop>(
             print_unknown(tables, cell, &refusal, jam, format, printer);
             return Ok(Finding::Unknown);
         }
-        Certificate::ClosedPairs(_, count) => {
-            let jam = jam_from(alloc, tables, None)?;
-            print_closed(tables, count, jam, format, printer);
+        Certificate::ClosedPairs(_, count, flow) => {
+            let jam = jam_under(alloc, tables, flow)?;
+            print_closed(
+                tables,
+                count,
+                flow_words(flow, jam.is_some()),
+                format,
+                printer,
+            );
+            if let Some(steps) = jam {
+                print_jam(steps, format, printer);
+            }
         }
         Certificate::NeverStuck => {
             print_safe("never stuck", format, printer);
@@ -113,19 +123,37 @@ fn print_unknown<O: Write + Drop>(
     }
 }
 
-/// Prints that tables are proved safe by so many pairs of caches, the cells that are so, and steps after which messages are stuck,
-/// where some are known.
+/// What is said of tables with closed pairs of caches under which this much flows, where steps are shown after which messages are
+/// stuck, or none are.
+fn flow_words(flow: Flow, jams: bool) -> &'static str {
+    match flow {
+        Flow::NeverStuck => "never stuck",
+        Flow::AsksMayBeHeld => "asks may be held",
+        Flow::MessagesMayGetStuck if jams => "messages get stuck",
+        Flow::MessagesMayGetStuck => "messages may get stuck",
+    }
+}
+
+/// Steps after which messages are stuck under such tables, where it isn't proved that none ever are, and some are known.
+pub(crate) fn jam_under(
+    alloc: Global,
+    tables: &Tables,
+    flow: Flow,
+) -> Result<Option<&'static str>, NoMemory> {
+    match flow {
+        Flow::NeverStuck | Flow::AsksMayBeHeld => Ok(None),
+        Flow::MessagesMayGetStuck => jam_from(alloc, tables, None),
+    }
+}
+
+/// Prints that tables are proved safe by so many pairs of caches, what is said of what may get stuck, and the cells that are so.
 fn print_closed<O: Write + Drop>(
     tables: &Tables,
     count: usize,
-    jam: Option<&str>,
+    stuck: &str,
     format: Format,
     printer: &mut Printer<O>,
 ) {
-    let stuck = match jam {
-        None => "messages may get stuck",
-        Some(_) => "messages get stuck",
-    };
     print_safe(stuck, format, printer);
     match format {
         Format::Plain => {
@@ -140,9 +168,6 @@ fn print_closed<O: Write + Drop>(
                 print_cell(tables, cell, "closed", format, printer);
             }
         }
-    }
-    if let Some(steps) = jam {
-        print_jam(steps, format, printer);
     }
 }
 

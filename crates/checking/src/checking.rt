@@ -1,10 +1,11 @@
 use crate::cells::text_of;
+use crate::certificates::jam_under;
 use crate::counting::{Census, longest};
 use crate::jamming::jam_from;
 use base::text::Text;
 use base::{CoreAsk, MOST_BLOCKS, MOST_CACHES, NoMemory, Shape, Step};
 use both_tables::{CELLS, CellPlace, Tables};
-use certify::{Certificate, Refusal, Standing, certify, standing_of};
+use certify::{Certificate, Flow, Refusal, Standing, certify, standing_of};
 use console::{Fault, Finding, Printer};
 use scenario::Scenario;
 use std::alloc::Global;
@@ -112,10 +113,10 @@ fn verdict(alloc: Global, tables: &Tables) -> Result<&'static str, NoMemory> {
             Some(_) => "unknown, messages get stuck",
             None => "unknown",
         },
-        Certificate::ClosedPairs(..) => match jam_from(alloc, tables, None)? {
-            Some(_) => "safe, messages get stuck",
-            None => "safe, messages may get stuck",
-        },
+        Certificate::ClosedPairs(_, _, flow) => {
+            let jam = jam_under(alloc, tables, flow)?;
+            safe_words(flow, jam.is_some())
+        }
         Certificate::NeverStuck => "safe, never stuck",
         Certificate::AsksMayBeHeld(_) => "safe, asks may be held",
         Certificate::MessagesMayGetStuck(cell) => match jam_from(alloc, tables, Some(cell))? {
@@ -123,6 +124,16 @@ fn verdict(alloc: Global, tables: &Tables) -> Result<&'static str, NoMemory> {
             None => "safe, messages may get stuck",
         },
     })
+}
+
+/// What is said of tables with closed pairs of caches, as a verdict.
+fn safe_words(flow: Flow, jams: bool) -> &'static str {
+    match flow {
+        Flow::NeverStuck => "safe, never stuck",
+        Flow::AsksMayBeHeld => "safe, asks may be held",
+        Flow::MessagesMayGetStuck if jams => "safe, messages get stuck",
+        Flow::MessagesMayGetStuck => "safe, messages may get stuck",
+    }
 }
 
 /// Prints the cells that aren't the protocol's own.

@@ -5,7 +5,7 @@ use both_tables::Tables;
 use certify::{Refusal, closed_pairs};
 use console::{Fault, Printer};
 use network::ForwardKind;
-use pairs::{Link, Marks, Owned, Pair, Shared, Side, Waiting};
+use pairs::{Lag, Link, Marks, Owned, Pair, Shared, Side, Waiting};
 use std::alloc::Global;
 use std::fmt;
 use std::io::Write;
@@ -119,6 +119,7 @@ impl fmt::Display for SideObject {
             f,
             "{{\"state\":\"{state}\",\"waits\":{waits},\"owned\":\"{owned}\""
         )?;
+        write!(f, ",\"lag\":\"{lag}\"")?;
         for (name, count) in self.counts() {
             write!(f, ",\"{name}\":{count}")?;
         }

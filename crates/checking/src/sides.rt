@@ -4,7 +4,7 @@ use base::controller::Listed;
 use cache_line::may_read;
 use directory_table::DirectoryState;
 use network::ForwardKind;
-use pairs::{Link, Marks, Owned, Pair, Shared, Side, Waiting};
+use pairs::{Lag, Link, Marks, Owned, Pair, Shared, Side, Waiting};
 use std::fmt;
 
 /// A cache of a pair: its state, and what there is of it besides.
@@ -43,7 +43,7 @@ impl SideText {
     }
 
     /// What there is of the cache, in words, and whether there is.
-    fn words(&self) -> [(bool, &'static str); 14] {
+    fn words(&self) -> [(bool, &'static str); 16] {
         let side = &self.side;
         let has_data = side.dir_data > 0 || side.owner_data > 0 || side.excl_data > 0;
         [
@@ -53,6 +53,8 @@ impl SideText {
             (matches!(side.owned, Owned::ByItself), "owner"),
             (side.shares, "sharer"),
             (side.owed, "acks owed"),
+            (matches!(side.lag, Lag::Behind), "fewer awaited"),
+            (matches!(side.lag, Lag::Ahead), "more awaited"),
             (side.gets > 0, "GetS on its way"),
             (side.getm > 0, "GetM on its way"),
             (side.puts > 0, "PutS on its way"),

@@ -7,6 +7,7 @@ ghost use Rattle.closing.specs.Closed.{Closed};
 use crate::blaming::{is_blamed, serves_asks};
 use crate::checking::is_closed;
 use crate::gathering::{Refusal, gather};
+use crate::ranked::RankedPair;
 use crate::ranked_gathering::gather_ranked;
 use base::NoMemory;
 use both_tables::Tables;
@@ -40,15 +41,21 @@ pub fn closed_pairs(alloc: Global, tables: &Tables) -> Result<Vec<Pair>, Refusal
 pub fn flow_of(alloc: Global, tables: &Tables) -> Result<Flow, NoMemory>
     ensures { IfOk result (λ flow. HasFlow tables.now flow) }
 {
-    let list = match gather_ranked(alloc, tables) {
-        Ok(list) => list,
-        Err(Refusal::NoMemory) => return Err(NoMemory),
-        Err(_) => return Ok(Flow::MessagesMayGetStuck),
-    };
-    if !is_blamed(alloc, tables, &list)? {
+    match gather_ranked(alloc, tables) {
+        Ok(list) => flow_by(alloc, tables, &list),
+        Err(Refusal::NoMemory) => Err(NoMemory),
+        Err(_) => Ok(Flow::MessagesMayGetStuck),
+    }
+}
+
+/// How far these show it.
+fn flow_by(alloc: Global, tables: &Tables, list: &[RankedPair]) -> Result<Flow, NoMemory>
+    ensures { IfOk result (λ flow. HasFlow tables.now flow) }
+{
+    if !is_blamed(alloc, tables, list)? {
         return Ok(Flow::MessagesMayGetStuck);
     }
-    if serves_asks(tables, &list) {
+    if serves_asks(tables, list) {
         Ok(Flow::NeverStuck)
     } else {
         Ok(Flow::AsksMayBeHeld)

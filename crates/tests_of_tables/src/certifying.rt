@@ -1,7 +1,7 @@
 use crate::asserting::{same, same_at};
 use both_tables::{CELLS, CellPlace, Tables};
 use cache_table::{CacheAction, CacheEntry, CacheEvent, CacheState};
-use certify::{Certificate, Standing, certify, standing_of};
+use certify::{Certificate, Flow, Standing, certify, standing_of};
 use directory_table::{DirectoryEntry, DirectoryEvent, DirectoryState};
 use std::alloc::Global;
 use std::process::Abort;
@@ -10,7 +10,7 @@ use std::process::Abort;
 #[derive(Clone, Copy, Debug, PartialEq, Eq)]
 pub enum Answer {
     NotProved(CellPlace),
-    Closed(CellPlace),
+    Closed(CellPlace, Flow),
     NeverStuck,
     AsksMayBeHeld(CellPlace),
     MessagesMayGetStuck(CellPlace),
@@ -19,7 +19,7 @@ pub enum Answer {
 pub fn certified(alloc: Global, tables: &Tables) -> Answer {
     match certify(alloc, tables) {
         Certificate::NotProved(cell, _) => Answer::NotProved(cell),
-        Certificate::ClosedPairs(cell, _) => Answer::Closed(cell),
+        Certificate::ClosedPairs(cell, _, flow) => Answer::Closed(cell, flow),
         Certificate::NeverStuck => Answer::NeverStuck,
         Certificate::AsksMayBeHeld(cell) => Answer::AsksMayBeHeld(cell),
         Certificate::MessagesMayGetStuck(cell) => Answer::MessagesMayGetStuck(cell),
@@ -133,7 +133,7 @@ fn named(own: &Tables, blank: &Tables, cell: CellPlace) -> Answer {
     match cell {
         _ if blank == own => Answer::NeverStuck,
         CellPlace::Directory(DirectoryState::I | DirectoryState::M, DirectoryEvent::PutSLast) => {
-            Answer::Closed(cell)
+            Answer::Closed(cell, Flow::NeverStuck)
         }
         _ => Answer::NotProved(cell),
     }
@@ -237,5 +237,9 @@ fn a_load_that_asks_to_write(rt: HostRuntime) {
     let entry = CacheEntry::one(CacheAction::GetM, CacheState::ImAd);
     tables.cache = own.cache.with(CacheState::I, CacheEvent::Load, entry);
     let cell = CellPlace::Cache(CacheState::I, CacheEvent::Load);
-    same(&rt, &certified(rt.alloc(), &tables), &Answer::Closed(cell));
+    same(
+        &rt,
+        &certified(rt.alloc(), &tables),
+        &Answer::Closed(cell, Flow::NeverStuck),
+    );
 }
