@@ -116,7 +116,7 @@ impl Lag {
 
     /// How many acks a line awaits to whom all are announced, if that is known: none, or fewer or more than none. Some are
     /// still owed to it or not.
-    pub(crate) fn awaited(self, owed: bool) -> Option<Lag>
+    pub fn awaited(self, owed: bool) -> Option<Lag>
         ensures { result ≡ awaited self owed }
     {
         let coming = if owed { Lag::Ahead } else { Lag::Level };
