@@ -5,7 +5,7 @@ import re
 from dataclasses import dataclass
 from xml.etree import ElementTree
 
-from model.certificates import ADVICE, certificate
+from model.certificates import ADVICE, CLOSED, MET, certificate
 from model.machine import Watched
 from model.recordings import cell_lines, moved, refusal, text_of
 from model.refusals import OVERRIDES, SCENARIOS, fault_of_overrides, fault_of_scenario
@@ -34,7 +34,12 @@ FORMS = {
     "play": OUTCOME + rb"|violation " + VIOLATION,
     "replay": rb"same \d+|violation \d+ " + VIOLATION + rb"|differs \d+ told " + OUTCOME + rb" found " + OUTCOME,
     "tables": CELL,
-    "certify": rb"safe|unknown|never stuck|(messages (may )?get stuck|asks may be held|stall|never met|proved|not proved): "
+    "certify": rb"safe|unknown|never stuck|messages (may )?get stuck|a writer may stand beside a reader|too many messages|"
+    + rb"more pairs of caches than are followed|(cache [AB]|home): [^\n]+|"
+    + CLOSED.encode()
+    + rb"|"
+    + MET.encode()
+    + rb"|(messages (may )?get stuck|asks may be held|stall|never met|proved|not proved|closed): "
     + CELL
     + rb"|stuck with 3 caches after:|ask \d 0 (load|store 5|replace)|(request|forward|response) 0 \d|"
     + ADVICE.encode(),
@@ -151,8 +156,8 @@ def of_tables(tables):
 
 
 def of_certify(tables):
-    status, certified = certificate(tables)
-    return Answer(status, lines(certified), b"")
+    known = certificate(tables)
+    return known and Answer(known[0], lines(known[1]), b"")
 
 
 def of_play(shape, tables, text):

@@ -3,7 +3,7 @@
 import json
 import re
 
-from model.certificates import PROVED, certificate
+from model.certificates import PROVED, certificate, fault_by_pairs
 from model.making import random_overrides, random_scenario
 from model.tables import PROTOCOLS, STALL, baseline, overridden, sides_of
 from model.walks import gets_stuck
@@ -45,11 +45,13 @@ def fault_of_certified(runner, dice):
     runner.put(TABLES, json.dumps(overrides).encode())
     certified = runner.run([b"certify", b"--protocol", protocol.encode(), b"--tables", TABLES.encode()], b"")
     tables = overridden(overrides, protocol)
-    status, wanted = certificate(tables)
-    said = certified.out.decode().splitlines()
-    if (certified.status, said) != (status, wanted):
-        return f"{protocol}: {json.dumps(overrides)} is answered by {said}, and has to be by {wanted}"
-    if status:
+    known, said = certificate(tables), certified.out.decode().splitlines()
+    if known and (certified.status, said) != known:
+        return f"{protocol}: {json.dumps(overrides)} is answered by {said}, and has to be by {known[1]}"
+    fault = None if known else fault_by_pairs(tables, certified.status, said)
+    if fault:
+        return f"{protocol}: {json.dumps(overrides)} is answered by {fault}"
+    if certified.status:
         return None
     return fault_of_trials(runner, dice, protocol, overrides, said[1]) or fault_of_walk(tables, overrides, said)
 
@@ -68,6 +70,6 @@ def fault_of_trials(runner, dice, protocol, overrides, said):
 
 def fault_of_walk(tables, overrides, said):
     """Where only stalls stand over acting cells, runs get stuck wherever it isn't proved that they don't."""
-    if said[1] == "never stuck" or any(line.startswith("proved: ") for line in said):
+    if said[1] == "never stuck" or any(line.startswith(("proved: ", "closed: ")) for line in said):
         return None
     return None if gets_stuck(tables, SHAPE[0]) else f"{json.dumps(overrides)}: {said[1]}; a walk finds none stuck"

@@ -1,5 +1,6 @@
 """What is proved of tables, as docs/CERTIFY.md has it."""
 
+import re
 from pathlib import Path
 
 from model.machine import World
@@ -21,6 +22,10 @@ OPEN = "not proved"
 CACHES = 3
 # Files of cells of each protocol, in order, each with the steps after which messages are on their way and all are held.
 SCHEDULES = {"msi": "schedules.txt", "msi+e": "schedules-with-e.txt"}
+CLOSED = r"closed under \d+ pairs of caches"
+MET = r"(a blank cell may be met|a load may return an old value|not followed): cell [^\n]+"
+PAIR = r"cache A: [^\n]+\ncache B: [^\n]+\nhome: [^\n]+"
+OBSTACLE = rf"({MET}|a writer may stand beside a reader|too many messages)\n{PAIR}|more pairs of caches than are followed"
 ADVICE = "That doesn't say unsafe: make trials, with msi batch, or go through all schedules, with examples/exhaust/run."
 
 
@@ -110,13 +115,27 @@ def going(tables):
 
 
 def certificate(tables):
-    """The status and the lines of `msi certify`."""
+    """The status and the lines of `msi certify`, where each cell is admitted; else `None`, as they hang on pairs of caches."""
     found = list(reasons(tables))
-    unproved = [f"{OPEN}: {line}" for reason, line in found if reason == OPEN]
-    if unproved:
-        return 1, ["unknown", unproved[0], ADVICE, *shown(jam_from(tables))]
+    if any(reason == OPEN for reason, _ in found):
+        return None
     said, steps = going(tables)
     return 0, ["safe", said, *(f"{reason}: {line}" for reason, line in found), *shown(steps)]
+
+
+def fault_by_pairs(tables, status, lines):
+    """What is wrong with an answer about tables with a cell that isn't admitted, if anything is, besides the pairs themselves."""
+    found, steps = list(reasons(tables)), jam_from(tables)
+    if status == 0:
+        stuck = f"messages {'get' if steps else 'may get'} stuck"
+        wanted = ["safe", stuck, *lines[2:3], *(f"closed: {line}" for _, line in found), *shown(steps)]
+        is_right = lines == wanted and re.fullmatch(CLOSED, lines[2])
+    else:
+        front = ["unknown", next(f"{OPEN}: {line}" for reason, line in found if reason == OPEN)]
+        back = [ADVICE, *shown(steps)]
+        between = "\n".join(lines[2 : len(lines) - len(back)])
+        is_right = lines[:2] == front and lines[-len(back) :] == back and re.fullmatch(OBSTACLE, between)
+    return None if is_right else f"status {status} and {lines}, in another form or with another cell"
 
 
 def shown(steps):

@@ -1,7 +1,7 @@
 """Random overrides, scenarios and steps."""
 
 from model.machine import Ask, Delivery, Watched
-from model.tables import STALL, baseline, sides_of
+from model.tables import PROTOCOLS, STALL, baseline, sides_of
 from model.trials import deliveries
 
 
@@ -73,3 +73,13 @@ def random_steps(dice, shape, tables):
         step = dice.choice(served) if use else random_step(dice, caches, blocks)
         watched.step(step)
         yield step
+
+
+def random_cell(dice):
+    """A protocol, and overrides of one cell."""
+    protocol = dice.choice(PROTOCOLS)
+    name, side = dice.choice(list(sides_of(protocol)))
+    own = getattr(baseline(protocol), name)
+    place = dice.choice(list(own)) if dice.random() < 0.9 else (dice.choice(side.states), dice.choice(side.events))
+    entry = random_entry(dice, side, own.get(place))
+    return protocol, {name: [{"state": place[0], "event": place[1], "entry": entry}]}

@@ -1,5 +1,5 @@
 -- What is answered of changed tables.
-use Rattle.std.specs.Prelude.{◌≡◌, ◌⊎◌, ◌<◌, ℕ, Some, slice_get}
+use Rattle.std.specs.Prelude.{◌≡◌, ◌⊎◌, ◌<◌, ℕ, List, length, Some, slice_get}
 use Rattle.base.specs.declared.controller.entry.Entry.TheVariants.{Blank, Stall}
 use Rattle.cache_table.specs.Table as cache_table
 use Rattle.directory_table.specs.Table as directory_table
@@ -9,9 +9,14 @@ use Rattle.both_tables.specs.declared.cell_places.CellPlace.{CellPlace}
 use Rattle.both_tables.specs.declared.cell_places.CellPlace.TheVariants.{Cache, Directory}
 use Rattle.machine.specs.Going.{AreNeverStuck, KeepsGoing, MayWait, MayWaitAtHome, IsSettled}
 use Rattle.machine.specs.Restraint.{AreRestrained}
+use Rattle.pairs.specs.declared.pair.Pair.{Pair}
+use Rattle.closing.specs.Blamed.{HasFlow}
+use Rattle.closing.specs.Closed.{Closed}
+use Rattle.closing.specs.declared.deciding.Flow.{Flow}
+use Rattle.closing.specs.declared.deciding.Flow.TheVariants as by_pairs
 use Rattle.certify.specs.Standings.{IsAdmitted}
 use Rattle.certify.specs.declared.certifying.Certificate.{Certificate}
-use Rattle.certify.specs.declared.certifying.Certificate.TheVariants.{NotProved, NeverStuck, AsksMayBeHeld, MessagesMayGetStuck}
+use Rattle.certify.specs.declared.certifying.Certificate.TheVariants.{NotProved, ClosedPairs, NeverStuck, AsksMayBeHeld, MessagesMayGetStuck}
 
 -- a stall in this cell lets messages flow
 abbrev pub LetsFlow : Tables → CellPlace → Type 0
@@ -35,23 +40,47 @@ pub record IsFirstAgainst (holds : CellPlace → Type 0) (cell : CellPlace) : Ty
   pub barred : ¬ holds cell
   pub before : (k : ℕ) (other : CellPlace) → k < number → slice_get all_places k ≡ Some other → holds other
 
+-- so many pairs of caches are closed
+pub record HasClosed (tables : Tables) (count : ℕ) : Type 0 where
+  pub pairs : List Pair
+  pub closed : Closed tables pairs
+  pub counted : count ≡ length pairs
+
 -- when each answer is given
 abbrev pub IsCertificate : Tables → Certificate → Type 0
-IsCertificate tables (NotProved cell) = IsFirstAgainst (IsAdmitted tables) cell
+IsCertificate tables (NotProved cell refusal) = IsFirstAgainst (IsAdmitted tables) cell
+IsCertificate tables (ClosedPairs cell count flow) = IsFirstAgainst (IsAdmitted tables) cell × HasClosed tables count × HasFlow tables flow
 IsCertificate tables NeverStuck = AreNeverStuck tables
 IsCertificate tables (AsksMayBeHeld cell) = AreRestrained tables × KeepsGoing tables × IsFirstAgainst (ServesAt tables) cell
 IsCertificate tables (MessagesMayGetStuck cell) = AreRestrained tables × IsFirstAgainst (LetsFlow tables) cell
 
 -- an answer that says that all runs are safe
 abbrev pub SaysSafe : Certificate → Type 0
-SaysSafe (NotProved cell) = ⊥
+SaysSafe (NotProved cell refusal) = ⊥
+SaysSafe (ClosedPairs cell count flow) = Unit {0}
 SaysSafe NeverStuck = Unit {0}
 SaysSafe (AsksMayBeHeld cell) = Unit {0}
 SaysSafe (MessagesMayGetStuck cell) = Unit {0}
 
+-- an answer that is given of restrained tables alone
+abbrev pub SaysRestrained : Certificate → Type 0
+SaysRestrained (NotProved cell refusal) = ⊥
+SaysRestrained (ClosedPairs cell count flow) = ⊥
+SaysRestrained NeverStuck = Unit {0}
+SaysRestrained (AsksMayBeHeld cell) = Unit {0}
+SaysRestrained (MessagesMayGetStuck cell) = Unit {0}
+
 -- an answer that says that no message is ever stuck either
 abbrev pub SaysFlowing : Certificate → Type 0
-SaysFlowing (NotProved cell) = ⊥
+SaysFlowing (NotProved cell refusal) = ⊥
+SaysFlowing (ClosedPairs cell count by_pairs.MessagesMayGetStuck) = ⊥
+SaysFlowing (ClosedPairs cell count flow) = Unit {0}
 SaysFlowing NeverStuck = Unit {0}
 SaysFlowing (AsksMayBeHeld cell) = Unit {0}
 SaysFlowing (MessagesMayGetStuck cell) = ⊥
+
+-- an answer that says that nothing is ever stuck
+abbrev pub SaysNeverStuck : Certificate → Type 0
+SaysNeverStuck NeverStuck = Unit {0}
+SaysNeverStuck (ClosedPairs cell count by_pairs.NeverStuck) = Unit {0}
+SaysNeverStuck other = ⊥

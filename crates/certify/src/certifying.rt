@@ -10,20 +10,30 @@ ghost use Rattle.machine.specs.Going.{KeepsGoing};
 ghost use Rattle.machine.specs.Machine.{after, opened};
 ghost use Rattle.machine.specs.Restraint.{AreRestrained};
 ghost use Rattle.machine.specs.Unstuck.{Flowing, Unstuck};
-ghost use Rattle.certify.specs.Certificates.{IsCertificate, SaysSafe, SaysFlowing, IsFirstAgainst};
+ghost use Rattle.certify.specs.Certificates.{IsCertificate, SaysSafe, SaysFlowing, SaysNeverStuck, SaysRestrained, IsFirstAgainst};
+ghost use Rattle.certify.specs.Standings.{IsAdmitted};
 ghost use Rattle.certify.specs.inner.Demands.{Meets};
 
 use crate::going::{holds_ask, is_jam};
 use crate::standings::{Standing, standing_of};
+use base::NoMemory;
 use both_tables::{CELLS, CellPlace, Tables};
+use closing::{
+    Flow, Refusal, blamed_tables_are_unstuck, closed_pairs, closed_tables_are_safe, flow_of,
+};
 use machine::{restrained_tables_are_safe, restrained_tables_are_unstuck};
+use std::alloc::Global;
 
 /// What is proved of changed tables, for any number of caches and blocks and any list of steps. A cell that it names is the
 /// first one of its kind, in the order of [`CellPlace::at`].
 #[derive(Clone, Copy, Debug, PartialEq, Eq)]
 pub enum Certificate {
-    /// Nothing is: this cell isn't admitted. The tables may be safe all the same.
-    NotProved(CellPlace),
+    /// Nothing is: this cell isn't admitted, and no closed list of pairs of caches is known, for this reason. The tables may be
+    /// safe all the same.
+    NotProved(CellPlace, Refusal),
+    /// They are safe: this cell isn't admitted, but a list of so many pairs of caches is closed, each of them in both orders. It
+    /// is shown this far that nothing gets stuck.
+    ClosedPairs(CellPlace, usize, Flow),
     /// They are safe, and no run under them ever gets stuck.
     NeverStuck,
     /// They are safe, and no message is ever stuck; but this cell holds an ask at a line that waits for nothing, for ever
@@ -33,34 +43,50 @@ pub enum Certificate {
     MessagesMayGetStuck(CellPlace),
 }
 
-/// Which of the answers is proved of these tables: each comes exactly where its definition (`IsCertificate`) holds and that of none
-/// which promises more does. More may be true: tables that aren't restrained may be safe, and a stall may hold no message that is
-/// ever sent. Where the answer isn't `NotProved`, each run under them is safe, and no step of one comes to a cell where the protocol's
-/// own entry is blank.
-pub fn certify(tables: &Tables) -> Certificate
+/// Which of the answers is proved of these tables, as its definition (`IsCertificate`) says. Of restrained ones each comes exactly
+/// where that holds and that of none which promises more does. More may be true: other tables may be safe, and a stall may hold no
+/// message that is ever sent. Where the answer isn't `NotProved`, each run under them is safe; where they are restrained, no step of
+/// one comes to a cell where the protocol's own entry is blank. Memory is wanted, and so can be refused, of others alone.
+pub fn certify(alloc: Global, tables: &Tables) -> Certificate
     ensures answer { IsCertificate tables.now result }
-    ensures restrained { SaysSafe result ↔ AreRestrained tables.now }
+    ensures restrained { SaysRestrained result ↔ AreRestrained tables.now }
     ensures safe { SaysSafe result → (shape : Extent) (opening : List ℕ) (steps : List Step) →
         IsWithinLimits shape → length opening ≡ shape.blocks → Safe shape tables.now opening steps }
-    ensures never_met { SaysSafe result → (shape : Extent) (opening : List ℕ) (steps : List Step) (step : Step) →
+    ensures never_met { SaysRestrained result → (shape : Extent) (opening : List ℕ) (steps : List Step) (step : Step) →
         IsWithinLimits shape → length opening ≡ shape.blocks →
         ¬ Met (baseline_of tables.now.protocol) (after tables.now (opened shape opening) steps).state step }
     ensures flowing { SaysFlowing result → (shape : Extent) (opening : List ℕ) (steps : List Step) →
         IsWithinLimits shape → length opening ≡ shape.blocks → Flowing tables.now (after tables.now (opened shape opening) steps).state }
-    ensures unstuck { result ≡ Certificate.NeverStuck → (shape : Extent) (opening : List ℕ) (steps : List Step) →
+    ensures unstuck { SaysNeverStuck result → (shape : Extent) (opening : List ℕ) (steps : List Step) →
         IsWithinLimits shape → length opening ≡ shape.blocks → Unstuck tables.now (after tables.now (opened shape opening) steps).state }
 {
     restrained_tables_are_safe();
     restrained_tables_are_unstuck();
-    answer_to(tables)
+    closed_tables_are_safe();
+    blamed_tables_are_unstuck();
+    answer_to(alloc, tables)
 }
 
-fn answer_to(tables: &Tables) -> Certificate
+fn answer_to(alloc: Global, tables: &Tables) -> Certificate
     ensures { IsCertificate tables.now result }
 {
     match first_against(tables, Demand::Admission) {
-        Some(cell) => Certificate::NotProved(cell),
+        Some(cell) => answer_by_pairs(alloc, tables, cell),
         None => answer_to_restrained(tables),
+    }
+}
+
+fn answer_by_pairs(alloc: Global, tables: &Tables, cell: CellPlace) -> Certificate
+    requires { IsFirstAgainst (IsAdmitted tables.now) cell }
+    ensures { IsCertificate tables.now result }
+{
+    let pairs = match closed_pairs(alloc, tables) {
+        Ok(pairs) => pairs,
+        Err(refusal) => return Certificate::NotProved(cell, refusal),
+    };
+    match flow_of(alloc, tables) {
+        Ok(flow) => Certificate::ClosedPairs(cell, pairs.as_slice().len(), flow),
+        Err(NoMemory) => Certificate::NotProved(cell, Refusal::NoMemory),
     }
 }
 

@@ -1,9 +1,11 @@
 use crate::cells::text_of;
 use crate::jamming::jam_from;
+use crate::listing::print_pairs;
 use crate::objects::print_cell_object;
+use crate::refusals::print_refusal;
 use crate::schedules::CACHES;
 use both_tables::{CELLS, CellPlace, Tables};
-use certify::{Certificate, Standing, certify, standing_of};
+use certify::{Certificate, Refusal, Standing, certify, standing_of};
 use console::{Fault, Finding, Format, Printer};
 use std::alloc::Global;
 use std::io::Write;
@@ -12,17 +14,38 @@ use std::io::Write;
 const ADVICE: &str =
     "That doesn't say unsafe: make trials, with msi batch, or go through all schedules, with examples/exhaust/run.";
 
+/// How a certificate is printed.
+#[derive(Clone, Copy, Debug)]
+pub struct CertificateForm {
+    pub format: Format,
+    /// Whether the pairs of caches follow, where they are closed under the tables.
+    pub with_pairs: bool,
+}
+
 /// Prints what is proved of tables, with the cells that it is about, and why each cell that isn't the protocol's own may be as
 /// it is; and a schedule that gets stuck, where one of those that are known does.
 pub fn print_certificate<O: Write + Drop>(
     alloc: Global,
     tables: &Tables,
-    format: Format,
+    form: CertificateForm,
     output: O,
 ) -> Result<Finding, Fault> {
     let mut printer = Printer::new(alloc, output)?;
-    let finding = print_answer(alloc, tables, format, &mut printer);
+    let finding = print_whole(alloc, tables, form, &mut printer);
     printer.finish(finding)
+}
+
+fn print_whole<O: Write + Drop>(
+    alloc: Global,
+    tables: &Tables,
+    form: CertificateForm,
+    printer: &mut Printer<O>,
+) -> Result<Finding, Fault> {
+    let finding = print_answer(alloc, tables, form.format, printer)?;
+    if form.with_pairs {
+        print_pairs(alloc, tables, printer)?;
+    }
+    Ok(finding)
 }
 
 fn print_answer<O: Write + Drop>(
@@ -31,11 +54,16 @@ fn print_answer<O: Write + Drop>(
     format: Format,
     printer: &mut Printer<O>,
 ) -> Result<Finding, Fault> {
-    match certify(tables) {
-        Certificate::NotProved(cell) => {
+    match certify(alloc, tables) {
+        Certificate::NotProved(_, Refusal::NoMemory) => return Err(Fault::NoMemory),
+        Certificate::NotProved(cell, refusal) => {
             let jam = jam_from(alloc, tables, None)?;
-            print_unknown(tables, cell, jam, format, printer);
+            print_unknown(tables, cell, &refusal, jam, format, printer);
             return Ok(Finding::Unknown);
+        }
+        Certificate::ClosedPairs(_, count) => {
+            let jam = jam_from(alloc, tables, None)?;
+            print_closed(tables, count, jam, format, printer);
         }
         Certificate::NeverStuck => {
             print_safe("never stuck", format, printer);
@@ -58,11 +86,12 @@ fn print_answer<O: Write + Drop>(
     Ok(Finding::Nothing)
 }
 
-/// Prints that nothing is proved of tables, the first cell that stands against it, and steps after which messages are stuck, where
-/// some are known.
+/// Prints that nothing is proved of tables, the first cell that stands against it, what may come about, and steps after which
+/// messages are stuck, where some are known.
 fn print_unknown<O: Write + Drop>(
     tables: &Tables,
     cell: CellPlace,
+    refusal: &Refusal,
     jam: Option<&str>,
     format: Format,
     printer: &mut Printer<O>,
@@ -75,8 +104,42 @@ fn print_unknown<O: Write + Drop>(
         }
     }
     print_reason(tables, cell, format, printer);
+    print_refusal(tables, refusal, format, printer);
     if format == Format::Plain {
         printer.line(ADVICE);
+    }
+    if let Some(steps) = jam {
+        print_jam(steps, format, printer);
+    }
+}
+
+/// Prints that tables are proved safe by so many pairs of caches, the cells that are so, and steps after which messages are stuck,
+/// where some are known.
+fn print_closed<O: Write + Drop>(
+    tables: &Tables,
+    count: usize,
+    jam: Option<&str>,
+    format: Format,
+    printer: &mut Printer<O>,
+) {
+    let stuck = match jam {
+        None => "messages may get stuck",
+        Some(_) => "messages get stuck",
+    };
+    print_safe(stuck, format, printer);
+    match format {
+        Format::Plain => {
+            printer.line(stuck);
+            printer.line(format_args!("closed under {count} pairs of caches"));
+        }
+        Format::Json => printer.line(format_args!("{{\"closed_pairs\":{count}}}")),
+    }
+    for number in 0..CELLS {
+        if let Some(cell) = CellPlace::at(number) {
+            if !matches!(standing_of(tables, cell), Standing::Own) {
+                print_cell(tables, cell, "closed", format, printer);
+            }
+        }
     }
     if let Some(steps) = jam {
         print_jam(steps, format, printer);

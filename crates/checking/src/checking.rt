@@ -4,7 +4,7 @@ use crate::jamming::jam_from;
 use base::text::Text;
 use base::{CoreAsk, MOST_BLOCKS, MOST_CACHES, NoMemory, Shape, Step};
 use both_tables::{CELLS, CellPlace, Tables};
-use certify::{Certificate, Standing, certify, standing_of};
+use certify::{Certificate, Refusal, Standing, certify, standing_of};
 use console::{Fault, Finding, Printer};
 use scenario::Scenario;
 use std::alloc::Global;
@@ -106,10 +106,15 @@ fn print_all<O: Write + Drop>(
 
 /// What `msi certify` says of tables, in its words.
 fn verdict(alloc: Global, tables: &Tables) -> Result<&'static str, NoMemory> {
-    Ok(match certify(tables) {
-        Certificate::NotProved(_) => match jam_from(alloc, tables, None)? {
+    Ok(match certify(alloc, tables) {
+        Certificate::NotProved(_, Refusal::NoMemory) => return Err(NoMemory),
+        Certificate::NotProved(..) => match jam_from(alloc, tables, None)? {
             Some(_) => "unknown, messages get stuck",
             None => "unknown",
+        },
+        Certificate::ClosedPairs(..) => match jam_from(alloc, tables, None)? {
+            Some(_) => "safe, messages get stuck",
+            None => "safe, messages may get stuck",
         },
         Certificate::NeverStuck => "safe, never stuck",
         Certificate::AsksMayBeHeld(_) => "safe, asks may be held",

@@ -7,11 +7,14 @@ mod certificates;
 mod checking;
 mod counting;
 mod jamming;
+mod listing;
 mod objects;
+mod refusals;
 mod schedules;
 mod schedules_with_e;
+mod sides;
 mod tables;
 
-pub use certificates::print_certificate;
+pub use certificates::{CertificateForm, print_certificate};
 pub use checking::{Bounds, check};
 pub use tables::print_tables;

@@ -132,21 +132,21 @@ thirds-fit tags b c d ne =
 abbrev pub Weighs : ForwardKind → (ForwardKind → ℕ) → Type 0
 Weighs kind weight = (x : ForwardKind) (t : Bool) → (if t && same_kind x kind then 1 else 0) ≡ only t (weight x)
 
-weighs-gets : Weighs FwdGetS is_fwd_gets
+pub weighs-gets : Weighs FwdGetS is_fwd_gets
 weighs-gets FwdGetS true = refl
 weighs-gets FwdGetM true = refl
 weighs-gets Inv true = refl
 weighs-gets PutAck true = refl
 weighs-gets x false = refl
 
-weighs-getm : Weighs FwdGetM is_fwd_getm
+pub weighs-getm : Weighs FwdGetM is_fwd_getm
 weighs-getm FwdGetS true = refl
 weighs-getm FwdGetM true = refl
 weighs-getm Inv true = refl
 weighs-getm PutAck true = refl
 weighs-getm x false = refl
 
-weighs-inv : Weighs Inv is_inv
+pub weighs-inv : Weighs Inv is_inv
 weighs-inv FwdGetS true = refl
 weighs-inv FwdGetM true = refl
 weighs-inv Inv true = refl
@@ -156,13 +156,13 @@ weighs-inv x false = refl
 abbrev pub places : ℕ → List Forward → List LinkPlace
 places c fs = map (λ (f : Forward). record { kind = f.kind; own = f.requestor.0 == c }) fs
 
-own-sum : (kind : ForwardKind) (weight : ForwardKind → ℕ) → Weighs kind weight → (c : ℕ) (fs : List Forward) →
+pub own-sum : (kind : ForwardKind) (weight : ForwardKind → ℕ) → Weighs kind weight → (c : ℕ) (fs : List Forward) →
     own_marked kind (places c fs) ≡ sum_by (names c weight) fs
 own-sum kind weight h c [] = refl
 own-sum kind weight h c (f ∷ fs) =
     omega (arith, h f.kind (f.requestor.0 == c), own-sum kind weight h c fs, sum_by-cons (names c weight) f fs)
 
-marks-sum : (kind : ForwardKind) (weight : ForwardKind → ℕ) → Weighs kind weight → (c d : ℕ) (fs : List Forward) →
+pub marks-sum : (kind : ForwardKind) (weight : ForwardKind → ℕ) → Weighs kind weight → (c d : ℕ) (fs : List Forward) →
     marked kind (places d fs) (map (λ (f : Forward). f.requestor.0 == c) fs) ≡ sum_by (names c weight) fs
 marks-sum kind weight h c d [] = refl
 marks-sum kind weight h c d (f ∷ fs) =

@@ -20,7 +20,7 @@ use Rattle.closing.specs.Closed.{StaysIn, Meet, AreAlike, KeepsUnconcerned, glue
 use Rattle.closing.proofs.Reading.{contained-at, below-length}
 
 -- a view has one number
-one-number : (views : List View) (v w : View) (m n : ℕ) → v ≡ w → IsNumber views v m → IsNumber views w n → m ≡ n
+pub one-number : (views : List View) (v w : View) (m n : ℕ) → v ≡ w → IsNumber views v m → IsNumber views w n → m ≡ n
 one-number views v w m n same at_m at_n =
     elim (cases_eq m n) [
       | inl here ↦ here

@@ -46,7 +46,7 @@ unbroken tables pairs caches b closed f (c, d, ne, t, inr breach) =
     no-breach pairs (home_data_seen tables t (alpha f.tags b c d)) (closed.home_data (alpha f.tags b c d) t (f.inside c d ne)) breach
 
 -- so each transition goes
-goes : (tables : Tables) (pairs : List Pair) (caches : ℕ) → Closed tables pairs → caches ≤ 4294967296 → (s : Step) (b : BlockState) →
+pub goes : (tables : Tables) (pairs : List Pair) (caches : ℕ) → Closed tables pairs → caches ≤ 4294967296 → (s : Step) (b : BlockState) →
     (f : Followed pairs caches b) → Goes tables f.tags b (transition tables s b)
 goes tables pairs caches closed few s b f = at (simulated tables caches f.tags b s few f.whole f.faithful)
   where
@@ -75,7 +75,7 @@ single-followed tables pairs caches b closed f i j x y at_i at_j writes reads =
     ]
 
 -- the invariant guards a block
-closed-guards : (tables : Tables) (pairs : List Pair) (caches : ℕ) → Closed tables pairs → caches ≤ 4294967296 →
+pub closed-guards : (tables : Tables) (pairs : List Pair) (caches : ℕ) → Closed tables pairs → caches ≤ 4294967296 →
     Guards (Followed pairs caches) tables caches
 closed-guards tables pairs caches closed few = record {
   at_first =

@@ -33,7 +33,7 @@ use Rattle.network.specs.Traffic.{response_taken}
 use Rattle.cache_line.specs.Events.{more_acks}
 use Rattle.machine.proofs.Facts.{promised-zero}
 use Rattle.machine.proofs.Seen.{dir_data}
-use Rattle.pairs.specs.Sights.{response_seen, with_data, awaited, dir_data_seen, is_ahead, is_level}
+use Rattle.pairs.specs.Sights.{response_seen, with_data, acks_awaited, dir_data_seen, is_ahead, is_level}
 use Rattle.pairs.specs.declared.side.Lag.{Lag}
 use Rattle.pairs.specs.declared.steps.Sight.{Sight}
 use Rattle.closing.proofs.Simulation.{IsBreach, Breaks, next-other}
@@ -80,14 +80,14 @@ module _ (tables : Tables) (caches : ℕ) (tags : Tags) (b : BlockState) (cache 
 
   -- what the line awaits then is sought
   seeks : (t : Bool) (x : ℕ) → sight tables GetsDirData t (alpha tags b a x) ≡
-      dir_data_seen tables t (awaited (tags.lag a) owed.any) (alpha tags b a x)
+      dir_data_seen tables t (acks_awaited (tags.lag a) owed.any) (alpha tags b a x)
       (record (side tags b a) { dir_data = (side tags b a).dir_data - 1 })
   seeks t x =
       passes (sum_by (dir_data a) b.traffic.responses) _
       (one-there tables caches tags b cache index r whole faithful e same (dir_data a) one-dir)
 
   -- where it isn't known, that can't be followed
-  pub dir-lost : awaited (tags.lag a) owed.any ≡ None → Breaks tables tags b
+  pub dir-lost : acks_awaited (tags.lag a) owed.any ≡ None → Breaks tables tags b
   dir-lost none = (
     a,
     a + 1,
@@ -100,7 +100,7 @@ module _ (tables : Tables) (caches : ℕ) (tags : Tags) (b : BlockState) (cache 
     ),
   )
 
-  module _ (k : Lag) (some : awaited (tags.lag a) owed.any ≡ Some k) where
+  module _ (k : Lag) (some : acks_awaited (tags.lag a) owed.any ≡ Some k) where
     awaits : Awaits (tags.lag a) k (more_acks line.acks acks) (owed_to b a)
     awaits =
         data-awaits (tags.lag a) k line.acks acks (owed_to b a)
@@ -110,7 +110,7 @@ module _ (tables : Tables) (caches : ℕ) (tags : Tags) (b : BlockState) (cache 
     event_then = if is_level k then event.DataDirZero else event.DataDirMore
 
     -- so the event is what the pair says
-    same-event : event_then ≡ event_at_line line.acks (line_input.Response r)
+    pub same-event : event_then ≡ event_at_line line.acks (line_input.Response r)
     same-event = ap (λ (t : Bool). if t then event.DataDirZero else event.DataDirMore) (sym awaits.none)
 
     abbrev after : Face

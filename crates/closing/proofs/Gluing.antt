@@ -62,14 +62,14 @@ seen-in pairs concerned p s h e ne = at concerned (subst (λ (s : Sight). StaysI
     at Second h ne = h
     at Third h ne = absurd (ne refl)
 
-role-there : (e : ℕ) → role (Some e) e ≡ Second
+pub role-there : (e : ℕ) → role (Some e) e ≡ Second
 role-there e = ap (λ (t : Bool). if t then Second else Third) (eq-eqb e e refl)
 
-role-elsewhere : (e x : ℕ) → e ≢ x → role (Some e) x ≡ Third
+pub role-elsewhere : (e x : ℕ) → e ≢ x → role (Some e) x ≡ Third
 role-elsewhere e x ne = ap (λ (t : Bool). if t then Second else Third) (ne_eqb e x ne)
 
 -- the roles of two caches besides the actor are alike
-roles-alike : (besides : Option ℕ) (x y : ℕ) → x ≢ y → AreAlike (role besides x) (role besides y)
+pub roles-alike : (besides : Option ℕ) (x y : ℕ) → x ≢ y → AreAlike (role besides x) (role besides y)
 roles-alike None x y ne = tt
 roles-alike (Some e) x y ne =
     elim (cases_eq e x) [
@@ -81,10 +81,10 @@ roles-alike (Some e) x y ne =
       ])
     ]
 
-nobody-third : Nobody ≡ Third → ⊥
+pub nobody-third : Nobody ≡ Third → ⊥
 nobody-third e = absurd (cc)
 
-second-third : Second ≡ Third → ⊥
+pub second-third : Second ≡ Third → ⊥
 second-third e = absurd (cc)
 
 -- in a pair with the cache that is concerned the other one is kept
@@ -131,7 +131,7 @@ same-names tables tags b new m x y x_other y_other =
     (names-stay m.actor m.decided b m.after m.acts x y x_other y_other)
 
 -- what is glued is the pair of the two others after the step
-glued-is : (tables : Tables) (tags : Tags) (b new : BlockState) (m : Moves tables tags b new) (c d : ℕ) → c ≢ m.actor → d ≢ m.actor →
+pub glued-is : (tables : Tables) (tags : Tags) (b new : BlockState) (m : Moves tables tags b new) (c d : ℕ) → c ≢ m.actor → d ≢ m.actor →
     glued (alpha m.after new m.actor c) (alpha m.after new m.actor d) (alpha tags b c d) ≡ alpha m.after new c d
 glued-is tables tags b new m c d c_other d_other = λ i. record {
   shared = shared m.after new;

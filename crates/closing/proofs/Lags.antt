@@ -12,7 +12,7 @@ use Rattle.network.specs.declared.message.ForwardKind.TheVariants.{FwdGetS, FwdG
 use Rattle.machine.proofs.Seen.{late_of, is_inv}
 use Rattle.pairs.specs.declared.side.Lag.{Lag}
 use Rattle.pairs.specs.declared.side.Lag.TheVariants.{Behind, Level, Ahead}
-use Rattle.pairs.specs.Sights.{shifted, is_level, is_ahead, awaited, counts_fit, moved_by, still_owed}
+use Rattle.pairs.specs.Sights.{shifted, is_level, is_ahead, acks_awaited, counts_fit, moved_by, still_owed}
 use Rattle.closing.proofs.Alpha.{LagIs}
 
 -- a lag is of what is the same
@@ -98,7 +98,7 @@ ahead-awaits (negsuc m) o h few = record { lag = (grind (arith, ints, h), few); 
 some-if : (o : ℕ) → (o == 0) ≡ false → 1 ≤ o
 some-if o e = let ne = differ-if o 0 e in omega (arith, ne)
 
-awaits-if : (l k : Lag) (a : ℤ) (n o : ℕ) (none : Bool) → (o == 0) ≡ none → LagIs l (a +ℤ pos n) o → awaited l (not none) ≡ Some k →
+awaits-if : (l k : Lag) (a : ℤ) (n o : ℕ) (none : Bool) → (o == 0) ≡ none → LagIs l (a +ℤ pos n) o → acks_awaited l (not none) ≡ Some k →
     Awaits l k (more_acks a n) o
 awaits-if Behind Behind a n o true z h e = behind-none a n o h (same-if o 0 z)
 awaits-if Behind Level a n o true z h e = absurd (cc)
@@ -117,7 +117,7 @@ awaits-if Ahead Level a n o true z h e = absurd (cc)
 awaits-if Ahead Level a n o false z h e = absurd (cc)
 
 -- Data that announces all that is still to be announced
-pub data-awaits : (l k : Lag) (a : ℤ) (n o : ℕ) → LagIs l (a +ℤ pos n) o → awaited l (not (o == 0)) ≡ Some k → Awaits l k (more_acks a n) o
+pub data-awaits : (l k : Lag) (a : ℤ) (n o : ℕ) → LagIs l (a +ℤ pos n) o → acks_awaited l (not (o == 0)) ≡ Some k → Awaits l k (more_acks a n) o
 data-awaits l k a n o h e = awaits-if l k a n o (o == 0) refl h e
 
 -- WHERE A LAG IS MOVED

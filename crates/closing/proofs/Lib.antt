@@ -49,3 +49,11 @@ pub mod Reading
 pub mod Told
 pub mod Lengthening
 pub mod Checked
+pub mod Serving
+pub mod Sharings
+pub mod Receivers
+pub mod Delivering
+pub mod Descending
+pub mod Flowing
+pub mod RankedChecked
+pub mod Explaining

@@ -26,7 +26,7 @@ use Rattle.machine.specs.Transition.{at_line as line_at}
 use Rattle.pairs.specs.Pairs.{thirds_fit, trimmed_home}
 use Rattle.pairs.specs.declared.steps.Rule.{Rule}
 use Rattle.pairs.specs.declared.steps.Rule.TheVariants.{GetsDirData, GetsOwnerData, GetsExclData}
-use Rattle.pairs.specs.Sights.{awaited, home_data_seen}
+use Rattle.pairs.specs.Sights.{acks_awaited, home_data_seen}
 use Rattle.pairs.specs.declared.side.Lag.{Lag}
 use Rattle.closing.proofs.Alpha.{Owing, Tags, alpha, owed_to, Faithful}
 use Rattle.closing.proofs.Taking.{Receives}
@@ -48,9 +48,9 @@ response-known : (tables : Tables) (caches : ℕ) (tags : Tags) (b : BlockState)
     (whole : IsBlockAmong caches b) (faithful : Faithful tags b) (e : Some r ≡ slice_get b.traffic.responses index) (to : Receives cache r) (line : Line) →
     line_of b.lines cache.0 ≡ line → IsKnown tables caches tags b cache index r whole faithful e to line
 response-known tables caches tags b cache index (Data Dir (Cache at) value acks) whole faithful e to line there =
-    sought (awaited (tags.lag cache.0) (not (owed_to b cache.0 == 0))) refl
+    sought (acks_awaited (tags.lag cache.0) (not (owed_to b cache.0 == 0))) refl
   where
-    sought : (o : Option Lag) → awaited (tags.lag cache.0) (not (owed_to b cache.0 == 0)) ≡ o →
+    sought : (o : Option Lag) → acks_awaited (tags.lag cache.0) (not (owed_to b cache.0 == 0)) ≡ o →
         IsKnown tables caches tags b cache index (Data Dir (Cache at) value acks) whole faithful e to line
     sought None none = inl (dir-lost tables caches tags b cache index at value acks whole faithful e to line there none)
     sought (Some k) some = inr (GetsDirData, _, _, dir-known tables caches tags b cache index at value acks whole faithful e to line there k some)

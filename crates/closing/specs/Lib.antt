@@ -1,2 +1,4 @@
 pub mod Closed
+pub mod Ranked
+pub mod Blamed
 pub mod inner

@@ -1,3 +1,5 @@
 -- what only the contracts of private functions cite
 pub mod Told
 pub mod Numbered
+pub mod RankedTold
+pub mod Explained

@@ -12,8 +12,8 @@ use std::alloc::Global;
 /// The most pairs that are gathered, each counted in both orders.
 pub const MOST_PAIRS: usize = 40_000;
 
-/// Why pairs weren't gathered to the end.
-#[derive(Clone, Copy, Debug)]
+/// Why no closed list of pairs is known.
+#[derive(Clone, Copy, Debug, PartialEq, Eq)]
 pub enum Refusal {
     /// Memory was refused.
     NoMemory,
@@ -29,6 +29,8 @@ pub enum Refusal {
     Spoilt(Pair, Rule),
     /// Data that comes to the home of this pair isn't followed, or meets a blank cell.
     AtHome(Pair),
+    /// The list that was gathered isn't closed.
+    NotClosed,
 }
 
 impl From<NoMemory> for Refusal {

@@ -208,7 +208,7 @@ fn carry_out<R: Threads + Wait + Sync, I: Read + Drop, O: Write + Drop, E: Write
         Task::Move => move_recording(alloc, input, output),
         Task::Show(form, part) => print_recording(alloc, form, part, input, output),
         Task::Tables(tables) => print_tables(alloc, &tables, output),
-        Task::Certify(tables, format) => print_certificate(alloc, &tables, format, output),
+        Task::Certify(tables, form) => print_certificate(alloc, &tables, form, output),
         Task::Model(tables, caches) => print_model(alloc, &tables, caches, output),
         Task::Check(tables, bounds) => check(alloc, &tables, bounds, input, output),
     };

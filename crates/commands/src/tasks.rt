@@ -2,7 +2,7 @@ use crate::files::Files;
 use base::controller::Protocol;
 use base::{BlockId, Shape};
 use both_tables::Tables;
-use checking::Bounds;
+use checking::{Bounds, CertificateForm};
 use clap::ArgMatches;
 use console::{Fault, Format};
 use playing::{Form, Layout};
@@ -35,7 +35,7 @@ pub enum Task {
     /// Print the cells of these tables.
     Tables(Tables),
     /// Print in this form whether these tables are proved safe.
-    Certify(Tables, Format),
+    Certify(Tables, CertificateForm),
     /// Print these tables as a model with so many caches.
     Model(Tables, u32),
     /// Print what these tables and a scenario within these bounds are.
@@ -64,11 +64,18 @@ impl Task {
             "show" => Some(Task::Show(Form::Table(layout(options)), part(options))),
             "chart" => Some(Task::Show(Form::Chart, part(options))),
             "tables" => Some(Task::Tables(tables(alloc, options, files)?)),
-            "certify" => Some(Task::Certify(tables(alloc, options, files)?, format(options))),
+            "certify" => Some(Task::Certify(tables(alloc, options, files)?, certifying(options))),
             "model" => Some(modelling(alloc, options, files)?),
             "check" => Some(Task::Check(tables(alloc, options, files)?, bounds(options))),
             _ => None,
         })
+    }
+}
+
+fn certifying(options: &ArgMatches<'_>) -> CertificateForm {
+    CertificateForm {
+        format: format(options),
+        with_pairs: options.get_flag("pairs"),
     }
 }
 

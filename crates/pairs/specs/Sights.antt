@@ -411,8 +411,8 @@ abbrev pub response_seen : Tables → Rule → Bool → CacheEvent → Pair → 
 response_seen tables rule guess e p s = at_line tables rule guess Nobody Nobody e (record p { first = s })
 
 -- how many acks a line awaits to whom all are announced: none or more, or fewer if it was sent too many, where that is known
-abbrev pub awaited : Lag → Bool → Option Lag
-awaited lag owed = shifted (if owed then Ahead else Level) lag
+abbrev pub acks_awaited : Lag → Bool → Option Lag
+acks_awaited lag owed = shifted (if owed then Ahead else Level) lag
 
 -- Data from the home comes to the line of the first, which then awaits this many
 abbrev pub dir_data_seen : Tables → Bool → Option Lag → Pair → Side → Sight
@@ -455,7 +455,7 @@ sight tables SentPutM t p =
     where_some p.first.putm (request_seen tables t (Some p.first.fresh_putm)
     (if is_owner p.first.owned then home_event.PutMOwner else home_event.PutMNonOwner) p (record p.first { putm = p.first.putm - 1 }))
 sight tables GetsDirData t p =
-    where_some p.first.dir_data (dir_data_seen tables t (awaited p.first.lag p.first.owed) p (record p.first { dir_data = p.first.dir_data - 1 }))
+    where_some p.first.dir_data (dir_data_seen tables t (acks_awaited p.first.lag p.first.owed) p (record p.first { dir_data = p.first.dir_data - 1 }))
 sight tables GetsOwnerData t p =
     where_some p.first.owner_data (response_seen tables GetsOwnerData t event.DataOwner p
     (with_data (record p.first { owner_data = p.first.owner_data - 1 })))

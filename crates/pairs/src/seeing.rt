@@ -205,7 +205,7 @@ fn see_dir_data(tables: &Tables, guess: bool, pair: &Pair) -> Sight
     if pair.first.dir_data == 0 {
         return Sight::Unmoved;
     }
-    let Some(awaited) = pair.first.lag.awaited(pair.first.owed) else {
+    let Some(awaited) = pair.first.lag.acks_awaited(pair.first.owed) else {
         return Sight::Lost;
     };
     let event = match awaited {

@@ -1,6 +1,6 @@
 ghost use Rattle.std.specs.Prelude.{◌≡◌};
 ghost use Rattle.pairs.specs.Pairs.{owners_fit};
-ghost use Rattle.pairs.specs.Sights.{awaited, shifted, still_owed};
+ghost use Rattle.pairs.specs.Sights.{acks_awaited, shifted, still_owed};
 
 use crate::link::Link;
 use crate::marks::Marks;
@@ -116,8 +116,8 @@ impl Lag {
 
     /// How many acks a line awaits to whom all are announced, if that is known: none, or fewer or more than none. Some are
     /// still owed to it or not.
-    pub fn awaited(self, owed: bool) -> Option<Lag>
-        ensures { result ≡ awaited self owed }
+    pub fn acks_awaited(self, owed: bool) -> Option<Lag>
+        ensures { result ≡ acks_awaited self owed }
     {
         let coming = if owed { Lag::Ahead } else { Lag::Level };
         self.moved(coming)

@@ -5,7 +5,7 @@ use base::controller::Protocol;
 use both_tables::{CELLS, CellPlace, Tables};
 use cache_table::CacheEntry;
 use certify::{Certificate, certify};
-use checking::print_certificate;
+use checking::{CertificateForm, print_certificate};
 use console::Format;
 use directory_table::DirectoryEntry;
 use std::alloc::Global;
@@ -29,7 +29,11 @@ fn stalled(protocol: Protocol, cell: CellPlace) -> Tables {
 /// Whether it is shown by steps that messages get stuck under these tables.
 fn is_shown(rt: &impl Abort, alloc: Global, tables: &Tables) -> bool {
     let mut output = Vec::new(alloc);
-    print_certificate(alloc, tables, Format::Plain, &mut output).expect(rt, "printed");
+    let form = CertificateForm {
+        format: Format::Plain,
+        with_pairs: false,
+    };
+    print_certificate(alloc, tables, form, &mut output).expect(rt, "printed");
     let text = str::from_utf8(output.as_slice()).expect(rt, "a text");
     text.starts_with("safe\nmessages get stuck: cell ")
 }
@@ -37,7 +41,7 @@ fn is_shown(rt: &impl Abort, alloc: Global, tables: &Tables) -> bool {
 /// Whether a stall in this cell jams. It has to be shown then, and not otherwise.
 fn jams(rt: &impl Abort, alloc: Global, protocol: Protocol, cell: CellPlace) -> bool {
     let tables = stalled(protocol, cell);
-    let jams = matches!(certify(&tables), Certificate::MessagesMayGetStuck(_));
+    let jams = matches!(certify(alloc, &tables), Certificate::MessagesMayGetStuck(_));
     assert_eq!(rt; is_shown(rt, alloc, &tables), jams, "at {cell:?}");
     jams
 }

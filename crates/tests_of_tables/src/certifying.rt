@@ -1,12 +1,29 @@
 use crate::asserting::{same, same_at};
 use both_tables::{CELLS, CellPlace, Tables};
-use cache_table::{CacheEntry, CacheEvent, CacheState};
+use cache_table::{CacheAction, CacheEntry, CacheEvent, CacheState};
 use certify::{Certificate, Standing, certify, standing_of};
 use directory_table::{DirectoryEntry, DirectoryEvent, DirectoryState};
+use std::alloc::Global;
 use std::process::Abort;
 
-pub fn certified(tables: &Tables) -> Certificate {
-    certify(tables)
+/// An answer without the pairs of caches: why none are closed, or how many are.
+#[derive(Clone, Copy, Debug, PartialEq, Eq)]
+pub enum Answer {
+    NotProved(CellPlace),
+    Closed(CellPlace),
+    NeverStuck,
+    AsksMayBeHeld(CellPlace),
+    MessagesMayGetStuck(CellPlace),
+}
+
+pub fn certified(alloc: Global, tables: &Tables) -> Answer {
+    match certify(alloc, tables) {
+        Certificate::NotProved(cell, _) => Answer::NotProved(cell),
+        Certificate::ClosedPairs(cell, _) => Answer::Closed(cell),
+        Certificate::NeverStuck => Answer::NeverStuck,
+        Certificate::AsksMayBeHeld(cell) => Answer::AsksMayBeHeld(cell),
+        Certificate::MessagesMayGetStuck(cell) => Answer::MessagesMayGetStuck(cell),
+    }
 }
 
 /// These tables with another entry in one cell: the caches' or the directory's.
@@ -46,8 +63,8 @@ fn tables_of_stalls(rt: HostRuntime) {
     let data = CellPlace::Cache(CacheState::IsD, CacheEvent::DataDirZero);
     same(
         &rt,
-        &certified(&tables),
-        &Certificate::MessagesMayGetStuck(data),
+        &certified(rt.alloc(), &tables),
+        &Answer::MessagesMayGetStuck(data),
     );
     let load = CellPlace::Cache(CacheState::M, CacheEvent::Load);
     let held_anyway = CellPlace::Cache(CacheState::IsD, CacheEvent::Inv);
@@ -101,30 +118,36 @@ fn acts(tables: &Tables, cell: CellPlace) -> bool {
 }
 
 /// What a walk over all states with three and with four caches found of a stall over a cell.
-fn walked(own: &Tables, cell: CellPlace) -> Certificate {
+fn walked(own: &Tables, cell: CellPlace) -> Answer {
     if HOLDING.contains(&cell) {
-        Certificate::AsksMayBeHeld(cell)
+        Answer::AsksMayBeHeld(cell)
     } else if HARMLESS.contains(&cell) || !acts(own, cell) {
-        Certificate::NeverStuck
+        Answer::NeverStuck
     } else {
-        Certificate::MessagesMayGetStuck(cell)
+        Answer::MessagesMayGetStuck(cell)
     }
 }
 
-/// What is certified where a cell of the own tables is left blank: it is named, unless it is blank anyway.
-fn named(own: &Tables, blank: &Tables, cell: CellPlace) -> Certificate {
-    if blank == own {
-        Certificate::NeverStuck
-    } else {
-        Certificate::NotProved(cell)
+/// What is certified where a cell of the own tables is left blank: it is named, unless it is blank anyway, or no run meets it.
+fn named(own: &Tables, blank: &Tables, cell: CellPlace) -> Answer {
+    match cell {
+        _ if blank == own => Answer::NeverStuck,
+        CellPlace::Directory(DirectoryState::I | DirectoryState::M, DirectoryEvent::PutSLast) => {
+            Answer::Closed(cell)
+        }
+        _ => Answer::NotProved(cell),
     }
 }
 
 /// Compares how a cell of the own tables stands, and what is certified where it alone is a stall, and where it is left blank.
-fn is_certified(rt: &impl Abort, own: &Tables, cell: CellPlace) {
+fn is_certified(rt: &impl Abort, alloc: Global, own: &Tables, cell: CellPlace) {
     let stall = stalled(*own, cell);
     let blank = changed(*own, cell, CacheEntry::Blank, DirectoryEntry::Blank);
-    let found = (standing_of(own, cell), certified(&stall), certified(&blank));
+    let found = (
+        standing_of(own, cell),
+        certified(alloc, &stall),
+        certified(alloc, &blank),
+    );
     let wanted = (Standing::Own, walked(own, cell), named(own, &blank, cell));
     same_at(rt, &found, &wanted, &cell);
 }
@@ -132,10 +155,10 @@ fn is_certified(rt: &impl Abort, own: &Tables, cell: CellPlace) {
 #[test]
 fn each_cell_of_the_own_tables(rt: HostRuntime) {
     let own = Tables::baseline();
-    same(&rt, &certified(&own), &Certificate::NeverStuck);
+    same(&rt, &certified(rt.alloc(), &own), &Answer::NeverStuck);
     for number in 0..CELLS {
         let cell = CellPlace::at(number).expect(&rt, "a cell");
-        is_certified(&rt, &own, cell);
+        is_certified(rt.alloc(), &rt, &own, cell);
     }
     same(&rt, &CellPlace::at(CELLS), &None);
 }
@@ -182,8 +205,8 @@ fn the_greatest_sets_of_stalls(rt: HostRuntime) {
         let (tables, count) = greatest(modified_late, shared_late);
         same_at(
             &rt,
-            &(certified(&tables), count),
-            &(Certificate::NeverStuck, size),
+            &(certified(rt.alloc(), &tables), count),
+            &(Answer::NeverStuck, size),
             &size,
         );
     }
@@ -197,7 +220,22 @@ fn stalls_that_cross(rt: HostRuntime) {
             CellPlace::Cache(state, CacheEvent::DataDirMore),
         );
         let acks = CellPlace::Cache(state, CacheEvent::InvAck);
-        let wanted = Certificate::MessagesMayGetStuck(acks);
-        same_at(&rt, &certified(&stalled(data, acks)), &wanted, &state);
+        let wanted = Answer::MessagesMayGetStuck(acks);
+        same_at(
+            &rt,
+            &certified(rt.alloc(), &stalled(data, acks)),
+            &wanted,
+            &state,
+        );
     }
+}
+
+#[test]
+fn a_load_that_asks_to_write(rt: HostRuntime) {
+    let own = Tables::baseline();
+    let mut tables = own;
+    let entry = CacheEntry::one(CacheAction::GetM, CacheState::ImAd);
+    tables.cache = own.cache.with(CacheState::I, CacheEvent::Load, entry);
+    let cell = CellPlace::Cache(CacheState::I, CacheEvent::Load);
+    same(&rt, &certified(rt.alloc(), &tables), &Answer::Closed(cell));
 }

@@ -1,16 +1,17 @@
 //! MSI+E: what its tables may name, and what MSI's may not.
 
 use crate::asserting::{same, same_at};
-use crate::certifying::{certified, changed, stalled};
+use crate::certifying::{Answer, certified, changed, stalled};
 use crate::making::acting;
 use crate::overrides::makes;
 use base::controller::Protocol;
 use both_tables::{CELLS, CellPlace, Tables, TablesFault};
 use cache_table::{CacheAction, CacheEntry, CacheEvent, CacheState};
-use certify::{Certificate, Standing, standing_of};
+use certify::{Standing, standing_of};
 use directory_table::{
     DirectoryAction, DirectoryActions, DirectoryEntry, DirectoryEvent, DirectoryState,
 };
+use std::alloc::Global;
 use std::process::Abort;
 
 #[test]
@@ -113,13 +114,13 @@ fn overrides_of_either(rt: HostRuntime) {
 }
 
 /// How many stalls over a cell each leave messages or asks stuck.
-fn counts(own: Tables) -> (u32, u32) {
+fn counts(alloc: Global, own: Tables) -> (u32, u32) {
     let (mut messages, mut asks) = (0u32, 0u32);
     for number in 0..CELLS {
         if let Some(cell) = CellPlace::at(number) {
-            match certified(&stalled(own, cell)) {
-                Certificate::MessagesMayGetStuck(_) => messages = messages.saturating_add(1),
-                Certificate::AsksMayBeHeld(_) => asks = asks.saturating_add(1),
+            match certified(alloc, &stalled(own, cell)) {
+                Answer::MessagesMayGetStuck(_) => messages = messages.saturating_add(1),
+                Answer::AsksMayBeHeld(_) => asks = asks.saturating_add(1),
                 _ => {}
             }
         }
@@ -130,14 +131,37 @@ fn counts(own: Tables) -> (u32, u32) {
 #[test]
 fn what_is_certified(rt: HostRuntime) {
     let own = Tables::baseline_of(Protocol::MsiE);
-    same(&rt, &certified(&own), &Certificate::NeverStuck);
-    same(&rt, &counts(Tables::baseline()), &(34, 8));
-    same(&rt, &counts(own), &(37, 11));
+    same(&rt, &certified(rt.alloc(), &own), &Answer::NeverStuck);
+    same(&rt, &counts(rt.alloc(), Tables::baseline()), &(34, 8));
+    same(&rt, &counts(rt.alloc(), own), &(37, 11));
     let actions = [CacheAction::DataReq, CacheAction::DataDir];
     let kept = acting(&rt, CacheState::E, &actions);
     let mut tables = own;
     tables.cache = own.cache.with(CacheState::E, CacheEvent::FwdGetS, kept);
     let cell = CellPlace::Cache(CacheState::E, CacheEvent::FwdGetS);
-    same(&rt, &certified(&tables), &Certificate::NotProved(cell));
+    same(
+        &rt,
+        &certified(rt.alloc(), &tables),
+        &Answer::NotProved(cell),
+    );
     same(&rt, &standing_of(&tables, cell), &Standing::Open);
+}
+
+/// Three caches don't break these tables; four do.
+#[test]
+fn a_table_that_four_caches_break(rt: HostRuntime) {
+    let own = Tables::baseline_of(Protocol::MsiE);
+    let actions = DirectoryActions::of(&[DirectoryAction::AddOwner]).expect(&rt, "few actions");
+    let next = DirectoryState::M;
+    let entry = DirectoryEntry::Act { next, actions };
+    let mut tables = own;
+    tables.directory = own
+        .directory
+        .with(DirectoryState::M, DirectoryEvent::PutSNotLast, entry);
+    let cell = CellPlace::Directory(DirectoryState::M, DirectoryEvent::PutSNotLast);
+    same(
+        &rt,
+        &certified(rt.alloc(), &tables),
+        &Answer::NotProved(cell),
+    );
 }

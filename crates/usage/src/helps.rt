@@ -176,10 +176,12 @@ Example:
 pub const CERTIFY: &str =
     r#"FILE has changed cells, in JSON (docs/FORMATS.md, section 6; examples/tables).
 
-Printed is `safe` where it is proved that no run breaks coherence, and what is known of waiting: `never
-stuck`, or the cell for which asks may be held or messages get stuck; or `unknown`, and the cell that
-stands against a proof. That doesn't say unsafe: examples/exhaust/run tries all schedules of a few caches.
-Each changed cell follows, with why it may be so; and where it is known, steps that get stuck.
+Printed is `safe` where it is proved that no run breaks coherence, for any number of caches, and what is
+known of waiting: `never stuck`, or that asks may be held or messages get stuck; or `unknown`, the cell
+that stands against a proof, and two caches that aren't ruled out. That doesn't say unsafe:
+examples/decide looks for a race of a few caches. Each changed cell follows, with why it may be so; where
+it is known, steps that get stuck; and with --pairs the pairs of caches that show it, an object in JSON a
+line (docs/CERTIFY.md).
 
 Status: 0 safe, 1 unknown, 2 wrong words or tables, 3 device or memory.
 

@@ -149,6 +149,14 @@ const JSON: Choice = Choice {
     left_out: LeftOut::Nothing,
 };
 
+const PAIRS: Choice = Choice {
+    name: "pairs",
+    value: "",
+    help: "Prints the pairs of caches too, where they are closed under the tables",
+    takes: Takes::Nothing,
+    left_out: LeftOut::Nothing,
+};
+
 const OBJECTS: Choice = Choice {
     takes: Takes::NothingBeside("tsv"),
     ..JSON
@@ -309,7 +317,7 @@ const COMMANDS: [Usage; 12] = [
     Usage {
         name: "certify",
         about: "Says whether tables are proved safe, and never stuck, and names the first cell that stands against it",
-        choices: &[PROTOCOL, TABLES, JSON],
+        choices: &[PROTOCOL, TABLES, JSON, PAIRS],
         after: helps::CERTIFY,
     },
     Usage {

@@ -1,0 +1,230 @@
+//! Whether three ranked pairs of three caches stay among these where one of the caches takes a step.
+
+ghost use Rattle.std.specs.Prelude.{◌≡◌, ◌≤◌, ◌<◌, ℕ, IsTrue, Some, length, slice_get};
+ghost use Rattle.closing.specs.declared.following.Followed.{Followed};
+ghost use Rattle.closing.specs.declared.ranked.RankedPair.{RankedPair};
+ghost use Rattle.closing.specs.inner.Told.{AreOne};
+ghost use Rattle.closing.specs.inner.RankedTold.{GlueRankedTogether, GluesRanked, GluesRankedAt, GluesRankedOver, GluesRankedWith};
+
+use crate::following::Followed;
+use crate::glueing::{are_apart, glued, is_one};
+use crate::numbering::{Numbers, Span};
+use crate::ranked::RankedPair;
+use crate::ranked_index::{RankedIndex, is_listed};
+use pairs::Party;
+
+/// Whether a step, as two ranked pairs of its actor see it, leads to one of these in the third one, and in that of the cache that
+/// it doesn't concern.
+fn is_glued(
+    list: &[RankedPair],
+    index: &RankedIndex,
+    neighbour: &RankedPair,
+    between: &RankedPair,
+    one: &Followed,
+    other: &Followed,
+) -> bool
+    ensures { IsTrue result → GluesRanked list.now neighbour.now between.now one.now other.now }
+{
+    let kept = match (one.concerned, other.concerned) {
+        (Party::Second, Party::Third) => {
+            let order = neighbour.order.after(other.rule);
+            is_listed(list, index, &RankedPair::of(&other.after, order))
+        }
+        (Party::Nobody, Party::Nobody)
+        | (Party::Third, Party::Third)
+        | (Party::Third, Party::Second) => true,
+        _ => return true,
+    };
+    let pair = glued(&one.after, &other.after, &between.pair);
+    kept && (!pair.fits() || is_listed(list, index, &RankedPair::of(&pair, between.order)))
+}
+
+/// Whether a step is glued over each third pair that stands within a span and has this number as its second one.
+fn is_glued_within(
+    list: &[RankedPair],
+    index: &RankedIndex,
+    numbers: &Numbers,
+    span: Span,
+    second: usize,
+    neighbour: &RankedPair,
+    one: &Followed,
+    other: &Followed,
+) -> bool
+    ensures { IsTrue result → GluesRankedOver list.now numbers.now.seconds.items span second neighbour.now one.now other.now }
+{
+    for place in span.begin..span.end {
+        if !is_glued_over(list, index, numbers, place, second, neighbour, one, other) {
+            return false;
+        }
+    }
+    true
+}
+
+/// Whether a step is glued over the pair at a place, if that has this number as its second one.
+fn is_glued_over(
+    list: &[RankedPair],
+    index: &RankedIndex,
+    numbers: &Numbers,
+    place: usize,
+    second: usize,
+    neighbour: &RankedPair,
+    one: &Followed,
+    other: &Followed,
+) -> bool
+    ensures { IsTrue result → (r : RankedPair) → slice_get numbers.now.seconds.items place ≡ Some second → slice_get list.now place ≡ Some r →
+        GluesRanked list.now neighbour.now r one.now other.now }
+{
+    let (Some(number), Some(between)) = (numbers.seconds.get(place), list.get(place)) else {
+        return true;
+    };
+    *number != second || is_glued(list, index, neighbour, between, one, other)
+}
+
+/// Whether a step is glued so with each of these that is one with it.
+fn is_glued_to(
+    list: &[RankedPair],
+    index: &RankedIndex,
+    numbers: &Numbers,
+    span: Span,
+    second: usize,
+    neighbour: &RankedPair,
+    one: &Followed,
+    theirs: &[Followed],
+) -> bool
+    ensures { IsTrue result → (n : ℕ) (g : Followed) → slice_get theirs.now n ≡ Some g → AreOne one.now g →
+        GluesRankedOver list.now numbers.now.seconds.items span second neighbour.now one.now g }
+{
+    for other in theirs {
+        if !may_be_glued(list, index, numbers, span, second, neighbour, one, other) {
+            return false;
+        }
+    }
+    true
+}
+
+/// Whether two steps aren't one or are glued so.
+fn may_be_glued(
+    list: &[RankedPair],
+    index: &RankedIndex,
+    numbers: &Numbers,
+    span: Span,
+    second: usize,
+    neighbour: &RankedPair,
+    one: &Followed,
+    other: &Followed,
+) -> bool
+    ensures { IsTrue result → AreOne one.now other.now →
+        GluesRankedOver list.now numbers.now.seconds.items span second neighbour.now one.now other.now }
+{
+    !is_one(one, other)
+        || is_glued_within(list, index, numbers, span, second, neighbour, one, other)
+}
+
+/// Whether all steps of two pairs that begin alike are glued so.
+fn are_glued_within(
+    list: &[RankedPair],
+    index: &RankedIndex,
+    numbers: &Numbers,
+    span: Span,
+    second: usize,
+    neighbour: &RankedPair,
+    mine: &[Followed],
+    theirs: &[Followed],
+) -> bool
+    ensures { IsTrue result → GlueRankedTogether list.now numbers.now.seconds.items span second neighbour.now mine.now theirs.now }
+{
+    for one in mine {
+        if !is_glued_to(list, index, numbers, span, second, neighbour, one, theirs) {
+            return false;
+        }
+    }
+    true
+}
+
+/// Whether the pair at a place is glued with each that begins like it.
+fn is_glued_at(
+    list: &[RankedPair],
+    index: &RankedIndex,
+    numbers: &Numbers,
+    steps: &[Vec<Followed>],
+    place: usize,
+) -> bool
+    ensures { IsTrue result → GluesRankedAt list.now numbers.now steps.now place }
+{
+    let (Some(ranked), Some(mine), Some(first), Some(second)) = (
+        list.get(place),
+        steps.get(place),
+        numbers.firsts.get(place),
+        numbers.seconds.get(place),
+    ) else {
+        return false;
+    };
+    let (Some(beside), Some(between)) = (numbers.spans.get(*first), numbers.spans.get(*second))
+    else {
+        return false;
+    };
+    is_glued_beside(list, index, numbers, steps, ranked, mine, *beside, *between)
+}
+
+/// Whether a pair is glued with each that stands within a span.
+fn is_glued_beside(
+    list: &[RankedPair],
+    index: &RankedIndex,
+    numbers: &Numbers,
+    steps: &[Vec<Followed>],
+    ranked: &RankedPair,
+    mine: &[Followed],
+    beside: Span,
+    between: Span,
+) -> bool
+    ensures { IsTrue result → (j : ℕ) → beside.begin ≤ j → j < beside.end →
+        GluesRankedWith list.now numbers.now.seconds.items steps.now ranked.now mine.now between j }
+{
+    for other in beside.begin..beside.end {
+        if !is_glued_with(list, index, numbers, steps, ranked, mine, between, other) {
+            return false;
+        }
+    }
+    true
+}
+
+/// Whether a pair is glued with the one at a place.
+fn is_glued_with(
+    list: &[RankedPair],
+    index: &RankedIndex,
+    numbers: &Numbers,
+    steps: &[Vec<Followed>],
+    ranked: &RankedPair,
+    mine: &[Followed],
+    between: Span,
+    place: usize,
+) -> bool
+    ensures { IsTrue result → GluesRankedWith list.now numbers.now.seconds.items steps.now ranked.now mine.now between place }
+{
+    let (Some(other), Some(theirs), Some(second)) = (
+        list.get(place),
+        steps.get(place),
+        numbers.seconds.get(place),
+    ) else {
+        return true;
+    };
+    !are_apart(&ranked.pair.first_names, &other.pair.first_names)
+        || are_glued_within(list, index, numbers, between, *second, other, mine, theirs)
+}
+
+/// Whether all pairs are.
+pub(crate) fn are_glued(
+    list: &[RankedPair],
+    index: &RankedIndex,
+    numbers: &Numbers,
+    steps: &[Vec<Followed>],
+) -> bool
+    ensures { IsTrue result → (place : ℕ) → place < length list.now → GluesRankedAt list.now numbers.now steps.now place }
+{
+    for place in 0..list.len() {
+        if !is_glued_at(list, index, numbers, steps, place) {
+            return false;
+        }
+    }
+    true
+}
