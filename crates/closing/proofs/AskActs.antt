@@ -66,8 +66,11 @@ not-absent E h = refl
 pub plain-replies : (tags : Tags) (b : BlockState) (a : ℕ) (by : Lag) (w u : Traffic) (x : ℕ) (f : Face) → owed_on u x ≡ owed_to b x →
     answered (not (owed_on u x == 0)) Nobody by (pair_of f (face tags b x) tags b.home w a x) ≡ Some (pair_of f (face_on tags b u tags.lag x) tags b.home w a x)
 plain-replies tags b a by w u x f owed =
-    ap (λ (n : ℕ). Some (pair_of f (record { line = line_of b.lines x; fresh = tags.line x; owed = record { any = not (n == 0); lag = tags.lag x } }) tags b.home
-    w a x)) (sym owed)
+    ap (λ (n : ℕ). Some (pair_of f (record {
+      line = line_of b.lines x;
+      fresh = tags.line x;
+      owed = record { any = not (n == 0); lag = tags.lag x };
+    }) tags b.home w a x)) (sym owed)
 
 -- where no ack is sent or taken, all lags stay
 pub still-law : (tags : Tags) (b : BlockState) (a : ℕ) (line : Line) (u : Traffic) → Faithful tags b → line.acks ≡ (line_of b.lines a).acks →

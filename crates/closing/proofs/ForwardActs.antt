@@ -201,13 +201,15 @@ module _ (tables : Tables) (caches : ℕ) (tags : Tags) (b : BlockState) (cache 
       by_line TakesHead t (party_of to a x) (besides (party_of to a x)) event_of y (pair_of (mine line) (face tags b x) tags b.home w a x)
   head-start line same y cell t x ne =
       ap (λ (l : List Forward). head_seen tables t (map (place a) l) (map (λ m. m.requestor.0 == x) l) (alpha tags b a x)) whole-link
-      ∙ ap (λ (l : Line). at_line tables TakesHead t (requestor (place a f) (f.requestor.0 == x)) (besides (requestor (place a f) (f.requestor.0 == x))) event_of
+      ∙ ap (λ (l : Line). at_line tables TakesHead t (requestor (place a f) (f.requestor.0 == x)) (besides (requestor (place a f) (f.requestor.0 == x)))
+      event_of
       (unnamed (requestor (place a f) (f.requestor.0 == x)) f.kind
       (headless (map (place a) rest) (map (λ m. m.requestor.0 == x) rest) (pair_of (mine l) (face tags b x) tags b.home b.traffic a x)))) same
       ∙ ap (λ (q : Pair). at_line tables TakesHead t (requestor (place a f) (f.requestor.0 == x)) (besides (requestor (place a f) (f.requestor.0 == x)))
       event_of q)
       (behind-head (mine line) (face tags b x) x ne)
-      ∙ ap (λ (y : CacheEntry). by_line TakesHead t (requestor (place a f) (f.requestor.0 == x)) (besides (requestor (place a f) (f.requestor.0 == x))) event_of y
+      ∙ ap (λ (y : CacheEntry). by_line TakesHead t (requestor (place a f) (f.requestor.0 == x)) (besides (requestor (place a f) (f.requestor.0 == x)))
+      event_of y
       (pair_of (mine line) (face tags b x) tags b.home w a x)) cell
       ∙ ap (λ (p : Party). by_line TakesHead t p (besides p) event_of y (pair_of (mine line) (face tags b x) tags b.home w a x))
       (same-party f.kind f.requestor a x)

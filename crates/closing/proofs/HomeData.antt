@@ -159,7 +159,8 @@ module _ (tags : Tags) (b : BlockState) (index : ℕ) (by : Place) (value acks :
         let owner : sum_by (owner_data c) (remove b.traffic.responses index) ≡ sum_by (owner_data c) b.traffic.responses = sum-left (owner_data c)
         (no-owner c by) in
         let excl : sum_by (excl_data c) (remove b.traffic.responses index) ≡ sum_by (excl_data c) b.traffic.responses = sum-left (excl_data c) refl in
-        (λ i. side_of (record (face tags b c) { owed = record { any = not (owed-left c i == 0); lag = tags.lag c } }) tags b.home (response_taken index b.traffic) c)
+        (λ i. side_of (record (face tags b c) { owed = record { any = not (owed-left c i == 0); lag = tags.lag c } }) tags b.home
+        (response_taken index b.traffic) c)
         ∙ same_responses (side tags b c) _ _ _ _ _ _ _ _ dir owner excl (λ i. tags.data_to c || (dir i + owner i + excl i == 0))
 
     pub home-left : sum_by home_data (remove b.traffic.responses index) + 1 ≡ sum_by home_data b.traffic.responses

@@ -40,8 +40,8 @@ use Rattle.closing.proofs.Simulation.{HomeActs, HomeMoves}
 use Rattle.closing.proofs.HomeSending.{at}
 use Rattle.closing.proofs.HomeScene.{Frame, frame_of, scene_of, third_of, third-fits, owner-seen_of, scene-left}
 use Rattle.closing.proofs.HomeActing.{IsAt}
-use Rattle.closing.proofs.HomeData.{data_tags_after, all-data, all-true, acks-left, data-lags, owed-left, side-left, home-left, home-there, pair-left, value-true}
-use Rattle.closing.proofs.HomeData.{left-true}
+use Rattle.closing.proofs.HomeData.{data_tags_after, all-data, all-true, acks-left, data-lags, owed-left, side-left, home-left, home-there, pair-left}
+use Rattle.closing.proofs.HomeData.{left-true, value-true}
 use Rattle.closing.proofs.RequestTaken.{some-seen}
 use Rattle.closing.proofs.RequestEnds.{looked-few}
 

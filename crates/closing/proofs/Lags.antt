@@ -98,7 +98,8 @@ ahead-awaits (negsuc m) o h few = record { lag = (grind (arith, ints, h), few); 
 some-if : (o : ℕ) → (o == 0) ≡ false → 1 ≤ o
 some-if o e = let ne = differ-if o 0 e in omega (arith, ne)
 
-awaits-if : (l k : Lag) (a : ℤ) (n o : ℕ) (none : Bool) → (o == 0) ≡ none → LagIs l (a +ℤ pos n) o → acks_awaited l (not none) ≡ Some k → Awaits l k (more_acks a n) o
+awaits-if : (l k : Lag) (a : ℤ) (n o : ℕ) (none : Bool) → (o == 0) ≡ none → LagIs l (a +ℤ pos n) o → acks_awaited l (not none) ≡ Some k →
+    Awaits l k (more_acks a n) o
 awaits-if Behind Behind a n o true z h e = behind-none a n o h (same-if o 0 z)
 awaits-if Behind Level a n o true z h e = absurd (cc)
 awaits-if Behind Ahead a n o true z h e = absurd (cc)

@@ -119,8 +119,8 @@ pub looked-lost : (concerned : Party) (p : Pair) → is_few p ≡ false → look
 looked-lost concerned p few = ap (λ (t : Bool). if t then (if fits p then Seen concerned p else Unmoved) else Lost) few
 
 module _ (tables : Tables) (caches : ℕ) (tags : Tags) (b : BlockState) (cache : CacheId) (line : Line) (input : LineInput) (next : CacheState)
-    (actions : List CacheAction) (from : Origin) (rule : Rule) (e : CacheEvent) (fresh : Bool) (owed : Owing) (whole : IsBlockAmong caches b) (faithful : Faithful tags b)
-    (h : Acting tables tags b cache line input next actions from rule e fresh owed) where
+    (actions : List CacheAction) (from : Origin) (rule : Rule) (e : CacheEvent) (fresh : Bool) (owed : Owing) (whole : IsBlockAmong caches b)
+    (faithful : Faithful tags b) (h : Acting tables tags b cache line input next actions from rule e fresh owed) where
   abbrev a : ℕ
   a = cache.0
 

@@ -117,7 +117,8 @@ fresh-left tag before after n some same = ap (λ (t : Bool). t || (n == 0)) (or-
 abbrev pub valued : Line → ℕ → ℤ → Line
 valued l value acks = record l { value = value; acks = acks }
 
-module _ (tags : Tags) (home : Home) (w : Traffic) (i : ℕ) (r : Response) (e : Some r ≡ slice_get w.responses i) (c : ℕ) (l : Line) (fresh : Bool) (owed : Owing) where
+module _ (tags : Tags) (home : Home) (w : Traffic) (i : ℕ) (r : Response) (e : Some r ≡ slice_get w.responses i) (c : ℕ) (l : Line) (fresh : Bool)
+    (owed : Owing) where
   abbrev before : Side
   before = side_of (record { line = l; fresh = fresh; owed = owed }) tags home w c
 

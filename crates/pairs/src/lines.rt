@@ -126,28 +126,6 @@ fn see_answered(
     look_at(concerned, &after)
 }
 
-/// What a cell of the caches' table makes of a pair from which the input was taken.
-fn see_act(
-    rule: Rule,
-    guess: bool,
-    to: Party,
-    concerned: Party,
-    event: CacheEvent,
-    next: CacheState,
-    actions: &[CacheAction],
-    pair: &Pair,
-) -> Sight
-    requires few { is_few pair.now ≡ true }
-    requires marked { IsMarked pair.now }
-    ensures seen { result ≡ by_line rule guess to concerned event (Entry.Act next actions.now) pair.now }
-    ensures followed { IsFollowed result }
-{
-    match answered(guess, to, answer(event, actions), pair) {
-        Some(answered) => see_answered(rule, to, concerned, next, actions, &answered),
-        None => Sight::Lost,
-    }
-}
-
 /// What an entry of the caches' table makes of a pair from which the input was taken.
 fn see_entry(
     rule: Rule,
@@ -168,7 +146,10 @@ fn see_entry(
         Entry::Blank => Sight::Spoilt(concerned),
         Entry::Act { next, actions } => {
             let actions = actions.as_slice();
-            see_act(rule, guess, to, concerned, event, *next, actions, pair)
+            match answered(guess, to, answer(event, actions), pair) {
+                Some(answered) => see_answered(rule, to, concerned, *next, actions, &answered),
+                None => Sight::Lost,
+            }
         }
     }
 }
