@@ -15,9 +15,8 @@ use Rattle.network.specs.declared.message.ForwardKind.TheVariants.{FwdGetS, FwdG
 use Rattle.network.specs.declared.message.Response.{Response}
 use Rattle.network.specs.declared.message.Response.TheVariants.{Data, InvAck, DataExcl}
 use Rattle.network.specs.Traffic.{link}
-use Rattle.directory_table.specs.declared.state.DirectoryState.{DirectoryState}
 use Rattle.both_tables.specs.Tables.{Tables}
-use Rattle.machine.specs.Block.{BlockState, IsBlockAmong, AllFrom}
+use Rattle.machine.specs.Block.{BlockState, IsBlockAmong}
 use Rattle.machine.proofs.Counts.{only, total, link-total}
 use Rattle.machine.proofs.Seen.{from, is_gets, is_getm, is_puts, is_putm, names, is_fwd_gets, is_fwd_getm, is_inv, of_kind, dir_data, owner_data, excl_data}
 use Rattle.machine.proofs.Seen.{home_data, inv_ack}
@@ -30,15 +29,16 @@ use Rattle.closing.specs.declared.ranked.Order.{Order}
 use Rattle.closing.specs.declared.ranked.Order.TheVariants.{After}
 use Rattle.closing.specs.declared.ranked.RankedPair.{RankedPair}
 use Rattle.closing.specs.Ranked.{is_busy, awaited}
-use Rattle.closing.specs.Blamed.{holds_head, holds_side, holds_home_data, is_held, is_noisy, requests_of, is_named, awaits_home}
+use Rattle.closing.specs.Blamed.{holds_side, holds_home_data, is_held, is_noisy, requests_of, is_named, awaits_home}
 use Rattle.closing.specs.Blamed.{IsBlamed, Blamed}
 use Rattle.closing.proofs.Alpha.{Tags, alpha, side, shared, names_on, Faithful, owed_to}
-use Rattle.closing.proofs.AlphaFits.{places, all-four, both, Weighs, weighs-gets, weighs-getm, weighs-inv, own-sum, marks-sum}
+use Rattle.closing.proofs.AlphaFits.{places, both, Weighs, weighs-gets, weighs-getm, weighs-inv, own-sum, marks-sum}
 use Rattle.closing.proofs.LineActing.{both-true, same-if}
 use Rattle.closing.proofs.Simulation.{next-other}
 use Rattle.closing.proofs.Serving.{Placed, Served, IsOrder}
 use Rattle.closing.proofs.Sharings.{IsLevel}
-use Rattle.closing.proofs.Receivers.{Received, AllGoBelow, GoesBelow}
+use Rattle.closing.proofs.Receivers.{Received}
+use Rattle.closing.proofs.Absent.{idle-held, none-from, none-to, no-dir, no-owner, no-excl, no-ack}
 use Rattle.closing.proofs.Delivering.{not-zero, side-found, home_data-found, inv_ack-found}
 
 -- TESTS
@@ -87,60 +87,6 @@ counts-some f (x ∷ xs) h = λ e. absurd (omega (arith, e))
 places-length : (c : ℕ) (fs : List Forward) → length (places c fs) ≡ length fs
 places-length c [] = refl
 places-length c (f ∷ fs) = omega (arith, places-length c fs)
-
--- IDLE CACHES
--- all messages of a cache without any are held
-idle-held : (tables : Tables) (h : DirectoryState) (s : Side) → s.link ≡ [] → s.gets ≡ 0 → s.getm ≡ 0 → s.puts ≡ 0 → s.putm ≡ 0 → s.dir_data ≡ 0 →
-    s.owner_data ≡ 0 → s.excl_data ≡ 0 → holds_side tables h s ≡ true
-idle-held tables h s l g m ps pm d o x =
-    both _ _ (both _ _ (ap (λ (xs : List LinkPlace). holds_head tables s.state xs) l)
-    (all-four _ _ _ _ (none s.gets _ g) (none s.getm _ m) (none s.puts _ ps) (none s.putm _ pm)))
-    (both _ _ (both _ _ (none s.dir_data _ d) (none s.owner_data _ o)) (none s.excl_data _ x))
-  where
-    none : (n : ℕ) (t : Bool) → n ≡ 0 → (n == 0) || t ≡ true
-    none n t e = ap (λ (k : ℕ). (k == 0) || t) e
-
-none-from : (n c : ℕ) (kind : RequestKind → ℕ) (rs : List Request) → AllFrom n rs → n ≤ c → sum_by (from c kind) rs ≡ 0
-none-from n c kind [] h le = refl
-none-from n c kind (r ∷ rs) h le =
-    omega (
-      arith,
-      sum_by-cons (from c kind) r rs,
-      none-from n c kind rs h.1 le,
-      ap (λ (t : Bool). only t (kind r.kind)) (ne_eqb r.from.0 c (λ e. absurd (omega (arith, e, h.0, le)))),
-    )
-
--- a weight that is none for whatever goes to caches that are there is none for another one
-none-to : (n : ℕ) (f : Response → ℕ) (rs : List Response) → ((r : Response) → GoesBelow n r → f r ≡ 0) → AllGoBelow n rs → sum_by f rs ≡ 0
-none-to n f [] none h = refl
-none-to n f (r ∷ rs) none h = omega (arith, sum_by-cons f r rs, none r h.0, none-to n f rs none h.1)
-
-not-here : (to n c k : ℕ) → to < n → n ≤ c → only (to == c) k ≡ 0
-not-here to n c k lt le = ap (λ (t : Bool). only t k) (ne_eqb to c (λ e. absurd (omega (arith, e, lt, le))))
-
-no-dir : (n c : ℕ) → n ≤ c → (r : Response) → GoesBelow n r → dir_data c r ≡ 0
-no-dir n c le (Data Dir (Cache to) value acks) h = not-here to.0 n c 1 h le
-no-dir n c le (Data Dir Dir value acks) h = refl
-no-dir n c le (Data (Cache by) to value acks) h = refl
-no-dir n c le (InvAck by to) h = refl
-no-dir n c le (DataExcl to value) h = refl
-
-no-owner : (n c : ℕ) → n ≤ c → (r : Response) → GoesBelow n r → owner_data c r ≡ 0
-no-owner n c le (Data (Cache by) (Cache to) value acks) h = not-here to.0 n c 1 h le
-no-owner n c le (Data (Cache by) Dir value acks) h = refl
-no-owner n c le (Data Dir to value acks) h = refl
-no-owner n c le (InvAck by to) h = refl
-no-owner n c le (DataExcl to value) h = refl
-
-no-excl : (n c : ℕ) → n ≤ c → (r : Response) → GoesBelow n r → excl_data c r ≡ 0
-no-excl n c le (DataExcl to value) h = not-here to.0 n c 1 h le
-no-excl n c le (Data by to value acks) h = refl
-no-excl n c le (InvAck by to) h = refl
-
-no-ack : (n c : ℕ) → n ≤ c → (r : Response) → GoesBelow n r → inv_ack c r ≡ 0
-no-ack n c le (InvAck by to) h = not-here to.0 n c 1 h le
-no-ack n c le (Data by to value acks) h = refl
-no-ack n c le (DataExcl to value) h = refl
 
 -- NOISE
 busy-linked : (s : Side) → length s.link ≢ 0 → is_busy s ≡ true

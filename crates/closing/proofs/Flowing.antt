@@ -34,7 +34,8 @@ use Rattle.machine.proofs.Opened.{linkless}
 use Rattle.machine.proofs.Quiet.{IsQuiet, quiet-told, quiet-tells}
 use Rattle.machine.proofs.Runs.{EachBlock, Guards, guarded, next-each}
 use Rattle.machine.proofs.Safety.{few-enough}
-use Rattle.machine.proofs.Seen.{names, is_fwd_gets, is_fwd_getm, is_inv, inv_ack, dir_data, owner_data, excl_data, from, is_gets, is_getm, is_puts, is_putm, of_kind, home_data}
+use Rattle.machine.proofs.Seen.{names, is_fwd_gets, is_fwd_getm, is_inv, inv_ack, dir_data, owner_data, excl_data, of_kind, home_data}
+use Rattle.machine.proofs.Seen.{from, is_gets, is_getm, is_puts, is_putm}
 use Rattle.machine.proofs.Sound.{line_of-there}
 use Rattle.machine.proofs.Whole.{whole-carried_out}
 use Rattle.pairs.specs.declared.pair.Pair.{Pair}
@@ -232,7 +233,8 @@ module _ (tables : Tables) (pairs : List Pair) (list : List RankedPair) (caches 
   all-silent : (c : ℕ) → is_silent (alpha tags b c (c + 1)) ≡ true
   all-silent c =
       silent (is_open (seen c)) (requests_of (seen c)) (sum_by home_data b.traffic.responses)
-      (shut (seen c) (omega (arith, no-response (dir_data c), no-response (owner_data c), no-response (excl_data c))) (ap (λ (fs : List Forward). length (places c fs)) (quiet.links c)) (nothing-owed c)
+      (shut (seen c) (omega (arith, no-response (dir_data c), no-response (owner_data c), no-response (excl_data c)))
+      (ap (λ (fs : List Forward). length (places c fs)) (quiet.links c)) (nothing-owed c)
       (no-total (names c is_fwd_gets)) (no-total (names c is_fwd_getm)))
       (omega (arith, no-request (from c is_gets), no-request (from c is_getm), no-request (from c is_puts), no-request (from c is_putm)))
       (no-response home_data)

@@ -53,6 +53,7 @@ pub mod Serving
 pub mod Sharings
 pub mod Receivers
 pub mod Delivering
+pub mod Absent
 pub mod Descending
 pub mod Flowing
 pub mod RankedChecked

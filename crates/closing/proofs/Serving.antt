@@ -99,7 +99,8 @@ leads-in list First r h ne = h
 leads-in list Second r h ne = h
 leads-in list Third r h ne = absurd (ne refl)
 
-module _ (tables : Tables) (list : List RankedPair) (caches : ℕ) (tags : Tags) (b new : BlockState) (ranks : Ranked tables list) (served : Served list tags b) where
+module _ (tables : Tables) (list : List RankedPair) (caches : ℕ) (tags : Tags) (b new : BlockState) (ranks : Ranked tables list)
+    (served : Served list tags b) where
   -- STEPS OF A CACHE
   module _ (whole : IsBlockAmong caches new) (m : Moves tables tags b new) where
     abbrev times_after : ℕ → ℕ

@@ -10,7 +10,8 @@ loop-one-preserved c =
     below_more (λ m. (f : Followed) → slice_get c.args.mine.now m ≡ Some f → (n : ℕ) (g : Followed) → slice_get c.args.theirs.now n ≡ Some g → AreOne f g →
     GluesRankedOver c.args.list.now c.args.numbers.now.seconds.items c.args.span c.args.second c.args.neighbour.now f g) _ c.loop-one.invariant
     (λ f at. subst (λ (x : Followed). (n : ℕ) (g : Followed) → slice_get c.args.theirs.now n ≡ Some g → AreOne x g →
-    GluesRankedOver c.args.list.now c.args.numbers.now.seconds.items c.args.span c.args.second c.args.neighbour.now x g) (c.one-item.is ∙ read c.args.mine.now _ f _ at)
+    GluesRankedOver c.args.list.now c.args.numbers.now.seconds.items c.args.span c.args.second c.args.neighbour.now x g)
+    (c.one-item.is ∙ read c.args.mine.now _ f _ at)
     (c.is_glued_to.ensures c.if-not-is_glued_to.false))
 
 pub returns : goal.returns

@@ -10,7 +10,8 @@ loop-other-preserved c =
     below_more (λ n. (g : Followed) → slice_get c.args.theirs.now n ≡ Some g → AreOne c.args.one.now g →
     GluesRankedOver c.args.list.now c.args.numbers.now.seconds.items c.args.span c.args.second c.args.neighbour.now c.args.one.now g) _ c.loop-other.invariant
     (λ g at. subst (λ (x : Followed). AreOne c.args.one.now x →
-    GluesRankedOver c.args.list.now c.args.numbers.now.seconds.items c.args.span c.args.second c.args.neighbour.now c.args.one.now x) (c.other-item.is ∙ read c.args.theirs.now _ g _ at)
+    GluesRankedOver c.args.list.now c.args.numbers.now.seconds.items c.args.span c.args.second c.args.neighbour.now c.args.one.now x)
+    (c.other-item.is ∙ read c.args.theirs.now _ g _ at)
     (c.may_be_glued.ensures c.if-not-may_be_glued.false))
 
 pub returns : goal.returns

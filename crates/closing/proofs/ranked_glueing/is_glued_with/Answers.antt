@@ -14,7 +14,8 @@ returns-else-not-are_apart c = λ glued q theirs second at_q at_theirs at_second
     let same_second : found.second.now ≡ second =
     found.ensures''.lookup.1 ∙ ap (λ (xs : List ℕ). get_or xs c.args.place found.second.now) c.deref.ensures.value
     ∙ read c.args.numbers.now.seconds.items c.args.place second found.second.now at_second in
-    subst (λ (x : RankedPair). GlueRankedTogether c.args.list.now c.args.numbers.now.seconds.items c.args.between second x c.args.mine.now theirs.items) same_other
+    subst (λ (x : RankedPair). GlueRankedTogether c.args.list.now c.args.numbers.now.seconds.items c.args.between second x c.args.mine.now theirs.items)
+    same_other
     (subst (λ (n : ℕ). GlueRankedTogether c.args.list.now c.args.numbers.now.seconds.items c.args.between n found.other.now c.args.mine.now theirs.items)
     same_second
     (subst (λ (ts : List Followed).
