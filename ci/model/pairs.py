@@ -6,10 +6,11 @@ from collections import defaultdict, namedtuple
 from model.machine import MODIFIED, READERS, WRITERS
 from model.tables import STALL
 
+MOST = {"gets": 2, "getm": 2, "fwd_gets": 2, "fwd_getm": 2}
 COUNTS = "gets getm puts putm dir_data owner_data excl_data fwd_gets fwd_getm".split()
 TESTS = "fresh fresh_putm fresh_data low owed shares others".split()
 # A link has its messages in order, each with its kind and whether it names the very cache that it goes to.
-Side = namedtuple("Side", ["state", "waits", "owned", *COUNTS, *TESTS, "link"])
+Side = namedtuple("Side", ["state", "waits", "owned", "lag", *COUNTS, *TESTS, "link"])
 Home = namedtuple("Home", "state data fresh fresh_data")
 # Beside each side stand marks: which messages of its link name the other cache.
 Pair = namedtuple("Pair", "home first second first_names second_names")
@@ -18,7 +19,9 @@ Step = namedtuple("Step", "rule concerned after")
 
 NOBODY, FIRST, SECOND, THIRD = "nobody", "first", "second", "third"
 EVEN, ANNOUNCED, INVALIDATED, UNEVEN = "even", "announced", "invalidated", "uneven"
-OPENED = Side("I", None, NOBODY, *[0] * len(COUNTS), False, True, True, True, False, False, False, ())
+# Whether a cache awaits fewer Inv-Acks than are owed to it, as many, or more.
+BEHIND, LEVEL, AHEAD = "behind", "level", "ahead"
+OPENED = Side("I", None, NOBODY, LEVEL, *[0] * len(COUNTS), False, True, True, True, False, False, False, ())
 OPENED_PAIR = Pair(Home("I", 0, True, True), OPENED, OPENED, (), ())
 ALIKE = {(NOBODY, NOBODY), (THIRD, THIRD), (SECOND, THIRD), (THIRD, SECOND)}
 FORWARDS = {"fwd-gets": "Fwd-GetS", "fwd-getm": "Fwd-GetM"}
@@ -77,8 +80,8 @@ def fits(pair):
 
 def is_few(pair):
     sides = (pair.first, pair.second)
-    counts = [getattr(side, name) for side in sides for name in COUNTS]
-    return max(counts) <= 1 and pair.home.data <= 1 and all(len(side.link) <= 2 for side in sides)
+    counts = all(getattr(side, name) <= MOST.get(name, 1) for side in sides for name in COUNTS)
+    return counts and pair.home.data <= 1 and all(len(side.link) <= 2 for side in sides)
 
 
 def seen(concerned, pair):
@@ -100,6 +103,29 @@ def more(side, name, fresh=None):
         return side
     tag = "fresh_putm" if name == "putm" else "fresh_data"
     return side._replace(**{tag: getattr(side, tag) and fresh})
+
+
+def shifted(by, lag):
+    """A lag that is moved one way; where it stood on the other side that isn't followed."""
+    if by != LEVEL and lag not in (LEVEL, by):
+        raise Breach("Inv-Acks don't add up")
+    return lag if by == LEVEL else by
+
+
+def moved_by(event, acks):
+    """How so many Inv-Acks in answer to an event move what their receiver awaits beside what is owed to it."""
+    due = event == "Inv"
+    return LEVEL if acks == due else AHEAD if acks < due else BEHIND
+
+
+def answered(guess, to, by, pair):
+    """What an answer makes of the requestor: whether acks are still owed to it is guessed where it was one less."""
+    if to in (NOBODY, THIRD) or by == LEVEL:
+        return pair
+    if to == FIRST:
+        raise Breach("Inv-Acks don't add up")
+    second = pair.second
+    return pair._replace(second=second._replace(owed=guess if by == AHEAD else True, lag=shifted(by, second.lag)))
 
 
 def line_acted(to, fresh, action, pair):
@@ -148,7 +174,7 @@ def settled(concerned, rule, pair):
     return seen(concerned, pair)
 
 
-def at_line(tables, rule, to, event, pair):
+def at_line(tables, rule, guess, to, event, pair):
     """An event comes to the first cache's line, from a forward that names this cache, or from none."""
     concerned = NOBODY if to == FIRST else to
     entry = tables.cache.get((pair.first.state, event))
@@ -156,8 +182,7 @@ def at_line(tables, rule, to, event, pair):
         return spoilt(concerned)
     if entry == STALL:
         return None
-    if to != NOBODY and entry.actions.count("inv-ack") != (event == "Inv"):
-        raise Breach("Inv-Acks don't add up")
+    pair = answered(guess, to, moved_by(event, entry.actions.count("inv-ack")), pair)
     fresh = pair.first.fresh
     for action in entry.actions:
         pair = line_acted(to, fresh, action, pair)
@@ -219,7 +244,7 @@ def owner_added(scene):
     return resharing(scene)._replace(third=True) if scene.owner == THIRD else scene
 
 
-def answered(action, scene):
+def done_for(action, scene):
     """An action that a request alone has done."""
     pair, memory = scene.pair, scene.pair.home.fresh
     if action in ("data-req", "data-acks"):
@@ -249,7 +274,7 @@ def home_acted(asked, value, action, scene):
         return scene._replace(owner=NOBODY)
     if action == "copy-data" and value is not None:
         return scene._replace(pair=scene.pair._replace(home=scene.pair.home._replace(fresh=value)))
-    return answered(action, scene) if asked else scene
+    return done_for(action, scene) if asked else scene
 
 
 def owned_by(who, owner):
@@ -269,16 +294,17 @@ def at_home(tables, third, asked, value, event, pair):
     scene = Scene(pair, owner, third, EVEN)
     for action in entry.actions:
         scene = home_acted(asked, value, action, scene)
-    if scene.debt != EVEN:
+    if scene.debt == UNEVEN:
         raise Breach("Inv-Acks don't add up")
     pair, third = scene.pair, scene.third
-    first = pair.first._replace(others=pair.second.shares or third, owned=owned_by(FIRST, scene.owner))
+    lag = shifted({ANNOUNCED: AHEAD, INVALIDATED: BEHIND}.get(scene.debt, LEVEL), pair.first.lag)
+    first = pair.first._replace(lag=lag, others=pair.second.shares or third, owned=owned_by(FIRST, scene.owner))
     second = pair.second._replace(others=pair.first.shares or third, owned=owned_by(SECOND, scene.owner))
     home = pair.home._replace(state=entry.next)
     return seen(owner if names_owner else NOBODY, pair._replace(home=home, first=first, second=second))
 
 
-def head_seen(tables, pair):
+def head_seen(tables, guess, pair):
     """What is seen where the head of the first's link comes to its line."""
     if not pair.first.link:
         return None
@@ -289,7 +315,7 @@ def head_seen(tables, pair):
     if name and to in (FIRST, SECOND):
         side = getattr(pair, to)
         pair = pair._replace(**{to: side._replace(**{name: max(0, getattr(side, name) - 1)})})
-    return at_line(tables, "head", to, kind, pair)
+    return at_line(tables, "head", guess, to, kind, pair)
 
 
 def request_seen(tables, rule, third, pair):
@@ -312,37 +338,38 @@ def data_seen(tables, rule, pair):
     first = pair.first
     if not getattr(first, rule):
         return None
-    event = {
-        "dir_data": "Data-Dir-More" if first.owed else "Data-Dir-Zero",
-        "owner_data": "Data-Owner",
-        "excl_data": "Data-Dir-Excl",
-    }[rule]
-    left = first._replace(**{rule: getattr(first, rule) - 1})
+    left, event = first._replace(**{rule: getattr(first, rule) - 1}), {"owner_data": "Data-Owner", "excl_data": "Data-Dir-Excl"}.get(rule)
     if rule == "dir_data":
-        left = left._replace(low=not first.owed)
-    return at_line(tables, rule, NOBODY, event, pair._replace(first=trimmed(left._replace(fresh=first.fresh_data))))
+        awaited = shifted(AHEAD if first.owed else LEVEL, first.lag)
+        left, event = left._replace(low=awaited != AHEAD), "Data-Dir-Zero" if awaited == LEVEL else "Data-Dir-More"
+    return at_line(tables, rule, False, NOBODY, event, pair._replace(first=trimmed(left._replace(fresh=first.fresh_data))))
 
 
 def ack_seen(tables, rule, pair):
     _, last, owed = rule
     first = pair.first
-    right = first.dir_data != 0 or (not first.low and last == (not owed))
-    if not first.owed or (first.low and last) or not right:
+    fit = {
+        LEVEL: not first.low and last == (not owed),
+        AHEAD: not first.low and not last,
+        BEHIND: first.low or owed,
+    }[first.lag]
+    if not first.owed or (first.low and last) or not (first.dir_data or fit):
         return None
     left = first._replace(owed=owed, low=first.low or last)
-    return at_line(tables, rule, NOBODY, "Last-Inv-Ack" if last else "Inv-Ack", pair._replace(first=left))
+    return at_line(tables, rule, False, NOBODY, "Last-Inv-Ack" if last else "Inv-Ack", pair._replace(first=left))
 
 
-def sight(tables, rule, third, pair):
-    """What a step of the first cache by this rule makes of a pair, where a third cache shares or not."""
+def sight(tables, rule, guess, pair):
+    """What a step of the first cache by this rule makes of a pair: it is guessed whether a third cache shares, where that counts, and
+    of a head whether acks are still owed to the second."""
     if rule in ("load", "store", "replace"):
         event = {"load": "Load", "store": "Store", "replace": "Replacement"}[rule]
         is_idle = rule == "replace" and pair.first.state == "I"
-        return None if is_idle else at_line(tables, rule, NOBODY, event, pair)
+        return None if is_idle else at_line(tables, rule, guess, NOBODY, event, pair)
     if rule == "head":
-        return head_seen(tables, pair)
+        return head_seen(tables, guess, pair)
     if rule in ("gets", "getm", "puts", "putm"):
-        return request_seen(tables, rule, third, pair)
+        return request_seen(tables, rule, guess, pair)
     return data_seen(tables, rule, pair) if isinstance(rule, str) else ack_seen(tables, rule, pair)
 
 
@@ -385,12 +412,12 @@ class Closure:
         return set(self.steps)
 
     def steps_of(self, pair):
-        for third in (False, True):
-            told = home_data_seen(self.tables, third, pair)
+        for guess in (False, True):
+            told = home_data_seen(self.tables, guess, pair)
             if told:
                 self.add(told[1])
             for rule in RULES:
-                told = sight(self.tables, rule, third, pair)
+                told = sight(self.tables, rule, guess, pair)
                 if told:
                     if told[0] != THIRD:
                         self.add(told[1])
