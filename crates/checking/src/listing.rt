@@ -114,6 +114,11 @@ impl fmt::Display for SideObject {
             Owned::ByItself => "itself",
             Owned::ByAnother => "another",
         };
+        let lag = match self.side.lag {
+            Lag::Behind => "behind",
+            Lag::Level => "level",
+            Lag::Ahead => "ahead",
+        };
         let state = self.side.state.name();
         write!(
             f,
