@@ -34,7 +34,7 @@ FORMS = {
     "play": OUTCOME + rb"|violation " + VIOLATION,
     "replay": rb"same \d+|violation \d+ " + VIOLATION + rb"|differs \d+ told " + OUTCOME + rb" found " + OUTCOME,
     "tables": CELL,
-    "certify": rb"safe|unknown|never stuck|messages (may )?get stuck|a writer may stand beside a reader|too many messages|"
+    "certify": rb"safe|unknown|never stuck|asks may be held|messages (may )?get stuck|a writer may stand beside a reader|too many messages|"
     + rb"more pairs of caches than are followed|(cache [AB]|home): [^\n]+|"
     + CLOSED.encode()
     + rb"|"

@@ -127,8 +127,9 @@ def fault_by_pairs(tables, status, lines):
     """What is wrong with an answer about tables with a cell that isn't admitted, if anything is, besides the pairs themselves."""
     found, steps = list(reasons(tables)), jam_from(tables)
     if status == 0:
-        stuck = f"messages {'get' if steps else 'may get'} stuck"
-        wanted = ["safe", stuck, *lines[2:3], *(f"closed: {line}" for _, line in found), *shown(steps)]
+        flows = lines[1:2] in (["never stuck"], ["asks may be held"])
+        said = lines[1:2] if flows else [f"messages {'get' if steps else 'may get'} stuck"]
+        wanted = ["safe", *said, *lines[2:3], *(f"closed: {line}" for _, line in found), *shown(None if flows else steps)]
         is_right = lines == wanted and re.fullmatch(CLOSED, lines[2])
     else:
         front = ["unknown", next(f"{OPEN}: {line}" for reason, line in found if reason == OPEN)]
