@@ -10,7 +10,7 @@ use certify::Refusal;
 use console::{Format, Printer};
 use directory_table::DirectoryEvent;
 use network::ForwardKind;
-use pairs::{Owned, Pair, Rule};
+use pairs::{Lag, Owned, Pair, Rule};
 use std::io::Write;
 
 /// What is told of a pair that stands against tables.
@@ -98,8 +98,11 @@ fn met(pair: &Pair, rule: Rule) -> CellPlace {
         Rule::AsksStore => CacheEvent::Store,
         Rule::AsksReplacement => CacheEvent::Replacement,
         Rule::TakesHead => head_event(pair),
-        Rule::GetsDirData if line.owed => CacheEvent::DataDirMore,
-        Rule::GetsDirData => CacheEvent::DataDirZero,
+        Rule::GetsDirData => match line.lag.acks_awaited(line.owed) {
+            Some(Lag::Level) => CacheEvent::DataDirZero,
+            // Where it isn't known how many are awaited, either may come.
+            Some(Lag::Behind | Lag::Ahead) | None => CacheEvent::DataDirMore,
+        },
         Rule::GetsOwnerData => CacheEvent::DataOwner,
         Rule::GetsExclData => CacheEvent::DataDirExcl,
         Rule::GetsInvAck { last: true, .. } => CacheEvent::LastInvAck,
