@@ -158,7 +158,7 @@ fn each_cell_of_the_own_tables(rt: HostRuntime) {
     same(&rt, &certified(rt.alloc(), &own), &Answer::NeverStuck);
     for number in 0..CELLS {
         let cell = CellPlace::at(number).expect(&rt, "a cell");
-        is_certified(rt.alloc(), &rt, &own, cell);
+        is_certified(&rt, rt.alloc(), &own, cell);
     }
     same(&rt, &CellPlace::at(CELLS), &None);
 }
