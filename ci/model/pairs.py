@@ -392,7 +392,7 @@ class Closure:
 
     def __init__(self, tables):
         self.tables, self.steps, self.waiting = tables, {}, []
-        self.starting, self.between = defaultdict(list), defaultdict(list)
+        self.starting, self.ending, self.between = defaultdict(list), defaultdict(list), defaultdict(list)
         self.add(OPENED_PAIR)
 
     def add(self, pair):
@@ -427,6 +427,7 @@ class Closure:
         """Glues a pair as the first, as the second and as the third of three."""
         front = (pair.home, pair.first)
         self.starting[front].append(pair)
+        self.ending[(pair.home, pair.second)].append(pair)
         self.between[(*front, pair.second)].append(pair)
         for other in list(self.starting[front]):
             for third in list(self.between[(pair.home, pair.second, other.second)]):
@@ -434,11 +435,9 @@ class Closure:
             if other is not pair:
                 for third in list(self.between[(pair.home, other.second, pair.second)]):
                     self.glue(other, pair, third)
-        for turned in list(self.starting[front]):
-            one = swapped(turned)
-            if self.steps.get(one) is not None:
-                for other in list(self.between[(pair.home, one.first, pair.second)]):
-                    self.glue(one, other, pair)
+        for one in list(self.ending[front]):
+            for other in list(self.between[(pair.home, one.first, pair.second)]):
+                self.glue(one, other, pair)
 
     def glue(self, one, other, between):
         if any(mark and too for mark, too in zip(one.first_names, other.first_names)):
