@@ -39,7 +39,7 @@ FORMS = {
     + CLOSED.encode()
     + rb"|"
     + MET.encode()
-    + rb"|(messages (may )?get stuck|asks may be held|stall|never met|proved|not proved|closed): "
+    + rb"|(messages (may )?get stuck|asks may be held|stall|never met|not proved|closed): "
     + CELL
     + rb"|stuck with 3 caches after:|ask \d 0 (load|store 5|replace)|(request|forward|response) 0 \d|"
     + ADVICE.encode(),

@@ -5,16 +5,10 @@ from pathlib import Path
 
 from model.machine import World
 from model.recordings import cell_lines
-from model.tables import STALL, Act, baseline, sides_of
+from model.tables import STALL, baseline, sides_of
 from model.texts import step_of
 from model.trials import deliveries
 
-UNCHANGED = {"Load": "IS^D", "Store": "IM^AD IM^A SM^AD SM^A", "Replacement": "IS^D IM^AD IM^A S SM^AD SM^A M SI^A II^A"}
-PROVED = [("cache", event, state, Act((), state)) for event, states in UNCHANGED.items() for state in states.split()]
-PROVED += [
-    ("cache", "Replacement", "S", Act(("putm",), "SI^A")),
-    ("directory", "PutS-Last", "S", Act(("remove-req", "put-ack"), "S")),
-]
 ASKS = "Load Store Replacement".split()
 SETTLED = "I S M E".split()
 HOME_WAITS = {"S^D": "PutS-NotLast PutS-Last PutM-NonOwner", "I": "PutS-Last", "M": "PutS-Last"}
@@ -33,15 +27,13 @@ def schedules_of(protocol):
     return [line.split(": ") for line in (Path(__file__).parent / SCHEDULES[protocol]).read_text().splitlines()]
 
 
-def reason_of(name, event, state, own, entry):
+def reason_of(own, entry):
     """Why a cell may hold an entry, or that it may not; `None` where it is the protocol's own."""
     if entry == own:
         return None
     if entry == STALL:
         return "stall"
-    if own is None:
-        return "never met"
-    return "proved" if (name, event, state, entry) in PROVED else OPEN
+    return "never met" if own is None else OPEN
 
 
 def reasons(tables):
@@ -51,7 +43,7 @@ def reasons(tables):
         for state in side.states:
             for event in side.events:
                 place = state, event
-                reason = reason_of(name, event, state, getattr(own, name).get(place), getattr(tables, name).get(place))
+                reason = reason_of(getattr(own, name).get(place), getattr(tables, name).get(place))
                 line = next(spelled)
                 if reason:
                     yield reason, line

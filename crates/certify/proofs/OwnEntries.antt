@@ -1,8 +1,7 @@
 -- What a stall over an own entry comes to, and the reason for an entry, whatever the own ones are.
-use Rattle.std.proofs.Common.{◌≡◌, ◌≢◌, ◌⊎◌, inl, inr, List, Bool, true, false, not, MatchBool, sym, ◌∙◌, subst}
+use Rattle.std.proofs.Common.{◌≡◌, ◌≢◌, ◌⊎◌, inl, inr, Bool, true, false, not, MatchBool, sym, ◌∙◌, subst}
 use Rattle.base.specs.declared.controller.entry.Entry.{Entry}
 use Rattle.base.specs.declared.controller.entry.Entry.TheVariants.{Blank, Stall, Act}
-use Rattle.base.specs.declared.controller.entry.Change.{Change}
 use Rattle.certify.specs.Standings.{IsReason}
 use Rattle.certify.specs.declared.standings.Standing.{Standing}
 
@@ -23,7 +22,5 @@ jams May entry own stall blank false held s b m = λ flows. elim (flows held) [
 ]
 
 -- a reason is one for what is the same
-pub same-reason : {S E A : Type 0} (listed proved : List (Change S E A)) (x own : Entry S A) (d c : Change S E A) (s : Standing) → listed ≡ proved → x ≡ own →
-    d ≡ c → IsReason listed x d s → IsReason proved own c s
-same-reason listed proved x own d c s a b e h =
-    subst (λ y. IsReason proved own y s) e (subst (λ y. IsReason proved y d s) b (subst (λ y. IsReason y x d s) a h))
+pub same-reason : {S A : Type 0} (x own y entry : Entry S A) (s : Standing) → x ≡ own → y ≡ entry → IsReason x y s → IsReason own entry s
+same-reason x own y entry s e f h = subst (λ z. IsReason own z s) f (subst (λ z. IsReason z y s) e h)

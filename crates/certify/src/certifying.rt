@@ -16,13 +16,12 @@ ghost use Rattle.certify.specs.Standings.{IsAdmitted};
 ghost use Rattle.certify.specs.inner.Demands.{Meets};
 
 use crate::going::{holds_ask, is_jam};
+use crate::laws::certified_tables_are_safe;
 use crate::standings::{Standing, standing_of};
 use base::NoMemory;
 use both_tables::{CELLS, CellPlace, Tables};
-use closing::{
-    Flow, Refusal, blamed_tables_are_unstuck, closed_pairs, closed_tables_are_safe, flow_of,
-};
-use machine::{restrained_tables_are_safe, restrained_tables_are_unstuck};
+use closing::{Flow, Refusal, closed_pairs, flow_of};
+use machine::restrained_tables_are_safe;
 use pairs::Pair;
 use std::alloc::Global;
 
@@ -63,9 +62,7 @@ pub fn certify(alloc: Global, tables: &Tables) -> Certificate
         IsWithinLimits shape → length opening ≡ shape.blocks → Unstuck tables.now (after tables.now (opened shape opening) steps).state }
 {
     restrained_tables_are_safe();
-    restrained_tables_are_unstuck();
-    closed_tables_are_safe();
-    blamed_tables_are_unstuck();
+    certified_tables_are_safe();
     answer_to(alloc, tables)
 }
 

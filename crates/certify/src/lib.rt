@@ -4,10 +4,11 @@
 
 mod certifying;
 mod going;
+mod laws;
 mod own;
-mod proved;
 mod standings;
 
 pub use certifying::{Certificate, certify};
 pub use closing::{Flow, Refusal, closed_pairs};
+pub use laws::certified_tables_are_safe;
 pub use standings::{Standing, standing_of};

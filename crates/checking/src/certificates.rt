@@ -228,7 +228,6 @@ fn print_reason<O: Write + Drop>(
         Standing::Own => return,
         Standing::Stall => "stall",
         Standing::NeverMet => "never met",
-        Standing::Proved => "proved",
         Standing::Open => "not proved",
     };
     print_cell(tables, cell, reason, format, printer);

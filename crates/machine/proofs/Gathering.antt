@@ -1,8 +1,7 @@
 -- Where the Data of a store waits for its acks, no line ever gathers them after it.
 use Rattle.std.proofs.Common.{◌≡◌, ◌⊎◌, List, [], ◌∷◌, inl, inr, ℕ, refl, ap, sym, subst, ◌∙◌, Option, Some, None, Bool, true, false}
-use Rattle.std.proofs.Common.{if◌then◌else◌, slice_get, slice_set, All}
+use Rattle.std.proofs.Common.{if◌then◌else◌, slice_get, slice_set}
 use Rattle.std.proofs.lemmas.Bool.{cases_eq}
-use Rattle.std.proofs.lemmas.List.Elements.{All-contains, All-cons, All-nil}
 use Rattle.base.specs.declared.ids.CacheId.{CacheId}
 use Rattle.base.specs.declared.ids.Place.TheVariants.{Dir, Cache}
 use Rattle.base.specs.declared.controller.protocol.Protocol.{Protocol}
@@ -18,10 +17,10 @@ use Rattle.network.specs.declared.message.Response.{Response}
 use Rattle.network.specs.declared.message.Response.TheVariants.{Data, InvAck, DataExcl}
 use Rattle.network.specs.Traffic.{link}
 use Rattle.cache_table.specs.declared.state.CacheState.{CacheState}
-use Rattle.cache_table.specs.declared.state.CacheState.TheVariants.{ImAd, ImA, SmAd, SmA, SiA}
+use Rattle.cache_table.specs.declared.state.CacheState.TheVariants.{ImAd, ImA, SmAd, SmA}
 use Rattle.cache_table.specs.declared.event.CacheEvent.{CacheEvent}
 use Rattle.cache_table.specs.declared.event.CacheEvent.TheVariants.{DataDirMore}
-use Rattle.cache_table.specs.Table.{CacheEntry, CacheChange, cell}
+use Rattle.cache_table.specs.Table.{CacheEntry, cell}
 use Rattle.cache_table.specs.Baseline.{baseline_entry}
 use Rattle.cache_table.proofs.BaselineCells.{cell-baseline}
 use Rattle.directory_table.specs.Table.{DirectoryEntry}
@@ -38,7 +37,7 @@ use Rattle.machine.specs.declared.decision.Decision.{Decision}
 use Rattle.machine.specs.declared.decision.Decision.TheVariants.{Refused}
 use Rattle.machine.specs.Block.{BlockState}
 use Rattle.machine.specs.Transition.{transition, carried_out, by_line_entry, by_home_entry, at_line, at_ask, at_request, at_forward, at_response, is_idle}
-use Rattle.machine.specs.Restraint.{AreRestrained, proved_lines, line_cell}
+use Rattle.machine.specs.Restraint.{AreRestrained}
 use Rattle.machine.proofs.Places.{slice_get-set_same, slice_get-set_other, some-same}
 use Rattle.machine.proofs.Fitting.{below_read}
 use Rattle.machine.proofs.Settling.{stays-settled}
@@ -80,41 +79,17 @@ sm_a-entered MsiE DataDirMore SmAd h = inr (refl, refl)
 sm_a-entered p e SmA h = inl tt
 sm_a-entered p e s h = absurd h
 
--- a proved cell leads there only from there
-abbrev Remains : (CacheState → Type 0) → CacheChange → Type 0
-Remains P c = Leads P c.entry → P c.state
-
-abbrev AllRemain : (CacheState → Type 0) → List CacheChange → Type 0
-AllRemain P [] = Unit {0}
-AllRemain P (c ∷ cs) = Remains P c × AllRemain P cs
-
-all-remain : (P : CacheState → Type 0) (cs : List CacheChange) → AllRemain P cs → All (Remains P) cs
-all-remain P [] h = All-nil (Remains P)
-all-remain P (c ∷ cs) h = All-cons (Remains P) c cs h.0 (all-remain P cs h.1)
-
--- one more that stays where it is
-stays-too : {A B : Type 0} → B → (A → A) × B
-stays-too rest = (λ h. h, rest)
-
-proved-remain : (P : CacheState → Type 0) → (P SiA → ⊥) → AllRemain P proved_lines
-proved-remain P never = (
-  λ h. absurd (never h),
-  stays-too (stays-too (stays-too (stays-too (stays-too (stays-too (stays-too (
-      stays-too (stays-too (stays-too (stays-too (stays-too (stays-too (stays-too tt))))))))))))),
-)
-
 -- what is asked of such states and of tables
 record Closed (P : CacheState → Type 0) (awaiting : CacheState) (tables : Tables) : Type 0 where
   pub restrains : AreRestrained tables
   pub entered : Entered P awaiting
-  pub not_leaving : P SiA → ⊥
   pub waits : cell tables.cache awaiting DataDirMore ≡ entry.Stall
 
 im_a-closed : (tables : Tables) → AreRestrained tables → cell tables.cache ImAd DataDirMore ≡ entry.Stall → Closed IsImA ImAd tables
-im_a-closed tables r w = record { restrains = r; entered = im_a-entered; not_leaving = λ h. h; waits = w }
+im_a-closed tables r w = record { restrains = r; entered = im_a-entered; waits = w }
 
 sm_a-closed : (tables : Tables) → AreRestrained tables → cell tables.cache SmAd DataDirMore ≡ entry.Stall → Closed IsSmA SmAd tables
-sm_a-closed tables r w = record { restrains = r; entered = sm_a-entered; not_leaving = λ h. h; waits = w }
+sm_a-closed tables r w = record { restrains = r; entered = sm_a-entered; waits = w }
 
 -- a cell that is met from elsewhere leads elsewhere
 elsewhere : (P : CacheState → Type 0) (awaiting : CacheState) (tables : Tables) → Closed P awaiting tables → (s : CacheState) (e : CacheEvent) →
@@ -125,8 +100,7 @@ elsewhere P awaiting tables k s e met out leads = elim (k.restrains.cache s e) [
     | inr at ↦ subst (λ x. Leads P x) (ap (λ x. cell tables.cache x e) at.0 ∙ ap (λ x. cell tables.cache awaiting x) at.1 ∙ k.waits) leads
   ]
   | inr (inl stall) ↦ subst (λ x. Leads P x) stall leads
-  | inr (inr (inl blank)) ↦ met blank
-  | inr (inr (inr at)) ↦ out (All-contains (Remains P) proved_lines (line_cell tables s e) (all-remain P proved_lines (proved-remain P k.not_leaving)) at leads)
+  | inr (inr blank) ↦ met blank
 ]
 
 entry-avoids : (P : CacheState → Type 0) (b : BlockState) (cache : CacheId) (line : Line) (input : LineInput) (from : Origin) (x : CacheEntry) →

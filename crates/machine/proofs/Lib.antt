@@ -60,7 +60,6 @@ pub mod Plain
 pub mod Own
 pub mod Invariant
 pub mod Restraining
-pub mod ProvedCells
 pub mod Admitting
 pub mod Safety
 pub mod Progress

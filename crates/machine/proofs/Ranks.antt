@@ -74,7 +74,7 @@ Fewer old new = (a d : ℕ) → owed_to new a d ≤ owed_to old a d
 ranked-fewer : (b b' : BlockState) → Ranked b → Fewer b.traffic b'.traffic → Ranked b'
 ranked-fewer b b' h f = record { ranks = (h.ranks.0, λ a d p. h.ranks.1 a d (omega (arith, f a d))) }
 
-pub same-links : (old new : Traffic) → new.links ≡ old.links → Fewer old new
+same-links : (old new : Traffic) → new.links ≡ old.links → Fewer old new
 same-links old new e a d = omega (arith, ap (λ ls. sum_by (names d is_fwd_getm) (get_or ls a [])) e)
 
 pub ranked-same : (b b' : BlockState) → Ranked b → b'.traffic.links ≡ b.traffic.links → Ranked b'
@@ -117,7 +117,7 @@ messages-links cache value to (a ∷ actions) w =
     ap (λ (u : Traffic). u.links) (all_sent-append (line_message cache value to a) (line_messages cache value to actions) w)
     ∙ messages-links cache value to actions (all_sent (line_message cache value to a) w) ∙ message-links cache value to a w
 
-pub line-ranked : (b : BlockState) (cache : CacheId) (line : Line) (input : LineInput) (from : Origin) (x : CacheEntry) → Ranked b →
+line-ranked : (b : BlockState) (cache : CacheId) (line : Line) (input : LineInput) (from : Origin) (x : CacheEntry) → Ranked b →
     Fewer b.traffic (without from b.traffic) → Ranked (carried_out (by_line_entry x cache line input from) b).block
 line-ranked b cache line input from entry.Blank h f = h
 line-ranked b cache line input from entry.Stall h f = h
@@ -256,7 +256,7 @@ getm-ranked n b i r home.M e h k at =
     (edge b i r o.0 n h k below ne at _ refl)
 getm-ranked n b i r home.SD e h k at = k
 
-pub put-ranked : (n : ℕ) (b : BlockState) (i : ℕ) (kind : RequestKind) (r : CacheId) (b' : BlockState) → Sound n b → Ranked b →
+put-ranked : (n : ℕ) (b : BlockState) (i : ℕ) (kind : RequestKind) (r : CacheId) (b' : BlockState) → Sound n b → Ranked b →
     Some (req kind r) ≡ slice_get b.traffic.requests i →
     b'.traffic ≡ forward_sent r.0 (record { kind = PutAck; requestor = r }) (request_taken i b.traffic) → Ranked b'
 put-ranked n b i kind r b' h k at e =

@@ -12,8 +12,9 @@ ghost use Rattle.machine.specs.Going.{AreNeverStuck, KeepsGoing};
 ghost use Rattle.machine.specs.Unstuck.{Unstuck, Flowing};
 ghost use Rattle.machine.specs.CoherenceRows.{StoreThenLoad, StaleLoadIsRefused, EarlyLoadIsRefused, OneWriterOrManyReaders};
 ghost use Rattle.machine.specs.WrongTables.{HastyReaderIsUnsafe, HastyLoadIsUnsafe, BlankCacheIsUnsafe, HastyWriterIsUnsafe, SecondWriterIsUnsafe};
-ghost use Rattle.machine.specs.WrongTables.{DroppedValueIsUnsafe, BlankDirectoryIsUnsafe, DeafSharerIsStuck, DeafSharerIsRestrained, KeptEIsUnsafe, BlankReaderIsUnsafe};
-ghost use Rattle.machine.specs.WrongTables.{DeafReaderIsRestrained, DeafReaderIsStuck, ReadOnlyOwnerKeepsGoing, ReadOnlyOwnerIsStuck};
+ghost use Rattle.machine.specs.WrongTables.{DroppedValueIsUnsafe, BlankDirectoryIsUnsafe, KeptEIsUnsafe, BlankReaderIsUnsafe};
+ghost use Rattle.machine.specs.WrongTables.{DeafSharerIsRestrained, DeafSharerIsStuck, DeafReaderIsRestrained, DeafReaderIsStuck};
+ghost use Rattle.machine.specs.WrongTables.{ReadOnlyOwnerKeepsGoing, ReadOnlyOwnerIsStuck};
 ghost use Rattle.machine.specs.WrongTables.{PatientDataKeepsGoing, PatientAcksKeepGoing, CrossedWaitsAreRestrained, CrossedWaitsAreStuck};
 ghost use Rattle.machine.specs.Block.{BlockState, IsBlockAmong};
 ghost use Rattle.machine.specs.Transition.{decision_of, decided_outcome, messages_of, transition};
@@ -86,8 +87,8 @@ pub fn unstuck()
 {}
 
 /// Every run is safe too under restrained tables: each of their cells holds the protocol's own
-/// entry, or a stall, or stands where the own one is blank, or is one of those that were proved.
-/// No step of such a run comes to a cell where the own entry is blank.
+/// entry, or a stall, or stands where the own one is blank. No step of such a run comes to a cell
+/// where the own entry is blank.
 pub fn restrained_tables_are_safe()
     ensures own { (protocol : Protocol) → AreRestrained (baseline_of protocol) }
     ensures safe { (tables : Tables) (shape : Extent) (opening : List ℕ) (steps : List Step) → AreRestrained tables → IsWithinLimits shape →

@@ -10,7 +10,7 @@ ghost use Rattle.scenario.specs.Tree.{Tree};
 ghost use Rattle.trials.specs.Answering.{AnswersInTurn, AreSequential};
 ghost use Rattle.moment.specs.Moments.{Moment};
 ghost use Rattle.trials.specs.Moments.{IsPath};
-ghost use Rattle.trials.specs.Terms.{Terms, AreLawful};
+ghost use Rattle.trials.specs.Terms.{Terms, AreLawful, RunsAreSafe, RunsAreUnstuck};
 ghost use Rattle.trials.specs.Trial.{AreResults, AreSound, AreUnbroken, HasBroken, IsSound, IsTrial, IsUnbroken};
 ghost use Rattle.trials.specs.declared.verdict.TrialResult.{TrialResult};
 ghost use Rattle.trials.specs.declared.verdict.Verdict.{Verdict};
@@ -32,6 +32,24 @@ pub fn trials_break_where_they_arent_safe()
     violations::violations_are_what_isnt_safe();
 }
 
+/// Under tables of which each run is safe no trial breaks, and the completions of each are sequentially consistent; and where none
+/// gets stuck either, no trial is stuck. So it is whatever it is that says so of the tables.
+pub fn trials_of_safe_runs()
+    ensures unbroken { (terms : Terms) (tree : Tree) (number : ℕ) (recording : RecordingView) (verdict : Verdict) →
+        RunsAreSafe terms → IsTrial terms tree number recording verdict → IsUnbroken verdict }
+    ensures unbroken_batch { (terms : Terms) (tree : Tree) (n : ℕ) (results : List TrialResult) →
+        RunsAreSafe terms → AreResults terms tree n results → AreUnbroken results }
+    ensures sequential { (terms : Terms) (tree : Tree) (number : ℕ) (recording : RecordingView) (verdict : Verdict) →
+        RunsAreSafe terms → IsTrial terms tree number recording verdict → AreSequential terms.opening recording.entries }
+    ensures sound { (terms : Terms) (tree : Tree) (number : ℕ) (recording : RecordingView) (verdict : Verdict) →
+        RunsAreSafe terms → RunsAreUnstuck terms → IsTrial terms tree number recording verdict → IsSound verdict }
+    ensures sound_batch { (terms : Terms) (tree : Tree) (n : ℕ) (results : List TrialResult) →
+        RunsAreSafe terms → RunsAreUnstuck terms → AreResults terms tree n results → AreSound results }
+{
+    cores_are_answered_in_turn();
+    trials_break_where_they_arent_safe();
+}
+
 /// Under restrained tables, of which the protocol's own are some, no trial breaks, and the completions of each are sequentially
 /// consistent.
 pub fn trials_under_restrained_tables()
@@ -45,8 +63,7 @@ pub fn trials_under_restrained_tables()
         AreSequential terms.opening recording.entries }
 {
     machine::restrained_tables_are_safe();
-    cores_are_answered_in_turn();
-    trials_break_where_they_arent_safe();
+    trials_of_safe_runs();
 }
 
 /// Under restrained tables that keep going and serve asks, of which the protocol's own are some, no trial breaks or is stuck.
@@ -59,7 +76,7 @@ pub fn trials_under_tables_that_keep_going()
 {
     machine::restrained_tables_are_safe();
     machine::restrained_tables_are_unstuck();
-    trials_break_where_they_arent_safe();
+    trials_of_safe_runs();
 }
 
 /// A number has one trial.

@@ -15,7 +15,7 @@ mod verdict;
 pub use batches::{BatchFault, MOST_TRIALS, batch};
 pub use laws::{
     cores_are_answered_in_turn, one_trial_a_number, trials_break_where_they_arent_safe,
-    trials_under_restrained_tables, trials_under_tables_that_keep_going,
+    trials_of_safe_runs, trials_under_restrained_tables, trials_under_tables_that_keep_going,
 };
 pub use making::trial;
 pub use series::Series;
