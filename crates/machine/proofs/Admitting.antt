@@ -1,5 +1,5 @@
 -- Restrained tables keep the invariant that safety needs.
-use Rattle.std.proofs.Common.{inl, ℕ, ◌≤◌, List, refl, Option, Some, None, Bool, true, false, slice_get}
+use Rattle.std.proofs.Common.{inl, ℕ, ◌≤◌, List, refl, if◌then◌else◌, Option, Some, None, Bool, true, false, slice_get}
 use Rattle.base.specs.declared.ids.CacheId.{CacheId}
 use Rattle.base.specs.declared.controller.protocol.Protocol.{Protocol}
 use Rattle.base.specs.declared.ids.Place.TheVariants.{Dir, Cache}
