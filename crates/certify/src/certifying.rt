@@ -10,7 +10,6 @@ ghost use Rattle.machine.specs.Going.{KeepsGoing};
 ghost use Rattle.machine.specs.Machine.{after, opened};
 ghost use Rattle.machine.specs.Restraint.{AreRestrained};
 ghost use Rattle.machine.specs.Unstuck.{Flowing, Unstuck};
-ghost use Rattle.closing.specs.Closed.{Closed};
 ghost use Rattle.certify.specs.Certificates.{IsCertificate, SaysSafe, SaysFlowing, SaysNeverStuck, SaysRestrained, IsFirstAgainst};
 ghost use Rattle.certify.specs.Standings.{IsAdmitted};
 ghost use Rattle.certify.specs.inner.Demands.{Meets};
@@ -18,11 +17,9 @@ ghost use Rattle.certify.specs.inner.Demands.{Meets};
 use crate::going::{holds_ask, is_jam};
 use crate::laws::certified_tables_are_safe;
 use crate::standings::{Standing, standing_of};
-use base::NoMemory;
 use both_tables::{CELLS, CellPlace, Tables};
-use closing::{Flow, Refusal, closed_pairs, flow_of};
+use closing::{Flow, Refusal, closed_pairs};
 use machine::restrained_tables_are_safe;
-use pairs::Pair;
 use std::alloc::Global;
 
 /// What is proved of changed tables, for any number of caches and blocks and any list of steps. A cell that it names is the
@@ -80,19 +77,8 @@ fn answer_by_pairs(alloc: Global, tables: &Tables, cell: CellPlace) -> Certifica
     ensures { IsCertificate tables.now result }
 {
     match closed_pairs(alloc, tables) {
-        Ok(pairs) => answer_by_flow(alloc, tables, cell, &pairs),
+        Ok(found) => Certificate::ClosedPairs(cell, found.pairs.len(), found.flow),
         Err(refusal) => Certificate::NotProved(cell, refusal),
-    }
-}
-
-fn answer_by_flow(alloc: Global, tables: &Tables, cell: CellPlace, pairs: &[Pair]) -> Certificate
-    requires first { IsFirstAgainst (IsAdmitted tables.now) cell }
-    requires closed { Closed tables.now pairs.now }
-    ensures { IsCertificate tables.now result }
-{
-    match flow_of(alloc, tables) {
-        Ok(flow) => Certificate::ClosedPairs(cell, pairs.len(), flow),
-        Err(NoMemory) => Certificate::NotProved(cell, Refusal::NoMemory),
     }
 }
 

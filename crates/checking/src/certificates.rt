@@ -85,13 +85,14 @@ fn print_answer<O: Write + Drop>(
         Certificate::AsksMayBeHeld(cell) => {
             print_stalled(tables, cell, "asks may be held", format, printer);
         }
-        Certificate::MessagesMayGetStuck(cell) => match jam_from(alloc, tables, Some(cell))? {
-            None => print_stalled(tables, cell, "messages may get stuck", format, printer),
-            Some(steps) => {
-                print_stalled(tables, cell, "messages get stuck", format, printer);
+        Certificate::MessagesMayGetStuck(cell) => {
+            let jam = jam_from(alloc, tables, Some(cell))?;
+            let stuck = flow_words(Flow::MessagesMayGetStuck, jam.is_some());
+            print_stalled(tables, cell, stuck, format, printer);
+            if let Some(steps) = jam {
                 print_jam(steps, format, printer);
             }
-        },
+        }
     }
     Ok(Finding::Nothing)
 }
@@ -123,9 +124,8 @@ fn print_unknown<O: Write + Drop>(
     }
 }
 
-/// What is said of tables with closed pairs of caches under which this much flows, where steps are shown after which messages are
-/// stuck, or none are.
-fn flow_words(flow: Flow, jams: bool) -> &'static str {
+/// What is said of tables under which this much is shown to flow, where steps are known after which messages are stuck, or none are.
+pub(crate) fn flow_words(flow: Flow, jams: bool) -> &'static str {
     match flow {
         Flow::NeverStuck => "never stuck",
         Flow::AsksMayBeHeld => "asks may be held",

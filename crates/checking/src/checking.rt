@@ -1,5 +1,5 @@
 use crate::cells::text_of;
-use crate::certificates::jam_under;
+use crate::certificates::{flow_words, jam_under};
 use crate::counting::{Census, longest};
 use crate::jamming::jam_from;
 use base::text::Text;
@@ -9,6 +9,7 @@ use certify::{Certificate, Flow, Refusal, Standing, certify, standing_of};
 use console::{Fault, Finding, Printer};
 use scenario::Scenario;
 use std::alloc::Global;
+use std::fmt;
 use std::io::{Read, Write};
 
 /// How many caches and blocks a scenario may name, as far as that is said.
@@ -105,35 +106,44 @@ fn print_all<O: Write + Drop>(
     Ok(Finding::Nothing)
 }
 
-/// What `msi certify` says of tables, in its words.
-fn verdict(alloc: Global, tables: &Tables) -> Result<&'static str, NoMemory> {
-    Ok(match certify(alloc, tables) {
-        Certificate::NotProved(_, Refusal::NoMemory) => return Err(NoMemory),
-        Certificate::NotProved(..) => match jam_from(alloc, tables, None)? {
-            Some(_) => "unknown, messages get stuck",
-            None => "unknown",
-        },
-        Certificate::ClosedPairs(_, _, flow) => {
-            let jam = jam_under(alloc, tables, flow)?;
-            safe_words(flow, jam.is_some())
-        }
-        Certificate::NeverStuck => "safe, never stuck",
-        Certificate::AsksMayBeHeld(_) => "safe, asks may be held",
-        Certificate::MessagesMayGetStuck(cell) => match jam_from(alloc, tables, Some(cell))? {
-            Some(_) => "safe, messages get stuck",
-            None => "safe, messages may get stuck",
-        },
-    })
+/// What `msi certify` says of tables.
+#[derive(Clone, Copy)]
+struct Verdict {
+    is_safe: bool,
+    /// What it says of what gets stuck, if anything.
+    stuck: Option<&'static str>,
 }
 
-/// What is said of tables with closed pairs of caches, as a verdict.
-fn safe_words(flow: Flow, jams: bool) -> &'static str {
-    match flow {
-        Flow::NeverStuck => "safe, never stuck",
-        Flow::AsksMayBeHeld => "safe, asks may be held",
-        Flow::MessagesMayGetStuck if jams => "safe, messages get stuck",
-        Flow::MessagesMayGetStuck => "safe, messages may get stuck",
+impl fmt::Display for Verdict {
+    fn fmt<W: fmt::Write>(&self, f: &mut fmt::Formatter<W>) -> fmt::Result {
+        f.write_str(if self.is_safe { "safe" } else { "unknown" })?;
+        match self.stuck {
+            Some(stuck) => write!(f, ", {stuck}"),
+            None => Ok(()),
+        }
     }
+}
+
+fn verdict(alloc: Global, tables: &Tables) -> Result<Verdict, NoMemory> {
+    let (is_safe, stuck) = match certify(alloc, tables) {
+        Certificate::NotProved(_, Refusal::NoMemory) => return Err(NoMemory),
+        Certificate::NotProved(..) => {
+            let jam = jam_from(alloc, tables, None)?;
+            (false, jam.map(|_| "messages get stuck"))
+        }
+        Certificate::ClosedPairs(_, _, flow) => {
+            let jam = jam_under(alloc, tables, flow)?;
+            (true, Some(flow_words(flow, jam.is_some())))
+        }
+        Certificate::NeverStuck => (true, Some("never stuck")),
+        Certificate::AsksMayBeHeld(_) => (true, Some("asks may be held")),
+        Certificate::MessagesMayGetStuck(cell) => {
+            let jam = jam_from(alloc, tables, Some(cell))?;
+            let words = flow_words(Flow::MessagesMayGetStuck, jam.is_some());
+            (true, Some(words))
+        }
+    };
+    Ok(Verdict { is_safe, stuck })
 }
 
 /// Prints the cells that aren't the protocol's own.

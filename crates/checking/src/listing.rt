@@ -19,8 +19,8 @@ pub(crate) fn print_pairs<O: Write + Drop>(
     match closed_pairs(alloc, tables) {
         Err(Refusal::NoMemory) => Err(Fault::NoMemory),
         Err(_) => Ok(()),
-        Ok(pairs) => {
-            for pair in &pairs {
+        Ok(found) => {
+            for pair in &found.pairs {
                 printer.line(PairObject(*pair));
             }
             Ok(())
@@ -93,7 +93,8 @@ impl SideObject {
     }
 }
 
-fn kind_name(kind: ForwardKind) -> &'static str {
+/// The name of a message on a link.
+pub(crate) fn kind_name(kind: ForwardKind) -> &'static str {
     match kind {
         ForwardKind::FwdGetS => "Fwd-GetS",
         ForwardKind::FwdGetM => "Fwd-GetM",

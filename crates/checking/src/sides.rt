@@ -1,5 +1,6 @@
 //! How two caches of a block read, as far as a pair of caches knows them.
 
+use crate::listing::kind_name;
 use base::controller::Listed;
 use cache_line::may_read;
 use directory_table::DirectoryState;
@@ -80,11 +81,10 @@ impl SideText {
                 (false, Some(true)) => self.other_name,
                 (false, _) => "another",
             };
+            let kind = kind_name(place.kind);
             match place.kind {
-                ForwardKind::FwdGetS => write!(f, "{front}Fwd-GetS for {requestor}")?,
-                ForwardKind::FwdGetM => write!(f, "{front}Fwd-GetM for {requestor}")?,
-                ForwardKind::Inv => write!(f, "{front}Inv for {requestor}")?,
-                ForwardKind::PutAck => write!(f, "{front}Put-Ack")?,
+                ForwardKind::PutAck => write!(f, "{front}{kind}")?,
+                _ => write!(f, "{front}{kind} for {requestor}")?,
             }
             link = link.behind();
             names = names.behind();

@@ -1,22 +1,23 @@
--- What the check looks at makes a list of pairs closed.
-use Rattle.std.proofs.Common.{◌≡◌, ℕ, ◌<◌, List, refl, ap, sym, subst, ◌∙◌, inl, inr, Some, Bool, slice_get, length, Contains, IsTrue, arith}
+-- What the check looks at makes a list of ranked pairs one that no step leaves.
+use Rattle.std.proofs.Common.{◌≡◌, ℕ, ◌<◌, List, refl, ap, sym, subst, ◌∙◌, inl, inr, Some, slice_get, length, Contains, IsTrue, arith}
 use Rattle.std.proofs.lemmas.Bool.{cases_lt, cases_eq}
 use Rattle.std.specs.Global.{Vec}
 use Rattle.both_tables.specs.Tables.{Tables}
 use Rattle.pairs.specs.declared.pair.Pair.{Pair}
 use Rattle.pairs.specs.declared.steps.Party.{Party}
-use Rattle.pairs.specs.declared.steps.Party.TheVariants.{Nobody, First, Second, Third}
+use Rattle.pairs.specs.declared.steps.Party.TheVariants.{Second, Third}
 use Rattle.pairs.specs.declared.steps.Rule.{Rule}
 use Rattle.pairs.specs.declared.steps.Sight.{Sight}
-use Rattle.pairs.specs.declared.steps.Sight.TheVariants.{Unmoved, Lost, Spoilt, Seen}
-use Rattle.pairs.specs.Pairs.{opened_pair, fits}
-use Rattle.pairs.specs.Sights.{sight}
+use Rattle.pairs.specs.declared.steps.Sight.TheVariants.{Seen}
+use Rattle.pairs.specs.Pairs.{fits}
 use Rattle.closing.specs.declared.following.Followed.{Followed}
 use Rattle.closing.specs.declared.numbering.Numbers.{Numbers}
 use Rattle.closing.specs.declared.numbering.View.{View}
+use Rattle.closing.specs.declared.ranked.RankedPair.{RankedPair}
 use Rattle.closing.specs.inner.Numbered.{AreNumbered, IsNumber, first_view, second_view}
-use Rattle.closing.specs.inner.Told.{IsTold, LeadsInto, GluesAt, AreSound, AreTold}
-use Rattle.closing.specs.Closed.{StaysIn, Meet, AreAlike, KeepsUnconcerned, glued, Closed}
+use Rattle.closing.specs.inner.Told.{AreSound, AreTold, GluesAt, IsTold, Keeps, KeepsOther, LeadsInto, Stays}
+use Rattle.closing.specs.Closed.{Meet, AreAlike, glued}
+use Rattle.closing.specs.Ranked.{ranked, opened_ranked, Sees, SeesAtHome, Ranked}
 use Rattle.closing.proofs.Reading.{contained-at, below-length}
 
 -- a view has one number
@@ -30,41 +31,24 @@ one-number views v w m n same at_m at_n =
       ]
     ]
 
--- views are the same where their parts are
-same-view : (p q : Pair) → p.shared ≡ q.shared → p.first ≡ q.first → first_view p ≡ first_view q
-same-view p q shared first = λ i. record { shared = shared i; side = first i }
-
--- what is told and leads into these stays in them
-stays : (pairs : List Pair) (told : List Followed) (rule : Rule) (s : Sight) → IsTold told rule s →
-    ((k : ℕ) (f : Followed) → slice_get told k ≡ Some f → LeadsInto pairs f) → StaysIn pairs s
-stays pairs told rule Unmoved h leads = tt
-stays pairs told rule Lost h leads = h
-stays pairs told rule (Spoilt Nobody) h leads = h
-stays pairs told rule (Spoilt First) h leads = h
-stays pairs told rule (Spoilt Second) h leads = h
-stays pairs told rule (Spoilt Third) h leads = tt
-stays pairs told rule (Seen Nobody p) h leads = let at = contained-at told _ h in leads at.0 _ at.1
-stays pairs told rule (Seen First p) h leads = let at = contained-at told _ h in leads at.0 _ at.1
-stays pairs told rule (Seen Second p) h leads = let at = contained-at told _ h in leads at.0 _ at.1
-stays pairs told rule (Seen Third p) h leads = tt
-
-module _ (tables : Tables) (pairs : List Pair) (numbers : Numbers) (steps : List (Vec Followed)) (sound : AreSound tables pairs)
-    (numbered : AreNumbered pairs numbers.views.items numbers.firsts.items numbers.seconds.items numbers.spans.items)
-    (told : AreTold tables pairs steps) (all_glued : (place : ℕ) → place < length pairs → GluesAt pairs numbers steps place) where
-  -- three pairs that meet are glued
-  meet-glues : (p q r : Pair) (rule : Rule) (t u : Bool) (one other : Party) (p2 q2 : Pair) → Contains pairs p → Contains pairs q → Contains pairs r →
-      Meet p q r → AreAlike one other → sight tables rule t p ≡ Seen one p2 → sight tables rule u q ≡ Seen other q2 → p2.shared ≡ q2.shared →
-      p2.first ≡ q2.first → KeepsUnconcerned pairs one other p2 q2 × (IsTrue (fits (glued p2 q2 r)) → Contains pairs (glued p2 q2 r))
-  meet-glues p q r rule t u one other p2 q2 has_p has_q has_r meet alike sees_p sees_q shared first =
-      let k = contained-at pairs p has_p in
-      let j = contained-at pairs q has_q in
-      let l = contained-at pairs r has_r in
+module _ (tables : Tables) (list : List RankedPair) (numbers : Numbers) (steps : List (Vec Followed)) (sound : AreSound tables list)
+    (numbered : AreNumbered list numbers.views.items numbers.firsts.items numbers.seconds.items numbers.spans.items)
+    (told : AreTold tables list steps) (all_glued : (place : ℕ) → place < length list → GluesAt list numbers steps place) where
+  -- three ranked pairs that meet are glued
+  meet-glues : (p q r : RankedPair) (rule : Rule) (one other : Party) (p2 q2 : Pair) → Contains list p → Contains list q → Contains list r →
+      Meet p.pair q.pair r.pair → AreAlike one other → Sees tables rule p.pair one p2 → Sees tables rule q.pair other q2 →
+      p2.shared ≡ q2.shared → p2.first ≡ q2.first → KeepsOther list q one other (record { rule = rule; concerned = other; after = q2 }) ×
+      (IsTrue (fits (glued p2 q2 r.pair)) → Contains list (ranked (glued p2 q2 r.pair) r.order))
+  meet-glues p q r rule one other p2 q2 has_p has_q has_r meet alike sees_p sees_q shared first =
+      let k = contained-at list p has_p in
+      let j = contained-at list q has_q in
+      let l = contained-at list r has_r in
       let mine = told k.0 p k.1 in
       let theirs = told j.0 q j.1 in
       let f = contained-at mine.0.items (record { rule = rule; concerned = one; after = p2 })
-      (subst (λ (s : Sight). IsTold mine.0.items rule s) sees_p (mine.2.told rule t)) in
+      (subst (λ (s : Sight). IsTold mine.0.items rule s) sees_p.1 (mine.2.told rule sees_p.0)) in
       let g = contained-at theirs.0.items (record { rule = rule; concerned = other; after = q2 })
-      (subst (λ (s : Sight). IsTold theirs.0.items rule s) sees_q (theirs.2.told rule u)) in
+      (subst (λ (s : Sight). IsTold theirs.0.items rule s) sees_q.1 (theirs.2.told rule sees_q.0)) in
       let first_p = numbered.first k.0 p k.1 in
       let first_q = numbered.first j.0 q j.1 in
       let first_r = numbered.first l.0 r l.1 in
@@ -74,31 +58,45 @@ module _ (tables : Tables) (pairs : List Pair) (numbers : Numbers) (steps : List
       let span_q = numbered.within j.0 first_q.0 first_q.1 in
       let span_r = numbered.within l.0 first_r.0 first_r.1 in
       let same_first : first_q.0 ≡ first_p.0 =
-      one-number numbers.views.items (first_view q) (first_view p) _ _ (λ i. record { shared = sym meet.shared i; side = sym meet.first i }) first_q.2
-      first_p.2 in
+      one-number numbers.views.items (first_view q.pair) (first_view p.pair) _ _ (λ i. record { shared = sym meet.shared i; side = sym meet.first i })
+      first_q.2 first_p.2 in
       let same_between : first_r.0 ≡ second_p.0 =
-      one-number numbers.views.items (first_view r) (second_view p) _ _ (λ i. record { shared = sym meet.shared_too i; side = sym meet.second i }) first_r.2
-      second_p.2 in
+      one-number numbers.views.items (first_view r.pair) (second_view p.pair) _ _
+      (λ i. record { shared = sym meet.shared_too i; side = sym meet.second i }) first_r.2 second_p.2 in
       let same_second : second_r.0 ≡ second_q.0 =
-      one-number numbers.views.items (second_view r) (second_view q) _ _
+      one-number numbers.views.items (second_view r.pair) (second_view q.pair) _ _
       (λ i. record { shared = (sym meet.shared_too ∙ meet.shared) i; side = sym meet.third i }) second_r.2 second_q.2 in
-      all_glued k.0 (below-length pairs k.0 p k.1) p mine.0 first_p.0 second_p.0 span_q.0 span_r.0 k.1 mine.1 first_p.1 second_p.1
+      all_glued k.0 (below-length list k.0 p k.1) p mine.0 first_p.0 second_p.0 span_q.0 span_r.0 k.1 mine.1 first_p.1 second_p.1
       (ap (λ n. slice_get numbers.spans.items n) (sym same_first) ∙ span_q.1) (ap (λ n. slice_get numbers.spans.items n) (sym same_between) ∙ span_r.1)
       j.0 span_q.2 span_q.3 q theirs.0 second_q.0 j.1 theirs.1 second_q.1 meet.apart f.0 _ f.1 g.0 _ g.1 (refl, shared, first)
       l.0 r span_r.2 span_r.3 (second_r.1 ∙ ap (λ n. Some n) same_second) l.1 alike
 
-  pub checked-closed : Contains pairs opened_pair → Closed tables pairs
-  checked-closed opened = record {
+  -- what is seen leads to these
+  step-told : (r : RankedPair) (rule : Rule) (concerned : Party) (q : Pair) → Contains list r → Sees tables rule r.pair concerned q →
+      LeadsInto list r (record { rule = rule; concerned = concerned; after = q })
+  step-told r rule concerned q has sees =
+      let at = contained-at list r has in
+      let mine = told at.0 r at.1 in
+      let f = contained-at mine.0.items (record { rule = rule; concerned = concerned; after = q })
+      (subst (λ (s : Sight). IsTold mine.0.items rule s) sees.1 (mine.2.told rule sees.0)) in
+      mine.2.leads f.0 _ f.1
+
+  home-told : (r : RankedPair) (concerned : Party) (q : Pair) → Contains list r → SeesAtHome tables r.pair concerned q → Stays list r (Seen concerned q)
+  home-told r concerned q has sees =
+      let at = contained-at list r has in
+      subst (λ (s : Sight). Stays list r s) sees.1 ((sound at.0 r at.1).home_data sees.0)
+
+  checked-ranked : Contains list opened_ranked → Ranked tables list
+  checked-ranked opened = record {
     opened = opened;
-    turned = λ p has. (let at = contained-at pairs p has in (sound at.0 p at.1).turned);
-    single = λ p has. (let at = contained-at pairs p has in (sound at.0 p at.1).single);
-    steps = λ p rule third_shares has.
-        let at = contained-at pairs p has in
-        let mine = told at.0 p at.1 in
-        stays pairs mine.0.items rule (sight tables rule third_shares p) (mine.2.told rule third_shares) mine.2.leads;
-    home_data = λ p third_shares has. (let at = contained-at pairs p has in (sound at.0 p at.1).home_data third_shares);
-    unconcerned = λ p q r rule t u one other p2 q2 has_p has_q has_r meet alike sees_p sees_q shared first.
-        (meet-glues p q r rule t u one other p2 q2 has_p has_q has_r meet alike sees_p sees_q shared first).0;
-    glue = λ p q r rule t u one other p2 q2 has_p has_q has_r meet alike sees_p sees_q shared first.
-        (meet-glues p q r rule t u one other p2 q2 has_p has_q has_r meet alike sees_p sees_q shared first).1;
+    turned = λ r has. (let at = contained-at list r has in (sound at.0 r at.1).turned);
+    steps = step-told;
+    home_data = home-told;
+    unconcerned = λ p q r rule p2 q2 has_p has_q has_r meet sees_p sees_q shared first.
+        (meet-glues p q r rule Second Third p2 q2 has_p has_q has_r meet tt sees_p sees_q shared first).0;
+    glue = λ p q r rule one other p2 q2 has_p has_q has_r meet alike sees_p sees_q shared first.
+        (meet-glues p q r rule one other p2 q2 has_p has_q has_r meet alike sees_p sees_q shared first).1;
   }
+
+  pub checked-kept : Contains list opened_ranked → Keeps tables list steps
+  checked-kept opened = record { ranked = checked-ranked opened; sound = sound; told = told }

@@ -56,5 +56,7 @@ pub mod Delivering
 pub mod Absent
 pub mod Descending
 pub mod Flowing
-pub mod RankedChecked
+pub mod Listed
+pub mod Unranked
+pub mod Balances
 pub mod Explaining

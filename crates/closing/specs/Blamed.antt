@@ -26,7 +26,8 @@ use Rattle.closing.specs.declared.ranked.Order.TheVariants.{After}
 use Rattle.closing.specs.declared.ranked.RankedPair.{RankedPair}
 use Rattle.closing.specs.declared.deciding.Flow.{Flow}
 use Rattle.closing.specs.declared.deciding.Flow.TheVariants.{NeverStuck, AsksMayBeHeld, MessagesMayGetStuck}
-use Rattle.closing.specs.Ranked.{Ranked, Balanced, awaited, is_busy, is_open}
+use Rattle.closing.specs.Closed.{Closed}
+use Rattle.closing.specs.Ranked.{Ranked, Balanced, ArePairsOf, awaited, is_busy, is_open}
 
 -- WHAT IS HELD
 
@@ -149,3 +150,8 @@ abbrev pub HasFlow : Tables → Flow → Type 0
 HasFlow tables NeverStuck = (list : List RankedPair) × Blamed tables list × ServesAsks tables list
 HasFlow tables AsksMayBeHeld = (list : List RankedPair) × Blamed tables list
 HasFlow tables MessagesMayGetStuck = Unit {0}
+
+-- what a list of ranked pairs shows: that its pairs are closed, and this of what may get stuck
+pub record Shows (tables : Tables) (list : List RankedPair) (shown : Flow) : Type 0 where
+  pub closed : (pairs : List Pair) → ArePairsOf list pairs → Closed tables pairs
+  pub flow : HasFlow tables shown

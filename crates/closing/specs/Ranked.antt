@@ -84,6 +84,11 @@ pub record Ranked (tables : Tables) (list : List RankedPair) : Type 0 where
       Meet p.pair q.pair r.pair → AreAlike one other → Sees tables rule p.pair one p2 → Sees tables rule q.pair other q2 →
       p2.shared ≡ q2.shared → p2.first ≡ q2.first → IsTrue (fits (glued p2 q2 r.pair)) → Contains list (ranked (glued p2 q2 r.pair) r.order)
 
+-- these are the pairs of a list of ranked ones, each at least once
+pub record ArePairsOf (list : List RankedPair) (pairs : List Pair) : Type 0 where
+  pub all : (r : RankedPair) → Contains list r → Contains pairs r.pair
+  pub only : (p : Pair) → Contains pairs p → (r : RankedPair) × Contains list r × (r.pair ≡ p)
+
 -- for how many Data of its last owner a home waits
 abbrev pub awaited : DirectoryState → ℕ
 awaited SD = 1

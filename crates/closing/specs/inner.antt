@@ -1,5 +1,4 @@
 -- what only the contracts of private functions cite
 pub mod Told
 pub mod Numbered
-pub mod RankedTold
 pub mod Explained

@@ -4,29 +4,30 @@ ghost use Rattle.std.specs.Prelude.{◌≡◌, ◌↔◌, ◌==◌, ℕ, None, S
 ghost use Rattle.closing.specs.declared.ranked.Order.{Order};
 ghost use Rattle.closing.specs.declared.ranked.RankedPair.{RankedPair};
 ghost use Rattle.closing.specs.Blamed as blamed;
+ghost use Rattle.closing.specs.inner.Told.{Keeps};
 ghost use Rattle.closing.specs.inner.Explained.{AreExplained, HasBlame, IsAnswered, IsExplained};
 
+use crate::balancing::are_balanced;
+use crate::following::Followed;
 use crate::holding::{is_held, line_holds};
 use crate::ranked::{Order, RankedPair, is_busy, is_open};
-use crate::ranking::is_ranked;
-use base::NoMemory;
 use both_tables::Tables;
 use cache_table::{CacheEvent, CacheState};
 use directory_table::DirectoryState;
 use network::ForwardKind;
 use pairs::{Pair, Side};
-use std::alloc::Global;
 
-/// Whether no step under these tables leaves these ranked pairs, and wherever messages are held another cache is to blame that
-/// was served earlier. A list that doesn't have pairs that begin alike together is turned down too.
-pub fn is_blamed(alloc: Global, tables: &Tables, list: &[RankedPair]) -> Result<bool, NoMemory>
-    ensures { IfOk result (λ shown. IsTrue shown → blamed.Blamed tables.now list.now) }
+/// Whether wherever messages of these ranked pairs are held another cache is to blame that was served earlier, and each Data that a
+/// home waits for comes.
+pub(crate) fn is_blamed(tables: &Tables, list: &[RankedPair], steps: &[Vec<Followed>]) -> bool
+    requires { Keeps tables.now list.now steps.now }
+    ensures { IsTrue result → blamed.Blamed tables.now list.now }
 {
-    Ok(is_ranked(alloc, tables, list)? && are_explained(tables, list))
+    are_balanced(tables, list, steps) && are_explained(tables, list)
 }
 
 /// Whether no line for which nothing is on its way holds an ask.
-pub fn serves_asks(tables: &Tables, list: &[RankedPair]) -> bool
+pub(crate) fn serves_asks(tables: &Tables, list: &[RankedPair]) -> bool
     ensures { IsTrue result → blamed.ServesAsks tables.now list.now }
 {
     for ranked in list {

@@ -1,64 +1,71 @@
-//! Whether a list of pairs is closed.
+//! Whether no step leaves a list of ranked pairs.
 
-ghost use Rattle.std.specs.Prelude.{◌≡◌, ℕ, Bool, IfOk, IfSome, IsTrue, Some, false, slice_get, true};
+ghost use Rattle.std.specs.Prelude.{◌≡◌, ◌⊎◌, ℕ, Bool, Contains, IfOk, IfSome, IsTrue, Some, false, slice_get, true};
 ghost use Rattle.cache_line.specs.LineEffect.{is_reader, is_writer};
 ghost use Rattle.pairs.specs.Marking.{IsMarked};
 ghost use Rattle.pairs.specs.Pairs.{is_few};
 ghost use Rattle.pairs.specs.Sights.{home_data_seen};
 ghost use Rattle.closing.specs.declared.following.Followed.{Followed};
-ghost use Rattle.closing.specs.Closed.{Closed, StaysIn};
-ghost use Rattle.closing.specs.inner.Told.{AreSound, AreTold, IsFollowedBy, IsSound, LeadsInto};
+ghost use Rattle.closing.specs.inner.Told.{AreSound, AreTold, IsFollowedBy, IsSound, Keeps, LeadsInto, Stays};
 
 use crate::following::{Breach, Followed, steps_of};
 use crate::glueing::are_glued;
-use crate::index::{Index, is_found};
+use crate::index::{Index, is_listed};
 use crate::numbering::Numbers;
+use crate::ranked::RankedPair;
 use base::NoMemory;
 use both_tables::Tables;
 use cache_line::{may_read, may_write};
 use pairs::{Pair, Party, Sight, home_data_seen};
 use std::alloc::Global;
 
-/// Whether no step under these tables leaves these pairs, nor meets a blank cell or returns a stale value, and no writer stands
-/// beside a reader. A list that is closed but doesn't have pairs that begin alike together is turned down too.
-pub fn is_closed(alloc: Global, tables: &Tables, pairs: &[Pair]) -> Result<bool, NoMemory>
-    ensures { IfOk result (λ closed. IsTrue closed → Closed tables.now pairs.now) }
+/// The steps of each of these ranked pairs, place by place, if none of them leaves the list, meets a blank cell or returns a stale
+/// value, and no writer stands beside a reader. A list that doesn't have pairs that begin alike together is turned down too.
+pub(crate) fn kept_steps(
+    alloc: Global,
+    tables: &Tables,
+    list: &[RankedPair],
+) -> Result<Option<Vec<Vec<Followed>>>, NoMemory>
+    ensures { IfOk result (λ found. IfSome found (λ steps. Keeps tables.now list.now steps.items)) }
 {
-    let index = Index::of(alloc, pairs)?;
-    if !is_found(pairs, &index, &Pair::opened()) || !are_sound(tables, pairs, &index) {
-        return Ok(false);
+    let index = Index::of(alloc, list)?;
+    if !is_listed(list, &index, &RankedPair::opened()) || !are_sound(tables, list, &index) {
+        return Ok(None);
     }
-    let Some(numbers) = Numbers::of(alloc, pairs)? else {
-        return Ok(false);
+    let Some(numbers) = Numbers::of(alloc, list)? else {
+        return Ok(None);
     };
-    let Some(steps) = all_steps(alloc, tables, pairs, &index)? else {
-        return Ok(false);
+    let Some(steps) = all_steps(alloc, tables, list, &index)? else {
+        return Ok(None);
     };
-    Ok(are_glued(pairs, &index, &numbers, &steps))
+    if !are_glued(list, &index, &numbers, &steps) {
+        return Ok(None);
+    }
+    Ok(Some(steps))
 }
 
-/// Whether each pair is followed, stands here in the other order too, has no writer beside a reader, and stays among these where
-/// Data comes to the home.
-fn are_sound(tables: &Tables, pairs: &[Pair], index: &Index) -> bool
-    ensures { IsTrue result → AreSound tables.now pairs.now }
+/// Whether each ranked pair is followed, stands here in the other order too, has no writer beside a reader, and stays among these
+/// where Data comes to the home.
+fn are_sound(tables: &Tables, list: &[RankedPair], index: &Index) -> bool
+    ensures { IsTrue result → AreSound tables.now list.now }
 {
-    for pair in pairs {
-        if !is_sound(tables, pairs, index, pair) {
+    for ranked in list {
+        if !is_sound(tables, list, index, ranked) {
             return false;
         }
     }
     true
 }
 
-fn is_sound(tables: &Tables, pairs: &[Pair], index: &Index, pair: &Pair) -> bool
-    ensures { IsTrue result → IsSound tables.now pairs.now pair.now }
+fn is_sound(tables: &Tables, list: &[RankedPair], index: &Index, ranked: &RankedPair) -> bool
+    ensures { IsTrue result → IsSound tables.now list.now ranked.now }
 {
-    if !pair.is_few() || !pair.is_marked() {
+    if !ranked.pair.is_few() || !ranked.pair.is_marked() {
         return false;
     }
-    is_single(pair)
-        & is_found(pairs, index, &pair.swapped())
-        & home_stays(tables, pairs, index, pair)
+    is_single(&ranked.pair)
+        & is_listed(list, index, &ranked.turned())
+        & home_stays(tables, list, index, ranked)
 }
 
 /// Whether no writer stands beside a reader.
@@ -68,43 +75,77 @@ fn is_single(pair: &Pair) -> bool
     !(may_write(pair.first.state) & may_read(pair.second.state))
 }
 
-/// Whether the pair stays among these where Data comes to the home.
-fn home_stays(tables: &Tables, pairs: &[Pair], index: &Index, pair: &Pair) -> bool
-    requires few { is_few pair.now ≡ true }
-    requires marked { IsMarked pair.now }
-    ensures { IsTrue result → (third_shares : Bool) → StaysIn pairs.now (home_data_seen tables.now third_shares pair.now) }
+/// Whether a ranked pair stays among these where Data comes to the home.
+fn home_stays(tables: &Tables, list: &[RankedPair], index: &Index, ranked: &RankedPair) -> bool
+    requires few { is_few ranked.now.pair ≡ true }
+    requires marked { IsMarked ranked.now.pair }
+    ensures { IsTrue result → (t : Bool) → Stays list.now ranked.now (home_data_seen tables.now t ranked.now.pair) }
 {
-    stays(pairs, index, &home_data_seen(tables, false, pair))
-        & stays(pairs, index, &home_data_seen(tables, true, pair))
+    let pair = &ranked.pair;
+    stays(list, index, ranked, &home_data_seen(tables, false, pair))
+        & stays(list, index, ranked, &home_data_seen(tables, true, pair))
 }
 
-/// Whether what comes of a step is one of these pairs.
-fn stays(pairs: &[Pair], index: &Index, sight: &Sight) -> bool
-    ensures { IsTrue result → StaysIn pairs.now sight.now }
+/// Whether what is seen from a ranked pair by Data at the home is among these.
+fn stays(list: &[RankedPair], index: &Index, ranked: &RankedPair, sight: &Sight) -> bool
+    ensures { IsTrue result → Stays list.now ranked.now sight.now }
 {
     match sight {
-        Sight::Unmoved | Sight::Spoilt(Party::Third) | Sight::Seen(Party::Third, _) => true,
+        Sight::Unmoved | Sight::Spoilt(Party::Third) => true,
         Sight::Lost | Sight::Spoilt(_) => false,
-        Sight::Seen(_, pair) => is_found(pairs, index, pair),
+        Sight::Seen(concerned, after) => {
+            let after = RankedPair::of(after, ranked.order);
+            is_reached(list, index, *concerned, &after)
+        }
     }
 }
 
-/// The steps of a pair, if they stay among these.
+/// Whether a step that concerns no third cache leads to one of these.
+fn is_reached(list: &[RankedPair], index: &Index, concerned: Party, after: &RankedPair) -> bool
+    ensures { IsTrue result → concerned ≡ Party.Third ⊎ Contains list.now after.now }
+{
+    match concerned {
+        Party::Third => true,
+        _ => is_listed(list, index, after),
+    }
+}
+
+/// Whether a step leads to one of these, if it concerns no third cache.
+fn leads(list: &[RankedPair], index: &Index, ranked: &RankedPair, step: &Followed) -> bool
+    ensures { IsTrue result → LeadsInto list.now ranked.now step.now }
+{
+    let after = RankedPair::of(&step.after, ranked.order.after(step.rule));
+    is_reached(list, index, step.concerned, &after)
+}
+
+/// Whether all steps do.
+fn all_lead(list: &[RankedPair], index: &Index, ranked: &RankedPair, steps: &[Followed]) -> bool
+    ensures { IsTrue result → (k : ℕ) (f : Followed) → slice_get steps.now k ≡ Some f → LeadsInto list.now ranked.now f }
+{
+    for step in steps {
+        if !leads(list, index, ranked, step) {
+            return false;
+        }
+    }
+    true
+}
+
+/// The steps of a ranked pair, if they stay among these.
 fn followed(
     alloc: Global,
     tables: &Tables,
-    pairs: &[Pair],
+    list: &[RankedPair],
     index: &Index,
-    pair: &Pair,
+    ranked: &RankedPair,
 ) -> Result<Option<Vec<Followed>>, NoMemory>
-    ensures { IfOk result (λ found. IfSome found (λ steps. IsFollowedBy tables.now pairs.now pair.now steps.items)) }
+    ensures { IfOk result (λ found. IfSome found (λ steps. IsFollowedBy tables.now list.now ranked.now steps.items)) }
 {
-    if !pair.is_few() || !pair.is_marked() {
+    if !ranked.pair.is_few() || !ranked.pair.is_marked() {
         return Ok(None);
     }
-    match steps_of(alloc, tables, pair) {
+    match steps_of(alloc, tables, &ranked.pair) {
         Ok(steps) => {
-            if !lead_into(pairs, index, &steps) {
+            if !all_lead(list, index, ranked, &steps) {
                 return Ok(None);
             }
             Ok(Some(steps))
@@ -114,43 +155,21 @@ fn followed(
     }
 }
 
-/// The steps of each pair, if they stay among these.
+/// The steps of each ranked pair, if they stay among these.
 fn all_steps(
     alloc: Global,
     tables: &Tables,
-    pairs: &[Pair],
+    list: &[RankedPair],
     index: &Index,
 ) -> Result<Option<Vec<Vec<Followed>>>, NoMemory>
-    ensures { IfOk result (λ found. IfSome found (λ steps. AreTold tables.now pairs.now steps.items)) }
+    ensures { IfOk result (λ found. IfSome found (λ steps. AreTold tables.now list.now steps.items)) }
 {
-    let mut all = Vec::with_capacity(alloc, pairs.len())?;
-    for pair in pairs {
-        match followed(alloc, tables, pairs, index, pair)? {
+    let mut all = Vec::with_capacity(alloc, list.len())?;
+    for ranked in list {
+        match followed(alloc, tables, list, index, ranked)? {
             Some(steps) => all.push(steps)?,
             None => return Ok(None),
         }
     }
     Ok(Some(all))
-}
-
-/// Whether a step that concerns no third cache leads to one of these.
-fn leads_into(pairs: &[Pair], index: &Index, step: &Followed) -> bool
-    ensures { IsTrue result → LeadsInto pairs.now step.now }
-{
-    match step.concerned {
-        Party::Third => true,
-        _ => is_found(pairs, index, &step.after),
-    }
-}
-
-/// Whether all steps do.
-fn lead_into(pairs: &[Pair], index: &Index, steps: &[Followed]) -> bool
-    ensures { IsTrue result → (k : ℕ) (f : Followed) → slice_get steps.now k ≡ Some f → LeadsInto pairs.now f }
-{
-    for step in steps {
-        if !leads_into(pairs, index, step) {
-            return false;
-        }
-    }
-    true
 }

@@ -1,7 +1,8 @@
-//! A number made of all parts of a pair, so that a list is looked through by it. Nothing is promised of it.
+//! A number made of all parts of a pair, or of a view, so that a list is looked through by it. Nothing is promised of it.
 
 ghost use Rattle.std.specs.Prelude.{◌<◌};
 
+use crate::ranked::{Order, RankedPair};
 use base::controller::Listed;
 use network::ForwardKind;
 use pairs::{Lag, Link, Marks, Owned, Pair, Shared, Side, Waiting};
@@ -34,6 +35,16 @@ pub(crate) fn pair_code(pair: &Pair) -> u128 {
     code = side_code(code, &pair.second);
     code = marks_code(code, &pair.first_names);
     marks_code(code, &pair.second_names)
+}
+
+/// The number of a ranked pair.
+pub(crate) fn ranked_code(ranked: &RankedPair) -> u128 {
+    let order = match ranked.order {
+        Order::Unknown => 0,
+        Order::Before => 1,
+        Order::After => 2,
+    };
+    with(pair_code(&ranked.pair), 2, order)
 }
 
 fn shared_code(code: u128, shared: &Shared) -> u128 {

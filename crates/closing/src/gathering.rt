@@ -1,15 +1,17 @@
-//! Gathers the least closed list of pairs. Nothing is promised of it: whether a list is closed is looked at apart.
+//! Gathers the least list of ranked pairs that no step leaves. Nothing is promised of it: whether no step does is looked at
+//! apart.
 
 use crate::following::{Breach, Followed, steps_of};
 use crate::glueing::{are_apart, glued, is_one};
 use crate::listing::{Ends, Listing};
+use crate::ranked::RankedPair;
 use base::NoMemory;
 use both_tables::Tables;
 use cache_line::{may_read, may_write};
 use pairs::{Pair, Party, Rule, Sight, home_data_seen};
 use std::alloc::Global;
 
-/// The most pairs that are gathered, each counted in both orders.
+/// The most ranked pairs that are gathered, each counted in both orders.
 pub const MOST_PAIRS: usize = 40_000;
 
 /// Why no closed list of pairs is known.
@@ -39,25 +41,31 @@ impl From<NoMemory> for Refusal {
     }
 }
 
-/// The pairs that can come about under these tables, each in both orders and those that begin alike together; or why they
-/// aren't followed to the end.
-pub fn gather(alloc: Global, tables: &Tables) -> Result<Vec<Pair>, Refusal> {
+/// The ranked pairs that can come about under these tables, each in both orders and those that begin alike together; or why
+/// they aren't followed to the end.
+pub fn gather(alloc: Global, tables: &Tables) -> Result<Vec<RankedPair>, Refusal> {
     let mut listing = Listing::empty(alloc);
-    listing.add(alloc, &Pair::opened())?;
+    listing.add(alloc, &RankedPair::opened())?;
     for place in 0..MOST_PAIRS {
-        let (Some(pair), Some(ends)) = (listing.pairs.get(place).copied(), listing.ends_of(place))
+        let (Some(ranked), Some(ends)) = (listing.list.get(place).copied(), listing.ends_of(place))
         else {
             return Ok(listing.grouped(alloc)?);
         };
-        step(alloc, tables, &mut listing, &pair)?;
+        step(alloc, tables, &mut listing, &ranked)?;
         glue_beside(alloc, &mut listing, place, ends)?;
         glue_over(alloc, &mut listing, place, ends)?;
     }
     Err(Refusal::TooMany)
 }
 
-/// Adds what can come of a pair by itself, and notes its steps.
-fn step(alloc: Global, tables: &Tables, listing: &mut Listing, pair: &Pair) -> Result<(), Refusal> {
+/// Adds what can come of a ranked pair by itself, and notes its steps.
+fn step(
+    alloc: Global,
+    tables: &Tables,
+    listing: &mut Listing,
+    ranked: &RankedPair,
+) -> Result<(), Refusal> {
+    let pair = &ranked.pair;
     if may_write(pair.first.state) && may_read(pair.second.state) {
         return Err(Refusal::TwoHolders(*pair));
     }
@@ -67,7 +75,7 @@ fn step(alloc: Global, tables: &Tables, listing: &mut Listing, pair: &Pair) -> R
     for third_shares in [false, true] {
         match home_data_seen(tables, third_shares, pair) {
             Sight::Unmoved => {}
-            Sight::Seen(_, after) => listing.add(alloc, &after)?,
+            Sight::Seen(_, after) => listing.add(alloc, &RankedPair::of(&after, ranked.order))?,
             Sight::Lost | Sight::Spoilt(_) => return Err(Refusal::AtHome(*pair)),
         }
     }
@@ -79,37 +87,48 @@ fn step(alloc: Global, tables: &Tables, listing: &mut Listing, pair: &Pair) -> R
     };
     for step in &steps {
         if step.concerned != Party::Third {
-            listing.add(alloc, &step.after)?;
+            listing.add(
+                alloc,
+                &RankedPair::of(&step.after, ranked.order.after(step.rule)),
+            )?;
         }
     }
     Ok(listing.note(steps)?)
 }
 
-/// Adds what two sights of one step make of the two caches that don't act.
+/// Adds what two sights of one step make of three ranked pairs: of the cache that the step doesn't concern, and of the two that
+/// don't act.
 fn glue(
     alloc: Global,
     listing: &mut Listing,
-    one: &Followed,
-    other: &Followed,
-    between: &Pair,
+    one: (&RankedPair, &Followed),
+    other: (&RankedPair, &Followed),
+    between: &RankedPair,
 ) -> Result<(), NoMemory> {
-    if !is_one(one, other) {
+    let ((first, mine), (second, theirs)) = (one, other);
+    if !is_one(mine, theirs) {
         return Ok(());
     }
-    match (one.concerned, other.concerned) {
+    match (mine.concerned, theirs.concerned) {
         (Party::Nobody, Party::Nobody) | (Party::Third, Party::Third) => {}
-        (Party::Second, Party::Third) => listing.add(alloc, &other.after)?,
-        (Party::Third, Party::Second) => listing.add(alloc, &one.after)?,
+        (Party::Second, Party::Third) => {
+            let order = second.order.after(theirs.rule);
+            listing.add(alloc, &RankedPair::of(&theirs.after, order))?;
+        }
+        (Party::Third, Party::Second) => {
+            let order = first.order.after(mine.rule);
+            listing.add(alloc, &RankedPair::of(&mine.after, order))?;
+        }
         _ => return Ok(()),
     }
-    let pair = glued(&one.after, &other.after, between);
+    let pair = glued(&mine.after, &theirs.after, &between.pair);
     if pair.fits() {
-        listing.add(alloc, &pair)?;
+        listing.add(alloc, &RankedPair::of(&pair, between.order))?;
     }
     Ok(())
 }
 
-/// Glues all steps of two pairs that begin alike over a third one.
+/// Glues all steps of two ranked pairs that begin alike over a third one.
 fn glue_all(
     alloc: Global,
     listing: &mut Listing,
@@ -118,13 +137,13 @@ fn glue_all(
     between: usize,
 ) -> Result<(), NoMemory> {
     let (Some(first), Some(second), Some(third)) = (
-        listing.pairs.get(one).copied(),
-        listing.pairs.get(other).copied(),
-        listing.pairs.get(between).copied(),
+        listing.list.get(one).copied(),
+        listing.list.get(other).copied(),
+        listing.list.get(between).copied(),
     ) else {
         return Ok(());
     };
-    if !are_apart(&first.first_names, &second.first_names) {
+    if !are_apart(&first.pair.first_names, &second.pair.first_names) {
         return Ok(());
     }
     for number in 0..listing.step_count(one) {
@@ -133,14 +152,14 @@ fn glue_all(
                 listing.step(one, number),
                 listing.step(other, against),
             ) {
-                glue(alloc, listing, &mine, &theirs, &third)?;
+                glue(alloc, listing, (&first, &mine), (&second, &theirs), &third)?;
             }
         }
     }
     Ok(())
 }
 
-/// Glues a pair with each that begins like it.
+/// Glues a ranked pair with each that begins like it.
 fn glue_beside(
     alloc: Global,
     listing: &mut Listing,
@@ -154,15 +173,15 @@ fn glue_beside(
         };
         for between in &listing.between(alloc, ends.second, other_ends.second)? {
             glue_all(alloc, listing, one, *other, *between)?;
-            if let Some(swapped) = listing.swapped(*between) {
-                glue_all(alloc, listing, *other, one, swapped)?;
+            if let Some(turned) = listing.turned(*between) {
+                glue_all(alloc, listing, *other, one, turned)?;
             }
         }
     }
     Ok(())
 }
 
-/// Glues over a pair of two that don't act.
+/// Glues over a ranked pair of two that don't act.
 fn glue_over(
     alloc: Global,
     listing: &mut Listing,
@@ -171,7 +190,7 @@ fn glue_over(
 ) -> Result<(), NoMemory> {
     let acting = listing.starting(ends.first).to_vec(alloc)?;
     for turned in &acting {
-        let (Some(acting_ends), Some(one)) = (listing.ends_of(*turned), listing.swapped(*turned))
+        let (Some(acting_ends), Some(one)) = (listing.ends_of(*turned), listing.turned(*turned))
         else {
             continue;
         };

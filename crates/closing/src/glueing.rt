@@ -1,14 +1,15 @@
-//! Whether three pairs of three caches stay among these pairs where one of the caches takes a step.
+//! Whether three ranked pairs of three caches stay among these where one of the caches takes a step.
 
 ghost use Rattle.std.specs.Prelude.{◌≡◌, ◌≤◌, ◌<◌, ◌↔◌, ℕ, IsTrue, Some, length, slice_get};
 ghost use Rattle.closing.specs.Closed as closed;
-ghost use Rattle.pairs.specs.declared.pair.Pair.{Pair};
 ghost use Rattle.closing.specs.declared.following.Followed.{Followed};
+ghost use Rattle.closing.specs.declared.ranked.RankedPair.{RankedPair};
 ghost use Rattle.closing.specs.inner.Told.{AreOne, GlueTogether, Glues, GluesAt, GluesOver, GluesWith};
 
 use crate::following::Followed;
-use crate::index::{Index, is_found};
+use crate::index::{Index, is_listed};
 use crate::numbering::{Numbers, Span};
+use crate::ranked::RankedPair;
 use pairs::{Link, Marks, Pair, Party};
 
 /// Whether no place of a link is marked twice.
@@ -55,18 +56,30 @@ pub(crate) fn glued(one: &Pair, other: &Pair, between: &Pair) -> Pair
     }
 }
 
-/// Whether a step, as two pairs of its actor see it, leads to one of these pairs in the third one.
-fn is_glued(pairs: &[Pair], index: &Index, between: &Pair, one: &Followed, other: &Followed) -> bool
-    ensures { IsTrue result → Glues pairs.now between.now one.now other.now }
+/// Whether a step, as two ranked pairs of its actor see it, leads to one of these in the third one, and in that of the cache that
+/// it doesn't concern.
+fn is_glued(
+    list: &[RankedPair],
+    index: &Index,
+    neighbour: &RankedPair,
+    between: &RankedPair,
+    one: &Followed,
+    other: &Followed,
+) -> bool
+    ensures { IsTrue result → Glues list.now neighbour.now between.now one.now other.now }
 {
     let kept = match (one.concerned, other.concerned) {
-        (Party::Nobody, Party::Nobody) | (Party::Third, Party::Third) => true,
-        (Party::Second, Party::Third) => is_found(pairs, index, &other.after),
-        (Party::Third, Party::Second) => is_found(pairs, index, &one.after),
+        (Party::Second, Party::Third) => {
+            let order = neighbour.order.after(other.rule);
+            is_listed(list, index, &RankedPair::of(&other.after, order))
+        }
+        (Party::Nobody, Party::Nobody)
+        | (Party::Third, Party::Third)
+        | (Party::Third, Party::Second) => true,
         _ => return true,
     };
-    let pair = glued(&one.after, &other.after, between);
-    kept && (!pair.fits() || is_found(pairs, index, &pair))
+    let pair = glued(&one.after, &other.after, &between.pair);
+    kept && (!pair.fits() || is_listed(list, index, &RankedPair::of(&pair, between.order)))
 }
 
 /// Whether two steps may be one, as two pairs of its actor see it.
@@ -80,18 +93,19 @@ pub(crate) fn is_one(one: &Followed, other: &Followed) -> bool
 
 /// Whether a step is glued over each third pair that stands within a span and has this number as its second one.
 fn is_glued_within(
-    pairs: &[Pair],
+    list: &[RankedPair],
     index: &Index,
     numbers: &Numbers,
     span: Span,
     second: usize,
+    neighbour: &RankedPair,
     one: &Followed,
     other: &Followed,
 ) -> bool
-    ensures { IsTrue result → GluesOver pairs.now numbers.now.seconds.items span second one.now other.now }
+    ensures { IsTrue result → GluesOver list.now numbers.now.seconds.items span second neighbour.now one.now other.now }
 {
     for place in span.begin..span.end {
-        if !is_glued_over(pairs, index, numbers, place, second, one, other) {
+        if !is_glued_over(list, index, numbers, place, second, neighbour, one, other) {
             return false;
         }
     }
@@ -100,38 +114,40 @@ fn is_glued_within(
 
 /// Whether a step is glued over the pair at a place, if that has this number as its second one.
 fn is_glued_over(
-    pairs: &[Pair],
+    list: &[RankedPair],
     index: &Index,
     numbers: &Numbers,
     place: usize,
     second: usize,
+    neighbour: &RankedPair,
     one: &Followed,
     other: &Followed,
 ) -> bool
-    ensures { IsTrue result → (r : Pair) → slice_get numbers.now.seconds.items place ≡ Some second → slice_get pairs.now place ≡ Some r →
-        Glues pairs.now r one.now other.now }
+    ensures { IsTrue result → (r : RankedPair) → slice_get numbers.now.seconds.items place ≡ Some second → slice_get list.now place ≡ Some r →
+        Glues list.now neighbour.now r one.now other.now }
 {
-    let (Some(number), Some(between)) = (numbers.seconds.get(place), pairs.get(place)) else {
+    let (Some(number), Some(between)) = (numbers.seconds.get(place), list.get(place)) else {
         return true;
     };
-    *number != second || is_glued(pairs, index, between, one, other)
+    *number != second || is_glued(list, index, neighbour, between, one, other)
 }
 
 /// Whether a step is glued so with each of these that is one with it.
 fn is_glued_to(
-    pairs: &[Pair],
+    list: &[RankedPair],
     index: &Index,
     numbers: &Numbers,
     span: Span,
     second: usize,
+    neighbour: &RankedPair,
     one: &Followed,
     theirs: &[Followed],
 ) -> bool
     ensures { IsTrue result → (n : ℕ) (g : Followed) → slice_get theirs.now n ≡ Some g → AreOne one.now g →
-        GluesOver pairs.now numbers.now.seconds.items span second one.now g }
+        GluesOver list.now numbers.now.seconds.items span second neighbour.now one.now g }
 {
     for other in theirs {
-        if !may_be_glued(pairs, index, numbers, span, second, one, other) {
+        if !may_be_glued(list, index, numbers, span, second, neighbour, one, other) {
             return false;
         }
     }
@@ -140,34 +156,37 @@ fn is_glued_to(
 
 /// Whether two steps aren't one or are glued so.
 fn may_be_glued(
-    pairs: &[Pair],
+    list: &[RankedPair],
     index: &Index,
     numbers: &Numbers,
     span: Span,
     second: usize,
+    neighbour: &RankedPair,
     one: &Followed,
     other: &Followed,
 ) -> bool
     ensures { IsTrue result → AreOne one.now other.now →
-        GluesOver pairs.now numbers.now.seconds.items span second one.now other.now }
+        GluesOver list.now numbers.now.seconds.items span second neighbour.now one.now other.now }
 {
-    !is_one(one, other) || is_glued_within(pairs, index, numbers, span, second, one, other)
+    !is_one(one, other)
+        || is_glued_within(list, index, numbers, span, second, neighbour, one, other)
 }
 
 /// Whether all steps of two pairs that begin alike are glued so.
 fn are_glued_within(
-    pairs: &[Pair],
+    list: &[RankedPair],
     index: &Index,
     numbers: &Numbers,
     span: Span,
     second: usize,
+    neighbour: &RankedPair,
     mine: &[Followed],
     theirs: &[Followed],
 ) -> bool
-    ensures { IsTrue result → GlueTogether pairs.now numbers.now.seconds.items span second mine.now theirs.now }
+    ensures { IsTrue result → GlueTogether list.now numbers.now.seconds.items span second neighbour.now mine.now theirs.now }
 {
     for one in mine {
-        if !is_glued_to(pairs, index, numbers, span, second, one, theirs) {
+        if !is_glued_to(list, index, numbers, span, second, neighbour, one, theirs) {
             return false;
         }
     }
@@ -176,16 +195,16 @@ fn are_glued_within(
 
 /// Whether the pair at a place is glued with each that begins like it.
 fn is_glued_at(
-    pairs: &[Pair],
+    list: &[RankedPair],
     index: &Index,
     numbers: &Numbers,
     steps: &[Vec<Followed>],
     place: usize,
 ) -> bool
-    ensures { IsTrue result → GluesAt pairs.now numbers.now steps.now place }
+    ensures { IsTrue result → GluesAt list.now numbers.now steps.now place }
 {
-    let (Some(pair), Some(mine), Some(first), Some(second)) = (
-        pairs.get(place),
+    let (Some(ranked), Some(mine), Some(first), Some(second)) = (
+        list.get(place),
         steps.get(place),
         numbers.firsts.get(place),
         numbers.seconds.get(place),
@@ -196,25 +215,25 @@ fn is_glued_at(
     else {
         return false;
     };
-    is_glued_beside(pairs, index, numbers, steps, pair, mine, *beside, *between)
+    is_glued_beside(list, index, numbers, steps, ranked, mine, *beside, *between)
 }
 
 /// Whether a pair is glued with each that stands within a span.
 fn is_glued_beside(
-    pairs: &[Pair],
+    list: &[RankedPair],
     index: &Index,
     numbers: &Numbers,
     steps: &[Vec<Followed>],
-    pair: &Pair,
+    ranked: &RankedPair,
     mine: &[Followed],
     beside: Span,
     between: Span,
 ) -> bool
     ensures { IsTrue result → (j : ℕ) → beside.begin ≤ j → j < beside.end →
-        GluesWith pairs.now numbers.now.seconds.items steps.now pair.now mine.now between j }
+        GluesWith list.now numbers.now.seconds.items steps.now ranked.now mine.now between j }
 {
     for other in beside.begin..beside.end {
-        if !is_glued_with(pairs, index, numbers, steps, pair, mine, between, other) {
+        if !is_glued_with(list, index, numbers, steps, ranked, mine, between, other) {
             return false;
         }
     }
@@ -223,39 +242,39 @@ fn is_glued_beside(
 
 /// Whether a pair is glued with the one at a place.
 fn is_glued_with(
-    pairs: &[Pair],
+    list: &[RankedPair],
     index: &Index,
     numbers: &Numbers,
     steps: &[Vec<Followed>],
-    pair: &Pair,
+    ranked: &RankedPair,
     mine: &[Followed],
     between: Span,
     place: usize,
 ) -> bool
-    ensures { IsTrue result → GluesWith pairs.now numbers.now.seconds.items steps.now pair.now mine.now between place }
+    ensures { IsTrue result → GluesWith list.now numbers.now.seconds.items steps.now ranked.now mine.now between place }
 {
     let (Some(other), Some(theirs), Some(second)) = (
-        pairs.get(place),
+        list.get(place),
         steps.get(place),
         numbers.seconds.get(place),
     ) else {
         return true;
     };
-    !are_apart(&pair.first_names, &other.first_names)
-        || are_glued_within(pairs, index, numbers, between, *second, mine, theirs)
+    !are_apart(&ranked.pair.first_names, &other.pair.first_names)
+        || are_glued_within(list, index, numbers, between, *second, other, mine, theirs)
 }
 
 /// Whether all pairs are.
 pub(crate) fn are_glued(
-    pairs: &[Pair],
+    list: &[RankedPair],
     index: &Index,
     numbers: &Numbers,
     steps: &[Vec<Followed>],
 ) -> bool
-    ensures { IsTrue result → (place : ℕ) → place < length pairs.now → GluesAt pairs.now numbers.now steps.now place }
+    ensures { IsTrue result → (place : ℕ) → place < length list.now → GluesAt list.now numbers.now steps.now place }
 {
-    for place in 0..pairs.len() {
-        if !is_glued_at(pairs, index, numbers, steps, place) {
+    for place in 0..list.len() {
+        if !is_glued_at(list, index, numbers, steps, place) {
             return false;
         }
     }

@@ -4,6 +4,7 @@
 //! The definitions stand in `specs/`, and the law about them in `laws`.
 #![tactic(auto)]
 
+mod balancing;
 mod blaming;
 mod checking;
 mod codes;
@@ -17,16 +18,8 @@ mod laws;
 mod listing;
 mod numbering;
 mod ranked;
-mod ranked_gathering;
-mod ranked_glueing;
-mod ranked_index;
-mod ranked_listing;
-mod ranking;
 
-pub use blaming::{is_blamed, serves_asks};
-pub use checking::is_closed;
-pub use deciding::{Flow, closed_pairs, flow_of};
+pub use deciding::{ClosedPairs, Flow, closed_pairs, shown_by};
 pub use gathering::{MOST_PAIRS, Refusal, gather};
 pub use laws::{blamed_tables_are_unstuck, closed_tables_are_safe};
 pub use ranked::{Order, RankedPair};
-pub use ranked_gathering::gather_ranked;

@@ -1,10 +1,11 @@
-//! Pairs as they are gathered, by the views that they begin and end with.
+//! Ranked pairs as they are gathered, by the views that they begin and end with.
 
-use crate::codes::view_code;
+use crate::codes::{ranked_code, view_code};
 use crate::following::Followed;
 use crate::index::Index;
+use crate::ranked::RankedPair;
 use base::NoMemory;
-use pairs::{Pair, Shared, Side};
+use pairs::{Shared, Side};
 use std::alloc::Global;
 use std::collections::HashMap;
 
@@ -15,10 +16,10 @@ pub(crate) struct Ends {
     pub(crate) second: usize,
 }
 
-/// The pairs that were gathered so far.
+/// The ranked pairs that were gathered so far.
 #[derive(Drop)]
 pub(crate) struct Listing {
-    pub(crate) pairs: Vec<Pair>,
+    pub(crate) list: Vec<RankedPair>,
     /// The steps of those that were looked at.
     steps: Vec<Vec<Followed>>,
     ends: Vec<Ends>,
@@ -32,7 +33,7 @@ pub(crate) struct Listing {
 impl Listing {
     pub(crate) fn empty(alloc: Global) -> Listing {
         Listing {
-            pairs: Vec::new(alloc),
+            list: Vec::new(alloc),
             steps: Vec::new(alloc),
             ends: Vec::new(alloc),
             starting: Vec::new(alloc),
@@ -53,15 +54,16 @@ impl Listing {
         Ok(number)
     }
 
-    fn add_one(&mut self, alloc: Global, pair: &Pair) -> Result<(), NoMemory> {
-        if self.index.place(pair).is_some() {
+    fn add_one(&mut self, alloc: Global, ranked: &RankedPair) -> Result<(), NoMemory> {
+        let code = ranked_code(ranked);
+        if self.index.place(code).is_some() {
             return Ok(());
         }
-        let place = self.pairs.len();
-        let first = self.number(alloc, &pair.shared, &pair.first)?;
-        let second = self.number(alloc, &pair.shared, &pair.second)?;
-        self.index.add(pair, place)?;
-        self.pairs.push(*pair)?;
+        let place = self.list.len();
+        let first = self.number(alloc, &ranked.pair.shared, &ranked.pair.first)?;
+        let second = self.number(alloc, &ranked.pair.shared, &ranked.pair.second)?;
+        self.index.add(code, place)?;
+        self.list.push(*ranked)?;
         self.ends.push(Ends { first, second })?;
         if let Some(starting) = self.starting.get_mut(first) {
             starting.push(place)?;
@@ -69,10 +71,10 @@ impl Listing {
         Ok(())
     }
 
-    /// Adds a pair in both orders, if it isn't there.
-    pub(crate) fn add(&mut self, alloc: Global, pair: &Pair) -> Result<(), NoMemory> {
-        self.add_one(alloc, pair)?;
-        self.add_one(alloc, &pair.swapped())
+    /// Adds a ranked pair in both orders, if it isn't there.
+    pub(crate) fn add(&mut self, alloc: Global, ranked: &RankedPair) -> Result<(), NoMemory> {
+        self.add_one(alloc, ranked)?;
+        self.add_one(alloc, &ranked.turned())
     }
 
     /// The numbers of the views of a pair.
@@ -107,9 +109,9 @@ impl Listing {
     }
 
     /// Where the same pair stands in the other order.
-    pub(crate) fn swapped(&self, place: usize) -> Option<usize> {
-        let pair = self.pairs.get(place)?;
-        self.index.place(&pair.swapped())
+    pub(crate) fn turned(&self, place: usize) -> Option<usize> {
+        let ranked = self.list.get(place)?;
+        self.index.place(ranked_code(&ranked.turned()))
     }
 
     /// Notes the steps of the next pair.
@@ -127,13 +129,13 @@ impl Listing {
         self.steps.get(place)?.get(number).copied()
     }
 
-    /// The pairs, those that begin alike together.
-    pub(crate) fn grouped(&self, alloc: Global) -> Result<Vec<Pair>, NoMemory> {
-        let mut all = Vec::with_capacity(alloc, self.pairs.len())?;
+    /// The ranked pairs, those that begin alike together.
+    pub(crate) fn grouped(&self, alloc: Global) -> Result<Vec<RankedPair>, NoMemory> {
+        let mut all = Vec::with_capacity(alloc, self.list.len())?;
         for places in &self.starting {
             for place in places {
-                if let Some(pair) = self.pairs.get(*place) {
-                    all.push(*pair)?;
+                if let Some(ranked) = self.list.get(*place) {
+                    all.push(*ranked)?;
                 }
             }
         }

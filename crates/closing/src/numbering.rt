@@ -1,11 +1,14 @@
-//! Numbers for the views of a list of pairs, so that pairs that begin alike are gone over together.
+//! Numbers for the views of a list of ranked pairs, so that those that begin alike are gone over together.
 
-ghost use Rattle.std.specs.Prelude.{◌≡◌, ◌↔◌, if◌then◌else◌, IfOk, IfSome, IsTrue};
-ghost use Rattle.closing.specs.inner.Numbered.{AreNumbered, AreWithin, HaveNumbers, IsNumber, first_view, second_view};
+ghost use Rattle.std.specs.Prelude.{◌≡◌, ◌<◌, ◌↔◌, ℕ, if◌then◌else◌, IfOk, IfSome, IsTrue, Some, slice_get};
+ghost use Rattle.closing.specs.inner.Numbered.{AreDistinct, AreNumbered, AreWithin, HaveNumbers, IsNumber, first_view, second_view};
 
+use crate::codes::view_code;
+use crate::ranked::RankedPair;
 use base::NoMemory;
 use pairs::{Pair, Shared, Side};
 use std::alloc::Global;
+use std::collections::HashMap;
 
 /// What one cache sees of a block.
 #[derive(Clone, Copy, Debug)]
@@ -49,35 +52,71 @@ impl View {
     }
 }
 
-/// The number of a view: where it stands first.
-fn number_of(views: &[View], view: &View) -> Option<usize>
+/// The views that pairs begin with, in their order, the number of each by its code, and where the pairs stand.
+#[derive(Drop)]
+struct Views {
+    all: Vec<View>,
+    known: HashMap<u128, usize>,
+    spans: Vec<Span>,
+}
+
+/// The number of a view.
+fn number_of(views: &[View], known: &HashMap<u128, usize>, view: &View) -> Option<usize>
+    requires { AreDistinct views.now }
     ensures { IfSome result (λ number. IsNumber views.now view.now number) }
 {
-    for (number, known) in views.iter().enumerate() {
-        if known.is_same(view) {
-            return Some(number);
-        }
+    let number = *known.get(&view_code(&view.shared, &view.side))?;
+    match views.get(number) {
+        Some(found) if found.is_same(view) => Some(number),
+        _ => None,
     }
-    None
 }
 
 /// The numbers of all first views, or of all second ones, if each is known.
 fn numbers_of(
     alloc: Global,
-    pairs: &[Pair],
+    list: &[RankedPair],
     views: &[View],
+    known: &HashMap<u128, usize>,
     second: bool,
 ) -> Result<Option<Vec<usize>>, NoMemory>
-    ensures { IfOk result (λ found. IfSome found (λ numbers. HaveNumbers second pairs.now views.now numbers.items)) }
+    requires { AreDistinct views.now }
+    ensures { IfOk result (λ found. IfSome found (λ numbers. HaveNumbers second list.now views.now numbers.items)) }
 {
-    let mut numbers = Vec::with_capacity(alloc, pairs.len())?;
-    for pair in pairs {
-        match number_of(views, &View::of(pair, second)) {
+    let mut numbers = Vec::with_capacity(alloc, list.len())?;
+    for ranked in list {
+        match number_of(views, known, &View::of(&ranked.pair, second)) {
             Some(number) => numbers.push(number)?,
             None => return Ok(None),
         }
     }
     Ok(Some(numbers))
+}
+
+/// Whether a view is unlike the first ones of these.
+fn is_new(views: &[View], count: usize, view: &View) -> bool
+    ensures { IsTrue result → (k : ℕ) → k < count → ¬ (slice_get views.now k ≡ Some view.now) }
+{
+    for number in 0..count {
+        if let Some(known) = views.get(number) {
+            if known.is_same(view) {
+                return false;
+            }
+        }
+    }
+    true
+}
+
+/// Whether each of these views is unlike all before it.
+fn are_distinct(views: &[View]) -> bool
+    ensures { IsTrue result → AreDistinct views.now }
+{
+    for (number, view) in views.iter().enumerate() {
+        if !is_new(views, number, view) {
+            return false;
+        }
+    }
+    true
 }
 
 fn ends_with(views: &[View], view: &View) -> bool {
@@ -87,14 +126,15 @@ fn ends_with(views: &[View], view: &View) -> bool {
     }
 }
 
-/// The views that pairs begin with, in their order, and where they stand.
-fn views_of(alloc: Global, pairs: &[Pair]) -> Result<(Vec<View>, Vec<Span>), NoMemory> {
-    let mut views = Vec::new(alloc);
+fn views_of(alloc: Global, list: &[RankedPair]) -> Result<Views, NoMemory> {
+    let mut all = Vec::new(alloc);
+    let mut known = HashMap::new(alloc);
     let mut spans: Vec<Span> = Vec::new(alloc);
-    for (place, pair) in pairs.iter().enumerate() {
-        let view = View::of(pair, false);
-        if !ends_with(&views, &view) {
-            views.push(view)?;
+    for (place, ranked) in list.iter().enumerate() {
+        let view = View::of(&ranked.pair, false);
+        if !ends_with(&all, &view) {
+            known.insert(view_code(&view.shared, &view.side), all.len())?;
+            all.push(view)?;
             spans.push(Span {
                 begin: place,
                 end: place,
@@ -104,7 +144,7 @@ fn views_of(alloc: Global, pairs: &[Pair]) -> Result<(Vec<View>, Vec<Span>), NoM
             span.end = place + 1;
         }
     }
-    Ok((views, spans))
+    Ok(Views { all, known, spans })
 }
 
 /// Whether each pair stands within the span of its first view.
@@ -122,13 +162,16 @@ fn are_within(firsts: &[usize], spans: &[Span]) -> bool
 
 impl Numbers {
     /// Those of a list, if pairs that begin alike stand together, and each view begins a pair.
-    pub(crate) fn of(alloc: Global, pairs: &[Pair]) -> Result<Option<Numbers>, NoMemory>
-        ensures { IfOk result (λ found. IfSome found (λ n. AreNumbered pairs.now n.views.items n.firsts.items n.seconds.items n.spans.items)) }
+    pub(crate) fn of(alloc: Global, list: &[RankedPair]) -> Result<Option<Numbers>, NoMemory>
+        ensures { IfOk result (λ found. IfSome found (λ n. AreNumbered list.now n.views.items n.firsts.items n.seconds.items n.spans.items)) }
     {
-        let (views, spans) = views_of(alloc, pairs)?;
+        let Views { all, known, spans } = views_of(alloc, list)?;
+        if !are_distinct(&all) {
+            return Ok(None);
+        }
         let (Some(firsts), Some(seconds)) = (
-            numbers_of(alloc, pairs, &views, false)?,
-            numbers_of(alloc, pairs, &views, true)?,
+            numbers_of(alloc, list, &all, &known, false)?,
+            numbers_of(alloc, list, &all, &known, true)?,
         ) else {
             return Ok(None);
         };
@@ -136,7 +179,7 @@ impl Numbers {
             return Ok(None);
         }
         Ok(Some(Numbers {
-            views,
+            views: all,
             firsts,
             seconds,
             spans,

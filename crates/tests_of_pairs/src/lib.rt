@@ -4,5 +4,3 @@
 
 #[cfg(test)]
 mod lists;
-#[cfg(test)]
-mod ranked;

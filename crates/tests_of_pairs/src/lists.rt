@@ -1,15 +1,14 @@
 use base::controller::Protocol;
 use both_tables::Tables;
 use cache_table::{CacheAction, CacheActions, CacheEntry, CacheEvent, CacheState};
-use closing::{Refusal, gather, is_closed};
-use pairs::Pair;
+use closing::{Flow, Refusal, closed_pairs, gather, shown_by};
 use std::alloc::Global;
 use std::process::Abort;
 
-/// The pairs that come about under tables, if they are followed to the end.
-fn gathered(rt: &impl Abort, alloc: Global, tables: &Tables) -> Option<Vec<Pair>> {
-    match gather(alloc, tables) {
-        Ok(pairs) => Some(pairs),
+/// How many pairs are closed under tables, and what they show of what gets stuck, if any are.
+fn closed(rt: &impl Abort, alloc: Global, tables: &Tables) -> Option<(usize, Flow)> {
+    match closed_pairs(alloc, tables) {
+        Ok(found) => Some((found.pairs.len(), found.flow)),
         Err(refusal) => {
             assert!(rt; !matches!(refusal, Refusal::NoMemory), "memory");
             None
@@ -17,20 +16,19 @@ fn gathered(rt: &impl Abort, alloc: Global, tables: &Tables) -> Option<Vec<Pair>
     }
 }
 
-/// Fails the test unless a list is closed, or isn't.
-fn is_told(rt: &impl Abort, alloc: Global, tables: &Tables, pairs: &[Pair], wanted: bool) {
-    let closed = is_closed(alloc, tables, pairs).expect(rt, "memory");
-    assert_eq!(rt; closed, wanted);
-}
-
 #[test]
 fn pairs_of_the_own_tables(rt: HostRuntime) {
     let alloc = rt.alloc();
-    for (protocol, count) in [(Protocol::Msi, 6313usize), (Protocol::MsiE, 8463)] {
+    let counts = [
+        (Protocol::Msi, 6313usize, 7138usize),
+        (Protocol::MsiE, 8463, 9623),
+    ];
+    for (protocol, count, ranked) in counts {
         let tables = Tables::baseline_of(protocol);
-        let pairs = gathered(&rt, alloc, &tables).expect(&rt, "pairs");
-        assert_eq!(rt; pairs.len(), count);
-        is_told(&rt, alloc, &tables, &pairs, true);
+        let found = closed(&rt, alloc, &tables);
+        assert_eq!(rt; found, Some((count, Flow::NeverStuck)));
+        let list = gather(alloc, &tables).expect(&rt, "ranked pairs");
+        assert_eq!(rt; list.len(), ranked);
     }
 }
 
@@ -38,23 +36,14 @@ fn pairs_of_the_own_tables(rt: HostRuntime) {
 fn a_list_that_misses_a_pair(rt: HostRuntime) {
     let alloc = rt.alloc();
     let tables = Tables::baseline();
-    let pairs = gathered(&rt, alloc, &tables).expect(&rt, "pairs");
-    for place in [0usize, 1, 999, 2500, 4096, 6312] {
-        let mut fewer = pairs.clone().expect(&rt, "memory");
+    let list = gather(alloc, &tables).expect(&rt, "ranked pairs");
+    for place in [0usize, 1, 999, 2500, 4096, 7137] {
+        let mut fewer = list.clone().expect(&rt, "memory");
         if place < fewer.len() {
             fewer.remove(place);
         }
-        is_told(&rt, alloc, &tables, &fewer, false);
-    }
-}
-
-/// How many pairs come about under tables, if they are followed to the end and their list is closed.
-fn closed_count(rt: &impl Abort, alloc: Global, tables: &Tables) -> Option<usize> {
-    let pairs = gathered(rt, alloc, tables)?;
-    if is_closed(alloc, tables, &pairs).expect(rt, "memory") {
-        Some(pairs.len())
-    } else {
-        None
+        let shown = shown_by(alloc, &tables, &fewer).expect(&rt, "memory");
+        assert_eq!(rt; shown, None, "without {place}");
     }
 }
 
@@ -80,7 +69,7 @@ fn are_told(rt: &impl Abort, alloc: Global, changes: &[Change]) {
                 actions,
             },
         );
-        let count = closed_count(rt, alloc, &tables);
+        let count = closed(rt, alloc, &tables).map(|found| found.0);
         assert_eq!(rt; count, *wanted, "at {state:?} {event:?}");
     }
 }
@@ -153,4 +142,55 @@ fn changes_that_send_too_much_or_too_little(rt: HostRuntime) {
         ),
     ];
     are_told(&rt, rt.alloc(), &changes);
+}
+
+#[test]
+fn changes_by_which_something_waits(rt: HostRuntime) {
+    let alloc = rt.alloc();
+    let rows: [(CacheState, CacheEvent, CacheEntry, Flow); 5] = [
+        // A load is held for good where there is no copy, and no message is.
+        (
+            CacheState::I,
+            CacheEvent::Load,
+            CacheEntry::Stall,
+            Flow::AsksMayBeHeld,
+        ),
+        // A store that has its Data waits for acks that wait for nothing.
+        (
+            CacheState::ImAd,
+            CacheEvent::InvAck,
+            CacheEntry::Stall,
+            Flow::NeverStuck,
+        ),
+        // It holds the very acks that it waits for.
+        (
+            CacheState::ImA,
+            CacheEvent::InvAck,
+            CacheEntry::Stall,
+            Flow::MessagesMayGetStuck,
+        ),
+        // An Inv waits at a copy for good.
+        (
+            CacheState::S,
+            CacheEvent::Inv,
+            CacheEntry::Stall,
+            Flow::MessagesMayGetStuck,
+        ),
+        // A load goes on waiting when its Data has come.
+        (
+            CacheState::IsD,
+            CacheEvent::DataDirZero,
+            CacheEntry::Act {
+                next: CacheState::SmAd,
+                actions: CacheActions::of(&[]).expect(&rt, "few actions"),
+            },
+            Flow::AsksMayBeHeld,
+        ),
+    ];
+    for (state, event, entry, wanted) in rows {
+        let mut tables = Tables::baseline();
+        tables.cache = tables.cache.with(state, event, entry);
+        let found = closed(&rt, alloc, &tables).map(|found| found.1);
+        assert_eq!(rt; found, Some(wanted), "at {state:?} {event:?}");
+    }
 }

@@ -3,6 +3,7 @@ use Rattle.std.specs.Prelude.{◌≡◌, ◌<◌, ◌≤◌, ℕ, List, Some, Bo
 use Rattle.pairs.specs.declared.pair.Pair.{Pair}
 use Rattle.closing.specs.declared.numbering.View.{View}
 use Rattle.closing.specs.declared.numbering.Span.{Span}
+use Rattle.closing.specs.declared.ranked.RankedPair.{RankedPair}
 
 abbrev pub first_view : Pair → View
 first_view p = record { shared = p.shared; side = p.first }
@@ -15,18 +16,22 @@ pub record IsNumber (views : List View) (view : View) (number : ℕ) : Type 0 wh
   pub there : slice_get views number ≡ Some view
   pub first : (k : ℕ) → k < number → ¬ (slice_get views k ≡ Some view)
 
+-- no view stands here twice
+abbrev pub AreDistinct : List View → Type 0
+AreDistinct views = (n : ℕ) (v : View) → slice_get views n ≡ Some v → (k : ℕ) → k < n → ¬ (slice_get views k ≡ Some v)
+
 -- each pair has the number of its first view, or of its second one
-abbrev pub HaveNumbers : Bool → List Pair → List View → List ℕ → Type 0
-HaveNumbers second pairs views numbers =
-    (k : ℕ) (p : Pair) → slice_get pairs k ≡ Some p →
-    (n : ℕ) × (slice_get numbers k ≡ Some n) × IsNumber views (if second then second_view p else first_view p) n
+abbrev pub HaveNumbers : Bool → List RankedPair → List View → List ℕ → Type 0
+HaveNumbers second list views numbers =
+    (k : ℕ) (r : RankedPair) → slice_get list k ≡ Some r →
+    (n : ℕ) × (slice_get numbers k ≡ Some n) × IsNumber views (if second then second_view r.pair else first_view r.pair) n
 
 -- each place is within the span of its number
 abbrev pub AreWithin : List ℕ → List Span → Type 0
 AreWithin firsts spans = (k n : ℕ) → slice_get firsts k ≡ Some n → (s : Span) × (slice_get spans n ≡ Some s) × (s.begin ≤ k) × (k < s.end)
 
 -- each pair has the numbers of its two views, and stands within the span of its first one's
-pub record AreNumbered (pairs : List Pair) (views : List View) (firsts seconds : List ℕ) (spans : List Span) : Type 0 where
-  pub first : HaveNumbers false pairs views firsts
-  pub second : HaveNumbers true pairs views seconds
+pub record AreNumbered (list : List RankedPair) (views : List View) (firsts seconds : List ℕ) (spans : List Span) : Type 0 where
+  pub first : HaveNumbers false list views firsts
+  pub second : HaveNumbers true list views seconds
   pub within : AreWithin firsts spans

@@ -1,7 +1,9 @@
+use Rattle.closing.proofs.Balances.{checked-balanced}
 use Rattle.closing.proofs.Explaining.{explained-blamed}
 use Rattle.closing.proofs.blaming.is_blamed.Goals as goal
 
-pub returns-then-branch : goal.returns-then-branch
-returns-then-branch c = λ all.
-    let ranks = c.in_ok-is_ranked.ensures c.if-branch.true in
-    explained-blamed c.args.tables.now c.args.list.now ranks.0 ranks.1 (c.are_explained.ensures all)
+pub returns-then-are_balanced : goal.returns-then-are_balanced
+returns-then-are_balanced c = λ all.
+    explained-blamed c.args.tables.now c.args.list.now c.requires.ranked
+    (checked-balanced c.args.tables.now c.args.list.now c.args.steps.now c.requires.told (c.are_balanced.ensures c.if-are_balanced.true))
+    (c.are_explained.ensures all)

@@ -4,7 +4,8 @@ use Rattle.closing.proofs.glueing.is_glued_beside.Goals as goal
 
 pub loop-other-preserved : goal.loop-other-preserved
 loop-other-preserved c =
-    below_more (λ j. c.args.beside.begin ≤ j → GluesWith c.args.pairs.now c.args.numbers.now.seconds.items c.args.steps.now c.args.pair.now c.args.mine.now
+    below_more (λ j. c.args.beside.begin ≤ j →
+    GluesWith c.args.list.now c.args.numbers.now.seconds.items c.args.steps.now c.args.ranked.now c.args.mine.now
     c.args.between j)
     _ c.loop-other.invariant (λ from. c.is_glued_with.ensures c.if-not-is_glued_with.false)
 

@@ -4,4 +4,4 @@ use Rattle.closing.proofs.glueing.is_glued_beside.Given as goal
 
 abbrev pub invariant-loop-other : goal.invariant-loop-other
 invariant-loop-other l =
-    (j : ℕ) → j < l.other → l.fn.beside.begin ≤ j → GluesWith l.pairs l.numbers.seconds.items l.steps l.pair l.mine l.between j
+    (j : ℕ) → j < l.other → l.fn.beside.begin ≤ j → GluesWith l.list l.numbers.seconds.items l.steps l.ranked l.mine l.between j

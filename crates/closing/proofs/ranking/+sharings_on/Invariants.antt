@@ -1,5 +1,0 @@
-use Rattle.std.proofs.Common.{length}
-use Rattle.closing.proofs.ranking.+sharings_on.Given as goal
-
-abbrev pub decreases-sharings_on : goal.decreases-sharings_on
-decreases-sharings_on l = length l.link.now

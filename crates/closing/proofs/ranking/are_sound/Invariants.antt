@@ -1,7 +1,0 @@
-use Rattle.std.proofs.Common.{◌≡◌, ◌<◌, ℕ, Some, slice_get}
-use Rattle.closing.specs.declared.ranked.RankedPair.{RankedPair}
-use Rattle.closing.specs.inner.RankedTold.{IsRankedSound}
-use Rattle.closing.proofs.ranking.are_sound.Given as goal
-
-abbrev pub invariant-loop-ranked : goal.invariant-loop-ranked
-invariant-loop-ranked l = (k : ℕ) → k < l.ranked-index → (p : RankedPair) → slice_get l.list k ≡ Some p → IsRankedSound l.tables l.list p
