@@ -1,5 +1,5 @@
 -- What a stall over an own entry comes to, and the reason for an entry, whatever the own ones are.
-use Rattle.std.proofs.Common.{◌≡◌, ◌≢◌, ◌⊎◌, inl, inr, Bool, true, false, not, MatchBool, sym, ◌∙◌, subst}
+use Rattle.std.proofs.Common.{◌≡◌, ◌≢◌, ◌⊎◌, inl, inr, List, Bool, true, false, not, MatchBool, sym, ◌∙◌, subst}
 use Rattle.base.specs.declared.controller.entry.Entry.{Entry}
 use Rattle.base.specs.declared.controller.entry.Entry.TheVariants.{Blank, Stall, Act}
 use Rattle.certify.specs.Standings.{IsReason}

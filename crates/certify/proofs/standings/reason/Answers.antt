@@ -13,6 +13,3 @@ returns-in-Blank-default g c = grind (arith, common_steps)
 
 pub returns-in_default : goal.returns-in_default
 returns-in_default g c = grind (arith, common_steps)
-
-pub returns-in_default-2 : goal.returns-in_default-2
-returns-in_default-2 g c = grind (arith, common_steps)
