@@ -95,7 +95,7 @@ fn print_all<O: Write + Drop>(
     scenario: Option<&Scenario<Global>>,
     printer: &mut Printer<O>,
 ) -> Result<Finding, Fault> {
-    let verdict = verdict(alloc, tables)?;
+    let verdict = verdict_of(alloc, tables)?;
     printer.line(format_args!("protocol {}", tables.protocol().name()));
     print_cells(tables, printer);
     printer.line(format_args!("certify {verdict}"));
@@ -124,7 +124,7 @@ impl fmt::Display for Verdict {
     }
 }
 
-fn verdict(alloc: Global, tables: &Tables) -> Result<Verdict, NoMemory> {
+fn verdict_of(alloc: Global, tables: &Tables) -> Result<Verdict, NoMemory> {
     let (is_safe, stuck) = match certify(alloc, tables) {
         Certificate::NotProved(_, Refusal::NoMemory) => return Err(NoMemory),
         Certificate::NotProved(..) => {
