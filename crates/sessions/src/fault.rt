@@ -2,10 +2,10 @@ use base::NoMemory;
 use std::alloc::{AllocError, AllocFailed};
 use thiserror::Error;
 
-/// Why a job wasn't done, or a transcript ends early.
+/// Why a job wasn't done, or sessions aren't as they are written.
 #[derive(Clone, Copy, Debug, Drop, Error)]
 pub enum Fault {
-    #[error("its words are JOB SEED SIZE, or sessions")]
+    #[error("its words are JOB SEED SIZE, sessions, or completed FILE")]
     Words,
     #[error("no memory")]
     NoMemory,
@@ -19,6 +19,10 @@ pub enum Fault {
     Line(usize),
     #[error("msi printed what is no text")]
     NotAText,
+    #[error("a file of sessions can't be read")]
+    File,
+    #[error("command lines came to something else than is written")]
+    Differs,
 }
 
 impl From<AllocError> for Fault {

@@ -1,6 +1,7 @@
 //! Sessions of `msi`, and the jobs that its users wait for, as whatever serves command lines goes through them in memory.
 #![tactic(auto)]
 
+mod comparing;
 mod digest;
 mod escapes;
 mod fault;
@@ -12,11 +13,10 @@ mod rerun;
 mod serving;
 mod session;
 mod streams;
-mod transcript;
 
+pub use comparing::{Comparison, compare};
 pub use fault::Fault;
 pub use jobs::tell_jobs;
 pub use output::Output;
 pub use serving::Server;
 pub use streams::Input;
-pub use transcript::transcribe;

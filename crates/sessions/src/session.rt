@@ -71,44 +71,35 @@ impl Given {
     }
 }
 
-/// Command lines, what they are given, and what the last one that was served printed.
+/// What command lines are given, and what the last one printed.
 #[derive(Drop)]
 pub struct Session {
-    /// The command lines, one a line, with their marks.
-    commands: Sheet,
     given: Given,
     output: Output,
     errors: Output,
 }
 
 impl Session {
-    /// A session of no command line.
+    /// One whose command lines are given nothing.
     pub fn new(alloc: Global) -> Session {
         Session {
-            commands: Sheet::new(alloc),
             given: Given::new(alloc),
             output: Output::new(alloc),
             errors: Output::new(alloc),
         }
     }
 
-    /// Forgets the command lines and what they were given, but not what the last of them printed, nor the text of the file.
+    /// Forgets what its command lines are given, but not what the last of them printed, nor the text of the file.
     pub fn clear(&mut self) {
-        self.commands.clear();
         self.given.clear();
         self.output.open();
         self.errors.open();
     }
 
-    /// Reads a line of a session. `None` where it isn't one.
+    /// Reads a line that says what command lines are given. `None` where it doesn't.
     pub fn read(&mut self, line: &str) -> Option<()> {
         let (mark, words) = line.split_once(' ').unwrap_or((line, ""));
         match mark {
-            "$" => self.put_command(line),
-            "$!" => {
-                let _ = kind_of(words)?;
-                self.put_command(line);
-            }
             "|" => self.given.put_table_line(words)?,
             "|-" => self.given.has_table = true,
             "<" => put_line(&mut self.given.input, words)?,
@@ -134,63 +125,42 @@ impl Session {
         Some(())
     }
 
-    fn put_command(&mut self, line: &str) {
-        self.commands.push(line);
-        self.commands.push("\n");
-    }
-
-    /// Serves its command lines, and tells what each came to.
+    /// Serves a command line, and tells what it came to. `None` where it isn't one.
     pub fn serve<R: Threads + Wait + Sync, M: Server>(
         &mut self,
         rt: &R,
         alloc: Global,
         msi: &M,
+        line: &str,
         told: &mut Sheet,
-    ) -> Result<(), Fault> {
-        for line in self.commands.text()?.lines() {
-            let status = status_of(
-                rt,
-                alloc,
-                msi,
-                line,
-                &self.given,
-                &mut self.output,
-                &mut self.errors,
-            )?;
-            told.push(line);
-            told.push("\n");
-            self.output.tell(told, ">", self.given.input.text()?)?;
-            self.errors.tell(told, "!", "")?;
-            told.push("= ");
-            told.put(&status);
-            told.push("\n");
-        }
-        Ok(())
+    ) -> Result<Option<()>, Fault> {
+        let Some(words) = words_behind(alloc, line) else {
+            return Ok(None);
+        };
+        let status = serve_line(
+            rt,
+            alloc,
+            msi,
+            &words,
+            self.given.table()?,
+            self.given.input()?,
+            &mut self.output,
+            &mut self.errors,
+        );
+        self.output.tell(told, ">", self.given.input.text()?)?;
+        self.errors.tell(told, "!", "")?;
+        told.push("= ");
+        told.put(&status);
+        told.push("\n");
+        Ok(Some(()))
     }
 }
 
-/// The exit status of a command line.
-fn status_of<R: Threads + Wait + Sync, M: Server>(
-    rt: &R,
-    alloc: Global,
-    msi: &M,
-    line: &str,
-    given: &Given,
-    output: &mut Output,
-    errors: &mut Output,
-) -> Result<u8, Fault> {
-    let table = given.table()?;
-    let input = given.input()?;
-    let words = words_behind(alloc, line);
-    Ok(serve_line(rt, alloc, msi, &words, table, input, output, errors))
-}
-
-/// The words of a command line behind its mark, or why they can't be had.
-fn words_behind(alloc: Global, line: &str) -> io::Result<Vec<String>> {
-    if let Some(name) = line.strip_prefix("$! ")
-        && let Some(kind) = kind_of(name)
-    {
-        return Err(io::Error::from(kind));
+/// The words of a command line behind its mark, or why they can't be had. `None` where it isn't one.
+fn words_behind(alloc: Global, line: &str) -> Option<io::Result<Vec<String>>> {
+    match line.split_once(' ').unwrap_or((line, "")) {
+        ("$", words) => Some(words_of(alloc, words)),
+        ("$!", name) => Some(Err(io::Error::from(kind_of(name)?))),
+        _ => None,
     }
-    words_of(alloc, line.strip_prefix("$").unwrap_or(line))
 }

@@ -2,20 +2,21 @@
 //! `msi`, which `rt ci` compares with what has to come of them.
 //!
 //! `workloads JOB SEED SIZE` does one job, and `workloads all SEED SIZE` does each of them. It prints a digest of all that
-//! `msi` prints there. `workloads sessions` goes through the sessions of its standard input, and prints what each command line
-//! came to (`transcript.rt` of the crate `sessions` tells how they are written).
+//! `msi` prints there. `workloads sessions` goes through the files of sessions that its standard input names, a line each, and
+//! prints how many command lines each has, and what came to something else than is written there (`comparing.rt` of the crate
+//! `sessions` tells how they are written). `workloads completed FILE` prints such a file with what comes of its command lines now.
 #![tactic(auto)]
 
 mod files;
 mod serving;
 
 use serving::Msi;
-use sessions::{Fault, tell_jobs, transcribe};
+use sessions::{Comparison, Fault, compare, tell_jobs};
 use std::alloc::Global;
 use std::process::ExitCode;
 use std::sync::Wait;
 use std::thread::Threads;
-use std::{env, io};
+use std::{env, fs, io, rt};
 use story::Sheet;
 
 /// The words of the command line, the program's name first.
@@ -37,8 +38,8 @@ fn given(rt: &HostRuntime, words: &io::Result<Vec<String>>) -> Option<io::Result
     }
 }
 
-/// Goes through the sessions, or else does the jobs that the words name, and tells what they come to.
-fn work<R: Threads + Wait + Sync>(
+/// Goes through the sessions, or else does what the words name, and tells what that comes to.
+fn work<R: Threads + Wait + Sync + rt::Files + AllocGlobal>(
     rt: &R,
     alloc: Global,
     words: &io::Result<Vec<String>>,
@@ -46,21 +47,55 @@ fn work<R: Threads + Wait + Sync>(
     told: &mut Sheet,
 ) -> Result<(), Fault> {
     match (input, words) {
-        (Some(Ok(text)), _) => transcribe(rt, alloc, &Msi, text.as_str(), told),
+        (Some(Ok(names)), _) => compare_all(rt, alloc, names.as_str(), told),
         (Some(Err(_)), _) | (None, Err(_)) => Err(Fault::Device),
         (None, Ok(words)) => match words.as_slice() {
-            [_, name, seed, size] => tell_jobs(
-                rt,
-                alloc,
-                &Msi,
-                name.as_str(),
-                seed.as_str(),
-                size.as_str(),
-                told,
-            ),
+            [_, word, file] if word.as_str() == "completed" => {
+                told.push(comparison_of(rt, alloc, file.as_str())?.completed.text()?);
+                Ok(())
+            }
+            [_, name, seed, size] => {
+                let (name, seed, size) = (name.as_str(), seed.as_str(), size.as_str());
+                tell_jobs(rt, alloc, &Msi, name, seed, size, told)
+            }
             _ => Err(Fault::Words),
         },
     }
+}
+
+/// Goes through the files of sessions of these names, a line each, and tells what isn't as it is written.
+fn compare_all<R: Threads + Wait + Sync + rt::Files + AllocGlobal>(
+    rt: &R,
+    alloc: Global,
+    names: &str,
+    told: &mut Sheet,
+) -> Result<(), Fault> {
+    let mut differs = false;
+    for name in names.lines() {
+        let found = comparison_of(rt, alloc, name)?;
+        let differences = found.differences.text()?;
+        told.push(name);
+        told.push(": ");
+        told.put(&found.count);
+        told.push(" command lines\n");
+        told.push(differences);
+        differs = differs || !differences.is_empty();
+    }
+    if differs {
+        return Err(Fault::Differs);
+    }
+    Ok(())
+}
+
+/// What comes of a file of sessions.
+fn comparison_of<R: Threads + Wait + Sync + rt::Files + AllocGlobal>(
+    rt: &R,
+    alloc: Global,
+    name: &str,
+) -> Result<Comparison, Fault> {
+    let bytes = fs::read(rt, name).map_err(|_| Fault::File)?;
+    let text = str::from_utf8(bytes.as_slice()).map_err(|_| Fault::File)?;
+    compare(rt, alloc, &Msi, text)
 }
 
 /// Prints what was told.
