@@ -5,7 +5,7 @@ from dataclasses import dataclass
 from typing import Callable, Optional
 
 from fuzzing import answers
-from fuzzing.certified import admitted_overrides
+from fuzzing.certified import mild_overrides
 from fuzzing.damage import damaged
 from model.making import random_ask, random_overrides, random_scenario, random_steps
 from model.recordings import first_text_of, text_of
@@ -90,7 +90,7 @@ def certify(dice):
     protocol = dice.choice(PROTOCOLS)
     overrides = overrides_for(dice, protocol, 1.0, 0.2)
     if dice.random() < 0.5:
-        overrides = perhaps(dice, 0.1, json.dumps(admitted_overrides(dice, protocol)).encode())
+        overrides = perhaps(dice, 0.1, json.dumps(mild_overrides(dice, protocol)).encode())
     answer = with_tables(overrides, protocol, answers.of_certify)
     return Input("certify", [b"certify", *protocol_words(protocol), b"--tables", TABLES], b"", overrides, answer)
 
